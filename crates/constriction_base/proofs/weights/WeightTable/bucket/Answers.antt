@@ -1,0 +1,29 @@
+use Rattle.std.proofs.Common.{◌≡◌, ℕ, ◌+◌, ◌-◌, ◌*◌, ◌/◌, ◌^◌, ◌<◌, ◌≤◌, ◌∙◌, ap, arith, pow_pos, pow-add}
+use Rattle.std.proofs.Math.Nat.{div-lt_iff_lt-mul, lt-div-mul-add}
+use Rattle.std.proofs.Math.Pow.{pow_mono}
+use Rattle.constriction_base.proofs.weights.WeightTable.bucket.Goals as goal
+
+-- so many bits are left of a quantile
+below_buckets : (q precision shift : ℕ) → shift ≤ precision → q < 2 ^ precision → q / 2 ^ shift < 2 ^ (precision - shift)
+below_buckets q precision shift within below =
+    let exponent : precision ≡ (precision - shift) + shift = omega arith in
+    let split : 2 ^ precision ≡ 2 ^ (precision - shift) * 2 ^ shift = ap (λ (n : ℕ). 2 ^ n) exponent ∙ pow-add 2 (precision - shift) shift in
+    (div-lt_iff_lt-mul (pow_pos shift)).1 (omega (arith, split, below))
+
+pub to_index-requires : goal.to_index-requires
+to_index-requires g c =
+    let cut = c.args.self.now.cut in
+    omega (arith, c.shifted_right.ensures, below_buckets (g.Probability.BitArray.number c.args.quantile) g.row.PRECISION c.args.self.now.shift (omega (arith, cut.0)) c.requires, pow_mono cut.1)
+
+pub returns-clause-within : goal.returns-clause-within
+returns-clause-within g c =
+    omega (arith, c.to_index.ensures, c.shifted_right.ensures, c.args.self.now.buckets, below_buckets (g.Probability.BitArray.number c.args.quantile) g.row.PRECISION c.args.self.now.shift (omega (arith, c.args.self.now.cut.0)) c.requires)
+
+-- a quantile is below the end of its bucket
+below_next : (q width k : ℕ) → 0 < width → k ≡ q / width → q < (k + 1) * width
+below_next q width k some is =
+    let at : k * width ≡ q / width * width = ap (λ n. n * width) is in
+    omega (arith, lt-div-mul-add {a = q} {b = width} some, at)
+
+pub returns-clause-below : goal.returns-clause-below
+returns-clause-below g c = below_next _ _ _ (pow_pos c.args.self.now.shift) (c.to_index.ensures ∙ c.shifted_right.ensures)

@@ -1,0 +1,90 @@
+use Rattle.std.proofs.Common.{◌≡◌, ℕ, List, ◌++◌, ◌∷◌, [], ◌+◌, ◌-◌, ◌*◌, ◌%◌, ◌^◌, ◌<◌, ◌≤◌, ◌∙◌, ap, arith, pow_pos, pow-add, map, length, get_or, length-append}
+use Rattle.std.proofs.Math.Nat.{mod-eq_of_lt, mul-le-mul_right}
+use Rattle.std.proofs.Math.Pow.{pow_mono}
+use Rattle.std.proofs.lemmas.List.{length-map}
+use Rattle.constriction_base.specs.Entries.{ends_at}
+use Rattle.constriction_base.specs.Hints.{IsHint, AreHints}
+use Rattle.constriction_base.proofs.HintLemmas.{hints_push, hint_of, none_above}
+use Rattle.constriction_base.proofs.weights.hints.hints_of.Goals as goal
+
+-- one, moved up to a place within the bits
+one_below : (one shift bits : ℕ) → one ≡ 1 → shift + 1 ≤ bits → one * 2 ^ shift < 2 ^ bits
+one_below one shift bits is within =
+    let all : 2 ^ (shift + 1) ≡ 2 ^ shift * 2 ^ 1 = pow-add 2 shift 1 in
+    let power : one * 2 ^ shift ≡ 2 ^ shift = rw is (omega arith) in
+    omega (arith, all, power, pow_pos shift, pow_mono within)
+
+pub shifted_left-width-requires-clause-fits : goal.shifted_left-width-requires-clause-fits
+shifted_left-width-requires-clause-fits g c = one_below _ _ _ c.unit.ensures (omega (arith, c.requires.sized.1, c.requires.within.0))
+
+-- so many buckets of this width are all that is cut
+all_buckets : (precision shift : ℕ) → shift ≤ precision → 2 ^ (precision - shift) * 2 ^ shift ≡ 2 ^ precision
+all_buckets precision shift within =
+    let exponent : precision ≡ (precision - shift) + shift = omega arith in
+    let split : 2 ^ precision ≡ 2 ^ (precision - shift) * 2 ^ shift = ap (λ (n : ℕ). 2 ^ n) exponent ∙ pow-add 2 (precision - shift) shift in
+    omega (arith, split)
+
+-- a bucket begins below the end of all
+bucket_below : (bucket count width all : ℕ) → bucket < count → 0 < width → count * width ≡ all → bucket * width < all
+bucket_below bucket count width all below some is =
+    let more : (bucket + 1) * width ≤ count * width = mul-le-mul_right width (omega (arith, below)) in
+    omega (arith, more, is, some)
+
+-- where the bits hold it, the place of a bucket is the number counted
+at_place : (first place precision bits : ℕ) → place < 2 ^ precision → precision ≤ bits → first ≡ place % 2 ^ bits → first ≡ place
+at_place first place precision bits below within is = is ∙ mod-eq_of_lt (omega (arith, below, pow_mono within))
+
+-- the next place, counted with the bits of the type
+next_place : (first width one shift bucket modulus next : ℕ) → first ≡ bucket * 2 ^ shift → one ≡ 1 → width ≡ one * 2 ^ shift → next ≡ (first + width) % modulus → next ≡ (bucket + 1) * 2 ^ shift % modulus
+next_place first width one shift bucket modulus next is one_is width_is next_is =
+    let step : width ≡ 1 * 2 ^ shift = rw one_is at width_is in
+    let sum : first + width ≡ (bucket + 1) * 2 ^ shift = omega (arith, is, step) in
+    next_is ∙ ap (λ n. n % modulus) sum
+
+pub symbol_from-symbol-requires-clause-above : goal.symbol_from-symbol-requires-clause-above
+symbol_from-symbol-requires-clause-above g c =
+    let i = c.loop-bucket.invariant in
+    let place = bucket_below c.loop-bucket.bucket (2 ^ (g.row.PRECISION - c.args.shift)) (2 ^ c.args.shift) (2 ^ g.row.PRECISION) (omega (arith, c.loop-bucket-test.true)) (pow_pos c.args.shift) (all_buckets g.row.PRECISION c.args.shift (omega (arith, c.requires.within.0))) in
+    omega (arith, i.from, at_place _ _ g.row.PRECISION _ place c.requires.sized.1 i.first)
+
+pub loop-bucket-preserved : goal.loop-bucket-preserved
+loop-bucket-preserved g c =
+    let number = g.Probability.BitArray.number in
+    let starts = map number c.args.starts.now in
+    let len = length-map c.args.starts.now number in
+    let i = c.loop-bucket.invariant in
+    let s = c.symbol_from-symbol.ensures in
+    let hints = c.loop-bucket.hints.items in
+    let symbol = c.symbol_from-symbol.result in
+    let place = bucket_below c.loop-bucket.bucket (2 ^ (g.row.PRECISION - c.args.shift)) (2 ^ c.args.shift) (2 ^ g.row.PRECISION) (omega (arith, c.loop-bucket-test.true)) (pow_pos c.args.shift) (all_buckets g.row.PRECISION c.args.shift (omega (arith, c.requires.within.0))) in
+    let first = at_place _ _ g.row.PRECISION _ place c.requires.sized.1 i.first in
+    let lower : (k : ℕ) → k < length hints → get_or hints k 0 ≤ symbol = λ k h. omega (arith, i.lower k h, s.order) in
+    let hint : IsHint starts (2 ^ g.row.PRECISION) (c.loop-bucket.bucket * 2 ^ c.args.shift) symbol =
+    hint_of starts (2 ^ g.row.PRECISION) (c.loop-bucket.bucket * 2 ^ c.args.shift) symbol (omega (arith, s.within, len)) (omega (arith, s.above, first)) (omega (arith, place)) (λ more. omega (arith, first, s.below (omega (arith, more, len)))) in
+    record {
+      first = next_place (number c.loop-bucket.first) (number c.shifted_left-width.result) (number c.unit.result) c.args.shift c.loop-bucket.bucket (2 ^ g.Probability.BitArray.BITS) _ first c.unit.ensures c.shifted_left-width.ensures c.wrapping_plus-first.ensures;
+      known = omega (arith, s.within, len);
+      from = omega (arith, s.above, first);
+      len = rw c.in_ok-push.ensures.items (omega (arith, i.len, length-append hints (symbol ∷ [])));
+      hinted = rw c.in_ok-push.ensures.items (hints_push starts (2 ^ g.row.PRECISION) (2 ^ c.args.shift) hints symbol i.hinted lower (rw i.len hint));
+      lower = rw c.in_ok-push.ensures.items (none_above hints symbol lower);
+    }
+
+pub returns-clause-hinted : goal.returns-clause-hinted
+returns-clause-hinted g c =
+    let number = g.Probability.BitArray.number in
+    let starts = map number c.args.starts.now in
+    let high = 2 ^ g.row.PRECISION in
+    let len = length-map c.args.starts.now number in
+    let i = c.loop-bucket.invariant in
+    let hints = c.loop-bucket.hints.items in
+    let last = length c.args.starts.now - 1 in
+    let end : c.loop-bucket.bucket ≡ 2 ^ (g.row.PRECISION - c.args.shift) = omega (arith, c.loop-bucket-test.false, c.loop-bucket.auto.bucket-end, pow_mono c.requires.within.1) in
+    let place : length hints * 2 ^ c.args.shift ≡ high = rw (i.len, end) (all_buckets g.row.PRECISION c.args.shift (omega (arith, c.requires.within.0))) in
+    let inside : last < length starts = omega (arith, len, c.requires.some) in
+    let hint : IsHint starts high high last = record {
+      known = inside;
+      from = omega (arith, c.requires.rising.below last inside);
+      to = omega (arith, ends_at starts high last (omega (arith, len)));
+    } in
+    rw c.in_ok-push-2.ensures.items (hints_push starts high (2 ^ c.args.shift) hints last i.hinted (λ k h. omega (arith, i.lower k h, i.known, len)) (rw place hint))

@@ -1,0 +1,18 @@
+use Rattle.std.proofs.Common.{◌≡◌, ℕ, ◌*◌, ◌%◌, ◌^◌, ◌<◌, ◌≤◌, length, map}
+use Rattle.std.specs.Prelude.{slice_index}
+use Rattle.constriction_base.specs.Hints.{AreHints}
+use Rattle.constriction_base.proofs.weights.hints.hints_of.Given as goal
+
+-- the buckets so far have their hints, none above the symbol, which begins at or below the next bucket
+abbrev pub invariant-loop-bucket : goal.invariant-loop-bucket
+invariant-loop-bucket g l =
+    let number = g.Probability.BitArray.number in
+    let starts = map number l.starts in
+    record {
+      first : number l.first ≡ l.bucket * 2 ^ l.shift % 2 ^ g.Probability.BitArray.BITS;
+      known : l.symbol < length starts;
+      from : slice_index starts l.symbol ≤ l.bucket * 2 ^ l.shift;
+      len : length l.hints.items ≡ l.bucket;
+      hinted : AreHints starts (2 ^ g.row.PRECISION) (2 ^ l.shift) l.hints.items;
+      lower : (k : ℕ) → k < length l.hints.items → slice_index l.hints.items k ≤ l.symbol;
+    }

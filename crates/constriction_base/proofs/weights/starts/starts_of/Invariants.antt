@@ -1,0 +1,12 @@
+use Rattle.std.proofs.Common.{◌≡◌, ◌+◌, map, take}
+use Rattle.std.specs.Prelude.{sum_by}
+use Rattle.constriction_base.specs.Tables.{Sums}
+use Rattle.constriction_base.proofs.weights.starts.starts_of.Given as goal
+
+abbrev pub invariant-loop-weight : goal.invariant-loop-weight
+invariant-loop-weight g l =
+    let number = g.Probability.BitArray.number in
+    record {
+      left : number l.left ≡ sum_by number (take l.weight-index l.weights);
+      sums : Sums number l.weights (map number l.starts.items) (l.weight-index + 1);
+    }

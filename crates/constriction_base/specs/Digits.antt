@@ -1,0 +1,7 @@
+-- Digits of a number, as many as are asked for.
+use Rattle.std.specs.Prelude.{ℕ, zero, suc, ◌/◌, ◌%◌, List, [], ◌∷◌, ◌++◌}
+
+-- that many of the lowest digits of n in base b, the highest first, with their leading zeros
+abbrev pub fixed_digits : ℕ → ℕ → ℕ → List ℕ
+fixed_digits b zero n = []
+fixed_digits b (suc count) n = fixed_digits b count (n / b) ++ (n % b ∷ [])

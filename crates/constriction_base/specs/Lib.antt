@@ -1,0 +1,11 @@
+pub mod Backends
+pub mod Iterators
+pub mod Steps
+pub mod Tables
+pub mod Room
+pub mod Entries
+pub mod Lawful
+pub mod Hints
+pub mod Windows
+pub mod WeightTables
+pub mod Digits

@@ -1,0 +1,32 @@
+//! Backends: where a coder's words are kept.
+//!
+//! A backend is known by what it holds: the list of the words that its next reads give, the next one
+//! first. A read takes the first word of that list. A write puts a word before it, since what is
+//! written is a stack: the word that was written last is read first.
+//!
+//! - `semantics`: the two orders in which words are read.
+//! - `reading`: reading words, and knowing how many are left.
+//! - `writing`: writing words, and asking for room.
+//! - `seeking`: positions, and going to them.
+//! - `lending`: buffers that lend their words as a slice.
+//! - `conversions`: what turns into a backend for reading, or lends one.
+
+pub mod conversions;
+pub mod lending;
+pub mod reading;
+pub mod seeking;
+pub mod semantics;
+#[cfg(test)]
+mod tests;
+#[cfg(test)]
+mod two_for_one;
+pub mod writing;
+
+pub use conversions::{
+    AsReadWords, AsSeekReadWords, IntoReadWords, IntoReversed, IntoSeekReadWords,
+};
+pub use lending::{Words, WordsMut};
+pub use reading::{BoundedReadWords, Holds, ReadWords};
+pub use seeking::{Pos, PosSeek, Seek};
+pub use semantics::{Queue, Semantics, Stack};
+pub use writing::WriteWords;

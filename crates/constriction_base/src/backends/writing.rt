@@ -1,0 +1,63 @@
+//! Writing words.
+
+ghost use Rattle.std.specs.Prelude.{◌≡◌, ◌+◌, ℕ, Bool, false, List, ◌∷◌, ◌<◌, ◌≤◌, Result, OnOk, OnErr, IfErr};
+
+use crate::backends::reading::Holds;
+use crate::backends::semantics::Stack;
+
+/// Words can be put on the stack that the type holds.
+///
+/// Which error a call may answer is a function of what the backend holds at the moment of the call.
+pub trait WriteWords<Word>: Holds<Word, Stack> {
+    /// Why a word could not be written: want of memory for a vector, want of room for a cursor.
+    type WriteError;
+
+    /// Which error the next write may answer.
+    ghost write_fails: { Self → Self.WriteError → Type 0 };
+
+    /// Which error the next call of `prepare` for so many words may answer.
+    ghost prepare_fails: { Self → ℕ → Self.WriteError → Type 0 };
+
+    /// How many writes are sure to succeed.
+    ghost room: { Self → ℕ };
+
+    /// A `prepare` that succeeds makes room.
+    ghost makes_room: { Type 0 };
+
+    /// The error says that the backend is full, and not that memory is missing.
+    ghost is_lack_of_room: { Self.WriteError → Type 0 };
+
+    /// What `maybe_full` answers.
+    ghost seems_full: { Self → Bool };
+
+    /// Writes a word, which is then the first to be read. An error leaves the words.
+    fn write(&mut self, word: Word) -> Result<(), Self::WriteError>
+        ensures ok { OnOk result (Self.words self.new ≡ word ∷ Self.words self.old) }
+        ensures room { OnOk result (room self.old ≤ room self.new + 1) }
+        ensures kept { OnErr result (Self.words self.new ≡ Self.words self.old) }
+        ensures err { IfErr result (λ e. write_fails self.old e) };
+
+    /// Whether the next write may be refused for lack of room. `false` promises that it is not, so a
+    /// backend that grows as long as there is memory always answers `false`.
+    fn maybe_full(&self) -> bool
+        ensures value { result ≡ seems_full self.now }
+        ensures room_left { result ≡ false → (e : Self.WriteError) → is_lack_of_room e → write_fails self.now e → ⊥ };
+
+    /// Asks for room for `count` further words, and changes no word. A refusal leaves the room there was.
+    ///
+    /// After `Ok` over a vector the next `count` writes succeed. Over a cursor it promises nothing.
+    fn prepare(&mut self, count: usize) -> Result<(), Self::WriteError>
+        ensures words { Self.words self.new ≡ Self.words self.old }
+        ensures room { OnOk result (room self.old ≤ room self.new) }
+        ensures still { OnErr result (room self.old ≤ room self.new) }
+        ensures made { OnOk result (makes_room → count ≤ room self.new) }
+        ensures fails { OnOk result ((e : Self.WriteError) → write_fails self.new e → write_fails self.old e) }
+        ensures err { IfErr result (λ e. prepare_fails self.old count e) };
+
+    // Where there is room, nothing is refused.
+    ghost room_law: { (b : Self) (e : Self.WriteError) → 0 < room b → write_fails b e → ⊥ };
+
+    ghost prepare_law: { (b : Self) (count : ℕ) (e : Self.WriteError) → count ≤ room b → prepare_fails b count e → ⊥ };
+
+    ghost knows_words: { Self.is_list };
+}

@@ -1,0 +1,105 @@
+//! A buffer and a position in it.
+
+ghost use Rattle.std.specs.Prelude.{◌≡◌, ◌+◌, ◌-◌, ℕ, true, false, List, [], ◌∷◌, ◌++◌, ◌<◌, ◌≤◌, ◌==◌, Option, Result, Ok, Err, None, length, min, reverse, IsTrue, slice_set, take, drop};
+ghost use Rattle.constriction_base.specs.Backends.{Place};
+
+use crate::backends::Words;
+use constriction_words::BitArray;
+use std::alloc::AllocError;
+use std::marker::{Model, PhantomData};
+
+mod queue;
+mod reversed;
+mod seeking;
+mod stack;
+mod writing;
+
+/// A buffer of words and a position in it, which parts the words of a stack from those of a queue.
+///
+/// As a stack it holds the words before the position, and the one right before it is read first. As a
+/// queue it holds the words from the position on, and the one at the position is read first. A write
+/// sets the word at the position and moves past it, and is refused at the buffer's end. Contracts see
+/// the buffer and the position, which is never past the buffer's length.
+///
+/// ```
+/// let mut words = [0u32; 2];
+/// let mut cursor = Cursor::new_at_write_beginning(words.as_mut_slice());
+/// cursor.write(7)?; // the buffer is [7, 0]
+/// ReadWords::<u32, Stack>::read(&mut cursor) // Ok(Some(7))
+/// ```
+#[derive(Debug, Drop)]
+pub struct Cursor<Word: BitArray, Buf: Words<Word> + Drop> {
+    buf: Buf,
+    pos: usize,
+    word: PhantomData<Word>,
+}
+
+impl<Word: BitArray, Buf: Words<Word> + Drop> Model for Cursor<Word, Buf> {
+    ghost use Rattle.std.specs.Prelude.{◌≤◌, length};
+    ghost use Rattle.constriction_base.specs.Backends.{Place};
+
+    ghost Value = { Place Buf };
+
+    ghost view = { λ c. record { buf = c.buf; pos = c.pos } };
+
+    ghost invariant = { λ c. c.pos ≤ length (Buf.lent c.buf) };
+}
+
+impl<Word: BitArray, Buf: Words<Word> + Drop> Cursor<Word, Buf> {
+    /// A cursor before the first word: an empty stack, or a queue of the buffer's words.
+    pub fn new_at_write_beginning(buf: Buf) -> Self
+        ensures { result ≡ record { buf = buf; pos = 0 } }
+    {
+        Cursor {
+            buf,
+            pos: 0,
+            word: PhantomData,
+        }
+    }
+
+    /// A cursor behind the last word: a stack of the buffer's words, or an empty queue.
+    pub fn new_at_write_end(buf: Buf) -> Self
+        ensures { result ≡ record { buf = buf; pos = length (Buf.lent buf) } }
+    {
+        let pos = buf.words().len();
+        Cursor {
+            buf,
+            pos,
+            word: PhantomData,
+        }
+    }
+
+    /// The buffer, of which the position is no place past the end.
+    pub fn buf(&self) -> &Buf
+        ensures buf { result.now ≡ self.now.buf }
+        ensures within { self.now.pos ≤ length (Buf.lent self.now.buf) }
+    {
+        &self.buf
+    }
+
+    /// The buffer and the position.
+    pub fn into_buf_and_pos(self) -> (Buf, usize)
+        ensures buf { result.0 ≡ self.buf }
+        ensures pos { result.1 ≡ self.pos }
+        ensures within { self.pos ≤ length (Buf.lent self.buf) }
+    {
+        let Cursor { buf, pos, word: _ } = self;
+        (buf, pos)
+    }
+}
+
+impl<Word: BitArray, Buf: Words<Word> + Clone> Clone for Cursor<Word, Buf> {
+    ghost is_clone = { λ old new. Buf.is_clone old.buf new.buf × (new.pos ≡ min old.pos (length (Buf.lent new.buf))) };
+
+    ghost is_infallible = { λ c. Buf.is_infallible c.buf };
+
+    fn clone(&self) -> Result<Self, AllocError> {
+        let buf = self.buf.clone()?;
+        let pos = self.pos.min(buf.words().len());
+        Ok(Cursor {
+            buf,
+            pos,
+            word: PhantomData,
+        })
+    }
+}

@@ -1,0 +1,84 @@
+//! Cursors over buffers that are turned round.
+
+ghost use Rattle.std.specs.Prelude.{◌≡◌, ◌+◌, ◌-◌, length, reverse, take, drop};
+
+use crate::backends::{Holds, IntoReversed, Queue, Stack, Words, WordsMut};
+use crate::cursor::Cursor;
+use crate::reverse::Reverse;
+use constriction_words::BitArray;
+use std::marker::PhantomData;
+
+impl<Word: BitArray, Buf: WordsMut<Word> + Drop> Cursor<Word, Buf> {
+    /// Turns the buffer round and keeps the place between the same words, so that what was a stack is
+    /// a queue, and what was a queue is a stack.
+    fn turned_round(self) -> Self
+        ensures buffer { Buf.lent result.buf ≡ reverse (Buf.lent self.buf) }
+        ensures place { result.pos ≡ length (Buf.lent self.buf) - self.pos }
+        ensures stack { drop result.pos (Buf.lent result.buf) ≡ reverse (take self.pos (Buf.lent self.buf)) }
+        ensures queue { reverse (take result.pos (Buf.lent result.buf)) ≡ drop self.pos (Buf.lent self.buf) }
+    {
+        let Cursor {
+            mut buf,
+            pos,
+            word: _,
+        } = self;
+        let pos = buf.words().len() - pos;
+        buf.reverse_words();
+        Cursor {
+            buf,
+            pos,
+            word: PhantomData,
+        }
+    }
+
+    /// The same stack and the same queue, over the buffer turned round.
+    ///
+    /// Words that were written as a stack are then read in the order in which they stand.
+    ///
+    /// ```
+    /// let mut words = [1u32, 2, 3];
+    /// let cursor = Cursor::new_at_write_end(words.as_mut_slice());
+    /// cursor.into_reversed() // reads 3, 2, 1 as before; the buffer is [3, 2, 1]
+    /// ```
+    pub fn into_reversed(self) -> Reverse<Self>
+        ensures stack { ⟦<Reverse<Cursor<Word, Buf>> as Holds<Word, Stack>>⟧.words result ≡ ⟦<Cursor<Word, Buf> as Holds<Word, Stack>>⟧.words self }
+        ensures queue { ⟦<Reverse<Cursor<Word, Buf>> as Holds<Word, Queue>>⟧.words result ≡ ⟦<Cursor<Word, Buf> as Holds<Word, Queue>>⟧.words self }
+        ensures buffer { Buf.lent result.0.buf ≡ reverse (Buf.lent self.buf) }
+        ensures place { result.0.pos ≡ length (Buf.lent self.buf) - self.pos }
+    {
+        Reverse(self.turned_round())
+    }
+}
+
+impl<Word: BitArray, Buf: WordsMut<Word> + Drop> Reverse<Cursor<Word, Buf>> {
+    /// The same stack and the same queue, over the buffer turned round.
+    pub fn into_reversed(self) -> Cursor<Word, Buf>
+        ensures stack { ⟦<Cursor<Word, Buf> as Holds<Word, Stack>>⟧.words result ≡ ⟦<Reverse<Cursor<Word, Buf>> as Holds<Word, Stack>>⟧.words self }
+        ensures queue { ⟦<Cursor<Word, Buf> as Holds<Word, Queue>>⟧.words result ≡ ⟦<Reverse<Cursor<Word, Buf>> as Holds<Word, Queue>>⟧.words self }
+        ensures buffer { Buf.lent result.buf ≡ reverse (Buf.lent self.0.buf) }
+        ensures place { result.pos ≡ length (Buf.lent self.0.buf) - self.0.pos }
+    {
+        let Reverse(cursor) = self;
+        cursor.turned_round()
+    }
+}
+
+impl<Word: BitArray, Buf: WordsMut<Word> + Drop> IntoReversed<Word> for Cursor<Word, Buf> {
+    type IntoReversed = Reverse<Cursor<Word, Buf>>;
+
+    ghost turns = { λ old new. (Buf.lent new.0.buf ≡ reverse (Buf.lent old.buf)) × (new.0.pos ≡ length (Buf.lent old.buf) - old.pos) };
+
+    fn into_reversed_stack(self) -> Reverse<Cursor<Word, Buf>> {
+        self.into_reversed()
+    }
+}
+
+impl<Word: BitArray, Buf: WordsMut<Word> + Drop> IntoReversed<Word> for Reverse<Cursor<Word, Buf>> {
+    type IntoReversed = Cursor<Word, Buf>;
+
+    ghost turns = { λ old new. (Buf.lent new.buf ≡ reverse (Buf.lent old.0.buf)) × (new.pos ≡ length (Buf.lent old.0.buf) - old.0.pos) };
+
+    fn into_reversed_stack(self) -> Cursor<Word, Buf> {
+        self.into_reversed()
+    }
+}

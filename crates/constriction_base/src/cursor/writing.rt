@@ -1,0 +1,66 @@
+//! Writing to a cursor, at the position, until the buffer ends.
+
+ghost use Rattle.std.specs.Prelude.{◌≡◌, ◌+◌, ◌-◌, ℕ, true, false, List, [], ◌∷◌, ◌++◌, ◌<◌, ◌≤◌, ◌==◌, Option, Result, Ok, Err, None, length, reverse, IsTrue, IsOk, OnOk, OnErr, IfErr, slice_set, take, drop};
+ghost use Rattle.constriction_base.specs.Backends.{Reads, Place};
+ghost use Rattle.constriction_base.specs.Room.{no_room_at};
+ghost use Rattle.constriction_base.specs.declared.errors.BoundedWriteError.TheVariants.{OutOfSpace};
+
+use crate::backends::{WordsMut, WriteWords};
+use crate::cursor::Cursor;
+use crate::errors::BoundedWriteError;
+use constriction_words::BitArray;
+
+impl<Word: BitArray, Buf: WordsMut<Word> + Drop> WriteWords<Word> for Cursor<Word, Buf> {
+    type WriteError = BoundedWriteError;
+
+    ghost write_fails = { λ c e. (e ≡ OutOfSpace) × (c.pos ≡ length (Buf.lent c.buf)) };
+
+    ghost prepare_fails = { λ _ _ _. ⊥ };
+
+    ghost room = { λ c. length (Buf.lent c.buf) - c.pos };
+
+    ghost makes_room = { ⊥ };
+
+    ghost is_lack_of_room = { λ e. e ≡ OutOfSpace };
+
+    ghost seems_full = { λ c. c.pos == length (Buf.lent c.buf) };
+
+    /// Sets the word at the position and moves past it, and changes no other word. At the buffer's end it
+    /// answers `OutOfSpace` and changes nothing.
+    #[tactic(auto, using(crate::proofs::Ends::reverse_push))]
+    fn write(&mut self, word: Word) -> Result<(), BoundedWriteError>
+        ensures ok { OnOk result (reverse (take self.new.pos (Buf.lent self.new.buf)) ≡ word ∷ reverse (take self.old.pos (Buf.lent self.old.buf))) }
+        ensures room { OnOk result (length (Buf.lent self.old.buf) - self.old.pos ≤ length (Buf.lent self.new.buf) - self.new.pos + 1) }
+        ensures kept { OnErr result (reverse (take self.new.pos (Buf.lent self.new.buf)) ≡ reverse (take self.old.pos (Buf.lent self.old.buf))) }
+        ensures err { IfErr result (λ e. (e ≡ OutOfSpace) × (self.old.pos ≡ length (Buf.lent self.old.buf))) }
+        ensures buffer { OnOk result (Buf.lent self.new.buf ≡ slice_set (Buf.lent self.old.buf) self.old.pos word) }
+        ensures place { OnOk result (self.new.pos ≡ self.old.pos + 1) }
+        ensures unchanged { OnErr result (self.new ≡ self.old) }
+    {
+        if self.pos == self.buf.words().len() {
+            return Err(BoundedWriteError::OutOfSpace);
+        }
+        self.buf.set_word(self.pos, word);
+        self.pos += 1;
+        Ok(())
+    }
+
+    fn maybe_full(&self) -> bool {
+        self.pos == self.buf.words().len()
+    }
+
+    /// Answers `Ok` without a promise, and changes nothing.
+    fn prepare(&mut self, _count: usize) -> Result<(), BoundedWriteError>
+        ensures done { IsOk result }
+        ensures unchanged { self.new ≡ self.old }
+    {
+        // A cursor's room is what its buffer has.
+        Ok(())
+    }
+
+    ghost room_law = { λ c e some fails. no_room_at (length (Buf.lent c.buf)) c.pos some fails.1 };
+
+    ghost prepare_law = { λ _ _ _ _ fails. fails };
+
+    ghost knows_words = { tt };
+}

@@ -1,0 +1,97 @@
+//! An iterator of Results of words as a backend.
+
+ghost use Rattle.std.specs.Prelude.{◌≡◌, ◌↔◌, List, [], Some, None, Ok, Err, Result, Option, true, false};
+ghost use Rattle.std.specs.Iterator.{Drains};
+ghost use Rattle.std.specs.Iterator.Adapters.{fuse_done, fuse_source};
+ghost use Rattle.constriction_base.specs.Iterators.{FusedRead, CanGive};
+
+use crate::backends::{Holds, ReadWords, Semantics};
+use std::iter::Fuse;
+use std::marker::Model;
+
+/// Reads the words that an iterator gives, in their order.
+///
+/// As a stack and as a queue alike, the iterator's first item is read first. An item `Err(error)` is
+/// the read's error, and the reads after it go on with the items behind it. Once the iterator has
+/// ended it is not called again. Contracts see the iterator, and whether it has ended.
+///
+/// ```
+/// let words = [Ok(9u32), Ok(7)].to_vec(alloc)?;
+/// let mut backend = FallibleIteratorReadWords::new(words.into_iter());
+/// ReadWords::<u32, Stack>::read(&mut backend) // Ok(Some(9))
+/// ```
+#[derive(Debug, Drop)]
+pub struct FallibleIteratorReadWords<Iter: Iterator> {
+    inner: Fuse<Iter>,
+}
+
+impl<Iter: Iterator> Model for FallibleIteratorReadWords<Iter> {
+    ghost use Rattle.std.specs.Prelude.{◌≡◌, Bool, false};
+    ghost use Rattle.std.specs.Coded.{coded×, coded_bool};
+    ghost use Rattle.std.specs.Iterator.Adapters.{fuse_done, fuse_source};
+
+    ghost Value = { Iter × Bool };
+
+    ghost coded = { coded× Iter.code coded_bool };
+
+    ghost view = { λ a. (fuse_source a.inner, fuse_done a.inner) };
+
+    ghost invariant = { λ a. fuse_done a.inner ≡ false → Iter.can_next (fuse_source a.inner) };
+}
+
+impl<Word, ReadError, Iter: Iterator<Item = Result<Word, ReadError>>> FallibleIteratorReadWords<
+    Iter,
+> {
+    /// A backend over an iterator. The lists that it can give are those that the iterator can give.
+    pub fn new(iter: Iter) -> Self
+        requires { Iter.can_next iter }
+        ensures value { result ≡ (iter, false) }
+        ensures lists { (results : List (Result Word ReadError)) → Drains Iter.next_gives iter results ↔ CanGive (FusedRead Iter.next_gives) result results }
+    {
+        FallibleIteratorReadWords { inner: iter.fuse() }
+    }
+}
+
+impl<Iter: Iterator> IntoIterator for FallibleIteratorReadWords<Iter> {
+    type Item = Iter::Item;
+
+    type IntoIter = Fuse<Iter>;
+
+    ghost into_iter_gives = { λ backend rest. (fuse_source rest ≡ backend.0) × (fuse_done rest ≡ backend.1) × (fuse_done rest ≡ false → Iter.can_next (fuse_source rest)) };
+
+    /// The iterator as the reads left it, which gives nothing more once it has ended.
+    fn into_iter(self) -> Fuse<Iter> {
+        let FallibleIteratorReadWords { inner } = self;
+        inner
+    }
+}
+
+impl<Word, ReadError, S: Semantics, Iter: Iterator<Item = Result<Word, ReadError>>> Holds<Word, S>
+    for FallibleIteratorReadWords<Iter> {
+    ghost words = { λ _. [] };
+
+    ghost is_list = { ⊥ };
+}
+
+impl<Word, ReadError, S: Semantics, Iter: Iterator<Item = Result<Word, ReadError>>> ReadWords<
+    Word,
+    S,
+> for FallibleIteratorReadWords<Iter> {
+    type ReadError = ReadError;
+
+    ghost reads = { FusedRead Iter.next_gives };
+
+    ghost seems_exhausted = { λ _. true };
+
+    fn read(&mut self) -> Result<Option<Word>, ReadError> {
+        match self.inner.next() {
+            Some(Ok(word)) => Ok(Some(word)),
+            Some(Err(error)) => Err(error),
+            None => Ok(None),
+        }
+    }
+
+    fn maybe_exhausted(&self) -> bool {
+        true
+    }
+}

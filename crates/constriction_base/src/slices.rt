@@ -1,0 +1,62 @@
+//! Borrowed words, as a buffer and as what turns into a cursor: as a stack at the end of the words, as a
+//! queue at their beginning.
+
+ghost use Rattle.std.specs.Prelude.{◌≡◌, List, length, reverse, take, drop};
+
+use crate::backends::{Holds, IntoReadWords, IntoSeekReadWords, Queue, Stack, Words};
+use crate::cursor::Cursor;
+use constriction_words::BitArray;
+
+mod mutable;
+
+impl<'a, Word: BitArray + 'a> Holds<Word, Stack> for &'a [Word] {
+    ghost words = { λ s. reverse s.now };
+
+    ghost is_list = { Unit {0} };
+}
+
+impl<'a, Word: BitArray + 'a> Holds<Word, Queue> for &'a [Word] {
+    ghost words = { λ s. s.now };
+
+    ghost is_list = { Unit {0} };
+}
+
+impl<'a, Word: BitArray + 'a> Words<Word> for &'a [Word] {
+    ghost lent = { λ s. s.now };
+
+    fn words(&self) -> &[Word] {
+        self
+    }
+}
+
+impl<'a, Word: BitArray + 'a> IntoReadWords<Word, Stack> for &'a [Word] {
+    type IntoReadWords = Cursor<Word, &'a [Word]>;
+
+    fn into_read_words(self) -> Cursor<Word, &'a [Word]> {
+        Cursor::new_at_write_end(self)
+    }
+}
+
+impl<'a, Word: BitArray + 'a> IntoReadWords<Word, Queue> for &'a [Word] {
+    type IntoReadWords = Cursor<Word, &'a [Word]>;
+
+    fn into_read_words(self) -> Cursor<Word, &'a [Word]> {
+        Cursor::new_at_write_beginning(self)
+    }
+}
+
+impl<'a, Word: BitArray + 'a> IntoSeekReadWords<Word, Stack> for &'a [Word] {
+    type IntoSeekReadWords = Cursor<Word, &'a [Word]>;
+
+    fn into_seek_read_words(self) -> Cursor<Word, &'a [Word]> {
+        IntoReadWords::<Word, Stack>::into_read_words(self)
+    }
+}
+
+impl<'a, Word: BitArray + 'a> IntoSeekReadWords<Word, Queue> for &'a [Word] {
+    type IntoSeekReadWords = Cursor<Word, &'a [Word]>;
+
+    fn into_seek_read_words(self) -> Cursor<Word, &'a [Word]> {
+        IntoReadWords::<Word, Queue>::into_read_words(self)
+    }
+}

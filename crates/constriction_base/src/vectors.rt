@@ -1,0 +1,139 @@
+//! A vector of words as a stack, whose last word is the first to be read.
+//!
+//! Its writes and `prepare` answer want of memory, and nothing else; reading it never fails, takes no
+//! memory and keeps the capacity. Any allocator serves.
+
+ghost use Rattle.std.specs.Prelude.{◌≡◌, ◌+◌, ◌-◌, ℕ, true, false, List, [], ◌∷◌, ◌++◌, ◌<◌, ◌≤◌, ◌==◌, Option, Result, Ok, Err, None, length, reverse, IsTrue, vec_len, vec_capacity, slice_set, take};
+ghost use Rattle.constriction_base.specs.Backends.{Reads};
+ghost use Rattle.constriction_base.specs.Room.{no_room_left, room_for};
+
+use crate::backends::{
+    BoundedReadWords, Holds, Pos, PosSeek, Queue, ReadWords, Seek, Stack, Words, WordsMut,
+    WriteWords,
+};
+use constriction_words::BitArray;
+use std::alloc::{AllocError, Allocator};
+use std::convert::Infallible;
+
+mod conversions;
+mod references;
+
+impl<Word: BitArray, A: Allocator> Holds<Word, Stack> for Vec<Word, A> {
+    ghost words = { λ v. reverse v.items };
+
+    ghost is_list = { Unit {0} };
+}
+
+impl<Word: BitArray, A: Allocator> Holds<Word, Queue> for Vec<Word, A> {
+    ghost words = { λ v. v.items };
+
+    ghost is_list = { Unit {0} };
+}
+
+impl<Word: BitArray, A: Allocator> ReadWords<Word, Stack> for Vec<Word, A> {
+    type ReadError = Infallible;
+
+    ghost reads = { λ old r new. Reads (reverse old.items) r (reverse new.items) × (vec_capacity new ≡ vec_capacity old) };
+
+    ghost seems_exhausted = { λ v. vec_len v == 0 };
+
+    #[tactic(auto, using(crate::proofs::Ends::reverse_push))]
+    fn read(&mut self) -> Result<Option<Word>, Infallible> {
+        Ok(self.pop())
+    }
+
+    #[tactic(auto, using(crate::proofs::Ends::reverse_empty))]
+    fn maybe_exhausted(&self) -> bool {
+        self.is_empty()
+    }
+}
+
+impl<Word: BitArray, A: Allocator> BoundedReadWords<Word, Stack> for Vec<Word, A> {
+    #[tactic(auto, using(std::proofs::lemmas::Grind::common_steps))]
+    fn remaining(&self) -> usize {
+        self.len()
+    }
+
+    ghost knows_words = { tt };
+}
+
+impl<Word: BitArray, A: Allocator> WriteWords<Word> for Vec<Word, A> {
+    type WriteError = AllocError;
+
+    ghost write_fails = { λ v _. vec_capacity v ≤ vec_len v };
+
+    ghost prepare_fails = { λ v n _. vec_capacity v - vec_len v < n };
+
+    ghost room = { λ v. vec_capacity v - vec_len v };
+
+    ghost makes_room = { Unit {0} };
+
+    ghost is_lack_of_room = { λ _. ⊥ };
+
+    ghost seems_full = { λ _. false };
+
+    #[tactic(auto, using(crate::proofs::Ends::reverse_push))]
+    fn write(&mut self, word: Word) -> Result<(), AllocError> {
+        self.push(word)?;
+        Ok(())
+    }
+
+    fn maybe_full(&self) -> bool {
+        false
+    }
+
+    fn prepare(&mut self, count: usize) -> Result<(), AllocError> {
+        self.reserve(count)
+    }
+
+    ghost room_law = { λ v e. no_room_left (vec_capacity v) (vec_len v) };
+
+    ghost prepare_law = { λ v count e. room_for (vec_capacity v - vec_len v) count };
+
+    ghost knows_words = { tt };
+}
+
+impl<Word: BitArray, A: Allocator> PosSeek for Vec<Word, A> {
+    /// How many words stand before the position.
+    type Position = usize;
+}
+
+impl<Word: BitArray, A: Allocator> Pos for Vec<Word, A> {
+    ghost stands_at = { λ v position. position ≡ vec_len v };
+
+    fn pos(&self) -> usize {
+        self.len()
+    }
+}
+
+impl<Word: BitArray, A: Allocator> Seek for Vec<Word, A> {
+    ghost can_seek = { λ v position. position ≤ vec_len v };
+
+    ghost sought = { λ old position new. (new.items ≡ take position old.items) × (vec_capacity new ≡ vec_capacity old) };
+
+    fn seek(&mut self, position: usize) -> Result<(), ()> {
+        if position > self.len() {
+            return Err(());
+        }
+        self.truncate(position);
+        Ok(())
+    }
+}
+
+impl<Word: BitArray, A: Allocator> Words<Word> for Vec<Word, A> {
+    ghost lent = { λ v. v.items };
+
+    fn words(&self) -> &[Word] {
+        self.as_slice()
+    }
+}
+
+impl<Word: BitArray, A: Allocator> WordsMut<Word> for Vec<Word, A> {
+    fn set_word(&mut self, index: usize, word: Word) {
+        self[index] = word;
+    }
+
+    fn reverse_words(&mut self) {
+        self.as_mut_slice().reverse();
+    }
+}

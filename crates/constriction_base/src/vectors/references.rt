@@ -1,0 +1,62 @@
+//! A borrowed vector of words, as a buffer and as what turns into a cursor over its words.
+
+ghost use Rattle.std.specs.Prelude.{◌≡◌, List, length, reverse, take, drop};
+
+use crate::backends::{Holds, IntoReadWords, IntoSeekReadWords, Queue, Stack, Words};
+use crate::cursor::Cursor;
+use constriction_words::BitArray;
+use std::alloc::Allocator;
+
+impl<'a, Word: BitArray + 'a, A: Allocator + 'a> Holds<Word, Stack> for &'a Vec<Word, A> {
+    ghost words = { λ v. reverse v.now.items };
+
+    ghost is_list = { Unit {0} };
+}
+
+impl<'a, Word: BitArray + 'a, A: Allocator + 'a> Holds<Word, Queue> for &'a Vec<Word, A> {
+    ghost words = { λ v. v.now.items };
+
+    ghost is_list = { Unit {0} };
+}
+
+impl<'a, Word: BitArray + 'a, A: Allocator + 'a> Words<Word> for &'a Vec<Word, A> {
+    ghost lent = { λ v. v.now.items };
+
+    fn words(&self) -> &[Word] {
+        self.as_slice()
+    }
+}
+
+impl<'a, Word: BitArray + 'a, A: Allocator + 'a> IntoReadWords<Word, Stack> for &'a Vec<Word, A> {
+    type IntoReadWords = Cursor<Word, &'a [Word]>;
+
+    fn into_read_words(self) -> Cursor<Word, &'a [Word]> {
+        Cursor::new_at_write_end(self.as_slice())
+    }
+}
+
+impl<'a, Word: BitArray + 'a, A: Allocator + 'a> IntoReadWords<Word, Queue> for &'a Vec<Word, A> {
+    type IntoReadWords = Cursor<Word, &'a [Word]>;
+
+    fn into_read_words(self) -> Cursor<Word, &'a [Word]> {
+        Cursor::new_at_write_beginning(self.as_slice())
+    }
+}
+
+impl<'a, Word: BitArray + 'a, A: Allocator + 'a> IntoSeekReadWords<Word, Stack>
+    for &'a Vec<Word, A> {
+    type IntoSeekReadWords = Cursor<Word, &'a [Word]>;
+
+    fn into_seek_read_words(self) -> Cursor<Word, &'a [Word]> {
+        IntoReadWords::<Word, Stack>::into_read_words(self)
+    }
+}
+
+impl<'a, Word: BitArray + 'a, A: Allocator + 'a> IntoSeekReadWords<Word, Queue>
+    for &'a Vec<Word, A> {
+    type IntoSeekReadWords = Cursor<Word, &'a [Word]>;
+
+    fn into_seek_read_words(self) -> Cursor<Word, &'a [Word]> {
+        IntoReadWords::<Word, Queue>::into_read_words(self)
+    }
+}

@@ -1,0 +1,66 @@
+//! Where a search for a quantile's symbol begins and ends: hints by the quantile's high bits.
+
+ghost use Rattle.std.specs.Prelude.{◌≡◌, ◌+◌, ◌-◌, ◌^◌, ◌<◌, ◌≤◌, length, map, slice_index, OnOk, IfOk};
+ghost use Rattle.constriction_base.specs.Tables.{IsRising, end_of};
+ghost use Rattle.constriction_base.specs.Hints.{AreHints};
+
+use constriction_words::BitArray;
+use std::alloc::{AllocError, Global};
+
+/// How many low bits of a quantile its bucket leaves out, where there are so many symbols: so many
+/// that there are from two to four buckets for each symbol, if the precision has as many.
+pub fn shift_for(symbols: usize, precision: usize) -> u32
+    requires some { 0 < symbols }
+    requires within { (1 ≤ precision) × (precision ≤ 128) }
+    ensures within { result < precision }
+    ensures fits { precision - result ≤ 32 }
+{
+    let precision = precision as u32;
+    precision - precision.min(symbols.ilog2() + 2).min(32)
+}
+
+/// The last symbol, from this one on, whose interval begins at or below the quantile.
+fn symbol_from<Probability: BitArray>(
+    starts: &[Probability],
+    from: usize,
+    quantile: Probability,
+) -> usize
+    requires within { from < length starts.now }
+    requires above { slice_index (map Probability.number starts.now) from ≤ Probability.number quantile }
+    ensures order { from ≤ result }
+    ensures within { result < length starts.now }
+    ensures above { slice_index (map Probability.number starts.now) result ≤ Probability.number quantile }
+    ensures below { result + 1 < length starts.now → Probability.number quantile < slice_index (map Probability.number starts.now) (result + 1) }
+{
+    let mut symbol = from;
+    while symbol + 1 < starts.len() && !quantile.is_below(starts[symbol + 1]) {
+        symbol += 1;
+    }
+    symbol
+}
+
+/// For each bucket of quantiles the symbol of its first, and behind them the last symbol.
+pub fn hints_of<Probability: BitArray, const PRECISION: usize>(
+    alloc: Global,
+    starts: &[Probability],
+    shift: u32,
+) -> Result<Vec<usize>, AllocError>
+    requires sized { (1 ≤ PRECISION) × (PRECISION ≤ Probability.BITS) }
+    requires some { 0 < length starts.now }
+    requires rising { IsRising (map Probability.number starts.now) (2 ^ PRECISION) }
+    requires within { (shift < PRECISION) × (PRECISION - shift ≤ 32) }
+    ensures len { IfOk result (λ hints. length hints.items ≡ 2 ^ (PRECISION - shift) + 1) }
+    ensures hinted { IfOk result (λ hints. AreHints (map Probability.number starts.now) (2 ^ PRECISION) (2 ^ shift) hints.items) }
+{
+    let width = Probability::unit().shifted_left(shift);
+    let mut first = Probability::nothing();
+    let mut symbol = 0;
+    let mut hints = Vec::new(alloc);
+    for bucket in 0..1usize << (PRECISION as u32 - shift) {
+        symbol = symbol_from(starts, symbol, first);
+        hints.push(symbol)?;
+        first = first.wrapping_plus(width);
+    }
+    hints.push(starts.len() - 1)?;
+    Ok(hints)
+}

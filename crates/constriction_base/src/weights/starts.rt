@@ -1,0 +1,65 @@
+//! Where the intervals of weights begin, and whether they end at two to the precision.
+
+ghost use Rattle.std.specs.Prelude.{◌≡◌, ◌≢◌, ◌+◌, ◌^◌, ◌<◌, ◌≤◌, length, map, sum_by, IfOk, IfSome, IfNone};
+ghost use Rattle.constriction_base.specs.Tables.{Sums, IsLastSymbol};
+
+use constriction_words::BitArray;
+use std::alloc::{AllocError, Global};
+
+/// The number of ones below a place.
+pub fn ones<Word: BitArray>(count: usize) -> Word
+    requires { (1 ≤ count) × (count ≤ Word.BITS) }
+    ensures { Word.number result + 1 ≡ 2 ^ count }
+{
+    Word::greatest().shifted_right(Word::BITS - count as u32)
+}
+
+/// How many symbols there are, up to the last of a weight above 0, where the total is two to the precision.
+pub fn known_symbols<Probability: BitArray, const PRECISION: usize>(
+    weights: &[Probability],
+) -> Option<usize>
+    requires { (1 ≤ PRECISION) × (PRECISION ≤ Probability.BITS) }
+    ensures some { IfSome result (λ n. IsLastSymbol Probability.number weights.now n (2 ^ PRECISION) (2 ^ Probability.BITS)) }
+    ensures none { IfNone result (sum_by Probability.number weights.now ≢ 2 ^ PRECISION) }
+{
+    let last = ones::<Probability>(PRECISION);
+    let one = Probability::unit();
+    let mut left = Probability::nothing();
+    let mut known = 0;
+    for (i, weight) in weights.iter().enumerate() {
+        if !weight.is_nothing() {
+            if known > 0 {
+                return None; // there is nothing left of the total
+            }
+            let rest = last.minus(left);
+            let less = weight.minus(one);
+            if rest.is_below(less) {
+                return None; // there is less left of the total
+            }
+            if less.is_below(rest) {
+                left = left.plus(*weight);
+            } else {
+                known = i + 1;
+            }
+        }
+    }
+    if known > 0 { Some(known) } else { None }
+}
+
+/// Where the intervals of these weights begin, and where one behind them would.
+pub fn starts_of<Probability: BitArray>(
+    alloc: Global,
+    weights: &[Probability],
+) -> Result<Vec<Probability>, AllocError>
+    requires { sum_by Probability.number weights.now < 2 ^ Probability.BITS }
+    ensures { IfOk result (λ starts. Sums Probability.number weights.now (map Probability.number starts.items) (length weights.now + 1)) }
+{
+    let mut left = Probability::nothing();
+    let mut starts = Vec::new(alloc);
+    starts.push(left)?;
+    for weight in weights {
+        left = left.plus(*weight);
+        starts.push(left)?;
+    }
+    Ok(starts)
+}
