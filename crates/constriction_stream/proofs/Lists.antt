@@ -1,0 +1,26 @@
+-- Lists of steps.
+use Rattle.std.specs.Iterator.{Yields}
+use Rattle.std.proofs.Common.{◌≡◌, ◌∙◌, ap, Option, Some, List, [], ◌∷◌, ◌++◌, Result, Ok, refl, sym, subst, map}
+use Rattle.constriction_stream.specs.Lists.{StepsAll}
+
+-- one step more, at the end
+pub StepsAll-more : {C A E : Type 0} (step : C → A → Result (Unit {0}) E → C → Type 0) (old : C) (xs : List A) (mid : C) (x : A) (new : C)
+    → StepsAll step old xs mid → step mid x (Ok tt) new → StepsAll step old (xs ++ x ∷ []) new
+StepsAll-more step old [] mid x new all last = (new, subst (λ at. step at x (Ok tt) new) (sym all) last, refl)
+StepsAll-more step old (y ∷ xs) mid x new all last = (all.0, all.1, StepsAll-more step all.0 xs mid x new all.2 last)
+
+-- steps at items are steps at what the items stand for
+pub StepsAll-map : {C A B E : Type 0} (f : A → B) (step : C → A → Result (Unit {0}) E → C → Type 0) (other : C → B → Result (Unit {0}) E → C → Type 0)
+    → ((old new : C) (x : A) → step old x (Ok tt) new → other old (f x) (Ok tt) new)
+    → (old : C) (xs : List A) (new : C) → StepsAll step old xs new → StepsAll other old (map f xs) new
+StepsAll-map f step other each old [] new all = all
+StepsAll-map f step other each old (x ∷ xs) new all =
+    (all.0, each old all.0 x all.1, StepsAll-map f step other each all.0 xs new all.2)
+
+-- what an iterator over a list has given is the front of the list
+pub Yields-front : {S A B : Type 0} (steps : S → Option A → S → Type 0) (rest : S → List B) (view : A → B)
+    → ((s t : S) (x : A) → steps s (Some x) t → rest s ≡ view x ∷ rest t)
+    → (s : S) (xs : List A) (t : S) → Yields steps s xs t → rest s ≡ map view xs ++ rest t
+Yields-front steps rest view each s [] t run = ap rest run
+Yields-front steps rest view each s (x ∷ xs) t run =
+    each s run.0 x run.1 ∙ ap (λ ys. view x ∷ ys) (Yields-front steps rest view each run.0 xs t run.2)

@@ -1,0 +1,29 @@
+use Rattle.std.proofs.Common.{arith}
+use Rattle.constriction_stream.specs.Symbols.{EncodesPair}
+use Rattle.constriction_stream.proofs.Lists.{StepsAll-more}
+use Rattle.constriction_stream.proofs.encoding.Encode.encode_symbols.Goals as goal
+
+pub returns-in-Err : goal.returns-in-Err
+returns-in-Err g c = record {
+  steps = (
+    c.into_iter-symbol-iterator.result,
+    c.into_iter-symbol-iterator.ensures.into_iter_gives,
+    c.loop-symbol.yielded,
+    c.loop-symbol.self,
+    c.loop-symbol.invariant.2,
+    ((c.in-Some.symbol, c.in-Some.model), c.next.new.self, (c.loop-symbol.symbol-iterator, c.loop-symbol.yielded_by, c.in-Some.ensures.steps), rw c.lend.ensures at c.in-Err.ensures.step),
+  );
+  left = λ count most. omega (arith, most c.into_iter-symbol-iterator.result c.into_iter-symbol-iterator.ensures.into_iter_gives, (c.in-Some.ensures.goes.on c.loop-symbol.invariant.1).2, c.encode_symbol.ensures.left, c.loop-symbol.invariant.4);
+}
+
+pub loop-symbol-preserved : goal.loop-symbol-preserved
+loop-symbol-preserved g c =
+    let on = c.in-Some.ensures.goes.on c.loop-symbol.invariant.1 in (
+      on.0,
+      on.1,
+      StepsAll-more (EncodesPair g.Self.Encode.encodes g.Self.Encode.is_unknown_symbol g.row.PRECISION g.M.EntropyModel.table g.S.Lent.lent)
+          c.args.self.now c.loop-symbol.yielded c.loop-symbol.self (c.in-Some.symbol, c.in-Some.model) c.encode_symbol.new.self
+          c.loop-symbol.invariant.2 (rw c.lend.ensures at c.in-Ok.ensures.step),
+      omega (arith, on.2, c.encode_symbol.ensures.left, c.loop-symbol.invariant.3),
+      omega (arith, on.2, c.encode_symbol.ensures.left, c.loop-symbol.invariant.4),
+    )

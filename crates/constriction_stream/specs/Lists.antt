@@ -1,0 +1,53 @@
+-- What list calls and iterators do: a step at each item, in order.
+use Rattle.std.specs.Prelude.{◌≡◌, ℕ, ◌+◌, ◌≤◌, List, [], ◌∷◌, Option, None, Some, Result, Ok, Err, MatchOption, MatchResult}
+use Rattle.std.specs.Iterator.{Count, IsFinite, size, Drains, YieldsThen}
+use Rattle.constriction_stream.specs.declared.errors.TryCodingError.{TryCodingError}
+use Rattle.constriction_stream.specs.declared.errors.TryCodingError.TheVariants.{InvalidEntropyModel, CodingError}
+
+-- steps at the items in order, none of which is refused, lead from old to new
+abbrev pub StepsAll : {C A E : Type 0} → (C → A → Result (Unit {0}) E → C → Type 0) → C → List A → C → Type 0
+StepsAll step old [] new = old ≡ new
+StepsAll {C = C} step old (x ∷ xs) new = (mid : C) × step old x (Ok tt) mid × StepsAll step mid xs new
+
+-- steps at an iterator's items in order up to the first that is refused: exactly the items before it were coded
+abbrev pub StepsUntilFault : {C I A E : Type 0} → (C → A → Result (Unit {0}) E → C → Type 0) → (I → Type 0) → (I → Option A → I → Type 0)
+    → C → Result (Unit {0}) E → C → Type 0
+StepsUntilFault {C} {I} {A} step gives next old result new =
+    (iterator : I) × gives iterator × (coded : List A) × (mid : C) × StepsAll step old coded mid
+    × MatchResult result
+    (λ _. (mid ≡ new) × Drains next iterator coded)
+    (λ e. (item : A) × (rest : I) × YieldsThen next iterator coded (Some item) rest × step mid item (Err e) new)
+
+-- each such iterator can be asked, ends, and gives at most so many items
+abbrev pub GivesAtMost : {I : Type 0} → (I → Type 0) → (I → Type 0) → (I → Count) → ℕ → Type 0
+GivesAtMost {I} gives can_next remaining count =
+    (iterator : I) → gives iterator → can_next iterator × IsFinite (remaining iterator) × (size (remaining iterator) ≤ count)
+
+-- what is left is lowered by no more than the items that each such iterator gives at most
+abbrev pub LowersByItems : {I : Type 0} → (I → Type 0) → (I → Count) → ℕ → ℕ → Type 0
+LowersByItems {I} gives remaining old new =
+    (count : ℕ) → ((iterator : I) → gives iterator → size (remaining iterator) ≤ count) → old ≤ new + count
+
+-- what a step answers, as the answer of a call whose items may be errors
+abbrev pub as_tried : {T E Q : Type 0} → Result T E → Result T (TryCodingError E Q)
+as_tried (Ok x) = Ok x
+as_tried (Err e) = Err (CodingError e)
+
+-- the step at an item; or, at an error in its place, this error and the coder as it was
+abbrev pub TriesItem : {C A T E Q : Type 0} → (C → A → Result T E → C → Type 0) → C → Result A Q → Result T (TryCodingError E Q) → C → Type 0
+TriesItem {T = T} {E = E} step old (Ok item) result new = (answer : Result T E) × step old item answer new × (result ≡ as_tried answer)
+TriesItem step old (Err q) result new = (result ≡ Err (InvalidEntropyModel q)) × (new ≡ old)
+
+-- a call of `next`: no model was left, and the coder is as it was; or one model was taken, and this is the answer at it
+abbrev pub AnswersNext : {C I A T : Type 0} → (C → A → T → C → Type 0) → (I → Option A → I → Type 0) → I → C → Option T → I → C → Type 0
+AnswersNext {A = A} step next models old result rest new =
+    MatchOption result
+    (next models None rest × (new ≡ old))
+    (λ answer. (model : A) × next models (Some model) rest × step old model answer new)
+
+-- the same where a number of answers by one model is left
+abbrev pub CountsDown : {C T : Type 0} → (C → T → C → Type 0) → ℕ → C → Option T → ℕ → C → Type 0
+CountsDown step amt old result rest new =
+    MatchOption result
+    ((amt ≡ 0) × (rest ≡ 0) × (new ≡ old))
+    (λ answer. (amt ≡ rest + 1) × step old answer new)

@@ -1,0 +1,177 @@
+//! Encoders: steps, and lists of steps.
+
+ghost use Rattle.std.specs.Prelude.{◌≡◌, ◌+◌, ◌<◌, ◌≤◌, ℕ, Result};
+ghost use Rattle.std.specs.Bool.{OnFalse};
+ghost use Rattle.constriction_base.specs.Steps.{Step};
+ghost use Rattle.constriction_base.specs.declared.errors.CoderError.{CoderError};
+ghost use Rattle.constriction_stream.specs.Symbols.{EncodesSymbol, EncodesPair};
+ghost use Rattle.constriction_stream.specs.Lists.{StepsUntilFault, GivesAtMost, LowersByItems, TriesItem};
+
+use crate::coder::Code;
+use crate::errors::TryCodingError;
+use constriction_base::errors::CoderError;
+use constriction_base::model::{EncoderModel, EntropyModel};
+use constriction_words::WordOf;
+
+/// What lends a symbol, as `&Symbol` does. List calls take symbols in this way.
+pub trait Lent<Symbol> {
+    /// The symbol that it lends.
+    ghost lent: { Self → Symbol };
+
+    /// The symbol.
+    fn lend(&self) -> &Symbol
+        ensures { result.now ≡ lent self.now };
+}
+
+impl<Symbol> Lent<Symbol> for &Symbol {
+    ghost lent = { λ symbol. symbol.now };
+
+    fn lend(&self) -> &Symbol {
+        *self
+    }
+}
+
+/// A coder that takes symbols, under models of `PRECISION` bits.
+///
+/// `PRECISION` is at least 1 and at most the number of bits of a word, which the models promise.
+pub trait Encode<const PRECISION: usize>: Code {
+    /// Why the coder itself refuses a step, as that the model doesn't know the symbol.
+    type FrontendError;
+
+    /// Why what holds the compressed data refuses a step.
+    type BackendError;
+
+    /// What the step of an interval may answer, and the coder that it leaves.
+    ghost encodes: { Self → Step → Result (Unit {0}) (CoderError Self.FrontendError Self.BackendError) → Self → Type 0 };
+
+    /// The error says that the model doesn't know the symbol.
+    ghost is_unknown_symbol: { Self.FrontendError → Type 0 };
+
+    /// How many more symbols the coder can be asked to encode.
+    ghost symbols_left: { Self → ℕ };
+
+    /// What the coder promises where `maybe_full` answers false.
+    ghost has_room: { Self → Type 0 };
+
+    /// How many more symbols the coder can be asked to encode. A step lowers it by 1 at most. It is
+    /// `usize::MAX` for coders that know no such limit.
+    fn symbols_left(&self) -> usize
+        ensures { result ≡ symbols_left self.now };
+
+    /// Encodes a symbol by the model's interval for it. At least one symbol must be left.
+    ///
+    /// Errors:
+    /// - `Frontend(error)`, where the model doesn't know the symbol. The coder is as before.
+    /// - `Frontend(error)` and `Backend(error)` where the coder refuses the step, as `encodes` says.
+    fn encode_symbol<M>(
+        &mut self,
+        symbol: &M::Symbol,
+        model: M,
+    ) -> Result<(), CoderError<Self::FrontendError, Self::BackendError>>
+    where
+        M: EncoderModel<PRECISION>,
+        M::Probability: WordOf<Self::Word>,
+        requires { 0 < symbols_left self.old }
+        ensures step { EncodesSymbol encodes is_unknown_symbol PRECISION (M.table model) symbol.now self.old result self.new }
+        ensures left { symbols_left self.old ≤ symbols_left self.new + 1 };
+
+    /// Encodes symbols in order, each by its own model, up to the first that is refused. As many symbols
+    /// must be left as there are items.
+    ///
+    /// Errors: that of the first step that is refused. Exactly the symbols before it are encoded, and the
+    /// items behind it aren't asked for.
+    fn encode_symbols<S, M, I>(
+        &mut self,
+        symbols_and_models: I,
+    ) -> Result<(), CoderError<Self::FrontendError, Self::BackendError>>
+    where
+        M: EncoderModel<PRECISION>,
+        M::Probability: WordOf<Self::Word>,
+        S: Lent<M::Symbol> + Drop,
+        I: IntoIterator<Item = (S, M)>,
+        I::IntoIter: Drop,
+        requires { GivesAtMost (I.into_iter_gives symbols_and_models) I.IntoIter.can_next I.IntoIter.remaining (symbols_left self.old) }
+        ensures steps { StepsUntilFault (EncodesPair encodes is_unknown_symbol PRECISION M.table S.lent)
+            (I.into_iter_gives symbols_and_models) I.IntoIter.next_gives self.old result self.new }
+        ensures left { LowersByItems (I.into_iter_gives symbols_and_models) I.IntoIter.remaining (symbols_left self.old) (symbols_left self.new) }
+    {
+        for (symbol, model) in symbols_and_models {
+            match self.encode_symbol(symbol.lend(), model) {
+                Ok(()) => {}
+                Err(error) => return Err(error),
+            }
+        }
+        Ok(())
+    }
+
+    /// Encodes symbols in order, each by its own model, where an item may be an error in place of both.
+    /// As many symbols must be left as there are items.
+    ///
+    /// Errors, after which exactly the symbols before the item are encoded:
+    /// - `InvalidEntropyModel(error)`, where an item is an error. It leaves the coder.
+    /// - `CodingError(error)`, where a step is refused.
+    fn try_encode_symbols<S, M, E, I>(
+        &mut self,
+        symbols_and_models: I,
+    ) -> Result<(), TryCodingError<CoderError<Self::FrontendError, Self::BackendError>, E>>
+    where
+        M: EncoderModel<PRECISION>,
+        M::Probability: WordOf<Self::Word>,
+        S: Lent<M::Symbol> + Drop,
+        I: IntoIterator<Item = Result<(S, M), E>>,
+        I::IntoIter: Drop,
+        requires { GivesAtMost (I.into_iter_gives symbols_and_models) I.IntoIter.can_next I.IntoIter.remaining (symbols_left self.old) }
+        ensures steps { StepsUntilFault (TriesItem (EncodesPair encodes is_unknown_symbol PRECISION M.table S.lent))
+            (I.into_iter_gives symbols_and_models) I.IntoIter.next_gives self.old result self.new }
+        ensures left { LowersByItems (I.into_iter_gives symbols_and_models) I.IntoIter.remaining (symbols_left self.old) (symbols_left self.new) }
+    {
+        for symbol_and_model in symbols_and_models {
+            let (symbol, model) = match symbol_and_model {
+                Ok(pair) => pair,
+                Err(error) => return Err(TryCodingError::InvalidEntropyModel(error)),
+            };
+            match self.encode_symbol(symbol.lend(), model) {
+                Ok(()) => {}
+                Err(error) => return Err(TryCodingError::CodingError(error)),
+            }
+        }
+        Ok(())
+    }
+
+    /// Encodes symbols in order, all by one model, up to the first that is refused. As many symbols must be
+    /// left as there are items.
+    ///
+    /// Errors: that of the first step that is refused. Exactly the symbols before it are encoded, and those
+    /// behind it aren't asked for.
+    fn encode_iid_symbols<S, M, I>(
+        &mut self,
+        symbols: I,
+        model: M,
+    ) -> Result<(), CoderError<Self::FrontendError, Self::BackendError>>
+    where
+        M: EncoderModel<PRECISION> + Copy,
+        M::Probability: WordOf<Self::Word>,
+        S: Lent<M::Symbol> + Drop,
+        I: IntoIterator<Item = S>,
+        I::IntoIter: Drop,
+        requires { GivesAtMost (I.into_iter_gives symbols) I.IntoIter.can_next I.IntoIter.remaining (symbols_left self.old) }
+        ensures steps { StepsUntilFault (λ old symbol result new. EncodesSymbol encodes is_unknown_symbol PRECISION (M.table model) (S.lent symbol) old result new)
+            (I.into_iter_gives symbols) I.IntoIter.next_gives self.old result self.new }
+        ensures left { LowersByItems (I.into_iter_gives symbols) I.IntoIter.remaining (symbols_left self.old) (symbols_left self.new) }
+    {
+        for symbol in symbols {
+            match self.encode_symbol(symbol.lend(), model) {
+                Ok(()) => {}
+                Err(refusal) => return Err(refusal),
+            }
+        }
+        Ok(())
+    }
+
+    /// Whether the next step may be refused for lack of room. False promises that it is not.
+    fn maybe_full(&self) -> bool
+        ensures { OnFalse result (has_room self.now) }
+    {
+        true
+    }
+}

@@ -1,0 +1,70 @@
+//! A number of symbols by one model.
+
+ghost use Rattle.std.specs.Prelude.{◌≡◌, IfSome, Some};
+ghost use Rattle.std.specs.Iterator.{UpTo, at_most};
+ghost use Rattle.std.specs.Iterator.SizeHint.{IsWithinCount};
+ghost use Rattle.constriction_stream.specs.Symbols.{DecodesSymbol};
+ghost use Rattle.constriction_stream.specs.Lists.{CountsDown};
+
+use crate::decoding::Decode;
+use constriction_base::errors::CoderError;
+use constriction_base::model::{DecoderModel, EntropyModel};
+use constriction_words::WordOf;
+
+/// Decodes a number of symbols, all by one model.
+#[derive(Debug, Drop)]
+pub struct DecodeIidSymbols<'a, Decoder, M, const PRECISION: usize> {
+    /// The decoder, which stands after the symbols that were taken.
+    pub decoder: &'a mut Decoder,
+    /// The model of all the symbols.
+    pub model: M,
+    /// How many symbols are still to be taken.
+    pub amt: usize,
+}
+
+impl<Decoder, M, const PRECISION: usize> Iterator for DecodeIidSymbols<'_, Decoder, M, PRECISION>
+where
+    Decoder: Decode<PRECISION>,
+    M: DecoderModel<PRECISION> + Copy,
+    M::Probability: WordOf<Decoder::Word>,
+{
+    type Item = Result<M::Symbol, CoderError<Decoder::FrontendError, Decoder::BackendError>>;
+
+    ghost next_gives = { λ old result new. (new.decoder.ghost_name ≡ old.decoder.ghost_name)
+        × (new.model ≡ old.model)
+        × CountsDown (DecodesSymbol Decoder.decodes Decoder.halts PRECISION (M.table old.model))
+        old.amt old.decoder.now result new.amt new.decoder.now };
+
+    ghost remaining = { λ old. at_most old.amt };
+
+    fn next(
+        &mut self,
+    ) -> Option<Result<M::Symbol, CoderError<Decoder::FrontendError, Decoder::BackendError>>> {
+        if self.amt != 0 {
+            self.amt -= 1;
+            Some(self.decoder.decode_symbol(self.model))
+        } else {
+            None
+        }
+    }
+
+    fn size_hint(&self) -> (usize, Option<usize>)
+        ensures lower { IsWithinCount result.0 (at_most self.now.amt) }
+        ensures upper { IfSome result.1 (UpTo (at_most self.now.amt)) }
+        ensures exact { result ≡ (self.now.amt, Some self.now.amt) }
+    {
+        (self.amt, Some(self.amt))
+    }
+}
+
+impl<Decoder, M, const PRECISION: usize> ExactSizeIterator
+    for DecodeIidSymbols<'_, Decoder, M, PRECISION>
+where
+    Decoder: Decode<PRECISION>,
+    M: DecoderModel<PRECISION> + Copy,
+    M::Probability: WordOf<Decoder::Word>,
+{
+    fn len(&self) -> usize {
+        self.amt
+    }
+}
