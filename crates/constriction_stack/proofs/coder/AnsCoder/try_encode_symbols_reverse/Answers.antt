@@ -1,0 +1,47 @@
+use Rattle.std.specs.Iterator.Adapters.{rev_source}
+use Rattle.std.proofs.Common.{refl, Ok, Err}
+use Rattle.constriction_stream.specs.Lists.{TriesItem}
+use Rattle.constriction_stream.proofs.Lists.{StepsAll-more}
+use Rattle.constriction_stack.specs.Lists.{PutsSymbol}
+use Rattle.constriction_stack.proofs.Lists.{Yields-back}
+use Rattle.constriction_stack.proofs.coder.AnsCoder.try_encode_symbols_reverse.Goals as goal
+
+pub returns-in-Err : goal.returns-in-Err
+returns-in-Err g c = (
+  rev_source c.into_iter-symbol_and_model-iterator.result,
+  rw (c.into_iter-symbol_and_model-iterator.ensures.into_iter_gives, c.rev-symbol_and_model-items.ensures.source) c.into_iter.ensures.into_iter_gives,
+  c.loop-symbol_and_model.yielded,
+  c.loop-symbol_and_model.self,
+  c.loop-symbol_and_model.invariant.2,
+  (c.in-Some.symbol_and_model, rev_source c.next.new.self, (rev_source c.loop-symbol_and_model.symbol_and_model-iterator, Yields-back g.I.IntoIter.DoubleEndedIterator.next_back_gives _ _ _ c.loop-symbol_and_model.yielded_by, c.in-Some.ensures.steps), rw c.in-Err.is (refl, refl)),
+)
+
+pub returns-in-Err-encode_symbol : goal.returns-in-Err-encode_symbol
+returns-in-Err-encode_symbol g c = (
+  rev_source c.into_iter-symbol_and_model-iterator.result,
+  rw (c.into_iter-symbol_and_model-iterator.ensures.into_iter_gives, c.rev-symbol_and_model-items.ensures.source) c.into_iter.ensures.into_iter_gives,
+  c.loop-symbol_and_model.yielded,
+  c.loop-symbol_and_model.self,
+  c.loop-symbol_and_model.invariant.2,
+  (c.in-Some.symbol_and_model, rev_source c.next.new.self, (rev_source c.loop-symbol_and_model.symbol_and_model-iterator, Yields-back g.I.IntoIter.DoubleEndedIterator.next_back_gives _ _ _ c.loop-symbol_and_model.yielded_by, c.in-Some.ensures.steps), rw c.in-Ok.is (Err c.in-Err-encode_symbol.error, rw c.lend.ensures at c.in-Err-encode_symbol.ensures.step, refl)),
+)
+
+pub returns : goal.returns
+returns g c = (
+  rev_source c.into_iter-symbol_and_model-iterator.result,
+  rw (c.into_iter-symbol_and_model-iterator.ensures.into_iter_gives, c.rev-symbol_and_model-items.ensures.source) c.into_iter.ensures.into_iter_gives,
+  c.loop-symbol_and_model.yielded,
+  c.loop-symbol_and_model.self,
+  c.loop-symbol_and_model.invariant.2,
+  (refl, (rev_source c.next.new.self, (rev_source c.loop-symbol_and_model.symbol_and_model-iterator, Yields-back g.I.IntoIter.DoubleEndedIterator.next_back_gives _ _ _ c.loop-symbol_and_model.yielded_by, c.in-None.ensures.steps))),
+)
+
+pub loop-symbol_and_model-preserved : goal.loop-symbol_and_model-preserved
+loop-symbol_and_model-preserved g c =
+    let on = c.in-Some.ensures.goes.on c.loop-symbol_and_model.invariant.1 in (
+      on.0,
+      on.1,
+      StepsAll-more (TriesItem (λ old item result new. PutsSymbol g.Word.BitArray.BITS g.State.BitArray.BITS g.Backend.WriteWords.room g.Backend.WriteWords.prepare_fails g.Backend.WriteWords.write_fails g.row.PRECISION (g.M.EntropyModel.table item.1) (g.S.Lent.lent item.0) old result new))
+          c.args.self.now c.loop-symbol_and_model.yielded c.loop-symbol_and_model.self c.in-Some.symbol_and_model c.encode_symbol.new.self
+          c.loop-symbol_and_model.invariant.2 (rw c.in-Ok.is (Ok tt, rw c.lend.ensures at c.in-Ok-encode_symbol.ensures.step, refl)),
+    )

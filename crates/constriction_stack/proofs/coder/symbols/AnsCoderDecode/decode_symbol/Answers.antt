@@ -1,0 +1,93 @@
+use Rattle.std.specs.Prelude.{◌≡◌, ℕ, ◌%◌, ◌^◌, ◌≤◌, Ok, Err}
+use Rattle.std.proofs.Common.{arith, ◌∙◌, sym, refl, inr}
+use Rattle.constriction_base.specs.Entries.{in_range}
+use Rattle.constriction_stack.proofs.Heads.{low_in_word}
+use Rattle.constriction_stack.proofs.coder.symbols.AnsCoderDecode.decode_symbol.Goals as goal
+
+pub popped-head-requires-clause-total : goal.popped-head-requires-clause-total
+popped-head-requires-clause-total g c =
+    let within = in_range _ _ _ _ _ _ (g.M.EntropyModel.lawful c.args.model).follow c.quantile_function-symbol.ensures.found in
+    rw (c.widen-2.ensures, c.widen.ensures, c.widen-4.ensures, c.widen-3.ensures, c.from_nonzero-p.ensures) within.2
+
+-- the quantile that is looked up
+quantile_is : (w v p head q : ℕ) → p ≤ w → p ≤ v → q ≡ head % 2 ^ p % 2 ^ w % 2 ^ v → q ≡ head % 2 ^ p
+quantile_is w v p head q h k e = e ∙ low_in_word head p w v h k
+
+pub returns-in-Ok-clause-ok : goal.returns-in-Ok-clause-ok
+returns-in-Ok-clause-ok g c =
+    let sized = g.met.M.EntropyModel.sized c.args.model in
+    let quantile = quantile_is g.Word.BitArray.BITS g.M.Probability.BitArray.BITS g.row.PRECISION (g.State.BitArray.number c.self.inside.state) _
+    (omega (arith, sized.1, g.met.M.Probability.WordOf.width_law)) sized.1 (rw (c.narrow.ensures, c.low_bits.ensures) at c.narrow-quantile.ensures) in
+    let covers = c.quantile_function-symbol.ensures.covers in
+    rw (← c.self.view_is) (
+      _,
+      _,
+      c.quantile_function-symbol.ensures.found,
+      record {
+        holds = record { from = rw quantile at covers.0; below = rw quantile at covers.1 };
+        popped = λ list. sym (rw (c.popped-head.ensures, c.widen-2.ensures, c.widen.ensures, c.widen-4.ensures, c.widen-3.ensures, c.from_nonzero-p.ensures) at c.in-Ok.ensures.list list);
+        refilled = rw (c.popped-head.ensures, c.widen-2.ensures, c.widen.ensures, c.widen-4.ensures, c.widen-3.ensures, c.from_nonzero-p.ensures) at c.in-Ok.ensures.run;
+        head = tt;
+        kept = tt;
+        error = tt;
+      },
+    )
+
+pub returns-in-Ok-clause-step : goal.returns-in-Ok-clause-step
+returns-in-Ok-clause-step g c =
+    let ok = returns-in-Ok-clause-ok g c in
+    (ok.0, ok.1, ok.2, (Ok tt, ok.3, refl))
+
+pub returns-clause-step : goal.returns-clause-step
+returns-clause-step g c =
+    let sized = g.met.M.EntropyModel.sized c.args.model in
+    let quantile = quantile_is g.Word.BitArray.BITS g.M.Probability.BitArray.BITS g.row.PRECISION (g.State.BitArray.number c.self.inside.state) _
+    (omega (arith, sized.1, g.met.M.Probability.WordOf.width_law)) sized.1 (rw (c.narrow.ensures, c.low_bits.ensures) at c.narrow-quantile.ensures) in
+    let covers = c.quantile_function-symbol.ensures.covers in
+    rw (← c.self.view_is) (inr (
+      _,
+      _,
+      _,
+      c.quantile_function-symbol.ensures.found,
+      (
+        Err c.in-Err.error,
+        record {
+          holds = record { from = rw quantile at covers.0; below = rw quantile at covers.1 };
+          popped = tt;
+          refilled = tt;
+          head = refl;
+          kept = λ list. rw (c.in-Err.ensures.kept list) refl;
+          error = (
+            rw (c.popped-head.ensures, c.widen-2.ensures, c.widen.ensures, c.widen-4.ensures, c.widen-3.ensures, c.from_nonzero-p.ensures) at c.in-Err.ensures.err.0,
+            c.in-Err.ensures.err.1,
+          );
+        },
+        refl,
+      ),
+    ))
+
+pub returns-clause-refused : goal.returns-clause-refused
+returns-clause-refused g c =
+    let sized = g.met.M.EntropyModel.sized c.args.model in
+    let quantile = quantile_is g.Word.BitArray.BITS g.M.Probability.BitArray.BITS g.row.PRECISION (g.State.BitArray.number c.self.inside.state) _
+    (omega (arith, sized.1, g.met.M.Probability.WordOf.width_law)) sized.1 (rw (c.narrow.ensures, c.low_bits.ensures) at c.narrow-quantile.ensures) in
+    let covers = c.quantile_function-symbol.ensures.covers in
+    λ e is.
+    let same : c.in-Err.error ≡ e = cc in
+    rw (← c.self.view_is) (
+      _,
+      _,
+      _,
+      c.quantile_function-symbol.ensures.found,
+      record {
+        holds = record { from = rw quantile at covers.0; below = rw quantile at covers.1 };
+        popped = tt;
+        refilled = tt;
+        head = refl;
+        kept = λ list. rw (c.in-Err.ensures.kept list) refl;
+        error = (
+          rw (c.popped-head.ensures, c.widen-2.ensures, c.widen.ensures, c.widen-4.ensures, c.widen-3.ensures, c.from_nonzero-p.ensures) at c.in-Err.ensures.err.0,
+          rw same at c.in-Err.ensures.err.1,
+        );
+      },
+    )

@@ -1,0 +1,20 @@
+use Rattle.std.proofs.Common.{arith, ◌∙◌, sym}
+use Rattle.constriction_stack.proofs.Exporting.{some_of}
+use Rattle.constriction_stack.proofs.WordsShown.{next_shown, one_less}
+use Rattle.constriction_stack.proofs.coder.words.AnsCompressedIterIterator.next.Goals as goal
+
+pub returns-clause-steps : goal.returns-clause-steps
+returns-clause-steps g c =
+    let some = some_of _ c.if-is_nothing.ensures.1 in
+    let rest = rw c.BITS.ensures at c.shifted_right-self-inside.ensures in
+    sym c.self.view_is
+    ∙ next_shown g.Word.BitArray.number g.Word.BitArray.BITS (g.State.BitArray.number c.self.inside.head) (g.Word.BitArray.number c.narrow-word.result)
+    (g.State.BitArray.number c.shifted_right-self-inside.result) c.self.inside.below.now c.self.invariant.some_bits some c.in_default.ensures.cases c.narrow-word.ensures rest
+
+pub returns-clause-goes : goal.returns-clause-goes
+returns-clause-goes g c =
+    record {
+      on = λ _. (tt, tt, one_less (g.Word.BitArray.number c.narrow-word.result) _ _ (returns-clause-steps g c));
+      keeps = tt;
+      rests = λ _. tt;
+    }

@@ -1,0 +1,15 @@
+-- What a guard holds, for those who read its contracts.
+use Rattle.std.specs.Prelude.{ℕ}
+use Rattle.std.specs.Borrow.{MutBor}
+use Rattle.constriction_stack.specs.declared.coder.AnsCoder.{AnsCoder}
+use Rattle.constriction_stack.specs.declared.coder.guard.CoderGuard.{CoderGuard}
+
+-- the coder that it borrows
+abbrev pub lender : {Word State Backend : Type 0} {sealed : ℕ} {WordNonZero StateNonZero WriteError ReadError : Type 0}
+    → CoderGuard Word State Backend sealed WordNonZero StateNonZero WriteError ReadError → MutBor (AnsCoder Word State Backend WordNonZero StateNonZero)
+lender g = g.inner
+
+-- how many words it wrote onto the coder's backend
+abbrev pub written : {Word State Backend : Type 0} {sealed : ℕ} {WordNonZero StateNonZero WriteError ReadError : Type 0}
+    → CoderGuard Word State Backend sealed WordNonZero StateNonZero WriteError ReadError → ℕ
+written g = g.count

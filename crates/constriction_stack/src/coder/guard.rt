@@ -1,0 +1,275 @@
+//! The words of a coder that is used again: a guard shows them on the backend, and its drop takes
+//! them off.
+
+ghost use Rattle.std.specs.Prelude.{◌≡◌, ◌↔◌, ◌⊎◌, ◌<◌, ◌^◌, ◌++◌, ℕ, drop, length, map, Ok, Err, IfOk, IfErr, OnOk, OnErr};
+ghost use Rattle.std.specs.Borrow.{sem, RestsIfErr};
+ghost use Rattle.constriction_base.specs.Digits.{fixed_digits};
+ghost use Rattle.constriction_base.specs.Steps.{IsSizes};
+ghost use Rattle.constriction_base.specs.declared.errors.CoderError.TheVariants as coder_error;
+ghost use Rattle.constriction_stack.specs.Ans.{PartlyExported, count_of_words, exported};
+ghost use Rattle.constriction_stack.specs.Binary.{IsBinary, PartlyBinary, binary_words};
+ghost use Rattle.constriction_stack.specs.Guards.{NeverRefused, without};
+
+use crate::coder::AnsCoder;
+use crate::steps::words_of_head;
+use constriction_base::backends::{Holds, ReadWords, Stack, WriteWords};
+use constriction_base::errors::CoderError;
+use constriction_words::{BitArray, WordOf};
+use std::fmt;
+
+/// A coder whose head's words were written onto its backend, and are taken off again when this is
+/// dropped. [`AnsCoder::get_compressed`] makes it with `SEALED` 0, and [`AnsCoder::get_binary`]
+/// with `SEALED` 1.
+///
+/// The drop reads as many words as were written, and so takes no memory. Where a read is refused it
+/// stops. A guard that is forgotten leaves its words on the backend, below the head.
+pub struct CoderGuard<'a, Word: WordOf<State>, State: BitArray, Backend, const SEALED: usize>
+where
+    Backend: WriteWords<Word> + ReadWords<Word, Stack>,
+    Backend::ReadError: Drop,
+{
+    inner: &'a mut AnsCoder<Word, State, Backend>,
+    count: usize,
+}
+
+impl<'a, Word: WordOf<State>, State: BitArray, Backend, const SEALED: usize> CoderGuard<
+    'a,
+    Word,
+    State,
+    Backend,
+    SEALED,
+>
+where
+    Backend: WriteWords<Word> + ReadWords<Word, Stack>,
+    Backend::ReadError: Drop,
+{
+    ghost use Rattle.constriction_stack.specs.Guarded.{lender};
+
+    /// The backend, with the words on it.
+    pub fn backend(&self) -> &Backend
+        ensures backend { result.now ≡ (lender self.now).now.backend }
+        ensures words { map Word.number (Backend.words result.now) ≡ (lender self.now).now.state.words }
+    {
+        let inner: &AnsCoder<Word, State, Backend> = &*self.inner;
+        &inner.bulk
+    }
+}
+
+impl<Word: WordOf<State>, State: BitArray, Backend, const SEALED: usize> Drop
+    for CoderGuard<'_, Word, State, Backend, SEALED>
+where
+    Backend: WriteWords<Word> + ReadWords<Word, Stack>,
+    Backend::ReadError: Drop,
+{
+    ghost use Rattle.constriction_stack.specs.Guarded.{lender, written};
+
+    /// Takes the words off that were written.
+    fn drop(self)
+        ensures head { self.exit.0.now.state.head ≡ (lender self.entry).now.state.head }
+        ensures restored { NeverRefused Backend.reads →
+            self.exit.0.now.state ≡ without (written self.entry) (lender self.entry).now.state }
+    {
+        let CoderGuard { inner, count } = self;
+        take_back::<Word, Backend>(&mut inner.bulk, count);
+    }
+}
+
+impl<Word: WordOf<State>, State: BitArray, Backend, const SEALED: usize> fmt::Debug
+    for CoderGuard<'_, Word, State, Backend, SEALED>
+where
+    Backend: WriteWords<Word> + ReadWords<Word, Stack> + fmt::Debug,
+    Backend::ReadError: Drop,
+{
+    /// The backend's.
+    fn fmt<W: fmt::Write>(&self, f: &mut fmt::Formatter<W>) -> fmt::Result {
+        self.backend().fmt(f)
+    }
+}
+
+impl<Word: WordOf<State>, State: BitArray, Backend> AnsCoder<Word, State, Backend>
+where
+    Backend: WriteWords<Word> + ReadWords<Word, Stack>,
+    Backend::ReadError: Drop,
+{
+    /// Writes the head's words onto the backend, and keeps the head. Answers how many they are.
+    fn put_compressed(&mut self) -> Result<usize, Backend::WriteError>
+        ensures shows { OnOk result (self.new.state
+            ≡ record { head = self.old.state.head; words = exported Word.BITS self.old.state }) }
+        ensures back { IfOk result (λ count. without count self.new.state ≡ self.old.state) }
+        ensures head { self.new.state.head ≡ self.old.state.head }
+        ensures kept { NeverRefused Backend.reads → OnErr result (self.new.state ≡ self.old.state) }
+        ensures room { OnErr result (Backend.room self.old.backend < count_of_words Word.BITS self.old.state.head) }
+        ensures err { IfErr result (λ e.
+            Backend.prepare_fails self.old.backend (count_of_words Word.BITS self.old.state.head) e
+            ⊎ ((last : Backend) × Backend.write_fails last e
+            × PartlyExported Word.BITS self.old.state (map Word.number (Backend.words last)))) }
+    {
+        let count = words_of_head::<Word, State>(self.state);
+        match show_words(&mut self.bulk, self.state, count) {
+            Ok(()) => {}
+            Err(error) => return Err(error),
+        }
+        Ok(count)
+    }
+
+    /// Writes the head's words below its leading 1 onto the backend, and keeps the head. Answers
+    /// how many they are.
+    fn put_binary(&mut self) -> Result<usize, CoderError<(), Backend::WriteError>>
+        ensures shows { OnOk result ((m : ℕ) × IsBinary Word.BITS m self.old.state × (self.new.state
+            ≡ record { head = self.old.state.head; words = binary_words Word.BITS m self.old.state })) }
+        ensures back { IfOk result (λ count. without count self.new.state ≡ self.old.state) }
+        ensures head { self.new.state.head ≡ self.old.state.head }
+        ensures kept { NeverRefused Backend.reads → OnErr result (self.new.state ≡ self.old.state) }
+        ensures refused { (result ≡ Err (coder_error.Frontend tt))
+            ↔ ((m : ℕ) → IsBinary Word.BITS m self.old.state → ⊥) }
+        ensures untouched { result ≡ Err (coder_error.Frontend tt) → self.new ≡ self.old }
+        ensures err { (e : Backend.WriteError) → result ≡ Err (coder_error.Backend e) →
+            (m : ℕ) × IsBinary Word.BITS m self.old.state × (Backend.room self.old.backend < m)
+            × (Backend.prepare_fails self.old.backend m e
+            ⊎ ((last : Backend) × Backend.write_fails last e
+            × PartlyBinary Word.BITS m self.old.state (map Word.number (Backend.words last)))) }
+    {
+        if self.state.is_nothing() {
+            return Err(CoderError::Frontend(()));
+        }
+        let bits = self.state.bit_length() - 1;
+        if bits % Word::BITS != 0 {
+            return Err(CoderError::Frontend(()));
+        }
+        let count = (bits / Word::BITS) as usize;
+        match show_words(&mut self.bulk, self.state, count) {
+            Ok(()) => {}
+            Err(error) => return Err(CoderError::Backend(error)),
+        }
+        Ok(count)
+    }
+}
+
+impl<Word: WordOf<State>, State: BitArray, Backend> AnsCoder<Word, State, Backend>
+where
+    Backend: WriteWords<Word> + ReadWords<Word, Stack>,
+    Backend::ReadError: Drop,
+{
+    ghost use Rattle.constriction_stack.specs.contracts.coder.AnsCoder.{the_row};
+    ghost use Rattle.constriction_stack.specs.Guarded.{lender, written};
+
+    /// The words that [`AnsCoder::into_compressed`] would give, on the backend of the guard for as
+    /// long as it lives: those below the head, and then the head's, the lowest first, without
+    /// leading zero words. It asks the backend for room for the head's words; where the head is 0
+    /// there are none. When the guard is dropped, the coder is as before.
+    ///
+    /// Errors: what the backend answers where it has no room for all the head's words, or refuses
+    /// to write one of them. The words that were written before are taken off again, as far as reads
+    /// are not refused.
+    pub fn get_compressed(
+        &mut self,
+    ) -> Result<CoderGuard<'_, Word, State, Backend, 0>, Backend::WriteError>
+        ensures same_reference { IfOk result (λ g. (lender g).ghost_name ≡ self.entry.ghost_name) }
+        ensures shows { IfOk result (λ g. (lender g).now.state
+            ≡ record { head = self.old.state.head; words = exported Word.BITS self.old.state }) }
+        ensures back { IfOk result (λ g. without (written g) (lender g).now.state ≡ self.old.state) }
+        ensures room { OnErr result (Backend.room self.old.backend < count_of_words Word.BITS self.old.state.head) }
+        ensures err { IfErr result (λ e.
+            Backend.prepare_fails self.old.backend (count_of_words Word.BITS self.old.state.head) e
+            ⊎ ((last : Backend) × Backend.write_fails last e
+            × PartlyExported Word.BITS self.old.state (map Word.number (Backend.words last)))) }
+        ensures* refused { sem 𝓛 (RestsIfErr (the_row Word.row State.row Backend.row Word.NonZero.row State.NonZero.row Word.BitArray State.BitArray Backend.Holds)
+            self.entry (λ g. (lender g).ghost_name) result
+            (λ after. (after.state.head ≡ self.old.state.head) × (NeverRefused Backend.reads → after.state ≡ self.old.state))) }
+    {
+        let count = self.put_compressed()?;
+        Ok(CoderGuard { inner: self, count })
+    }
+
+    /// The words that [`AnsCoder::into_binary`] would give, on the backend of the guard for as long
+    /// as it lives: those below the head, and then the head's words below its leading 1, the lowest
+    /// first, zero words at the top too. It asks the backend for room for the head's words; where
+    /// the head is 1 there are none. When the guard is dropped, the coder is as before.
+    ///
+    /// Errors:
+    /// - `Frontend(())` exactly where the head is 0, or its bit length less one is no multiple of
+    ///   the bits of a word. Nothing changed.
+    /// - `Backend(error)` where the backend has no room for all the head's words, or refuses to
+    ///   write one of them. The words that were written before are taken off again, as far as reads
+    ///   are not refused.
+    pub fn get_binary(
+        &mut self,
+    ) -> Result<CoderGuard<'_, Word, State, Backend, 1>, CoderError<(), Backend::WriteError>>
+        ensures same_reference { IfOk result (λ g. (lender g).ghost_name ≡ self.entry.ghost_name) }
+        ensures shows { IfOk result (λ g. (m : ℕ) × IsBinary Word.BITS m self.old.state × ((lender g).now.state
+            ≡ record { head = self.old.state.head; words = binary_words Word.BITS m self.old.state })) }
+        ensures back { IfOk result (λ g. without (written g) (lender g).now.state ≡ self.old.state) }
+        ensures frontend { (result ≡ Err (coder_error.Frontend tt))
+            ↔ ((m : ℕ) → IsBinary Word.BITS m self.old.state → ⊥) }
+        ensures err { (e : Backend.WriteError) → result ≡ Err (coder_error.Backend e) →
+            (m : ℕ) × IsBinary Word.BITS m self.old.state × (Backend.room self.old.backend < m)
+            × (Backend.prepare_fails self.old.backend m e
+            ⊎ ((last : Backend) × Backend.write_fails last e
+            × PartlyBinary Word.BITS m self.old.state (map Word.number (Backend.words last)))) }
+        ensures* refused { sem 𝓛 (RestsIfErr (the_row Word.row State.row Backend.row Word.NonZero.row State.NonZero.row Word.BitArray State.BitArray Backend.Holds)
+            self.entry (λ g. (lender g).ghost_name) result
+            (λ after. (after.state.head ≡ self.old.state.head) × (NeverRefused Backend.reads → after.state ≡ self.old.state))) }
+    {
+        match self.put_binary() {
+            Ok(count) => Ok(CoderGuard { inner: self, count }),
+            Err(error) => Err(error),
+        }
+    }
+}
+
+/// Takes so many words off, as far as the reads go.
+fn take_back<Word, Backend>(bulk: &mut Backend, count: usize)
+where
+    Word: BitArray,
+    Backend: WriteWords<Word> + ReadWords<Word, Stack>,
+    Backend::ReadError: Drop,
+    ensures { NeverRefused Backend.reads → Backend.words bulk.new ≡ drop count (Backend.words bulk.old) }
+{
+    for _i in 0..count {
+        match bulk.read() {
+            Ok(_) => {}
+            Err(_) => return,
+        }
+    }
+}
+
+/// Writes the lowest words of a head onto a backend, the lowest first. Where a write is refused,
+/// the words before it are taken off again.
+fn show_words<Word: WordOf<State>, State: BitArray, Backend>(
+    bulk: &mut Backend,
+    head: State,
+    count: usize,
+) -> Result<(), Backend::WriteError>
+where
+    Backend: WriteWords<Word> + ReadWords<Word, Stack>,
+    Backend::ReadError: Drop,
+    requires { IsSizes Word.BITS State.BITS }
+    ensures ok { OnOk result (map Word.number (Backend.words bulk.new)
+        ≡ fixed_digits (2 ^ Word.BITS) count (State.number head) ++ map Word.number (Backend.words bulk.old)) }
+    ensures back { OnOk result (drop count (Backend.words bulk.new) ≡ Backend.words bulk.old) }
+    ensures kept { NeverRefused Backend.reads → OnErr result (Backend.words bulk.new ≡ Backend.words bulk.old) }
+    ensures room { OnErr result (Backend.room bulk.old < count) }
+    ensures err { IfErr result (λ e. Backend.prepare_fails bulk.old count e
+        ⊎ ((last : Backend) × Backend.write_fails last e
+        × PartlyBinary Word.BITS count record { head = State.number head; words = map Word.number (Backend.words bulk.old) }
+        (map Word.number (Backend.words last)))) }
+{
+    if count == 0 {
+        return Ok(());
+    }
+    bulk.prepare(count)?;
+    let mut rest = head;
+    let mut left = count;
+    'words: while left > 0 {
+        match bulk.write(Word::narrow(rest)) {
+            Ok(()) => {}
+            Err(error) => {
+                take_back::<Word, Backend>(bulk, count - left);
+                return Err(error);
+            }
+        }
+        rest = rest.shifted_right(Word::BITS);
+        left -= 1;
+    }
+    Ok(())
+}

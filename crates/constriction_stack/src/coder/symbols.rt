@@ -1,0 +1,196 @@
+//! The two steps: a symbol is put on, or taken off.
+
+ghost use Rattle.std.specs.Prelude.{◌≡◌, ◌+◌, ◌≤◌, ◌↔◌, ℕ, Result, Ok, Err, IfOk, IsTrue};
+ghost use Rattle.std.specs.Bool.{OnFalse};
+ghost use Rattle.constriction_base.specs.Steps.{Step};
+ghost use Rattle.constriction_base.specs.Tables.{Has};
+ghost use Rattle.constriction_base.specs.declared.errors.CoderError.TheVariants as coder_error;
+ghost use Rattle.constriction_base.specs.declared.errors.DefaultEncoderFrontendError.TheVariants as frontend_error;
+ghost use Rattle.constriction_base.specs.declared.errors.DefaultEncoderFrontendError.TheVariants.{ImpossibleSymbol};
+ghost use Rattle.constriction_stream.specs.Symbols.{EncodesSymbol, DecodesSymbol, as_backend};
+ghost use Rattle.constriction_stack.specs.Steps.{Encodes, Decodes};
+
+use crate::coder::AnsCoder;
+use crate::steps::{popped, pushed_onto, refilled};
+use constriction_base::backends::{Holds, ReadWords, Stack, WriteWords};
+use constriction_base::errors::{CoderError, DefaultEncoderError, DefaultEncoderFrontendError};
+use constriction_base::model::{DecoderModel, EncoderModel, EntropyModel};
+use constriction_stream::coder::Code;
+use constriction_stream::decoding::Decode;
+use constriction_stream::encoding::Encode;
+use constriction_words::{BitArray, WordOf};
+use std::convert::Infallible;
+
+impl<Word: WordOf<State>, State: BitArray, Backend: Holds<Word, Stack>> Code
+    for AnsCoder<Word, State, Backend> {
+    type Word = Word;
+
+    type State = State;
+
+    ghost shows = { λ coder head. State.number head ≡ coder.state.head };
+
+    /// The head.
+    #[inline]
+    fn state(&self) -> State {
+        self.state
+    }
+}
+
+impl<
+    Word: WordOf<State>,
+    State: BitArray,
+    Backend: WriteWords<Word>,
+    const PRECISION: usize,
+> Encode<PRECISION> for AnsCoder<Word, State, Backend> {
+    type FrontendError = DefaultEncoderFrontendError;
+
+    type BackendError = Backend::WriteError;
+
+    ghost encodes = { λ old step answer new. (result : Result (Unit {0}) Backend.WriteError)
+        × Encodes Word.BITS State.BITS Backend.room Backend.prepare_fails Backend.write_fails old step result new
+        × (answer ≡ as_backend result) };
+
+    ghost is_unknown_symbol = { λ error. error ≡ ImpossibleSymbol };
+
+    ghost symbols_left = { λ _. 0xffff_ffff_ffff_ffff };
+
+    ghost has_room = { λ coder. (e : Backend.WriteError) → Backend.is_lack_of_room e → Backend.write_fails coder.backend e → ⊥ };
+
+    /// There is no limit.
+    #[inline]
+    fn symbols_left(&self) -> usize {
+        usize::MAX
+    }
+
+    /// Puts a symbol on, under a model of `PRECISION` bits, which are those of a word at most.
+    ///
+    /// It writes one word at most, and only then asks the backend for room.
+    ///
+    /// Errors:
+    /// - `Frontend(ImpossibleSymbol)` exactly where the model doesn't know the symbol. Nothing
+    ///   changed.
+    /// - `Backend(error)` only where a word had to be written, and the backend refused room for one
+    ///   word, or the write. The head and the words are as before.
+    #[inline]
+    fn encode_symbol<M>(
+        &mut self,
+        symbol: &M::Symbol,
+        model: M,
+    ) -> Result<(), DefaultEncoderError<Backend::WriteError>>
+    where
+        M: EncoderModel<PRECISION>,
+        M::Probability: WordOf<Word>,
+        ensures step { EncodesSymbol (⟦<AnsCoder<Word, State, Backend> as Encode<PRECISION>>⟧.encodes)
+            (⟦<AnsCoder<Word, State, Backend> as Encode<PRECISION>>⟧.is_unknown_symbol)
+            PRECISION (M.table model) symbol.now self.old result self.new }
+        ensures left { ⟦<AnsCoder<Word, State, Backend> as Encode<PRECISION>>⟧.symbols_left self.old
+            ≤ ⟦<AnsCoder<Word, State, Backend> as Encode<PRECISION>>⟧.symbols_left self.new + 1 }
+        ensures ok { IfOk result (λ _. (left p : ℕ) × Has (M.table model) symbol.now left p
+            × Encodes Word.BITS State.BITS Backend.room Backend.prepare_fails Backend.write_fails
+            self.old record { precision = PRECISION; left = left; p = p } (Ok tt) self.new) }
+        ensures refused { (e : Backend.WriteError) → result ≡ Err (coder_error.Backend e) →
+            (left p : ℕ) × Has (M.table model) symbol.now left p
+            × Encodes Word.BITS State.BITS Backend.room Backend.prepare_fails Backend.write_fails
+            self.old record { precision = PRECISION; left = left; p = p } (Err e) self.new }
+        ensures unknown { (result ≡ Err (coder_error.Frontend frontend_error.ImpossibleSymbol))
+            ↔ ((left p : ℕ) → Has (M.table model) symbol.now left p → ⊥) }
+        ensures untouched { result ≡ Err (coder_error.Frontend frontend_error.ImpossibleSymbol)
+            → self.new ≡ self.old }
+    {
+        let Some((left, p)) = model.left_cumulative_and_probability(symbol) else {
+            return Err(CoderError::Frontend(DefaultEncoderFrontendError::ImpossibleSymbol));
+        };
+        let p = M::Probability::from_nonzero(p);
+        let (left, p) = (left.widen().widen(), p.widen().widen());
+        match pushed_onto(&mut self.bulk, self.state, left, p, PRECISION as u32) {
+            Ok(pushed) => {
+                self.state = pushed;
+                Ok(())
+            }
+            Err(refusal) => Err(CoderError::Backend(refusal)),
+        }
+    }
+
+    /// Whether the backend may be full: false promises that it has room for the word that a step may
+    /// write.
+    #[inline]
+    fn maybe_full(&self) -> bool
+        ensures value { result ≡ Backend.seems_full self.now.backend }
+        ensures room { OnFalse result (⟦<AnsCoder<Word, State, Backend> as Encode<PRECISION>>⟧.has_room self.now) }
+    {
+        self.bulk.maybe_full()
+    }
+}
+
+impl<
+    Word: WordOf<State>,
+    State: BitArray,
+    Backend: ReadWords<Word, Stack>,
+    const PRECISION: usize,
+> Decode<PRECISION> for AnsCoder<Word, State, Backend> {
+    type FrontendError = Infallible;
+
+    type BackendError = Backend::ReadError;
+
+    ghost decodes = { λ old step answer new. (result : Result (Unit {0}) Backend.ReadError)
+        × Decodes Word.number Backend.is_list Backend.reads Word.BITS State.BITS old step result new
+        × (answer ≡ as_backend result) };
+
+    ghost halts = { λ _ _ _. ⊥ };
+
+    ghost has_data = { λ coder. coder.state.head ≡ 0 → ⊥ };
+
+    /// Takes a symbol off, under a model of `PRECISION` bits, which are those of a word at most.
+    ///
+    /// It reads one word at most. Where no word is left, it goes on: a coder that holds nothing
+    /// gives symbols without end.
+    ///
+    /// Errors: `Backend(error)` only where a word had to be read and the read answered that error.
+    /// The head is as before, and so are the words of a backend that knows them.
+    #[inline]
+    fn decode_symbol<M>(
+        &mut self,
+        model: M,
+    ) -> Result<M::Symbol, CoderError<Infallible, Backend::ReadError>>
+    where
+        M: DecoderModel<PRECISION>,
+        M::Probability: WordOf<Word>,
+        ensures step { DecodesSymbol (⟦<AnsCoder<Word, State, Backend> as Decode<PRECISION>>⟧.decodes)
+            (⟦<AnsCoder<Word, State, Backend> as Decode<PRECISION>>⟧.halts)
+            PRECISION (M.table model) self.old result self.new }
+        ensures ok { IfOk result (λ symbol. (left p : ℕ) × Has (M.table model) symbol left p
+            × Decodes Word.number Backend.is_list Backend.reads Word.BITS State.BITS
+            self.old record { precision = PRECISION; left = left; p = p } (Ok tt) self.new) }
+        ensures refused { (e : Backend.ReadError) → result ≡ Err (coder_error.Backend e) →
+            (symbol : M.Symbol) × (left p : ℕ) × Has (M.table model) symbol left p
+            × Decodes Word.number Backend.is_list Backend.reads Word.BITS State.BITS
+            self.old record { precision = PRECISION; left = left; p = p } (Err e) self.new }
+    {
+        let precision = PRECISION as u32;
+        let quantile = M::Probability::narrow(Word::narrow(self.state.low_bits(precision)));
+        let (symbol, left, p) = model.quantile_function(quantile);
+        let p = M::Probability::from_nonzero(p);
+        let head = popped(
+            self.state,
+            left.widen().widen(),
+            p.widen().widen(),
+            precision,
+        );
+        match refilled(&mut self.bulk, head) {
+            Ok(head) => {
+                self.state = head;
+                Ok(symbol)
+            }
+            Err(error) => Err(CoderError::Backend(error)),
+        }
+    }
+
+    /// Whether the head is 0, as that of a coder from which all symbols were taken.
+    #[inline]
+    fn maybe_exhausted(&self) -> bool
+        ensures value { IsTrue result ↔ (self.now.state.head ≡ 0) }
+        ensures data { OnFalse result (⟦<AnsCoder<Word, State, Backend> as Decode<PRECISION>>⟧.has_data self.now) }
+    {
+        self.state.is_nothing()
+    }
+}

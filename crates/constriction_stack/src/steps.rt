@@ -1,0 +1,111 @@
+//! The steps of a coder on its head and its backend.
+
+ghost use Rattle.std.specs.Prelude.{◌≡◌, ◌+◌, ◌-◌, ◌*◌, ◌/◌, ◌%◌, ◌^◌, ◌<◌, ◌≤◌, ◌⊎◌, ◌∷◌, map, length, IfOk, IfErr, OnOk, OnErr, Err};
+ghost use Rattle.constriction_base.specs.Steps.{Step, IsStep, IsSizes};
+ghost use Rattle.constriction_stack.specs.Ans.{AnsState, IsPush, IsValid, RefillsBy, count_of_words, refilled, words_after};
+
+use constriction_base::backends::{Holds, ReadWords, Stack, WriteWords};
+use constriction_words::{BitArray, WordOf};
+
+/// What a pop leaves of a head, before a word moves in.
+#[inline]
+pub fn popped<State: BitArray>(head: State, left: State, p: State, precision: u32) -> State
+    requires within { precision < State.BITS }
+    requires low { State.number left ≤ State.number head % 2 ^ precision }
+    requires total { State.number left + State.number p ≤ 2 ^ precision }
+    ensures { State.number result
+        ≡ State.number head / 2 ^ precision * State.number p
+        + (State.number head % 2 ^ precision - State.number left) }
+{
+    let offset = head.low_bits(precision).minus(left);
+    head.shifted_right(precision).times(p).plus(offset)
+}
+
+/// A head into which the next word moves, if it is low and there is one.
+#[inline]
+pub fn refilled<Word: WordOf<State>, State: BitArray, Backend: ReadWords<Word, Stack>>(
+    bulk: &mut Backend,
+    head: State,
+) -> Result<State, Backend::ReadError>
+    requires { IsSizes Word.BITS State.BITS }
+    ensures list { Backend.is_list → IfOk result (λ new.
+        refilled Word.BITS State.BITS (State.number head) (map Word.number (Backend.words bulk.old))
+        ≡ record { head = State.number new; words = map Word.number (Backend.words bulk.new) }) }
+    ensures run { IfOk result (λ new. RefillsBy Word.number Backend.reads Word.BITS State.BITS
+        (State.number head) bulk.old (State.number new) bulk.new) }
+    ensures kept { Backend.is_list → OnErr result (Backend.words bulk.new ≡ Backend.words bulk.old) }
+    ensures err { IfErr result (λ e. (State.number head < 2 ^ (State.BITS - Word.BITS))
+        × Backend.reads bulk.old (Err e) bulk.new) }
+{
+    if !head.shifted_right(State::BITS - Word::BITS).is_nothing() {
+        return Ok(head);
+    }
+    match bulk.read()? {
+        None => Ok(head),
+        Some(word) => Ok(head.shifted_left(Word::BITS).plus(word.widen())),
+    }
+}
+
+/// A head after a push, whose low word is written where there is no room for it.
+#[inline]
+pub fn pushed_onto<Word: WordOf<State>, State: BitArray, Backend: WriteWords<Word>>(
+    bulk: &mut Backend,
+    head: State,
+    left: State,
+    p: State,
+    precision: u32,
+) -> Result<State, Backend::WriteError>
+    requires sizes { IsSizes Word.BITS State.BITS }
+    requires step { IsStep Word.BITS record { precision = precision; left = State.number left; p = State.number p } }
+    ensures ok { let old : AnsState = record { head = State.number head; words = map Word.number (Backend.words bulk.old) } in
+        IsValid Word.BITS State.BITS old → IfOk result (λ new.
+        IsPush Word.BITS State.BITS record { precision = precision; left = State.number left; p = State.number p } old
+        record { head = State.number new; words = map Word.number (Backend.words bulk.new) }) }
+    ensures words { IfOk result (λ _. map Word.number (Backend.words bulk.new)
+        ≡ words_after Word.BITS State.BITS record { precision = precision; left = State.number left; p = State.number p }
+        record { head = State.number head; words = map Word.number (Backend.words bulk.old) }) }
+    ensures room { OnOk result (Backend.room bulk.old + length (Backend.words bulk.old)
+        ≤ Backend.room bulk.new + length (Backend.words bulk.new)) }
+    ensures untouched { State.number head / 2 ^ (State.BITS - precision) < State.number p
+        → bulk.new ≡ bulk.old }
+    ensures kept { OnErr result (Backend.words bulk.new ≡ Backend.words bulk.old) }
+    ensures err { IfErr result (λ e. (State.number p ≤ State.number head / 2 ^ (State.BITS - precision))
+        × (Backend.prepare_fails bulk.old 1 e ⊎ Backend.write_fails bulk.old e)) }
+{
+    if head.shifted_right(State::BITS - precision).is_below(p) {
+        return Ok(pushed(head, left, p, precision));
+    }
+    bulk.prepare(1)?;
+    bulk.write(Word::narrow(head))?;
+    Ok(pushed(head.shifted_right(Word::BITS), left, p, precision))
+}
+
+/// What a push makes of a head with room.
+#[inline]
+fn pushed<State: BitArray>(head: State, left: State, p: State, precision: u32) -> State
+    requires within { precision < State.BITS }
+    requires some { 0 < State.number p }
+    requires total { State.number left + State.number p ≤ 2 ^ precision }
+    requires room { State.number head < State.number p * 2 ^ (State.BITS - precision) }
+    ensures { State.number result
+        ≡ State.number head / State.number p * 2 ^ precision
+        + (State.number left + State.number head % State.number p) }
+{
+    let prefix = head.quotient(p).shifted_left(precision);
+    prefix.plus(left.plus(head.remainder(p)))
+}
+
+/// How many words a head has without leading zeros.
+#[inline]
+pub fn words_of_head<Word: WordOf<State>, State: BitArray>(head: State) -> usize
+    requires { IsSizes Word.BITS State.BITS }
+    ensures { result ≡ count_of_words Word.BITS (State.number head) }
+{
+    let mut count = 0;
+    let mut rest = head;
+    'words: while !rest.is_nothing() {
+        count += 1;
+        rest = rest.shifted_right(Word::BITS);
+    }
+    count
+}
