@@ -1,0 +1,53 @@
+-- Symbols under one model.
+use Rattle.std.proofs.Common.{◌≡◌, ℕ, List, [], ◌∷◌, ◌++◌, length, refl, sym, ap, ◌∙◌, subst, arith}
+use Rattle.std.specs.Prelude.{Option, Result, reverse, map}
+use Rattle.std.proofs.lemmas.List.{length-reverse, map_push}
+use Rattle.constriction_stack.specs.Ans.{AnsState, AnsValue}
+use Rattle.constriction_laws.specs.Readings.{DecodesBy, DecodesAllBy}
+use Rattle.constriction_laws.specs.Symbols.{Model, IsModel, Item, item_of, items_of, Encodes, Decodes, models, AreModels, EncodesAll, DecodesAll}
+use Rattle.constriction_laws.proofs.Undoing.{steps-append}
+use Rattle.constriction_laws.proofs.ComingBack.{map-reverse}
+
+symbols-items_of : {S : Type 0} (model : Model S) (xs : List S) → map (λ i. i.symbol) (items_of model xs) ≡ xs
+symbols-items_of model [] = refl
+symbols-items_of {S} model (x ∷ xs) = ap (λ (ys : List S). x ∷ ys) (symbols-items_of model xs)
+
+models-alike : {S : Type 0} (model : Model S) (xs ys : List S) → length xs ≡ length ys → models (items_of model xs) ≡ models (items_of model ys)
+models-alike model [] [] e = refl
+models-alike model [] (y ∷ ys) e = absurd (omega arith)
+models-alike model (x ∷ xs) [] e = absurd (omega arith)
+models-alike {S} model (x ∷ xs) (y ∷ ys) e = ap (λ (ms : List (Model S)). model ∷ ms) (models-alike model xs ys (omega arith))
+
+pub are_models : {S : Type 0} (w : ℕ) (model : Model S) (xs : List S) → IsModel w model → AreModels w (items_of model xs)
+are_models w model [] m = tt
+are_models w model (x ∷ xs) m = (m, are_models w model xs m)
+
+-- one more symbol is encoded, or decoded
+pub encodes_push : {S : Type 0} (w s : ℕ) (model : Model S) (xs : List S) (x : S) (old mid new : AnsState)
+    → EncodesAll w s (items_of model xs) old mid → Encodes w s model x mid new → EncodesAll w s (items_of model (xs ++ x ∷ [])) old new
+encodes_push {S} w s model xs x old mid new h k =
+    subst (λ (items : List (Item S)). EncodesAll w s items old new) (sym (map_push (item_of model) xs x))
+    (steps-append (λ item. Encodes w s item.model item.symbol) (items_of model xs) (item_of model x ∷ []) old mid new h (new, k, refl))
+
+pub decodes_push : {S : Type 0} (w s : ℕ) (model : Model S) (xs : List S) (x : S) (old mid new : AnsState)
+    → DecodesAll w s (items_of model xs) old mid → Decodes w s model x mid new → DecodesAll w s (items_of model (xs ++ x ∷ [])) old new
+decodes_push {S} w s model xs x old mid new h k =
+    subst (λ (items : List (Item S)). DecodesAll w s items old new) (sym (map_push (item_of model) xs x))
+    (steps-append (λ item. Decodes w s item.model item.symbol) (items_of model xs) (item_of model x ∷ []) old mid new h (new, k, refl))
+
+pub reads_push : {S W E B : Type 0} (number : W → ℕ) (reads : B → Result (Option W) E → B → Type 0) (w s : ℕ) (model : Model S) (xs : List S) (x : S) (old mid new : AnsValue B)
+    → DecodesAllBy number reads w s (items_of model xs) old mid → DecodesBy number reads w s model x mid new → DecodesAllBy number reads w s (items_of model (xs ++ x ∷ [])) old new
+reads_push {S} number reads w s model xs x old mid new h k =
+    subst (λ (items : List (Item S)). DecodesAllBy number reads w s items old new) (sym (map_push (item_of model) xs x))
+    (steps-append (λ item. DecodesBy number reads w s item.model item.symbol) (items_of model xs) (item_of model x ∷ []) old mid new h (new, k, refl))
+
+-- ---- as many symbols again, at one model
+pub models_turned : {S : Type 0} (model : Model S) (symbols again : List S) → length again ≡ length symbols
+    → models (items_of model again) ≡ reverse (models (items_of model symbols))
+models_turned {S} model symbols again count =
+    models-alike model again (reverse symbols) (count ∙ sym (length-reverse symbols))
+    ∙ ap models (map-reverse (item_of model) symbols) ∙ map-reverse (λ (i : Item S). i.model) (items_of model symbols)
+
+pub symbols_turned : {S : Type 0} (model : Model S) (symbols again : List S) → items_of model again ≡ reverse (items_of model symbols) → again ≡ reverse symbols
+symbols_turned {S} model symbols again same =
+    sym (symbols-items_of model again) ∙ ap (λ (items : List (Item S)). map (λ i. i.symbol) items) (same ∙ sym (map-reverse (item_of model) symbols)) ∙ symbols-items_of model (reverse symbols)

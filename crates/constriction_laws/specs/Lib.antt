@@ -1,0 +1,4 @@
+pub mod Lists
+pub mod Readings
+pub mod Symbols
+pub mod Undone

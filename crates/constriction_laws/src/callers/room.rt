@@ -1,0 +1,77 @@
+//! When a step is refused for want of memory or of room, from the contracts of the stack coder alone.
+
+ghost use Rattle.std.specs.Prelude.{◌≡◌, ℕ, ◌<◌, ◌≤◌, ◌+◌, ◌-◌, ◌/◌, ◌^◌, length, vec_len, vec_capacity, Err};
+ghost use Rattle.constriction_base.specs.Tables.{Has};
+ghost use Rattle.constriction_base.specs.declared.errors.CoderError.TheVariants as coder_error;
+ghost use Rattle.constriction_base.specs.declared.errors.BoundedWriteError.{BoundedWriteError};
+
+use constriction_base::cursor::Cursor;
+use constriction_base::errors::{BoundedWriteError, CoderError, DefaultEncoderError};
+use constriction_base::model::{DecoderModel, EncoderModel, EntropyModel};
+use constriction_stack::coder::AnsCoder;
+use constriction_stream::decoding::Decode;
+use constriction_stream::encoding::Encode;
+use std::alloc::AllocError;
+
+/// Over a vector a step that owes no word asks for no memory.
+pub fn step_without_word<M: EncoderModel<8, Probability = u8>>(
+    coder: &mut AnsCoder<u8, u16, Vec<u8>>,
+    symbol: &M::Symbol,
+    model: M,
+) -> Result<(), DefaultEncoderError<AllocError>>
+    requires { (left p : ℕ) → Has (M.table model) symbol.now left p → coder.old.state.head / 2 ^ 8 < p }
+    ensures { (e : AllocError) → result ≡ Err (coder_error.Backend e) → ⊥ }
+{
+    coder.encode_symbol(symbol, model)
+}
+
+/// Over a vector with room for a word a step asks for no memory.
+pub fn step_with_room<M: EncoderModel<8, Probability = u8>>(
+    coder: &mut AnsCoder<u8, u16, Vec<u8>>,
+    symbol: &M::Symbol,
+    model: M,
+) -> Result<(), DefaultEncoderError<AllocError>>
+    requires { vec_len coder.old.backend < vec_capacity coder.old.backend }
+    ensures { (e : AllocError) → result ≡ Err (coder_error.Backend e) → ⊥ }
+{
+    coder.encode_symbol(symbol, model)
+}
+
+/// Over a cursor with room for a word a step is refused for an unknown symbol alone.
+pub fn step_on_cursor<M: EncoderModel<8, Probability = u8>>(
+    coder: &mut AnsCoder<u8, u16, Cursor<u8, Vec<u8>>>,
+    symbol: &M::Symbol,
+    model: M,
+) -> Result<(), DefaultEncoderError<BoundedWriteError>>
+    requires { coder.old.backend.pos < length coder.old.backend.buf.items }
+    ensures { (e : BoundedWriteError) → result ≡ Err (coder_error.Backend e) → ⊥ }
+{
+    coder.encode_symbol(symbol, model)
+}
+
+/// A decode over a cursor always gives a symbol.
+pub fn decode_on_cursor<M: DecoderModel<8, Probability = u8>>(
+    coder: &mut AnsCoder<u8, u16, Cursor<u8, Vec<u8>>>,
+    model: M,
+) -> M::Symbol {
+    match coder.decode_symbol(model) {
+        Ok(symbol) => symbol,
+        Err(CoderError::Frontend(never)) => match never {},
+        Err(CoderError::Backend(never)) => match never {},
+    }
+}
+
+/// Over a cursor with room for two words two steps are refused for an unknown symbol alone.
+pub fn two_steps_on_cursor<M: EncoderModel<8, Probability = u8>>(
+    coder: &mut AnsCoder<u8, u16, Cursor<u8, Vec<u8>>>,
+    symbol: &M::Symbol,
+    model: &M,
+) -> Result<(), DefaultEncoderError<BoundedWriteError>>
+    requires { coder.old.backend.pos + 2 ≤ length coder.old.backend.buf.items }
+    ensures { (e : BoundedWriteError) → result ≡ Err (coder_error.Backend e) → ⊥ }
+{
+    match coder.encode_symbol(symbol, model) {
+        Ok(()) => coder.encode_symbol(symbol, model),
+        Err(error) => Err(error),
+    }
+}

@@ -1,0 +1,19 @@
+//! Laws of the coders: round trips and lists of steps, over the definitions that the coders'
+//! contracts cite.
+//!
+//! A law is a public function whose body is empty, or calls the law from which it follows. Its
+//! `ensures` is the law, and speaks of definitions alone: of numbers, lists and tables, and of no
+//! coder's code. Whoever calls the
+//! coders learns from their contracts which definition each call meets, and from a law here what
+//! follows for a whole run. Words are listed in the order in which they are read, the next one
+//! first.
+//!
+//! - [`lists`]: where each step is undone, so is a list of them, the last step first. One law for
+//!   every coder.
+//! - [`stack`]: the stack coder, by asymmetric numeral systems.
+#![tactic(auto)]
+
+#[cfg(test)]
+mod callers;
+pub mod lists;
+pub mod stack;

@@ -1,0 +1,73 @@
+//! One step of the stack coder.
+//!
+//! A decode pops the one entry of its table that holds the head's quantile, and an encode pushes
+//! the entry of its symbol.
+
+ghost use Rattle.std.specs.Prelude.{◌≡◌, ℕ};
+ghost use Rattle.constriction_base.specs.Steps.{Step, IsSizes, IsStep};
+ghost use Rattle.constriction_base.specs.Tables.{IsTable};
+ghost use Rattle.constriction_stack.specs.Ans.{AnsState, IsValid, Holds, pop, IsPush};
+ghost use Rattle.constriction_laws.specs.Symbols.{Model, IsModel, Knows, Encodes, Decodes};
+
+/// An entry can be pushed onto each valid state, in exactly one way.
+pub fn one_push()
+    ensures exists { (w s : ℕ) (e : Step) (state : AnsState) → IsSizes w s → IsStep w e →
+        IsValid w s state → (new : AnsState) × IsPush w s e state new }
+    ensures unique { (w s : ℕ) (e : Step) (state new other : AnsState) → IsSizes w s → IsStep w e →
+        IsPush w s e state new → IsPush w s e state other → new ≡ other }
+{}
+
+/// A pop after a push of an entry gives the state before, and so does a push after a pop.
+pub fn pushes_and_pops_undo()
+    ensures pop_undoes { (w s : ℕ) (e : Step) (old new : AnsState) →
+        IsPush w s e old new → Holds e new × (pop w s e new ≡ old) }
+    ensures push_undoes { (w s : ℕ) (e : Step) (old new : AnsState) → IsSizes w s → IsStep w e →
+        IsValid w s old → Holds e old → IsPush w s e (pop w s e old) new → new ≡ old }
+    ensures valid { (w s : ℕ) (e : Step) (old : AnsState) → IsSizes w s → IsStep w e →
+        IsValid w s old → Holds e old → IsValid w s (pop w s e old) }
+{}
+
+/// A symbol that its table knows can be encoded onto each valid state, in exactly one way.
+pub fn one_encode<Symbol>()
+    ensures exists { (w s : ℕ) (model : Model Symbol) (symbol : Symbol) (old : AnsState) →
+        IsSizes w s → IsModel w model → Knows model symbol → IsValid w s old →
+        (new : AnsState) × Encodes w s model symbol old new }
+    ensures unique { (w s : ℕ) (model : Model Symbol) (symbol : Symbol) (old new other : AnsState) →
+        IsSizes w s → IsModel w model →
+        Encodes w s model symbol old new → Encodes w s model symbol old other → new ≡ other }
+{}
+
+/// From each state, valid or not, exactly one symbol is decoded, and leaves exactly one state.
+pub fn one_decode<Symbol>()
+    ensures exists { (w s : ℕ) (model : Model Symbol) (old : AnsState) →
+        IsTable model.precision model.table →
+        (symbol : Symbol) × (new : AnsState) × Decodes w s model symbol old new }
+    ensures unique { (w s : ℕ) (model : Model Symbol) (symbol other : Symbol) (old new last : AnsState) →
+        IsTable model.precision model.table → Decodes w s model symbol old new →
+        Decodes w s model other old last →
+        (symbol ≡ other) × (new ≡ last) }
+{}
+
+/// A decode after an encode under the same table gives that symbol and the state before.
+pub fn decode_undoes_encode<Symbol>()
+    ensures back { (w s : ℕ) (model : Model Symbol) (symbol : Symbol) (old new : AnsState) →
+        Encodes w s model symbol old new → Decodes w s model symbol new old }
+    ensures only { (w s : ℕ) (model : Model Symbol) (symbol again : Symbol) (old new last : AnsState) →
+        IsTable model.precision model.table → Encodes w s model symbol old new →
+        Decodes w s model again new last →
+        (again ≡ symbol) × (last ≡ old) }
+    ensures valid { (w s : ℕ) (model : Model Symbol) (symbol : Symbol) (old new : AnsState) →
+        Encodes w s model symbol old new → IsValid w s new }
+{}
+
+/// An encode of the symbol that a decode gave, under the same table, gives the valid state before.
+pub fn encode_undoes_decode<Symbol>()
+    ensures back { (w s : ℕ) (model : Model Symbol) (symbol : Symbol) (old new : AnsState) →
+        IsValid w s old → Decodes w s model symbol old new → Encodes w s model symbol new old }
+    ensures only { (w s : ℕ) (model : Model Symbol) (symbol : Symbol) (old new last : AnsState) →
+        IsSizes w s → IsModel w model → IsValid w s old →
+        Decodes w s model symbol old new → Encodes w s model symbol new last → last ≡ old }
+    ensures valid { (w s : ℕ) (model : Model Symbol) (symbol : Symbol) (old new : AnsState) →
+        IsSizes w s → IsModel w model → IsValid w s old →
+        Decodes w s model symbol old new → IsValid w s new }
+{}
