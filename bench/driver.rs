@@ -1,0 +1,401 @@
+//! Nanoseconds a symbol of the coders behind the library `constriction_bench`.
+//!
+//! Prints a line `name ns_per_symbol` for each case, the least of RUNS runs over a million symbols.
+//! What the coders wrote and what they allocated goes to standard error. An argument keeps the cases
+//! whose name contains it.
+//!
+//! Names: coder, operation, sizes of words and states with the precision, model. Models: `table`
+//! (a table of weights), `bucket` (4096 start symbols and a short search upward), `lookup` (the
+//! symbol of each quantile listed), `flat` (equal weights, no table at all).
+
+mod input;
+
+use input::{COUNT, Random, drawn_symbols, weights};
+use std::{
+    ffi::c_void,
+    fmt::Debug,
+    hint::black_box,
+    sync::atomic::{AtomicUsize, Ordering::Relaxed},
+    time::Instant,
+};
+
+const RUNS: usize = 11;
+
+// THE LIBRARY ================================================================
+
+/// Weights, symbols, room for words; answers how many words there are.
+type EncodeTable<Word> =
+    unsafe extern "C" fn(*const Word, usize, *const usize, usize, *mut Word, usize) -> usize;
+
+/// Weights, words, places for symbols; answers whether the words are a coder's.
+type DecodeTable<Word> =
+    unsafe extern "C" fn(*const Word, usize, *const Word, usize, *mut usize, usize) -> bool;
+
+/// As with a table, but symbols of equal weights, of which there are two to the first argument.
+type EncodeFlat<Word> = unsafe extern "C" fn(u32, *const usize, usize, *mut Word, usize) -> usize;
+type DecodeFlat<Word> = unsafe extern "C" fn(u32, *const Word, usize, *mut usize, usize) -> bool;
+
+/// Words, room for words; answers how many words there are.
+type CopyWords<Word> = unsafe extern "C" fn(*const Word, usize, *mut Word, usize) -> usize;
+
+/// The library's functions at one size of words, states and precision.
+struct Library<Word> {
+    size: &'static str,
+    precision: u32,
+    encode_table: EncodeTable<Word>,
+    decode_table: DecodeTable<Word>,
+    cheap: &'static str,
+    decode_cheap: DecodeTable<Word>,
+    encode_flat: EncodeFlat<Word>,
+    decode_flat: DecodeFlat<Word>,
+    reload: CopyWords<Word>,
+    copy: CopyWords<Word>,
+}
+
+/// Declares the C functions of one size, in which a slice is a pointer and then a length.
+macro_rules! library {
+    ($word:ty, $size:literal, $precision:literal, $cheap:literal) => {{
+        unsafe extern "C" {
+            #[link_name = concat!("constriction_bench_ans_encode_", $size, "_table")]
+            fn encode_table(
+                weights: *const $word,
+                weights_len: usize,
+                symbols: *const usize,
+                symbols_len: usize,
+                out: *mut $word,
+                out_len: usize,
+            ) -> usize;
+
+            #[link_name = concat!("constriction_bench_ans_decode_", $size, "_table")]
+            fn decode_table(
+                weights: *const $word,
+                weights_len: usize,
+                words: *const $word,
+                words_len: usize,
+                symbols: *mut usize,
+                symbols_len: usize,
+            ) -> bool;
+
+            #[link_name = concat!("constriction_bench_ans_decode_", $size, "_", $cheap)]
+            fn decode_cheap(
+                weights: *const $word,
+                weights_len: usize,
+                words: *const $word,
+                words_len: usize,
+                symbols: *mut usize,
+                symbols_len: usize,
+            ) -> bool;
+
+            #[link_name = concat!("constriction_bench_ans_encode_", $size, "_flat")]
+            fn encode_flat(
+                bits: u32,
+                symbols: *const usize,
+                symbols_len: usize,
+                out: *mut $word,
+                out_len: usize,
+            ) -> usize;
+
+            #[link_name = concat!("constriction_bench_ans_decode_", $size, "_flat")]
+            fn decode_flat(
+                bits: u32,
+                words: *const $word,
+                words_len: usize,
+                symbols: *mut usize,
+                symbols_len: usize,
+            ) -> bool;
+
+            #[link_name = concat!("constriction_bench_ans_reload_", $size)]
+            fn reload(
+                words: *const $word,
+                words_len: usize,
+                out: *mut $word,
+                out_len: usize,
+            ) -> usize;
+
+            #[link_name = concat!("constriction_bench_copy_", $size)]
+            fn copy(
+                words: *const $word,
+                words_len: usize,
+                out: *mut $word,
+                out_len: usize,
+            ) -> usize;
+        }
+        Library::<$word> {
+            size: $size,
+            precision: $precision,
+            encode_table,
+            decode_table,
+            cheap: $cheap,
+            decode_cheap,
+            encode_flat,
+            decode_flat,
+            reload,
+            copy,
+        }
+    }};
+}
+
+trait Word: Copy + Default + PartialEq + Debug + TryFrom<u32> {
+    const BITS: u32;
+}
+
+impl Word for u16 {
+    const BITS: u32 = u16::BITS;
+}
+
+impl Word for u32 {
+    const BITS: u32 = u32::BITS;
+}
+
+// INPUT ======================================================================
+
+/// A million symbols below 256, each as likely.
+fn equal_symbols() -> Vec<usize> {
+    let mut random = Random::new(99);
+    (0..COUNT)
+        .map(|_| (random.next() >> 40) as usize & 255)
+        .collect()
+}
+
+/// The bits that the symbols hold under a model with these weights.
+fn information(weights: &[u32], precision: u32, symbols: &[usize]) -> f64 {
+    let bits: Vec<f64> = weights
+        .iter()
+        .map(|&weight| precision as f64 - (weight as f64).log2())
+        .collect();
+    symbols.iter().map(|&symbol| bits[symbol]).sum()
+}
+
+// ALLOCATIONS ================================================================
+
+/// How many blocks were asked for, moved and given back, and how many bytes were asked for last.
+static ALLOCATED: AtomicUsize = AtomicUsize::new(0);
+static MOVED: AtomicUsize = AtomicUsize::new(0);
+static FREED: AtomicUsize = AtomicUsize::new(0);
+static LAST: AtomicUsize = AtomicUsize::new(0);
+
+unsafe extern "C" {
+    fn __real_malloc(size: usize) -> *mut c_void;
+    fn __real_realloc(block: *mut c_void, size: usize) -> *mut c_void;
+    fn __real_free(block: *mut c_void);
+}
+
+#[unsafe(no_mangle)]
+unsafe extern "C" fn __wrap_malloc(size: usize) -> *mut c_void {
+    ALLOCATED.fetch_add(1, Relaxed);
+    LAST.store(size, Relaxed);
+    unsafe { __real_malloc(size) }
+}
+
+#[unsafe(no_mangle)]
+unsafe extern "C" fn __wrap_realloc(block: *mut c_void, size: usize) -> *mut c_void {
+    MOVED.fetch_add(1, Relaxed);
+    LAST.store(size, Relaxed);
+    unsafe { __real_realloc(block, size) }
+}
+
+#[unsafe(no_mangle)]
+unsafe extern "C" fn __wrap_free(block: *mut c_void) {
+    FREED.fetch_add(1, Relaxed);
+    unsafe { __real_free(block) }
+}
+
+/// Runs `work` and says what it allocated.
+fn allocations<T>(name: &str, work: impl FnOnce() -> T) -> T {
+    let (allocated, moved, freed) = (
+        ALLOCATED.load(Relaxed),
+        MOVED.load(Relaxed),
+        FREED.load(Relaxed),
+    );
+    let answer = work();
+    eprintln!(
+        "# {name}: malloc {}, realloc {}, free {}; the last block had {} bytes",
+        ALLOCATED.load(Relaxed) - allocated,
+        MOVED.load(Relaxed) - moved,
+        FREED.load(Relaxed) - freed,
+        LAST.load(Relaxed),
+    );
+    answer
+}
+
+// CASES ======================================================================
+
+struct Bench {
+    part: String,
+}
+
+impl Bench {
+    /// The least time of `work` over the runs, in nanoseconds for each of COUNT.
+    fn least<T>(&self, mut work: impl FnMut() -> T) -> f64 {
+        let mut least = f64::INFINITY;
+        for _ in 0..RUNS {
+            let start = Instant::now();
+            let answer = black_box(work());
+            least = least.min(start.elapsed().as_nanos() as f64);
+            drop(answer);
+        }
+        least / COUNT as f64
+    }
+
+    fn wants(&self, name: &str) -> bool {
+        name.contains(&self.part)
+    }
+
+    fn encode<W: Word>(&self, name: &str, encode: impl Fn(&mut [W]) -> usize) {
+        if self.wants(name) {
+            println!("{name} {:.2}", self.least(|| encode(&mut [])));
+        }
+    }
+
+    /// The library's decoders own their words, so they begin with a copy. What `malloc` and a copy
+    /// take alone is not counted.
+    fn decode<W: Word>(
+        &self,
+        name: &str,
+        words: &[W],
+        symbols: &[usize],
+        decode: impl Fn(&[W], &mut [usize]) -> bool,
+    ) {
+        if !self.wants(name) {
+            return;
+        }
+        let mut out = vec![0; COUNT];
+        let all = self.least(|| assert!(decode(words, &mut out)));
+        assert_eq!(out, symbols);
+        let copying = self.least(|| black_box(words).to_vec());
+        println!("{name} {:.2}", all - copying);
+    }
+}
+
+/// What a coder wrote, beside what the symbols hold under its model.
+fn report<W: Word>(name: &str, words: &[W], information: f64) {
+    let written = words.len() as f64 * W::BITS as f64;
+    eprintln!(
+        "# {name}: {:.6} bits per symbol, {:.6} under the model, overhead {:.4} %",
+        written / COUNT as f64,
+        information / COUNT as f64,
+        (written / information - 1.0) * 100.0,
+    );
+}
+
+/// All words that `encode` makes.
+fn all_words<W: Word>(encode: impl Fn(&mut [W]) -> usize) -> Vec<W> {
+    let mut words = vec![W::default(); encode(&mut [])];
+    encode(&mut words);
+    words
+}
+
+fn cases<W: Word>(bench: &Bench, library: &Library<W>, drawn: &[usize], equal: &[usize])
+where
+    <W as TryFrom<u32>>::Error: Debug,
+{
+    let size = library.size;
+    let numbers = weights(library.precision);
+    let weights: Vec<W> = numbers.iter().map(|&n| n.try_into().unwrap()).collect();
+
+    let encode_table = |out: &mut [W]| unsafe {
+        (library.encode_table)(
+            weights.as_ptr(),
+            weights.len(),
+            drawn.as_ptr(),
+            drawn.len(),
+            out.as_mut_ptr(),
+            out.len(),
+        )
+    };
+    let decode_by = |decode: DecodeTable<W>| {
+        let weights = &weights;
+        move |words: &[W], out: &mut [usize]| unsafe {
+            decode(
+                weights.as_ptr(),
+                weights.len(),
+                words.as_ptr(),
+                words.len(),
+                out.as_mut_ptr(),
+                out.len(),
+            )
+        }
+    };
+    let encode_flat = |out: &mut [W]| unsafe {
+        (library.encode_flat)(8, equal.as_ptr(), equal.len(), out.as_mut_ptr(), out.len())
+    };
+    let decode_flat = |words: &[W], out: &mut [usize]| unsafe {
+        (library.decode_flat)(8, words.as_ptr(), words.len(), out.as_mut_ptr(), out.len())
+    };
+
+    let name = format!("ans_encode_{size}_table");
+    bench.encode(&name, encode_table);
+    let words = all_words(encode_table);
+    if bench.wants(&name) {
+        report(
+            &name,
+            &words,
+            information(&numbers, library.precision, drawn),
+        );
+        allocations(&name, || encode_table(&mut []));
+    }
+    for (kind, decode) in [
+        ("table", library.decode_table),
+        (library.cheap, library.decode_cheap),
+    ] {
+        let name = format!("ans_decode_{size}_{kind}");
+        bench.decode(&name, &words, drawn, decode_by(decode));
+    }
+
+    let name = format!("ans_encode_{size}_flat");
+    bench.encode(&name, encode_flat);
+    let words = all_words(encode_flat);
+    if bench.wants(&name) {
+        report(&name, &words, 8.0 * COUNT as f64);
+        allocations(&name, || encode_flat(&mut []));
+    }
+    bench.decode(
+        &format!("ans_decode_{size}_flat"),
+        &words,
+        equal,
+        decode_flat,
+    );
+}
+
+/// A million words go into a coder and out again; beside it, the same copies with no coder.
+fn reloading<W: Word>(bench: &Bench, library: &Library<W>)
+where
+    <W as TryFrom<u32>>::Error: Debug,
+{
+    let mut random = Random::new(7);
+    let words: Vec<W> = (0..COUNT)
+        .map(|_| {
+            ((random.next() >> 40) as u32 & 0xffff | 1)
+                .try_into()
+                .unwrap()
+        })
+        .collect();
+    let mut out = vec![W::default(); COUNT];
+    for (name, call) in [("ans_reload", library.reload), ("copy", library.copy)] {
+        let name = format!("{name}_{}", library.size);
+        if bench.wants(&name) {
+            let time = bench.least(|| unsafe {
+                call(words.as_ptr(), words.len(), out.as_mut_ptr(), out.len())
+            });
+            assert_eq!(out, words);
+            println!("{name} {time:.2}");
+        }
+    }
+}
+
+fn main() {
+    let bench = Bench {
+        part: std::env::args().nth(1).unwrap_or_default(),
+    };
+    let drawn = drawn_symbols();
+    let equal = equal_symbols();
+    let entropy = information(&weights(24), 24, &drawn) / COUNT as f64;
+    eprintln!("# {COUNT} symbols, {entropy:.3} bits each, least of {RUNS} runs");
+
+    let large = library!(u32, "u32u64p24", 24, "bucket");
+    let small = library!(u16, "u16u32p12", 12, "lookup");
+    cases(&bench, &large, &drawn, &equal);
+    cases(&bench, &small, &drawn, &equal);
+    reloading(&bench, &large);
+    reloading(&bench, &small);
+}

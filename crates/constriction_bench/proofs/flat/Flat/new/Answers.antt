@@ -1,0 +1,14 @@
+use Rattle.std.proofs.Common.{arith, ◌≡◌, ◌^◌, ◌-◌, ◌*◌, ap, ◌∙◌}
+use Rattle.constriction_bench.proofs.Powers.{moved_fits, same_number}
+use Rattle.constriction_bench.proofs.flat.Flat.new.Goals as goal
+
+pub shifted_left-weight-requires-clause-fits : goal.shifted_left-weight-requires-clause-fits
+shifted_left-weight-requires-clause-fits g c =
+    let one : g.Probability.BitArray.number c.narrow.result ≡ 1 = c.narrow.ensures ∙ same_number 1 1 _ (omega arith) (omega (arith, c.requires.0, c.requires.1)) in
+    let some : (c.args.bits ≡ 0) → ⊥ = c.if-bits-eq0.false in
+    rw one (moved_fits 1 1 (g.row.PRECISION - c.args.bits) _ (omega arith) (omega (arith, c.requires.1, c.requires.0, c.if-bits.false)))
+
+pub invariant_of-result-clause-is_power : goal.invariant_of-result-clause-is_power
+invariant_of-result-clause-is_power g c =
+    let one : g.Probability.BitArray.number c.narrow.result ≡ 1 = c.narrow.ensures ∙ same_number 1 1 _ (omega arith) (omega (arith, c.requires.0, c.requires.1)) in
+    c.shifted_left-weight.ensures ∙ ap (λ n. n * 2 ^ (g.row.PRECISION - c.args.bits)) one ∙ omega arith

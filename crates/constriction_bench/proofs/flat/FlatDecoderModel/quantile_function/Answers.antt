@@ -1,0 +1,35 @@
+use Rattle.std.proofs.Common.{arith, ℕ, ◌≡◌, ◌<◌, ◌+◌, ◌^◌, ◌/◌, ◌*◌, ap, ◌∙◌}
+use Rattle.std.proofs.lemmas.Nat.{shr_below}
+use Rattle.constriction_bench.specs.Equal.{equal_has}
+use Rattle.constriction_bench.proofs.Powers.{moved_fits, covered}
+use Rattle.constriction_bench.proofs.flat.FlatDecoderModel.quantile_function.Goals as goal
+
+-- the symbol of a quantile is one of the model's
+symbol_below : (q k bits shift precision : ℕ) → bits + shift ≡ precision → q < 2 ^ precision → k ≡ q / 2 ^ shift → k < 2 ^ bits
+symbol_below q k bits shift precision whole below is =
+    rw is (shr_below q bits shift (rw (← whole) at below))
+
+pub shifted_left-requires-clause-fits : goal.shifted_left-requires-clause-fits
+shifted_left-requires-clause-fits g c =
+    let flat = c.args.self.now in
+    let number = g.Probability.BitArray.number in
+    let below = symbol_below (number c.args.quantile) (number c.shifted_right-symbol.result) flat.bits flat.shift _ flat.whole c.requires c.shifted_right-symbol.ensures in
+    moved_fits _ flat.bits flat.shift _ below (omega (arith, flat.whole, flat.fits))
+
+pub returns-clause-found : goal.returns-clause-found
+returns-clause-found g c =
+    let flat = c.args.self.now in
+    let number = g.Probability.BitArray.number in
+    let below = symbol_below (number c.args.quantile) (number c.shifted_right-symbol.result) flat.bits flat.shift _ flat.whole c.requires c.shifted_right-symbol.ensures in
+    let same : c.widen.result ≡ number c.shifted_right-symbol.result = omega (arith, c.widen.ensures, c.widen.type_inv) in
+    let weight = rw c.unwrap.ensures at c.to_nonzero.ensures in
+    equal_has flat.bits flat.shift _ _ _ (rw same below) (rw same c.shifted_left.ensures) (weight ∙ flat.is_power)
+
+pub returns-clause-covers : goal.returns-clause-covers
+returns-clause-covers g c =
+    let flat = c.args.self.now in
+    let q = g.Probability.BitArray.number c.args.quantile in
+    let left = c.shifted_left.ensures ∙ ap (λ n. n * 2 ^ flat.shift) c.shifted_right-symbol.ensures in
+    let part = covered q flat.shift in
+    let weight = rw c.unwrap.ensures at c.to_nonzero.ensures in
+    rw (left, weight ∙ flat.is_power) part

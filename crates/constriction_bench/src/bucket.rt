@@ -1,0 +1,101 @@
+//! A table that lists a symbol for each of 4096 equal parts of the quantiles.
+
+ghost use Rattle.std.specs.Prelude.{◌≡◌, ℕ, ◌+◌, ◌-◌, ◌*◌, ◌^◌, ◌<◌, ◌≤◌, ◌%◌, length, map, slice_index, IfSome};
+ghost use Rattle.constriction_base.specs.Tables.{table_of};
+ghost use Rattle.std.proofs.Common.{arith, rules};
+ghost use Rattle.constriction_bench.specs.Starts.{AreStarts, Begins};
+
+use crate::starts::starts_of;
+use constriction_base::model::{DecoderModel, EncoderModel, EntropyModel};
+use constriction_base::weights::WeightTable;
+use constriction_words::BitArray;
+use std::alloc::Global;
+use std::num::NonZero;
+
+/// Weights of at most 256 symbols, none of which is 0, of a precision of 24 bits. The first symbol of
+/// each 4096th part of the quantiles is listed, and a decode searches upward from there.
+#[derive(Drop)]
+pub struct BucketTable {
+    table: WeightTable<u32, 24>,
+    count: usize,
+    starts: Vec<u32>,
+    firsts: Vec<u8>,
+    ghost are_starts: { AreStarts 24 (⟦<WeightTable<u32, 24> as EntropyModel<24>>⟧.table table) starts.items count },
+    ghost ends: { slice_index starts.items count ≡ 16777216 },
+    ghost all: { length firsts.items ≡ 4096 },
+    ghost begin: { (part : ℕ) → part < 4096 → Begins starts.items count (slice_index firsts.items part) part },
+}
+
+impl BucketTable {
+    /// The table of these weights, or nothing where there is none or memory is missing.
+    pub fn new(alloc: Global, weights: &[u32]) -> Option<Self>
+        ensures { IfSome result (λ table. ⟦<BucketTable as EntropyModel<24>>⟧.table table ≡ table_of (map (λ weight. weight % 2 ^ 32) weights.now)) }
+    {
+        let count = weights.len();
+        let table = WeightTable::<u32, 24>::new(alloc, weights).ok()?;
+        let starts = starts_of::<WeightTable<u32, 24>, 24>(alloc, &table, count)?;
+        if starts[count] != 16777216 {
+            return None;
+        }
+        let firsts = firsts_of(alloc, &table, &starts, count)?;
+        Some(BucketTable {
+            table,
+            count,
+            starts,
+            firsts,
+        })
+    }
+}
+
+/// The symbol of the first quantile of each part.
+fn firsts_of(
+    alloc: Global,
+    table: &WeightTable<u32, 24>,
+    starts: &[u32],
+    count: usize,
+) -> Option<Vec<u8>>
+    requires { length starts.now ≡ count + 1 }
+    ensures all { IfSome result (λ firsts. length firsts.items ≡ 4096) }
+    ensures begin { IfSome result (λ firsts. (part : ℕ) → part < 4096 → Begins starts.now count (slice_index firsts.items part) part) }
+{
+    let mut firsts = Vec::new(alloc);
+    for part in 0..4096u32 {
+        let quantile = part * 4096;
+        let (symbol, _, _) = table.quantile_function(quantile);
+        if symbol >= count || symbol > 255 {
+            return None;
+        }
+        if starts[symbol] > quantile {
+            return None;
+        }
+        firsts.push(symbol as u8).ok()?;
+    }
+    Some(firsts)
+}
+
+impl EntropyModel<24> for BucketTable {
+    type Symbol = usize;
+
+    type Probability = u32;
+
+    ghost table = { λ t. ⟦<WeightTable<u32, 24> as EntropyModel<24>>⟧.table t.table };
+
+    ghost lawful = { λ t. ⟦<WeightTable<u32, 24> as EntropyModel<24>>⟧.lawful t.table };
+
+    ghost sized = { λ _. (Prim.search rules, Prim.search rules) };
+
+    ghost two_symbols = { λ _ e. absurd (Prim.omega (arith, e)) };
+}
+
+impl DecoderModel<24> for BucketTable {
+    #[inline(always)]
+    fn quantile_function(&self, quantile: u32) -> (usize, u32, NonZero<u32>) {
+        let mut symbol = self.firsts[(quantile >> 12) as usize] as usize;
+        'search: while self.starts[symbol + 1] <= quantile {
+            symbol += 1;
+        }
+        let left = self.starts[symbol];
+        let p = self.starts[symbol + 1] - left;
+        (symbol, left, NonZero::<u32>::new(p).unwrap())
+    }
+}

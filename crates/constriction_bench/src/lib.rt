@@ -1,0 +1,17 @@
+//! Whole cases of the coders behind C functions over numbers and slices, so that a program in C can
+//! time them.
+//!
+//! - `runs`: the measured loops, which encode all of some symbols, or decode as many as are asked for.
+//! - `flat`, `lookup`, `bucket`: models that cost little, so that a coder's own time shows; `starts`
+//!   serves the last two.
+//! - `large`: the cases at words of 32 bits, states of 64 and a precision of 24.
+//! - `small`: the cases at words of 16 bits, states of 32 and a precision of 12.
+#![tactic(auto)]
+
+mod bucket;
+mod flat;
+pub mod large;
+mod lookup;
+mod runs;
+pub mod small;
+mod starts;

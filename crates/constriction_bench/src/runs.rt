@@ -1,0 +1,81 @@
+//! The measured loops. None is inlined, so that no constant of a caller changes their code.
+
+ghost use Rattle.std.specs.Prelude.{◌≡◌, ◌++◌, length, take, drop};
+ghost use Rattle.constriction_base.specs.Steps.{IsSizes};
+
+use constriction_base::errors::CoderError;
+use constriction_base::model::{DecoderModel, EncoderModel, EntropyModel};
+use constriction_stack::coder::AnsCoder;
+use constriction_stream::decoding::Decode;
+use constriction_stream::encoding::Encode;
+use constriction_words::{BitArray, WordOf};
+use std::alloc::Global;
+
+/// Encodes symbols into a new coder, the last first, and gives the coder's words. There are none
+/// where a symbol isn't the model's or memory is missing.
+#[inline(never)]
+pub fn encode_all<
+    Word: WordOf<State>,
+    State: BitArray,
+    M: EncoderModel<PRECISION, Symbol = usize>,
+    const PRECISION: usize,
+>(alloc: Global, symbols: &[usize], model: &M) -> Option<Vec<Word>>
+where
+    M::Probability: WordOf<Word>,
+    requires { IsSizes Word.BITS State.BITS }
+{
+    let mut coder: AnsCoder<Word, State, Vec<Word>> = AnsCoder::new(alloc);
+    for symbol in symbols.iter().rev() {
+        if coder.encode_symbol(symbol, model).is_err() {
+            return None;
+        }
+    }
+    coder.into_compressed().ok()
+}
+
+/// Decodes a symbol for each place of `symbols`, the first first. It answers whether the words are
+/// a coder's, whose last is not zero.
+#[inline(never)]
+pub fn decode_all<
+    Word: WordOf<State>,
+    State: BitArray,
+    M: DecoderModel<PRECISION, Symbol = usize>,
+    const PRECISION: usize,
+>(words: Vec<Word>, symbols: &mut [usize], model: &M) -> bool
+where
+    M::Probability: WordOf<Word>,
+    requires { IsSizes Word.BITS State.BITS }
+{
+    let Ok(mut coder) = AnsCoder::<Word, State, Vec<Word>>::from_compressed(words) else {
+        return false;
+    };
+    for symbol in symbols.iter_mut() {
+        match coder.decode_symbol(model) {
+            Ok(decoded) => *symbol = decoded,
+            Err(CoderError::Frontend(never)) => match never {},
+            Err(CoderError::Backend(never)) => match never {},
+        }
+    }
+    true
+}
+
+/// Puts words into a coder and takes them out again, if the last isn't zero.
+#[inline(never)]
+pub fn reload_all<Word: WordOf<State>, State: BitArray>(words: Vec<Word>) -> Option<Vec<Word>>
+    requires { IsSizes Word.BITS State.BITS }
+{
+    match AnsCoder::<Word, State, Vec<Word>>::from_compressed(words) {
+        Ok(coder) => coder.into_compressed().ok(),
+        Err(_) => None,
+    }
+}
+
+/// Writes as many of the words as there is room for, and answers how many words there are.
+pub fn copy_out<Word: BitArray>(words: &[Word], out: &mut [Word]) -> usize
+    ensures count { result ≡ length words.now }
+    ensures copied { out.new ≡ take (length out.old) words.now ++ drop (length words.now) out.old }
+{
+    let count = words.len().min(out.len());
+    out[..count].copy_from_slice(&words[..count]);
+    words.len()
+}

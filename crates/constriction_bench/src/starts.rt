@@ -1,0 +1,37 @@
+//! Where the intervals of a model's symbols begin, as a list.
+
+ghost use Rattle.std.specs.Prelude.{◌≡◌, ◌-◌, ◌<◌, ◌≤◌, length, IfSome};
+ghost use Rattle.constriction_bench.specs.Starts.{AreStarts};
+
+use constriction_base::model::{EncoderModel, EntropyModel};
+use constriction_words::{BitArray, WordOf};
+use std::alloc::Global;
+
+/// Where the intervals of the first symbols of a model begin, and then where the last of them ends.
+/// There is no list where one of these symbols has no interval, or one that does not begin where that
+/// of the symbol before ends, or where memory is missing.
+pub fn starts_of<M: EncoderModel<PRECISION, Symbol = usize>, const PRECISION: usize>(
+    alloc: Global,
+    model: &M,
+    count: usize,
+) -> Option<Vec<u32>>
+where
+    M::Probability: WordOf<u32>,
+    requires { PRECISION < 32 }
+    ensures { IfSome result (λ starts. AreStarts PRECISION (M.table model.now) starts.items count) }
+{
+    let total = 1u32 << PRECISION as u32;
+    let mut starts = Vec::new(alloc);
+    let mut end = 0u32;
+    starts.push(end).ok()?;
+    for symbol in 0..count {
+        let (left, p) = model.left_cumulative_and_probability(&symbol)?;
+        let p: u32 = M::Probability::from_nonzero(p).widen();
+        if left.widen() != end || p > total - end {
+            return None;
+        }
+        end += p;
+        starts.push(end).ok()?;
+    }
+    Some(starts)
+}
