@@ -1,0 +1,11 @@
+pub mod Ans
+pub mod Backends
+pub mod Binary
+pub mod Guards
+pub mod Iterators
+pub mod Lists
+pub mod Positions
+pub mod Sizes
+pub mod Steps
+pub mod Symbols
+pub mod Tables
