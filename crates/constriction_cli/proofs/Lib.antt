@@ -1,0 +1,4 @@
+pub mod OwnNumbers
+pub mod Reading
+pub mod Symbols
+pub mod Writing

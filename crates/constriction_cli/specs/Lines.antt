@@ -1,0 +1,66 @@
+-- Lines of numbers: the lines of a text, the numbers that a line lists, and how numbers are printed.
+use Rattle.std.specs.Prelude.{ℕ, ◌+◌, ◌*◌, ◌-◌, Bool, true, false, ◌&&◌, ◌||◌, ◌==◌, nat_le, if◌then◌else◌, Option, None, Some, List, [], ◌∷◌, ◌++◌, map, filter, decimal}
+use Rattle.std.specs.List.{before_first, after_first, slice_split, join_with_byte}
+use Rattle.std.specs.Char.{is_ascii_digit}
+use Rattle.std.specs.Str.{all_ascii_digits}
+
+-- a line ends at a line feed
+abbrev pub is_line_feed : ℕ → Bool
+is_line_feed byte = byte == 10
+
+-- the first line of a text, without its line feed; all of it where there is no line feed
+abbrev pub first_line : List ℕ → List ℕ
+first_line text = before_first is_line_feed text
+
+-- what follows the first line feed; nothing where there is none
+abbrev pub after_line : List ℕ → List ℕ
+after_line text = after_first is_line_feed text
+
+-- the second line; empty where there is none
+abbrev pub second_line : List ℕ → List ℕ
+second_line text = first_line (after_line text)
+
+-- a space, a tab or a carriage return parts numbers
+abbrev pub is_blank : ℕ → Bool
+is_blank byte = byte == 32 || byte == 9 || byte == 13
+
+-- a piece that is not empty
+abbrev pub has_bytes : List ℕ → Bool
+has_bytes [] = false
+has_bytes (byte ∷ bytes) = true
+
+-- what stands between blanks
+abbrev pub pieces_of : List ℕ → List (List ℕ)
+pieces_of line = filter has_bytes (slice_split is_blank line)
+
+-- the number that decimal digits spell, behind the digits of n
+abbrev pub value_after : ℕ → List ℕ → ℕ
+value_after n [] = n
+value_after n (digit ∷ digits) = value_after (10 * n + (digit - 48)) digits
+
+-- a digit behind those of n; none where the byte is no digit, or the number is past the greatest
+abbrev pub with_digit : ℕ → ℕ → ℕ → Option ℕ
+with_digit greatest n byte = if is_ascii_digit byte && nat_le (10 * n + (byte - 48)) greatest then Some (10 * n + (byte - 48)) else None
+
+-- the number that a piece of digits spells; none where a byte is no digit, or the number is past the greatest
+abbrev pub number_of : ℕ → List ℕ → Option ℕ
+number_of greatest piece = if all_ascii_digits piece && nat_le (value_after 0 piece) greatest then Some (value_after 0 piece) else None
+
+-- a number in front of others, where both are there
+abbrev pub in_front : Option ℕ → Option (List ℕ) → Option (List ℕ)
+in_front None rest = None
+in_front (Some n) None = None
+in_front (Some n) (Some ns) = Some (n ∷ ns)
+
+-- the numbers of pieces; none where one of them spells no number
+abbrev pub all_numbers : ℕ → List (List ℕ) → Option (List ℕ)
+all_numbers greatest [] = Some []
+all_numbers greatest (piece ∷ pieces) = in_front (number_of greatest piece) (all_numbers greatest pieces)
+
+-- the numbers up to the greatest that a line lists; none where it is no list of such numbers
+abbrev pub numbers_of : ℕ → List ℕ → Option (List ℕ)
+numbers_of greatest line = all_numbers greatest (pieces_of line)
+
+-- numbers in decimal with a space between each two, as a line
+abbrev pub line_of : List ℕ → List ℕ
+line_of numbers = join_with_byte 32 (map decimal numbers) ++ 10 ∷ []

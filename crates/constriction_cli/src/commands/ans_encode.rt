@@ -1,0 +1,54 @@
+//! `ans-encode`: symbols to the words of an ANS coder.
+
+ghost use Rattle.std.specs.Prelude.{◌≡◌, ◌%◌, ◌^◌, map, reverse, IfOk, IfErr};
+ghost use Rattle.constriction.specs.Ans.{AnsState, exported};
+ghost use Rattle.constriction_cli.specs.Coding.{empty_state, PushesSymbols};
+ghost use Rattle.constriction_cli.specs.Answers.{IsEncoded, EncodeFails, PushFails};
+
+use crate::fault::Fault;
+use crate::input::{parse_numbers, split_line};
+use crate::output::line_of_words;
+use crate::weights::{PRECISION, table_of};
+use constriction::CoderError;
+use constriction::stream::Encode;
+use constriction::stream::model::{EncoderModel, EntropyModel};
+use constriction::stream::stack::DefaultAnsCoder;
+use std::alloc::Global;
+
+/// The words that hold the symbols, the first of which is decoded first.
+fn encode<M: EncoderModel<PRECISION, Symbol = usize, Probability = u32>>(
+    alloc: Global,
+    model: &M,
+    symbols: &[usize],
+) -> Result<Vec<u32>, Fault>
+    ensures ok { IfOk result (λ words. (state : AnsState)
+        × PushesSymbols (M.table model.now) symbols.now empty_state state
+        × (map (λ word. word % 2 ^ 32) (reverse words.items) ≡ exported 32 state)) }
+    ensures fault { IfErr result (PushFails (M.table model.now) symbols.now) }
+{
+    let mut coder = DefaultAnsCoder::new(alloc);
+    let mut left = symbols.len();
+    'symbols: while left > 0 {
+        left -= 1;
+        match coder.encode_symbol(&symbols[left], model) {
+            Ok(()) => {}
+            Err(CoderError::Frontend(error)) => return Err(Fault::Encoder(error)),
+            Err(CoderError::Backend(_)) => return Err(Fault::OutOfMemory),
+        }
+    }
+    Ok(coder.into_compressed()?)
+}
+
+/// The line of words for a line of weights and a line of symbols.
+pub fn answer(alloc: Global, text: &[u8]) -> Result<Vec<u8>, Fault>
+    ensures ok { IfOk result (λ answer. IsEncoded text.now answer.items) }
+    ensures fault { IfErr result (EncodeFails text.now) }
+{
+    let (first, rest) = split_line(text);
+    let (second, _) = split_line(rest);
+    let weights = parse_numbers::<u32>(alloc, first)?;
+    let symbols = parse_numbers::<usize>(alloc, second)?;
+    let table = table_of(alloc, weights.as_slice())?;
+    let words = encode(alloc, &table, symbols.as_slice())?;
+    Ok(line_of_words(alloc, words.as_slice())?)
+}
