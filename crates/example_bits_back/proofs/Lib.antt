@@ -1,0 +1,2 @@
+mod Models
+mod Runs

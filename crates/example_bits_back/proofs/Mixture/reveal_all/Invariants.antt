@@ -1,0 +1,13 @@
+use Rattle.std.proofs.Common.{◌≡◌, ℕ, List, length}
+use Rattle.constriction.specs.Ans.{AnsState, IsValid}
+use Rattle.example_bits_back.specs.Hiding.{HidesAll}
+use Rattle.example_bits_back.proofs.Runs.{Revealed}
+use Rattle.example_bits_back.proofs.Mixture.reveal_all.Given as goal
+
+-- so many of the symbols came back, and the others are hidden still
+abbrev pub invariant-symbols : goal.invariant-symbols
+invariant-symbols l = record {
+  counted : length l.symbols.items ≡ l.counter;
+  revealed : (hidden : List ℕ) (before : AnsState) → length hidden ≡ l.count → IsValid 32 64 before
+      → HidesAll l.self hidden before l.fn.coder.state → Revealed l.self hidden l.symbols.items before l.coder.state;
+}
