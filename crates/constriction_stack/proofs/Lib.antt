@@ -11,4 +11,3 @@ pub mod SizesCounted
 pub mod WordsShown
 pub mod Guards
 mod BinaryRows
-pub mod Lists
