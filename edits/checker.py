@@ -33,13 +33,12 @@ class Blame:
     def __init__(self, name, is_own, why):
         self.path, self.is_own, self.why = name.split("::")[1:], is_own, why  # the path is the one below the crate
 
-    def is_of(self, module, function):
-        """Returns whether this is about a function of a module, or about a closure in it, whose path goes on behind a word `fn`."""
-        words = module.split("::") if module else []
-        if self.path[: len(words)] != words:
+    def is_of(self, module, function, modules):
+        """Returns whether this is about a function right in a module, or about a closure in it, whose path goes on behind a word `fn`."""
+        places = ["::".join(self.path[:count]) for count in range(len(self.path))]
+        if [it for it in places if it in modules][-1] != module:
             return False
-        last = self.path[self.path.index("fn") :] if "fn" in self.path else self.path[-1:]
-        return function in last
+        return function in (self.path[self.path.index("fn") :] if "fn" in self.path else self.path[-1:])
 
     def __str__(self):
         return f"{'::'.join(self.path)}: {self.why}"

@@ -17,6 +17,11 @@ def module_of(path):
     return "::".join(words[:-1] if words[-1] in ("lib", "main", "mod") else words)
 
 
+def modules_of(folder):
+    """Returns the modules that the files of a folder src/ are."""
+    return {module_of(f"src{at[len(folder):]}/{name}") for at, _, names in os.walk(folder) for name in names if name.endswith(".rt")}
+
+
 def function_at(lines, number):
     """Returns the name of the function or constant that holds this line of a formatted source, or '' outside of them."""
     indent = len(lines[number]) - len(lines[number].lstrip())

@@ -5,14 +5,14 @@ import shutil
 import tempfile
 
 from checker import Ran, blames
-from edit import apply, in_batches
+from edit import apply, in_batches, modules_of
 from repository import copy_crate, copy_repository
 
 
-def is_refused(edit, found):
+def is_refused(edit, found, modules):
     """Returns whether an edited function is blamed itself, and sets what the checker says of it. Where an edit changes what no function
     holds, it is tried alone, and any function that is blamed will do."""
-    of_edit = [it for it in found if any(it.is_of(*function) for function in edit.functions)]
+    of_edit = [it for it in found if any(it.is_of(*function, modules) for function in edit.functions)]
     told = sorted(of_edit or (found if edit.is_apart else []), key=lambda it: not it.is_own)
     edit.said = str(told[0]) if told else "the checker finds no fault with the edited function"
     return bool(told) and told[0].is_own
@@ -46,7 +46,8 @@ class Trial:
         self.note(batch, ran)
         if ran.verdict:
             found = blames(ran.lines)
-            return [it for it in batch if not is_refused(it, found)]
+            modules = modules_of(f"{folder}/src")
+            return [it for it in batch if not is_refused(it, found, modules)]
         if len(batch) > 1:  # one of them may keep the others from being judged
             half = len(batch) // 2
             return self.not_refused(batch[:half], folder) + self.not_refused(batch[half:], folder)
