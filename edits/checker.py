@@ -33,13 +33,10 @@ class Blame:
     def __init__(self, name, is_own, why):
         self.path, self.is_own, self.why = name.split("::")[1:], is_own, why  # the path is the one below the crate
 
-    def is_of(self, module, function):
-        """Returns whether this is about a function of a module, or about a closure in it, whose path goes on behind a word `fn`."""
-        words = module.split("::") if module else []
-        if self.path[: len(words)] != words:
-            return False
-        last = self.path[self.path.index("fn") :] if "fn" in self.path else self.path[-1:]
-        return function in last
+    def is_of(self, functions):
+        """Returns whether this is about a function of these names, or about a closure in one, whose path goes on behind a word `fn`."""
+        names = self.path[self.path.index("fn") :] if "fn" in self.path else self.path[-1:]
+        return not functions.isdisjoint(names)
 
     def __str__(self):
         return f"{'::'.join(self.path)}: {self.why}"

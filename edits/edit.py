@@ -1,5 +1,6 @@
 """Edits: files that say how to change a crate's sources for the worse."""
 
+import collections
 import os
 import re
 
@@ -9,12 +10,6 @@ DECLARATION = re.compile(r"( *)(?:[a-z]+(?:\([^)]*\))? |extern \"C\" )*(?:fn|con
 def read(path):
     with open(path, encoding="utf-8") as file:
         return file.read()
-
-
-def module_of(path):
-    """Returns the module that a file of src/ is, as the checker names it, without the crate: 'cursor::queue', or '' of the root."""
-    words = path[len("src/") : -len(".rt")].split("/")
-    return "::".join(words[:-1] if words[-1] in ("lib", "main", "mod") else words)
 
 
 def function_at(lines, number):
@@ -34,20 +29,20 @@ class BadEdit(ValueError):
 
 
 class Edit:
-    """A file of edits: the functions that it changes, each with its module, and for each source the span that differs and its new text.
+    """A file of edits: the names of the functions that it changes, and for each source the span that differs and its new text.
 
     `is_apart` where it changes what no function holds, as an impl's header or a definition: then no line of the checker is about it alone."""
 
     def __init__(self, path, crate_folder):
         self.path, self.name, self.folder = path, os.path.basename(path)[: -len(".edit")], crate_folder
         self.functions, self.spans, self.is_apart = set(), {}, False
-        self.said, self.was_alone = "", False  # of the last check: what it said of the edit, and whether it tried no other
+        self.said, self.is_settled = "", False  # what the last check said of the edit, and whether another could say more
         texts = self.edited_texts()
         for file, text in texts.items():
             self.spans[file] = difference(read(f"{crate_folder}/{file}"), text)
-        names = {name for _, name in self.functions}
-        if self.name.partition(".")[0] not in names or "." not in self.name:
-            raise BadEdit(f"{path}: its name must be FUNCTION.what_is_wrong.edit, with a function that it changes: {', '.join(sorted(names))}")
+        if self.name.partition(".")[0] not in self.functions or "." not in self.name:
+            names = ", ".join(sorted(self.functions))
+            raise BadEdit(f"{path}: its name must be FUNCTION.what_is_wrong.edit, with a function that it changes: {names}")
 
     def edited_texts(self):
         """Returns the texts of the files that it changes, after all its pairs of lines."""
@@ -73,13 +68,13 @@ class Edit:
             raise BadEdit(f"{self.path}: an 'old:' text is in {file} {text.count(old) if old else 0} times, and not once")
         function = function_at(text.split("\n"), text[: text.index(old)].count("\n")) if file.startswith("src/") else ""
         if function:
-            self.functions.add((module_of(file), function))
+            self.functions.add(function)
         else:
             self.is_apart = True
         texts[file] = text.replace(old, new)
 
     def fits(self, other):
-        """Returns whether one check can judge both: they change different functions, in places that do not meet."""
+        """Returns whether one check can judge both: they change functions of different names, in places that do not meet."""
         if self.is_apart or other.is_apart or self.functions & other.functions:
             return False
         shared = self.spans.keys() & other.spans.keys()
@@ -105,9 +100,11 @@ def apply(edits, crate_folder):
 
 
 def in_batches(edits, size):
-    """Returns lists of edits, of each of which one check can judge all."""
+    """Returns lists of edits, of each of which one check can judge all. Where many edits change functions of one name, these come first,
+    so that the others fill their batches."""
+    counts = collections.Counter(name for edit in edits for name in edit.functions)
     batches = []
-    for edit in edits:
+    for edit in sorted(edits, key=lambda it: -max((counts[name] for name in it.functions), default=0)):
         batch = next((it for it in batches if len(it) < size and all(edit.fits(other) for other in it)), None)
         if batch is None:
             batches.append(batch := [])

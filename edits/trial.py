@@ -12,7 +12,7 @@ from repository import copy_crate, copy_repository
 def is_refused(edit, found):
     """Returns whether an edited function is blamed itself, and sets what the checker says of it. Where an edit changes what no function
     holds, it is tried alone, and any function that is blamed will do."""
-    of_edit = [it for it in found if any(it.is_of(*function) for function in edit.functions)]
+    of_edit = [it for it in found if it.is_of(edit.functions)]
     told = sorted(of_edit or (found if edit.is_apart else []), key=lambda it: not it.is_own)
     edit.said = str(told[0]) if told else "the checker finds no fault with the edited function"
     return bool(told) and told[0].is_own
@@ -31,8 +31,8 @@ class Trial:
         with tempfile.TemporaryDirectory(prefix="edits-") as copy:
             copy_repository(self.proved, copy, self.below)
             for size in (self.size, self.size, 1):
-                batches = in_batches([it for it in passed if not it.was_alone], size)
-                passed = [it for it in passed if it.was_alone]
+                batches = in_batches([it for it in passed if not it.is_settled], size)
+                passed = [it for it in passed if it.is_settled]
                 passed += [it for batch in batches for it in self.not_refused(batch, f"{copy}/crates/{self.crate}")]
         return passed
 
@@ -41,9 +41,10 @@ class Trial:
         shutil.rmtree(folder, ignore_errors=True)
         copy_crate(f"{self.proved}/crates/{self.crate}", folder)
         apply(batch, folder)
-        batch[0].was_alone = len(batch) == 1
         ran = Ran(folder, 1)
         self.note(batch, ran)
+        for edit in batch:  # where all is proved, no other function hid one of them
+            edit.is_settled = len(batch) == 1 or ran.verdict == "proved"
         if ran.verdict:
             found = blames(ran.lines)
             return [it for it in batch if not is_refused(it, found)]
