@@ -1,13 +1,15 @@
 -- What the clause `step` of `encode_symbol`, and that of `decode_symbol`, says of each answer, for any coder.
-use Rattle.std.specs.Prelude.{◌≡◌, ℕ, List, ◌↔◌, Result, Ok, Err}
+use Rattle.std.specs.Prelude.{◌≡◌, ℕ, List, ◌↔◌, Bool, false, Result, Ok, Err}
+use Rattle.std.specs.Bool.{OnFalse}
 use Rattle.std.proofs.Common.{inl, inr}
+use Rattle.std.proofs.lemmas.Bool.{OnFalse_from}
 use Rattle.constriction_base.specs.Steps.{Step}
 use Rattle.constriction_base.specs.Tables.{Has}
 use Rattle.constriction_base.specs.declared.errors.CoderError.{CoderError}
 use Rattle.constriction_base.specs.declared.errors.CoderError.TheVariants.{Frontend, Backend}
 use Rattle.constriction_base.specs.declared.errors.DefaultEncoderFrontendError.{DefaultEncoderFrontendError}
 use Rattle.constriction_base.specs.declared.errors.DefaultEncoderFrontendError.TheVariants.{ImpossibleSymbol}
-use Rattle.constriction_stream.specs.Symbols.{EncodesSymbol, DecodesSymbol, HasRoom, AtEntry, IsImpossible, ByBackend, as_backend}
+use Rattle.constriction_stream.specs.Symbols.{EncodesSymbol, DecodesSymbol, HasRoom, AtEntry, Impossible, IsBackendError, ByBackend, as_backend}
 
 -- ---- any encoder
 
@@ -39,13 +41,13 @@ pub impossible_of : {C S F B : Type 0} (encodes : C → Step → Result (Unit {0
     → ((old : C) (step : Step) (e : F) (new : C) → is_impossible e → encodes old step (Err (Frontend e)) new → ⊥)
     → is_impossible refusal
     → EncodesSymbol encodes is_impossible precision table symbol old (Err (Frontend refusal)) new
-    → IsImpossible table symbol × (new ≡ old)
+    → Impossible table symbol × (new ≡ old)
 impossible_of encodes is_impossible precision table symbol old new refusal law impossible (inl (left, p, has, step)) = absurd (law old _ refusal new impossible step)
 impossible_of encodes is_impossible precision table symbol old new refusal law impossible (inr (never, e, any, is, same)) = (never, same)
 
 -- and there no other answer comes
 pub never_known_of : {C S F B : Type 0} (encodes : C → Step → Result (Unit {0}) (CoderError F B) → C → Type 0) (is_impossible : F → Type 0) (precision : ℕ) (table : List (S × ℕ × ℕ)) (symbol : S) (old new : C) (answer : Result (Unit {0}) (CoderError F B))
-    → IsImpossible table symbol
+    → Impossible table symbol
     → EncodesSymbol encodes is_impossible precision table symbol old answer new
     → (e : F) × is_impossible e × (answer ≡ Err (Frontend e)) × (new ≡ old)
 never_known_of encodes is_impossible precision table symbol old new answer never (inl (left, p, has, step)) = absurd (never left p has)
@@ -85,7 +87,7 @@ refused_by steps precision table symbol old new refusal (inr (never, e, impossib
 
 pub impossible_by : {C S B : Type 0} (steps : C → Step → Result (Unit {0}) B → C → Type 0) (precision : ℕ) (table : List (S × ℕ × ℕ)) (symbol : S) (old new : C) (answer : Result (Unit {0}) (CoderError DefaultEncoderFrontendError B))
     → Encodes steps precision table symbol old answer new
-    → (answer ≡ Err (Frontend ImpossibleSymbol)) ↔ IsImpossible table symbol
+    → (answer ≡ Err (Frontend ImpossibleSymbol)) ↔ Impossible table symbol
 impossible_by steps precision table symbol old new answer (inl (left, p, has, (Ok u, step, is))) = (λ a. absurd cc, λ none. absurd (none left p has))
 impossible_by steps precision table symbol old new answer (inl (left, p, has, (Err e, step, is))) = (λ a. absurd cc, λ none. absurd (none left p has))
 impossible_by steps precision table symbol old new answer (inr (never, e, impossible, is, same)) = (λ a. never, λ none. cc)
@@ -95,6 +97,25 @@ pub untouched_by : {C S B : Type 0} (steps : C → Step → Result (Unit {0}) B 
 untouched_by steps precision table symbol old new (inl (left, p, has, (Ok u, step, is))) = absurd cc
 untouched_by steps precision table symbol old new (inl (left, p, has, (Err e, step, is))) = absurd cc
 untouched_by steps precision table symbol old new (inr (never, e, impossible, is, same)) = same
+
+-- ---- an encoder whose steps answer what its backend does, and where lack of room is the backend's
+
+-- there is room where the backend refuses no step for lack of it
+pub room_by : {C F B : Type 0} (steps : C → Step → Result (Unit {0}) B → C → Type 0) (is_lack_of_room : B → Type 0) (coder : C)
+    → ((step : Step) (e : B) (new : C) → steps coder step (Err e) new → is_lack_of_room e → ⊥)
+    → HasRoom {E = CoderError F B} (ByBackend steps) (λ error. IsBackendError error is_lack_of_room) coder
+room_by steps is_lack_of_room coder never step (Frontend e) new (answer, given, is) lack = absurd lack
+room_by steps is_lack_of_room coder never step (Backend e) new (Ok u, given, is) lack = absurd cc
+room_by steps is_lack_of_room coder never step (Backend e) new (Err refusal, given, is) lack =
+    let same : refusal ≡ e = cc in never step e new (rw same at given) lack
+
+-- so `maybe_full` keeps its promise, where the coder can tell
+pub room_unless : {C B : Type 0} (F : Type 0) (full : Bool) (tells : Type 0) (steps : C → Step → Result (Unit {0}) B → C → Type 0) (is_lack_of_room : B → Type 0) (coder : C)
+    → (full ≡ false → tells → (step : Step) (e : B) (new : C) → steps coder step (Err e) new → is_lack_of_room e → ⊥)
+    → OnFalse full (tells → HasRoom {E = CoderError F B} (ByBackend steps) (λ error. IsBackendError error is_lack_of_room) coder)
+room_unless {B = B} F full tells steps is_lack_of_room coder never =
+    OnFalse_from full (tells → HasRoom {E = CoderError F B} (ByBackend steps) (λ error. IsBackendError error is_lack_of_room) coder)
+    (λ not_full told. room_by steps is_lack_of_room coder (never not_full told))
 
 -- ---- a decoder whose steps answer what its backend does
 

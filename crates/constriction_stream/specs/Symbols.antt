@@ -10,15 +10,15 @@ abbrev pub AtEntry : {S : Type 0} → ℕ → List (S × ℕ × ℕ) → S → (
 AtEntry precision table symbol holds = (left p : ℕ) × Has table symbol left p × holds (record { precision = precision; left = left; p = p })
 
 -- the symbol has no entry: the model doesn't know it
-abbrev pub IsImpossible : {S : Type 0} → List (S × ℕ × ℕ) → S → Type 0
-IsImpossible table symbol = (left p : ℕ) → Has table symbol left p → ⊥
+abbrev pub Impossible : {S : Type 0} → List (S × ℕ × ℕ) → S → Type 0
+Impossible table symbol = (left p : ℕ) → Has table symbol left p → ⊥
 
 -- the step of the symbol's entry; or, where the table has none, a frontend's refusal that leaves the coder
 abbrev pub EncodesSymbol : {C S F B : Type 0} → (C → Step → Result (Unit {0}) (CoderError F B) → C → Type 0) → (F → Type 0)
     → ℕ → List (S × ℕ × ℕ) → S → C → Result (Unit {0}) (CoderError F B) → C → Type 0
 EncodesSymbol {F = F} encodes is_impossible precision table symbol old result new =
     AtEntry precision table symbol (λ step. encodes old step result new)
-    ⊎ (IsImpossible table symbol × (e : F) × is_impossible e × (result ≡ Err (Frontend e)) × (new ≡ old))
+    ⊎ (Impossible table symbol × (e : F) × is_impossible e × (result ≡ Err (Frontend e)) × (new ≡ old))
 
 -- the same of a symbol that is lent and a model, whose table this is
 abbrev pub EncodesPair : {C S A M F B : Type 0} → (C → Step → Result (Unit {0}) (CoderError F B) → C → Type 0) → (F → Type 0)
@@ -69,3 +69,6 @@ GoesOn {C} {E} decodes halts is_end_of_data coder =
 pub never_frontend : {T F B : Type 0} (answer : Result T B) (e : F) → ◌≡◌ {A = Result T (CoderError F B)} (Err (Frontend e)) (as_backend answer) → ⊥
 never_frontend (Ok x) e is = cc
 never_frontend (Err refusal) e is = cc
+
+pub never_backend : {F B : Type 0} (e : F) (refusal : B) → ◌≡◌ {A = CoderError F B} (Frontend e) (Backend refusal) → ⊥
+never_backend e refusal is = cc

