@@ -1,18 +1,27 @@
-//! A cursor as a stack and as a queue, and with its two roles changed.
+//! A cursor as a stack and as a queue, and with its two roles changed. Cases know a backend by its
+//! bounds alone.
 
 use crate::calls::{
     filled, pops, prepares, puts, queues, seeks, seems_full, seems_popped, seems_taken, stacks,
     stands, takes,
 };
-use constriction_base::backends::{Words, WriteWords};
+use constriction_base::backends::{
+    BoundedReadWords, Pos, PosSeek, Queue, ReadWords, Seek, Stack, Words, WriteWords,
+};
 use constriction_base::cursor::Cursor;
 use constriction_base::errors::BoundedWriteError;
 use constriction_base::reverse::Reverse;
 use linked_list_allocator::LocalHeap;
+use std::convert::Infallible;
 use std::test::Fail;
 
 /// Before the words `[1, 2, 3]`, reads go to and fro.
-fn goes_to_and_fro(cursor: &mut Cursor<u32, &mut [u32]>) -> bool {
+fn goes_to_and_fro<B>(cursor: &mut B) -> bool
+where
+    B: BoundedReadWords<u32, Stack> + BoundedReadWords<u32, Queue>,
+    B: ReadWords<u32, Stack, ReadError = Infallible>
+        + ReadWords<u32, Queue, ReadError = Infallible>,
+{
     seems_popped(cursor)
         && !seems_taken(cursor)
         && pops(cursor, None)
@@ -23,29 +32,43 @@ fn goes_to_and_fro(cursor: &mut Cursor<u32, &mut [u32]>) -> bool {
         && pops(cursor, Some(2))
         && stacks(cursor, 1)
         && queues(cursor, 2)
-        && cursor.buf().words() == [1u32, 2, 3].as_slice()
+}
+
+/// The cursor's buffer has the words.
+fn lends<Buf: Words<u32> + Drop>(cursor: &Cursor<u32, Buf>, words: &[u32]) -> bool {
+    cursor.buf().words() == words
 }
 
 /// The cursor's parts are the words and the position.
-fn parts_into(cursor: Cursor<u32, &mut [u32]>, words: &[u32], position: usize) -> bool {
+fn parts_into<Buf: Words<u32> + Drop>(
+    cursor: Cursor<u32, Buf>,
+    words: &[u32],
+    position: usize,
+) -> bool {
     let (rest, found) = cursor.into_buf_and_pos();
     rest.words() == words && found == position
 }
 
-/// A write is refused for lack of room.
-fn is_full(cursor: &mut Cursor<u32, &mut [u32]>) -> bool {
-    matches!(cursor.write(9), Err(BoundedWriteError::OutOfSpace))
-}
-
-/// Three words are written, no fourth one, and the last is taken off and written again.
-fn takes_three(cursor: &mut Cursor<u32, &mut [u32]>) -> bool {
+/// Three words are written, and no fourth one.
+fn is_filled<B>(cursor: &mut B) -> bool
+where
+    B: WriteWords<u32, WriteError = BoundedWriteError>,
+{
     prepares(cursor, 100)
         && !seems_full(cursor)
         && filled(cursor) == 3
         && seems_full(cursor)
-        && is_full(cursor)
-        && cursor.buf().words() == [0u32, 1, 2].as_slice()
-        && seems_taken(cursor)
+        && matches!(cursor.write(9), Err(BoundedWriteError::OutOfSpace))
+}
+
+/// At the end of the words `[0, 1, 2]`, the last is taken off and another written.
+fn writes_again<B>(cursor: &mut B) -> bool
+where
+    B: WriteWords<u32, WriteError = BoundedWriteError>,
+    B: ReadWords<u32, Stack, ReadError = Infallible>
+        + ReadWords<u32, Queue, ReadError = Infallible>,
+{
+    seems_taken(cursor)
         && takes(cursor, None)
         && pops(cursor, Some(2))
         && !seems_full(cursor)
@@ -53,7 +76,12 @@ fn takes_three(cursor: &mut Cursor<u32, &mut [u32]>) -> bool {
 }
 
 /// Behind the words `[4, 5, 6]`, positions within them are gone to.
-fn seeks_within(cursor: &mut Cursor<u32, &[u32]>) -> bool {
+fn seeks_within<B>(cursor: &mut B) -> bool
+where
+    B: ReadWords<u32, Stack, ReadError = Infallible>
+        + ReadWords<u32, Queue, ReadError = Infallible>,
+    B: Pos + Seek + PosSeek<Position = usize>,
+{
     stands(cursor, 3)
         && seeks(cursor, 1)
         && stands(cursor, 1)
@@ -65,12 +93,22 @@ fn seeks_within(cursor: &mut Cursor<u32, &[u32]>) -> bool {
 }
 
 /// Of two cursors behind the words `[4, 5]`, what one does is not seen by the other.
-fn stand_alone(cursor: &mut Cursor<u32, Vec<u32>>, other: &mut Cursor<u32, Vec<u32>>) -> bool {
+fn stand_alone<B>(cursor: &mut B, other: &mut B) -> bool
+where
+    B: ReadWords<u32, Stack, ReadError = Infallible>,
+    B: WriteWords<u32, WriteError = BoundedWriteError> + Pos + PosSeek<Position = usize>,
+{
     pops(cursor, Some(5)) && puts(cursor, 8) && stands(other, 2) && pops(other, Some(5))
 }
 
 /// With its roles changed, the words `[7, 8, 9]` behind the cursor are a stack.
-fn changes_roles(reversed: &mut Reverse<Cursor<u32, &[u32]>>) -> bool {
+fn changes_roles<B>(reversed: &mut B) -> bool
+where
+    B: BoundedReadWords<u32, Stack> + BoundedReadWords<u32, Queue>,
+    B: ReadWords<u32, Stack, ReadError = Infallible>
+        + ReadWords<u32, Queue, ReadError = Infallible>,
+    B: Pos + Seek + PosSeek<Position = usize>,
+{
     seems_taken(reversed)
         && !seems_popped(reversed)
         && pops(reversed, Some(7))
@@ -85,35 +123,32 @@ fn changes_roles(reversed: &mut Reverse<Cursor<u32, &[u32]>>) -> bool {
         && takes(reversed, Some(9))
 }
 
-/// A cursor behind `[1, 2, 3, 4]` of which the last was read, turned round.
-fn is_turned(reversed: &mut Reverse<Cursor<u32, Vec<u32>>>) -> bool {
-    stands(reversed, 1)
-        && reversed.0.buf().words() == [4u32, 3, 2, 1].as_slice()
-        && pops(reversed, Some(3))
+/// A cursor stands at the position, and gives the word as a stack.
+fn pops_at<B>(backend: &mut B, position: usize, word: u32) -> bool
+where
+    B: ReadWords<u32, Stack, ReadError = Infallible> + Pos + PosSeek<Position = usize>,
+{
+    stands(backend, position) && pops(backend, Some(word))
 }
 
-/// The same cursor, turned back after one more read.
-fn is_turned_back(cursor: &mut Cursor<u32, Vec<u32>>) -> bool {
-    stands(cursor, 2)
-        && cursor.buf().words() == [1u32, 2, 3, 4].as_slice()
-        && pops(cursor, Some(2))
-        && takes(cursor, Some(2))
-}
-
-/// Turns a cursor behind `[1, 2, 3, 4]` round, and back.
+/// Turns a cursor behind `[1, 2, 3, 4]` round, and back. Reads go on as if it had not been turned.
 fn turns_there_and_back(mut cursor: Cursor<u32, Vec<u32>>) -> bool {
-    let popped = pops(&mut cursor, Some(4));
+    let first = pops_at(&mut cursor, 4, 4);
     let mut reversed = cursor.into_reversed();
-    let turned = is_turned(&mut reversed);
+    let turned = lends(&reversed.0, &[4, 3, 2, 1]) && pops_at(&mut reversed, 1, 3);
     let mut cursor = reversed.into_reversed();
-    popped && turned && is_turned_back(&mut cursor)
+    first
+        && turned
+        && lends(&cursor, &[1, 2, 3, 4])
+        && pops_at(&mut cursor, 2, 2)
+        && takes(&mut cursor, Some(2))
 }
 
 #[test]
 fn a_cursor_parts_a_stack_from_a_queue(rt: HostRuntime) {
     let mut words = [1u32, 2, 3];
     let mut cursor = Cursor::new_at_write_beginning(words.as_mut_slice());
-    assert!(rt; goes_to_and_fro(&mut cursor));
+    assert!(rt; goes_to_and_fro(&mut cursor) && lends(&cursor, &[1, 2, 3]));
     assert!(rt; parts_into(cursor, &[1, 2, 3], 1));
 }
 
@@ -121,7 +156,8 @@ fn a_cursor_parts_a_stack_from_a_queue(rt: HostRuntime) {
 fn a_cursor_is_full_at_its_end(rt: HostRuntime) {
     let mut words = [0u32; 3];
     let mut cursor = Cursor::new_at_write_beginning(words.as_mut_slice());
-    assert!(rt; takes_three(&mut cursor));
+    assert!(rt; is_filled(&mut cursor) && lends(&cursor, &[0, 1, 2]));
+    assert!(rt; writes_again(&mut cursor));
     assert_eq!(rt; words, [0u32, 1, 9]);
 }
 

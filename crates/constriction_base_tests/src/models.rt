@@ -29,13 +29,34 @@ fn knows<const PRECISION: usize, M: EncoderModel<PRECISION, Symbol = usize>>(
     model.left_cumulative_and_probability(&symbol).is_some()
 }
 
-/// A table of the weights `[1000, 0, 3096]` behind one reference and behind two.
+/// The quantile is this symbol's, behind one reference and behind two.
+fn finds_behind_references<const PRECISION: usize, M>(
+    model: &M,
+    quantile: M::Probability,
+    expected: usize,
+) -> bool
+where
+    M: EncoderModel<PRECISION> + DecoderModel<PRECISION, Symbol = usize>,
+    requires { M.Probability.number quantile < 2 ^ PRECISION }
+{
+    finds_again(model, quantile, expected) && finds_again(&model, quantile, expected)
+}
+
+/// The symbol is unknown, behind one reference and behind two.
+fn is_unknown<const PRECISION: usize, M: EncoderModel<PRECISION, Symbol = usize>>(
+    model: &M,
+    symbol: usize,
+) -> bool {
+    !knows(model, symbol) && !knows(&model, symbol)
+}
+
+/// Of the weights `[1000, 0, 3096]`, the second symbol is unknown, and a fourth one.
 fn are_models(table: &WeightTable<u16, 12>) -> bool {
-    finds_again(table, 999, 0)
-        && finds_again(table, 1000, 2)
-        && finds_again(&table, 4095, 2)
-        && !knows(table, 1)
-        && !knows(&table, 3)
+    finds_behind_references(table, 999, 0)
+        && finds_behind_references(table, 1000, 2)
+        && finds_behind_references(table, 4095, 2)
+        && is_unknown(table, 1)
+        && is_unknown(table, 3)
 }
 
 #[test]

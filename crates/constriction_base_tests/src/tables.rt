@@ -62,6 +62,40 @@ fn knows<Probability: BitArray + PartialEq, const PRECISION: usize>(
     }
 }
 
+/// Makes so many lists, and then a table, which is right or is refused for want of memory.
+///
+/// A table is two allocations. `tests/refused-memory` has the third allocation of each of the next tests
+/// refused, so that it is the table's first, its second, and none of its own.
+fn a_table_after(alloc: Global, lists: usize) -> Result<(), Fail> {
+    for _ in 0..lists {
+        let list = [7u8].to_vec(alloc)?;
+        if list.len() != 1 {
+            return Err(Fail::from("another list"));
+        }
+    }
+    match WeightTable::<u8, 8>::new(alloc, &[200, 55, 1]) {
+        Ok(table) if finds(&table, 254, (1, 200, 55)) => Ok(()),
+        Ok(_) => Err(Fail::from("another table")),
+        Err(TableError::Memory) => Err(Fail::from("want of memory")),
+        Err(_) => Err(Fail::from("another error")),
+    }
+}
+
+#[test]
+fn a_table_after_no_list(rt: HostRuntime) -> Result<(), Fail> {
+    a_table_after(rt.alloc(), 0)
+}
+
+#[test]
+fn a_table_after_one_list(rt: HostRuntime) -> Result<(), Fail> {
+    a_table_after(rt.alloc(), 1)
+}
+
+#[test]
+fn a_table_after_two_lists(rt: HostRuntime) -> Result<(), Fail> {
+    a_table_after(rt.alloc(), 2)
+}
+
 #[test]
 fn no_weights_make_no_table(rt: HostRuntime) {
     assert!(rt;
@@ -126,12 +160,27 @@ fn is_all_of_the_first(table: &WeightTable<u16, 8>) -> bool {
     knows(table, 0, Some((0, 256))) && knows(table, 1, None)
 }
 
+/// The weights make a table, in which the quantile is in the interval of this symbol.
+fn table_finds<Probability: BitArray + PartialEq, const PRECISION: usize>(
+    alloc: Global,
+    weights: &[Probability],
+    quantile: Probability,
+    expected: (usize, Probability, Probability),
+) -> bool
+    requires { (1 ≤ PRECISION) × (PRECISION ≤ Probability.BITS) }
+    requires { Probability.number quantile < 2 ^ PRECISION }
+{
+    match table_of::<Probability, PRECISION>(alloc, weights) {
+        Ok(table) => finds(&table, quantile, expected),
+        Err(_) => false,
+    }
+}
+
 #[test]
 fn one_symbol_has_all_the_weight(rt: HostRuntime) -> Result<(), Fail> {
     let table = table_of::<u16, 8>(rt.alloc(), &[256])?;
     assert!(rt; is_all_of_the_first(&table));
-    let table = table_of::<u8, 1>(rt.alloc(), &[0, 2])?;
-    assert!(rt; finds(&table, 1, (1, 0, 2)));
+    assert!(rt; table_finds::<u8, 1>(rt.alloc(), &[0, 2], 1, (1, 0, 2)));
     Ok(())
 }
 
@@ -148,14 +197,15 @@ fn all_32_bits_are_the_precision(rt: HostRuntime) -> Result<(), Fail> {
 }
 
 #[test]
-fn all_bits_are_the_precision(rt: HostRuntime) -> Result<(), Fail> {
-    let table = table_of::<u64, 64>(rt.alloc(), &[1, 0, u64::MAX])?;
-    assert!(rt; finds(&table, 1, (2, 1, u64::MAX)));
-    let table = table_of::<usize, 64>(rt.alloc(), &[1 << 63, 1 << 63])?;
-    assert!(rt; finds(&table, 1 << 63, (1, 1 << 63, 1 << 63)));
-    let table = table_of::<u128, 128>(rt.alloc(), &[1 << 127, 1 << 126, 1 << 126])?;
-    assert!(rt; finds(&table, u128::MAX, (2, 3 << 126, 1 << 126)));
-    Ok(())
+fn all_bits_are_the_precision(rt: HostRuntime) {
+    let weights = [1, 0, u64::MAX];
+    assert!(rt; table_finds::<u64, 64>(rt.alloc(), &weights, 1, (2, 1, u64::MAX)));
+    let half = 1usize << 63;
+    assert!(rt; table_finds::<usize, 64>(rt.alloc(), &[half, half], half, (1, half, half)));
+    let quarter = 1u128 << 126;
+    let weights = [2 * quarter, quarter, quarter];
+    let last = (2, 3 * quarter, quarter);
+    assert!(rt; table_finds::<u128, 128>(rt.alloc(), &weights, u128::MAX, last));
 }
 
 /// Of the weights `[0, 0, 100, 0, 0, 156, 0, 0]` all symbols but two are unknown.
