@@ -5,4 +5,3 @@ pub mod Runs
 pub mod HintLemmas
 pub mod Worked
 pub mod WindowLemmas
-pub mod Taken

@@ -18,10 +18,6 @@ pub mod lending;
 pub mod reading;
 pub mod seeking;
 pub mod semantics;
-#[cfg(test)]
-mod tests;
-#[cfg(test)]
-mod two_for_one;
 pub mod writing;
 
 pub use both_ways::{BothWays, written_to_queue};

@@ -1,6 +1,6 @@
 use Rattle.std.proofs.Common.{rules, Some, inr}
-use Rattle.constriction_base.proofs.Taken.{put_back}
-use Rattle.constriction_base.proofs.backends.two_for_one.two_for_last.Goals as goal
+use Rattle.constriction_base_tests.proofs.Taken.{put_back}
+use Rattle.constriction_base_tests.proofs.two_for_one.two_for_last.Goals as goal
 
 -- the word is put back
 pub returns-in-Err-Prepare-Some-default-clause-memory :

@@ -1,6 +1,6 @@
 use Rattle.std.proofs.Common.{rules, arith, ap, ◌≤◌, ◌≡◌, length}
-use Rattle.constriction_base.proofs.Taken.{moved_back}
-use Rattle.constriction_base.proofs.backends.two_for_one.two_for_one_before.Goals as goal
+use Rattle.constriction_base_tests.proofs.Taken.{moved_back}
+use Rattle.constriction_base_tests.proofs.two_for_one.two_for_one_before.Goals as goal
 
 -- the first write finds the place of the word that was read
 pub returns-in-Err-First-clause-beginning : goal.returns-in-Err-First-clause-beginning

@@ -1,24 +1,33 @@
 //! Texts of errors, and what `?` makes of a backend's.
 
-use crate::errors::{
+use constriction_base::errors::{
     BoundedWriteError, CoderError, DefaultEncoderError, DefaultEncoderFrontendError, ReadWriteError,
 };
-use std::alloc::AllocError;
+use constriction_base::weights::TableError;
+use std::alloc::{AllocError, Global};
 use std::convert::Infallible;
+use std::fmt::Display;
 use std::test::Fail;
+
+/// Whether the error has the text.
+fn reads<E: Display>(alloc: Global, error: E, text: &str) -> Result<bool, AllocError>
+where
+    E: Drop,
+{
+    let written = format!(in alloc; "{error}")?;
+    Ok(written.as_str() == text)
+}
 
 #[test]
 fn texts_of_coder_errors(rt: HostRuntime) -> Result<(), Fail> {
     let frontend: DefaultEncoderError<Infallible> = CoderError::Frontend(
         DefaultEncoderFrontendError::ImpossibleSymbol,
     );
-    let text = format!(in rt.alloc(); "{frontend}")?;
-    assert_eq!(rt; text.as_str(), "Impossible symbol.");
+    assert!(rt; reads(rt.alloc(), frontend, "Impossible symbol.")?);
     let backend: DefaultEncoderError<BoundedWriteError> = CoderError::Backend(
         BoundedWriteError::OutOfSpace,
     );
-    let text = format!(in rt.alloc(); "{backend}")?;
-    assert_eq!(rt; text.as_str(), "out of space");
+    assert!(rt; reads(rt.alloc(), backend, "out of space")?);
     Ok(())
 }
 
@@ -27,13 +36,11 @@ fn texts_of_read_and_write_errors(rt: HostRuntime) -> Result<(), Fail> {
     let read: ReadWriteError<DefaultEncoderFrontendError, BoundedWriteError> = ReadWriteError::Read(
         DefaultEncoderFrontendError::ImpossibleSymbol,
     );
-    let text = format!(in rt.alloc(); "{read}")?;
-    assert_eq!(rt; text.as_str(), "Impossible symbol.");
+    assert!(rt; reads(rt.alloc(), read, "Impossible symbol.")?);
     let write: ReadWriteError<Infallible, BoundedWriteError> = ReadWriteError::Write(
         BoundedWriteError::Memory,
     );
-    let text = format!(in rt.alloc(); "{write}")?;
-    assert_eq!(rt; text.as_str(), "out of memory");
+    assert!(rt; reads(rt.alloc(), write, "out of memory")?);
     Ok(())
 }
 
@@ -43,7 +50,20 @@ fn texts_of_bounded_write_errors(rt: HostRuntime) -> Result<(), Fail> {
         (BoundedWriteError::OutOfSpace, "out of space"),
         (BoundedWriteError::Memory, "out of memory"),
     ] {
-        assert_eq!(rt; format!(in rt.alloc(); "{error}")?.as_str(), text);
+        assert!(rt; reads(rt.alloc(), error, text)?);
+    }
+    Ok(())
+}
+
+#[test]
+fn texts_of_table_errors(rt: HostRuntime) -> Result<(), Fail> {
+    for (error, text) in [
+        (TableError::Empty, "no weights"),
+        (TableError::WrongTotal, "wrong total"),
+        (TableError::Memory, "out of memory"),
+        (TableError::from(AllocError), "out of memory"),
+    ] {
+        assert!(rt; reads(rt.alloc(), error, text)?);
     }
     Ok(())
 }
@@ -62,9 +82,12 @@ fn want_memory() -> Result<(), BoundedWriteError> {
 
 #[test]
 fn backend_errors_become_coder_errors(rt: HostRuntime) {
-    assert_eq!(rt;
-        refuse(BoundedWriteError::OutOfSpace),
-        Err(CoderError::Backend(BoundedWriteError::OutOfSpace))
+    let refused = refuse(BoundedWriteError::OutOfSpace);
+    assert!(rt;
+        matches!(
+            refused,
+            Err(CoderError::Backend(BoundedWriteError::OutOfSpace))
+        )
     );
-    assert_eq!(rt; want_memory(), Err(BoundedWriteError::Memory));
+    assert!(rt; matches!(want_memory(), Err(BoundedWriteError::Memory)));
 }
