@@ -2,11 +2,12 @@
 
 ghost use Rattle.constriction_base.specs.Steps.{IsSizes};
 
-use constriction_base::backends::{Holds, ReadWords, Stack};
+use constriction_base::backends::{Holds, Pos, PosSeek, ReadWords, Stack, WriteWords};
 use constriction_base::weights::WeightTable;
 use constriction_stack::AnsCoder;
 use constriction_stream::coder::Code;
 use constriction_stream::decoding::Decode;
+use constriction_stream::encoding::Encode;
 use constriction_stream::errors::TryCodingError;
 use constriction_words::{BitArray, WordOf};
 use std::alloc::Allocator;
@@ -127,6 +128,40 @@ where
     symbols.len() < count || given.next().is_none()
 }
 
+/// Whether the next step may be refused for lack of room.
+pub fn seems_full<Word, State, Backend, const PRECISION: usize>(
+    coder: &AnsCoder<Word, State, Backend>,
+) -> bool
+where
+    Word: WordOf<State>,
+    State: BitArray,
+    Backend: WriteWords<Word>,
+{
+    Encode::<PRECISION>::maybe_full(coder)
+}
+
+/// Whether all symbols may have been taken off.
+pub fn seems_exhausted<Word, State, Backend, const PRECISION: usize>(
+    coder: &AnsCoder<Word, State, Backend>,
+) -> bool
+where
+    Word: WordOf<State>,
+    State: BitArray,
+    Backend: ReadWords<Word, Stack>,
+{
+    Decode::<PRECISION>::maybe_exhausted(coder)
+}
+
+/// Compares the place of the backend.
+pub fn bulk_at<Word, State, Backend>(coder: &AnsCoder<Word, State, Backend>, place: usize) -> bool
+where
+    Word: WordOf<State>,
+    State: BitArray,
+    Backend: Holds<Word, Stack> + Pos + PosSeek<Position = usize>,
+{
+    coder.bulk().pos() == place
+}
+
 /// Compares the head.
 pub fn has_head<Word, State, Backend>(coder: &AnsCoder<Word, State, Backend>, head: State) -> bool
 where
@@ -171,6 +206,30 @@ pub fn compared<Word: PartialEq>(words: &[Word], expected: &[Word]) -> Shown {
     }
 }
 
+/// The words that a coder exports.
+pub fn words_of<Word, State, Backend>(
+    coder: AnsCoder<Word, State, Backend>,
+) -> Result<Backend, Backend::WriteError>
+where
+    Word: WordOf<State>,
+    State: BitArray,
+    Backend: WriteWords<Word> + Drop,
+{
+    coder.into_compressed()
+}
+
+/// The words that a coder exports in the binary form.
+pub fn binary_of<Word, State, Backend>(
+    coder: AnsCoder<Word, State, Backend>,
+) -> Result<Backend, Option<Backend::WriteError>>
+where
+    Word: WordOf<State>,
+    State: BitArray,
+    Backend: WriteWords<Word> + Drop,
+{
+    coder.into_binary()
+}
+
 /// Compares the words that a coder exports.
 pub fn exports<Word, State, A>(coder: AnsCoder<Word, State, Vec<Word, A>>, words: &[Word]) -> Shown
 where
@@ -178,7 +237,7 @@ where
     State: BitArray,
     A: Allocator + Drop,
 {
-    match coder.into_compressed() {
+    match words_of(coder) {
         Ok(all) => compared(&all, words),
         Err(_) => Shown::Refused,
     }

@@ -6,9 +6,9 @@ ghost use Rattle.constriction_stack.specs.Guards.{NeverRefused};
 use crate::coders::{
     CursorCoder, HeapCoder, coder_over, coder_over_with, coder_with, new_coder, table_of,
 };
-use crate::expect::{Shown, compared, gives, has_head, holds};
+use crate::expect::{Shown, bulk_at, compared, gives, has_head, holds};
 use crate::put::puts;
-use constriction_base::backends::{Pos, ReadWords, Stack, Words, WriteWords};
+use constriction_base::backends::{Pos, PosSeek, ReadWords, Stack, WriteWords};
 use constriction_base::errors::{BoundedWriteError, CoderError};
 use constriction_base::weights::WeightTable;
 use constriction_stack::AnsCoder;
@@ -78,45 +78,32 @@ where
     }
 }
 
-/// Compares the place of a cursor, and the words of its buffer, with those that a guard shows.
-fn shows_over<State>(coder: &mut CursorCoder<'_, State>, pos: usize, words: &[u8]) -> Shown
+/// Where the backend stands that a guard shows.
+fn place_shown<Word, State, Backend>(
+    coder: &mut AnsCoder<Word, State, Backend>,
+) -> Result<usize, Backend::WriteError>
 where
-    u8: WordOf<State>,
+    Word: WordOf<State>,
     State: BitArray,
+    Backend: WriteWords<Word> + ReadWords<Word, Stack> + Pos + PosSeek<Position = usize>,
+    Backend::ReadError: Drop,
 {
-    match coder.get_compressed() {
-        Ok(guard) => {
-            if guard.backend().pos() != pos {
-                return Shown::Others;
-            }
-            compared(guard.backend().buf().words(), words)
-        }
-        Err(BoundedWriteError::OutOfSpace) => Shown::Refused,
-        Err(BoundedWriteError::Memory) => Shown::Others,
-    }
+    let guard = coder.get_compressed()?;
+    Ok(guard.backend().pos())
 }
 
 /// The same of the binary form.
-fn shows_over_in_binary<State>(
-    coder: &mut CursorCoder<'_, State>,
-    pos: usize,
-    words: &[u8],
-) -> Shown
+fn place_shown_in_binary<Word, State, Backend>(
+    coder: &mut AnsCoder<Word, State, Backend>,
+) -> Result<usize, CoderError<(), Backend::WriteError>>
 where
-    u8: WordOf<State>,
+    Word: WordOf<State>,
     State: BitArray,
+    Backend: WriteWords<Word> + ReadWords<Word, Stack> + Pos + PosSeek<Position = usize>,
+    Backend::ReadError: Drop,
 {
-    match coder.get_binary() {
-        Ok(guard) => {
-            if guard.backend().pos() != pos {
-                return Shown::Others;
-            }
-            compared(guard.backend().buf().words(), words)
-        }
-        Err(CoderError::Frontend(())) => Shown::Impossible,
-        Err(CoderError::Backend(BoundedWriteError::OutOfSpace)) => Shown::Refused,
-        Err(CoderError::Backend(BoundedWriteError::Memory)) => Shown::Others,
-    }
+    let guard = coder.get_binary()?;
+    Ok(guard.backend().pos())
 }
 
 /// The words of a new coder, and after three symbols, through guards.
@@ -151,8 +138,8 @@ fn the_text_of_a_guard(rt: HostRuntime) -> Result<(), Fail> {
 /// Two symbols, and then no room for the words of the head.
 fn shows_none(coder: &mut CursorCoder<'_, u16>, table: &WeightTable<u8, 8>) -> bool {
     puts(coder, table, &[(1, 255), (1, 65535)])
-        && matches!(shows_over(coder, 0, &[]), Shown::Refused)
-        && coder.bulk().pos() == 0
+        && matches!(place_shown(coder), Err(BoundedWriteError::OutOfSpace))
+        && bulk_at(coder, 0)
         && has_head(coder, 65535)
 }
 
@@ -165,58 +152,76 @@ fn ans_cursor_full(rt: HostRuntime) -> Result<(), Fail> {
     Ok(())
 }
 
+/// Whether a buffer has no room for a head's words in the binary form.
+fn is_full_in_binary(coder: &mut CursorCoder<'_, u32>, head: u32) -> bool {
+    matches!(
+        place_shown_in_binary(coder),
+        Err(CoderError::Backend(BoundedWriteError::OutOfSpace))
+    ) && bulk_at(coder, 0)
+        && has_head(coder, head)
+}
+
+/// Whether a guard shows a head's words in the binary form, behind which the cursor stands.
+fn is_shown_in_binary(coder: &mut CursorCoder<'_, u32>, head: u32, place: usize) -> bool {
+    matches!(place_shown_in_binary(coder), Ok(found) if found == place)
+        && bulk_at(coder, 0)
+        && has_head(coder, head)
+}
+
 /// A binary head of three words over a buffer of two, and then of three.
 #[test]
 fn a_full_cursor_refuses_a_binary_guard(rt: HostRuntime) {
     let head = 16777216 + 2 * 65536 + 1u32;
     let mut two = [0u8; 2];
     let mut three = [0u8; 3];
-    let mut full = coder_over_with(&mut two, head);
-    let mut coder = coder_over_with(&mut three, head);
-    assert!(rt;
-        matches!(shows_over_in_binary(&mut full, 0, &[]), Shown::Refused)
-            && full.bulk().pos() == 0
-            && matches!(
-                shows_over_in_binary(&mut coder, 3, &[1, 0, 2]),
-                Shown::These
-            )
-            && coder.bulk().pos() == 0
-            && has_head(&coder, head)
-    );
+    let is_refused = is_full_in_binary(&mut coder_over_with(&mut two, head), head);
+    let is_shown = is_shown_in_binary(&mut coder_over_with(&mut three, head), head, 3);
+    assert!(rt; is_refused && is_shown && three == [1u8, 0, 2]);
+}
+
+/// Both forms of a head of two words, of which the binary one has one.
+fn shows_both(coder: &mut CursorCoder<'_, u16>) -> bool {
+    matches!(place_shown(coder), Ok(2))
+        && matches!(place_shown_in_binary(coder), Ok(1))
+        && bulk_at(coder, 0)
+        && has_head(coder, 259)
 }
 
 /// The words of either form on a cursor with room for them, which are taken off again.
 #[test]
 fn words_through_a_guard_over_a_cursor(rt: HostRuntime) {
     let mut buf = [0u8; 2];
-    let mut coder = coder_over_with(&mut buf, 259u16);
-    let are_shown = matches!(shows_over(&mut coder, 2, &[3, 1]), Shown::These)
-        && matches!(shows_over_in_binary(&mut coder, 1, &[3, 1]), Shown::These)
-        && coder.bulk().pos() == 0
-        && has_head(&coder, 259);
-    drop(coder);
+    let are_shown = shows_both(&mut coder_over_with(&mut buf, 259u16));
     assert!(rt; are_shown && buf == [3u8, 1]);
 }
 
-/// A head of four words, which is a 1 above three words: both forms over a vector, and over a buffer
-/// with room for three words and then for four.
+/// A head of four words, which is a 1 above three words: both forms over a vector.
+fn shows_four(coder: &mut AnsCoder<u8, u32>) -> bool {
+    matches!(shows(coder, &[9, 4, 3, 2, 1]), Shown::These)
+        && holds(coder, 16909060, &[9])
+        && matches!(shows_in_binary(coder, &[9, 4, 3, 2]), Shown::These)
+        && holds(coder, 16909060, &[9])
+}
+
+/// The words of that head over a buffer: the place behind them, or none where there is no room.
+fn shows_four_over(coder: &mut CursorCoder<'_, u32>, has_room: bool) -> bool {
+    let is_shown = match place_shown(coder) {
+        Ok(place) => has_room && place == 4,
+        Err(BoundedWriteError::OutOfSpace) => !has_room,
+        Err(BoundedWriteError::Memory) => false,
+    };
+    is_shown && bulk_at(coder, 0) && has_head(coder, 16909060)
+}
+
+/// Over a vector, and over a buffer of three words and of four.
 #[test]
 fn guards_of_a_head_of_four_words(rt: HostRuntime) -> Result<(), Fail> {
     let mut coder: AnsCoder<u8, u32> = coder_with([9u8].to_vec(rt.alloc())?, 16909060);
     let mut three = [0u8; 3];
     let mut four = [0u8; 4];
-    let mut full = coder_over_with(&mut three, 16909060u32);
-    let mut free = coder_over_with(&mut four, 16909060u32);
-    assert!(rt;
-        matches!(shows(&mut coder, &[9, 4, 3, 2, 1]), Shown::These)
-            && holds(&coder, 16909060, &[9])
-            && matches!(shows_in_binary(&mut coder, &[9, 4, 3, 2]), Shown::These)
-            && holds(&coder, 16909060, &[9])
-            && matches!(shows_over(&mut full, 0, &[]), Shown::Refused)
-            && has_head(&full, 16909060)
-            && matches!(shows_over(&mut free, 4, &[4, 3, 2, 1]), Shown::These)
-            && has_head(&free, 16909060)
-    );
+    let is_refused = shows_four_over(&mut coder_over_with(&mut three, 16909060), false);
+    let is_shown = shows_four_over(&mut coder_over_with(&mut four, 16909060), true);
+    assert!(rt; shows_four(&mut coder) && is_refused && is_shown && four == [4u8, 3, 2, 1]);
     Ok(())
 }
 

@@ -5,8 +5,9 @@ ghost use Rattle.std.specs.Prelude.{◌≤◌};
 use crate::coders::{CursorCoder, coder_over, new_coder, table_of};
 use crate::expect::{
     coder_of, gives, gives_all, gives_by_items, gives_by_tables, gives_of, has_head, holds,
+    seems_exhausted, seems_full,
 };
-use crate::put::{Pair, Put, put_list, put_pairs, try_pairs};
+use crate::put::{Pair, Put, put_list, put_pairs, put_some, try_pairs, try_some};
 use constriction_base::errors::BoundedWriteError;
 use constriction_base::model::{DecoderModel, EncoderModel, EntropyModel};
 use constriction_base::weights::WeightTable;
@@ -15,13 +16,11 @@ use constriction_stream::coder::Code;
 use constriction_stream::decoding::Decode;
 use constriction_stream::encoding::Encode;
 use constriction_words::{BitArray, WordOf};
+use std::alloc::Global;
 use std::test::Fail;
 
 /// An item of a list that may be faulty, at u8 and u16.
 type Item<'a> = Result<Pair<'a, u8, 8>, u8>;
-
-/// The same at u32 and u64.
-type WideItem<'a> = Result<Pair<'a, u32, 24>, u8>;
 
 /// The symbols 1, 5 and 1, of which 5 is unknown.
 fn stops_at_unknown(coder: &mut AnsCoder<u8, u16>, table: &WeightTable<u8, 8>) -> bool {
@@ -74,13 +73,12 @@ fn iterator_dropped_early(rt: HostRuntime) -> Result<(), Fail> {
 }
 
 /// No symbol, and then four, by three lists.
-fn lists(coder: &mut AnsCoder<u8, u16>, table: &WeightTable<u8, 8>) -> bool {
-    let one: [Item<'_>; 1] = [Ok((&1, table))];
+fn lists(alloc: Global, coder: &mut AnsCoder<u8, u16>, table: &WeightTable<u8, 8>) -> bool {
     matches!(put_list(coder, table, &[]), Put::Done)
         && coder.is_empty()
         && matches!(put_list(coder, table, &[1, 0]), Put::Done)
-        && matches!(put_pairs(coder, [(&1, table)]), Put::Done)
-        && matches!(try_pairs(coder, one), Put::Done)
+        && matches!(put_some(alloc, coder, table, &[1]), Put::Done)
+        && matches!(try_some(alloc, coder, table, &[1]), Put::Done)
 }
 
 #[test]
@@ -89,7 +87,7 @@ fn lists_at_u8_and_u16(rt: HostRuntime) -> Result<(), Fail> {
     let mut coder = new_coder(rt.alloc());
     let tables = [&table, &table].to_vec(rt.alloc())?;
     assert!(rt;
-        lists(&mut coder, &table)
+        lists(rt.alloc(), &mut coder, &table)
             && gives_by_tables(&mut coder, tables, &[1, 1])
             && gives_of(&mut coder, &table, 2, &[0, 1])
             && coder.is_empty()
@@ -98,16 +96,19 @@ fn lists_at_u8_and_u16(rt: HostRuntime) -> Result<(), Fail> {
 }
 
 /// Lists that stop at the step that owes a word.
-fn lists_without_room(coder: &mut CursorCoder<'_, u16>, table: &WeightTable<u8, 8>) -> bool {
-    let one: [Item<'_>; 1] = [Ok((&1, table))];
+fn lists_without_room(
+    alloc: Global,
+    coder: &mut CursorCoder<'_, u16>,
+    table: &WeightTable<u8, 8>,
+) -> bool {
     matches!(put_list(coder, table, &[1]), Put::Done)
         && matches!(
-            put_pairs(coder, [(&1, table), (&1, table)]),
+            put_some(alloc, coder, table, &[1, 1]),
             Put::Refused(BoundedWriteError::OutOfSpace)
         )
         && has_head(coder, 65535)
         && matches!(
-            try_pairs(coder, one),
+            try_some(alloc, coder, table, &[1]),
             Put::Refused(BoundedWriteError::OutOfSpace)
         )
         && has_head(coder, 65535)
@@ -121,7 +122,7 @@ fn lists_over_a_full_cursor(rt: HostRuntime) -> Result<(), Fail> {
     let mut buf = [0u8; 0];
     let mut coder = coder_over(&mut buf);
     assert!(rt;
-        lists_without_room(&mut coder, &table)
+        lists_without_room(rt.alloc(), &mut coder, &table)
             && gives_by_tables(&mut coder, tables, &[1, 1])
             && gives_of(&mut coder, &table, 2, &[0, 0])
     );
@@ -130,11 +131,14 @@ fn lists_over_a_full_cursor(rt: HostRuntime) -> Result<(), Fail> {
 
 /// The symbols 1, 0 and 2, 0 by two lists: heads 3, 16777216, 16777226 and 93825036976130, which
 /// owe no word.
-fn lists_of_pairs(coder: &mut DefaultAnsCoder, table: &WeightTable<u32, 24>) -> bool {
-    let items: [WideItem<'_>; 2] = [Ok((&2, table)), Ok((&0, table))];
-    matches!(put_pairs(coder, [(&1, table), (&0, table)]), Put::Done)
+fn lists_of_pairs(
+    alloc: Global,
+    coder: &mut DefaultAnsCoder,
+    table: &WeightTable<u32, 24>,
+) -> bool {
+    matches!(put_some(alloc, coder, table, &[1, 0]), Put::Done)
         && holds(coder, 16777216, &[])
-        && matches!(try_pairs(coder, items), Put::Done)
+        && matches!(try_some(alloc, coder, table, &[2, 0]), Put::Done)
         && holds(coder, 93825036976130, &[])
 }
 
@@ -145,7 +149,7 @@ fn lists_of_pairs_at_u32_and_u64(rt: HostRuntime) -> Result<(), Fail> {
     let tables = [&table, &table].to_vec(rt.alloc())?;
     let items = [Ok(&table)].to_vec(rt.alloc())?;
     assert!(rt;
-        lists_of_pairs(&mut coder, &table)
+        lists_of_pairs(rt.alloc(), &mut coder, &table)
             && gives_by_tables(&mut coder, tables, &[0, 2])
             && gives_by_items(&mut coder, items, &[Ok(0)])
             && holds(&coder, 3, &[])
@@ -182,8 +186,8 @@ fn two_by_a_filter(coder: &mut DefaultAnsCoder, table: &WeightTable<u32, 24>) ->
 
 /// What the traits say of an empty coder.
 fn knows_no_limit(coder: &DefaultAnsCoder) -> bool {
-    !Encode::<24>::maybe_full(coder)
-        && Decode::<24>::maybe_exhausted(coder)
+    !seems_full::<_, _, _, 24>(coder)
+        && seems_exhausted::<_, _, _, 24>(coder)
         && Encode::<24>::symbols_left(coder) == usize::MAX
 }
 

@@ -2,11 +2,11 @@
 //! once there is memory.
 
 use crate::coders::{HeapCoder, coder_in, coder_with, table_of};
-use crate::expect::{Shown, exports, holds};
-use crate::put::{Pair, Put, put_list, put_one, put_pairs, puts, try_pairs};
+use crate::expect::{holds, words_of};
+use crate::put::{Put, put_list, put_one, put_some, puts, try_some};
 use constriction_base::weights::WeightTable;
 use linked_list_allocator::LocalHeap;
-use std::alloc::AllocError;
+use std::alloc::{AllocError, Global};
 use std::test::Fail;
 
 /// Symbol 1 onto the head 65535 owes a word, for which there is no memory.
@@ -27,7 +27,7 @@ fn a_full_heap_changes_nothing(rt: HostRuntime) -> Result<(), Fail> {
     let mut coder: HeapCoder<'_> = coder_with(Vec::new(&heap), 65535);
     let export: HeapCoder<'_> = coder_with(Vec::new(&heap), 515);
     let is_refused = step_is_refused(&mut coder, &table, &[]);
-    let is_export_refused = matches!(exports(export, &[3, 2]), Shown::Refused);
+    let is_export_refused = words_of(export).is_err();
     drop(filler);
     let goes = step_goes(&mut coder, &table, &[255]);
     coder.clear();
@@ -53,20 +53,22 @@ fn a_full_heap_refuses_a_first_write(rt: HostRuntime) -> Result<(), Fail> {
     Ok(())
 }
 
-/// The same of a list of pairs.
-fn pairs_are_refused(coder: &mut HeapCoder<'_>, table: &WeightTable<u8, 8>) -> bool {
-    let pairs = [(&1, table), (&1, table), (&1, table)];
-    matches!(put_pairs(coder, pairs), Put::Refused(AllocError)) && holds(coder, 65535, &[])
-}
-
-/// The same of items.
-fn items_are_refused(coder: &mut HeapCoder<'_>, table: &WeightTable<u8, 8>) -> bool {
-    let items: [Result<Pair<'_, u8, 8>, u8>; 3] = [
-        Ok((&1, table)),
-        Ok((&1, table)),
-        Ok((&1, table)),
-    ];
-    matches!(try_pairs(coder, items), Put::Refused(AllocError)) && holds(coder, 65535, &[])
+/// The same of pairs, and of items on another coder.
+fn pairs_are_refused(
+    alloc: Global,
+    first: &mut HeapCoder<'_>,
+    second: &mut HeapCoder<'_>,
+    table: &WeightTable<u8, 8>,
+) -> bool {
+    matches!(
+        put_some(alloc, first, table, &[1, 1, 1]),
+        Put::Refused(AllocError)
+    ) && holds(first, 65535, &[])
+        && matches!(
+            try_some(alloc, second, table, &[1, 1, 1]),
+            Put::Refused(AllocError)
+        )
+        && holds(second, 65535, &[])
 }
 
 /// Lists of pairs, and of items that may be errors, stop at the step that owes a word.
@@ -77,8 +79,7 @@ fn a_full_heap_stops_lists(rt: HostRuntime) -> Result<(), Fail> {
     let filler: Vec<u8, &LocalHeap> = Vec::with_capacity(&heap, 512)?;
     let mut first = coder_in(&heap);
     let mut second = coder_in(&heap);
-    let are_refused = pairs_are_refused(&mut first, &table)
-        && items_are_refused(&mut second, &table);
+    let are_refused = pairs_are_refused(rt.alloc(), &mut first, &mut second, &table);
     drop(filler);
     assert!(rt;
         are_refused

@@ -13,6 +13,7 @@ use constriction_stream::coder::Code;
 use constriction_stream::encoding::{Encode, Lent};
 use constriction_stream::errors::TryCodingError;
 use constriction_words::{BitArray, WordOf};
+use std::alloc::{AllocError, Global};
 
 /// What a call that puts symbols on answers.
 #[derive(Drop)]
@@ -21,6 +22,8 @@ pub enum Put<E> {
     Unknown,
     Refused(E),
     BadModel(u8),
+    /// The list itself found no memory.
+    NoMemory,
 }
 
 /// A symbol and its table.
@@ -45,6 +48,32 @@ fn tried_answer_of<E>(answer: Result<(), TryCodingError<DefaultEncoderError<E>, 
         Err(TryCodingError::InvalidEntropyModel(error)) => Put::BadModel(error),
         Err(TryCodingError::CodingError(error)) => answer_of(Err(error)),
     }
+}
+
+/// Symbols, each with a table.
+fn pairs_of<'a, Probability: BitArray, const PRECISION: usize>(
+    alloc: Global,
+    table: &'a WeightTable<Probability, PRECISION>,
+    symbols: &'a [usize],
+) -> Result<Vec<Pair<'a, Probability, PRECISION>>, AllocError> {
+    let mut pairs = Vec::new(alloc);
+    for symbol in symbols {
+        pairs.push((symbol, table))?;
+    }
+    Ok(pairs)
+}
+
+/// The same as the items of a list that may be faulty.
+fn items_of<'a, Probability: BitArray, const PRECISION: usize>(
+    alloc: Global,
+    table: &'a WeightTable<Probability, PRECISION>,
+    symbols: &'a [usize],
+) -> Result<Vec<Result<Pair<'a, Probability, PRECISION>, u8>>, AllocError> {
+    let mut items = Vec::new(alloc);
+    for symbol in symbols {
+        items.push(Ok((symbol, table)))?;
+    }
+    Ok(items)
 }
 
 /// Puts symbols on one by one, and compares the head after each.
@@ -122,6 +151,82 @@ where
     requires { GivesAtMost (I.into_iter_gives items) I.IntoIter.can_next I.IntoIter.remaining 0xffff_ffff_ffff_ffff }
 {
     tried_answer_of(coder.try_encode_symbols(items))
+}
+
+/// Puts a vector of pairs on.
+pub fn put_some<Word, State, Backend, Probability, const PRECISION: usize>(
+    alloc: Global,
+    coder: &mut AnsCoder<Word, State, Backend>,
+    table: &WeightTable<Probability, PRECISION>,
+    symbols: &[usize],
+) -> Put<Backend::WriteError>
+where
+    Word: WordOf<State>,
+    State: BitArray,
+    Backend: WriteWords<Word>,
+    Probability: WordOf<Word>,
+{
+    match pairs_of(alloc, table, symbols) {
+        Ok(pairs) => put_pairs(coder, pairs),
+        Err(AllocError) => Put::NoMemory,
+    }
+}
+
+/// Puts a vector of items on.
+pub fn try_some<Word, State, Backend, Probability, const PRECISION: usize>(
+    alloc: Global,
+    coder: &mut AnsCoder<Word, State, Backend>,
+    table: &WeightTable<Probability, PRECISION>,
+    symbols: &[usize],
+) -> Put<Backend::WriteError>
+where
+    Word: WordOf<State>,
+    State: BitArray,
+    Backend: WriteWords<Word>,
+    Probability: WordOf<Word>,
+{
+    match items_of(alloc, table, symbols) {
+        Ok(items) => try_pairs(coder, items),
+        Err(AllocError) => Put::NoMemory,
+    }
+}
+
+/// Puts a vector of pairs on, the last one first.
+pub fn put_some_back<Word, State, Backend, Probability, const PRECISION: usize>(
+    alloc: Global,
+    coder: &mut AnsCoder<Word, State, Backend>,
+    table: &WeightTable<Probability, PRECISION>,
+    symbols: &[usize],
+) -> Put<Backend::WriteError>
+where
+    Word: WordOf<State>,
+    State: BitArray,
+    Backend: WriteWords<Word>,
+    Probability: WordOf<Word>,
+{
+    match pairs_of(alloc, table, symbols) {
+        Ok(pairs) => put_pairs_back(coder, pairs),
+        Err(AllocError) => Put::NoMemory,
+    }
+}
+
+/// Puts a vector of items on, the last one first.
+pub fn try_some_back<Word, State, Backend, Probability, const PRECISION: usize>(
+    alloc: Global,
+    coder: &mut AnsCoder<Word, State, Backend>,
+    table: &WeightTable<Probability, PRECISION>,
+    symbols: &[usize],
+) -> Put<Backend::WriteError>
+where
+    Word: WordOf<State>,
+    State: BitArray,
+    Backend: WriteWords<Word>,
+    Probability: WordOf<Word>,
+{
+    match items_of(alloc, table, symbols) {
+        Ok(items) => try_pairs_back(coder, items),
+        Err(AllocError) => Put::NoMemory,
+    }
 }
 
 /// Puts a list on by one table, the last symbol first.

@@ -1,7 +1,9 @@
 //! What is refused, and what it leaves.
 
 use crate::coders::{CursorCoder, coder_over_with, coder_with, table_of};
-use crate::expect::{Shown, coder_of, exports, gives, has_head, holds};
+use crate::expect::{
+    Shown, coder_of, exports, gives, has_head, holds, seems_exhausted, seems_full, words_of,
+};
 use crate::put::{Put, put_one, puts};
 use constriction_base::backends::{ReadWords, Stack};
 use constriction_base::cursor::Cursor;
@@ -10,7 +12,6 @@ use constriction_base::iterators::FallibleIteratorReadWords;
 use constriction_base::weights::WeightTable;
 use constriction_stack::AnsCoder;
 use constriction_stream::decoding::Decode;
-use constriction_stream::encoding::Encode;
 use std::alloc::Global;
 use std::test::Fail;
 
@@ -27,11 +28,11 @@ fn an_unknown_symbol_changes_nothing(rt: HostRuntime) -> Result<(), Fail> {
 /// A buffer of one word takes one, and no other.
 fn full_after_a_word(coder: &mut CursorCoder<'_, u16>, table: &WeightTable<u8, 8>) -> bool {
     puts(coder, table, &[(1, 255), (1, 65535), (1, 65535)])
-        && Encode::<8>::maybe_full(coder)
+        && seems_full::<_, _, _, 8>(coder)
         && matches!(put_one(coder, table, 1), Put::Refused(_))
         && has_head(coder, 65535)
         && gives(coder, table, &[1, 1, 1])
-        && Decode::<8>::maybe_exhausted(coder)
+        && seems_exhausted::<_, _, _, 8>(coder)
 }
 
 #[test]
@@ -91,17 +92,12 @@ fn an_export_finds_memory(rt: HostRuntime) {
     assert!(rt; exports_two_words(rt.alloc()) || exports_two_words(rt.alloc()));
 }
 
-/// Whether the head 515 is exported to a buffer.
-fn exports_onto(buf: &mut [u8]) -> bool {
-    coder_over_with(buf, 515u16).into_compressed().is_ok()
-}
-
 /// The words of an export have room, or it answers an error after those that had.
 #[test]
 fn a_refused_export(rt: HostRuntime) {
     let mut one = [0u8; 1];
-    let is_refused = !exports_onto(&mut one);
+    let is_refused = words_of(coder_over_with(&mut one, 515u16)).is_err();
     let mut two = [0u8; 2];
-    let is_done = exports_onto(&mut two);
+    let is_done = words_of(coder_over_with(&mut two, 515u16)).is_ok();
     assert!(rt; is_refused && one == [3u8] && is_done && two == [3u8, 2]);
 }

@@ -2,30 +2,32 @@
 
 use crate::coders::{CursorCoder, HeapCoder, coder_in, coder_over, new_coder, table_of};
 use crate::expect::{gives, gives_all, has_head, holds};
-use crate::put::{Pair, Put, put_list_back, put_pairs_back, try_pairs_back};
+use crate::put::{
+    Pair, Put, put_list_back, put_pairs_back, put_some_back, try_pairs_back, try_some_back,
+};
 use constriction_base::errors::BoundedWriteError;
 use constriction_base::weights::WeightTable;
 use constriction_stack::{AnsCoder, DefaultAnsCoder};
 use linked_list_allocator::LocalHeap;
-use std::alloc::AllocError;
+use std::alloc::{AllocError, Global};
 use std::test::Fail;
 
 /// An item of a list that may be faulty, at u8 and u16.
 type Item<'a> = Result<Pair<'a, u8, 8>, u8>;
 
-/// The same at u32 and u64.
-type WideItem<'a> = Result<Pair<'a, u32, 24>, u8>;
-
 /// No symbol, and then seven, by three lists.
-fn reversed_lists(coder: &mut AnsCoder<u8, u16>, table: &WeightTable<u8, 8>) -> bool {
-    let last: [Item<'_>; 2] = [Ok((&2, table)), Ok((&1, table))];
+fn reversed_lists(
+    alloc: Global,
+    coder: &mut AnsCoder<u8, u16>,
+    table: &WeightTable<u8, 8>,
+) -> bool {
     matches!(put_list_back(coder, table, &[]), Put::Done)
         && holds(coder, 0, &[])
         && matches!(put_list_back(coder, table, &[2, 0, 1]), Put::Done)
         && holds(coder, 511, &[0])
-        && matches!(put_pairs_back(coder, [(&1, table), (&2, table)]), Put::Done)
+        && matches!(put_some_back(alloc, coder, table, &[1, 2]), Put::Done)
         && holds(coder, 2520, &[0, 255])
-        && matches!(try_pairs_back(coder, last), Put::Done)
+        && matches!(try_some_back(alloc, coder, table, &[2, 1]), Put::Done)
         && holds(coder, 11775, &[0, 255, 245])
 }
 
@@ -34,24 +36,20 @@ fn reversed_lists_at_u8_and_u16(rt: HostRuntime) -> Result<(), Fail> {
     let table = table_of(rt.alloc(), &[200, 55, 1])?;
     let mut coder = new_coder(rt.alloc());
     assert!(rt;
-        reversed_lists(&mut coder, &table) && gives_all(&mut coder, &table, &[2, 1, 1, 2, 2, 0, 1])
+        reversed_lists(rt.alloc(), &mut coder, &table)
+            && gives_all(&mut coder, &table, &[2, 1, 1, 2, 2, 0, 1])
     );
     Ok(())
 }
 
-/// Nine symbols by three lists, of which the first is a vector.
-fn wide_lists(
-    coder: &mut DefaultAnsCoder,
-    table: &WeightTable<u32, 24>,
-    first: Vec<Pair<'_, u32, 24>>,
-) -> bool {
-    let last: [WideItem<'_>; 2] = [Ok((&1, table)), Ok((&0, table))];
+/// Nine symbols by three lists.
+fn wide_lists(alloc: Global, coder: &mut DefaultAnsCoder, table: &WeightTable<u32, 24>) -> bool {
     let words = [2885681152u32, 16777220, 1426063361, 2617245697];
-    matches!(put_pairs_back(coder, first), Put::Done)
+    matches!(put_some_back(alloc, coder, table, &[1, 2, 0]), Put::Done)
         && has_head(coder, 33554436)
         && matches!(put_list_back(coder, table, &[0, 1, 1, 0]), Put::Done)
         && has_head(coder, 4003138579202049)
-        && matches!(try_pairs_back(coder, last), Put::Done)
+        && matches!(try_some_back(alloc, coder, table, &[1, 0]), Put::Done)
         && holds(coder, 10166992900, &words)
 }
 
@@ -59,9 +57,8 @@ fn wide_lists(
 fn reversed_lists_at_u32_and_u64(rt: HostRuntime) -> Result<(), Fail> {
     let table = WeightTable::<u32, 24>::new(rt.alloc(), &[3, 2, 16777211])?;
     let mut coder = new_coder(rt.alloc());
-    let first = [(&1, &table), (&2, &table), (&0, &table)].to_vec(rt.alloc())?;
     assert!(rt;
-        wide_lists(&mut coder, &table, first)
+        wide_lists(rt.alloc(), &mut coder, &table)
             && gives_all(&mut coder, &table, &[1, 0, 0, 1, 1, 0, 1, 2, 0])
     );
     Ok(())
@@ -104,18 +101,21 @@ fn a_reversed_list_stops_at_bad_model(rt: HostRuntime) -> Result<(), Fail> {
 }
 
 /// The last step of three finds no room for its word. The two behind it are kept.
-fn lists_without_room(coder: &mut CursorCoder<'_, u16>, table: &WeightTable<u8, 8>) -> bool {
-    let one: [Item<'_>; 1] = [Ok((&2, table))];
+fn lists_without_room(
+    alloc: Global,
+    coder: &mut CursorCoder<'_, u16>,
+    table: &WeightTable<u8, 8>,
+) -> bool {
     matches!(
         put_list_back(coder, table, &[2, 0, 1]),
         Put::Refused(BoundedWriteError::OutOfSpace)
     ) && has_head(coder, 256)
         && matches!(
-            put_pairs_back(coder, [(&2, table)]),
+            put_some_back(alloc, coder, table, &[2]),
             Put::Refused(BoundedWriteError::OutOfSpace)
         )
         && matches!(
-            try_pairs_back(coder, one),
+            try_some_back(alloc, coder, table, &[2]),
             Put::Refused(BoundedWriteError::OutOfSpace)
         )
         && has_head(coder, 256)
@@ -127,28 +127,32 @@ fn reversed_lists_over_a_full_cursor(rt: HostRuntime) -> Result<(), Fail> {
     let table = table_of(rt.alloc(), &[200, 55, 1])?;
     let mut buf = [0u8; 0];
     let mut coder = coder_over(&mut buf);
-    assert!(rt; lists_without_room(&mut coder, &table));
+    assert!(rt; lists_without_room(rt.alloc(), &mut coder, &table));
     Ok(())
 }
 
-/// A list of pairs whose third step is refused.
-fn pairs_are_refused(coder: &mut HeapCoder<'_>, table: &WeightTable<u8, 8>) -> bool {
-    let pairs = [(&2, table), (&0, table), (&1, table)];
-    matches!(put_pairs_back(coder, pairs), Put::Refused(AllocError)) && holds(coder, 256, &[])
-}
-
-/// The same of items.
-fn items_are_refused(coder: &mut HeapCoder<'_>, table: &WeightTable<u8, 8>) -> bool {
-    let items: [Item<'_>; 3] = [Ok((&2, table)), Ok((&0, table)), Ok((&1, table))];
-    matches!(try_pairs_back(coder, items), Put::Refused(AllocError)) && holds(coder, 256, &[])
-}
-
-/// The same by one table.
-fn list_is_refused(coder: &mut HeapCoder<'_>, table: &WeightTable<u8, 8>) -> bool {
+/// Three symbols, of which the third step is refused, by each list call on a coder of its own.
+fn lists_are_refused(
+    alloc: Global,
+    first: &mut HeapCoder<'_>,
+    second: &mut HeapCoder<'_>,
+    third: &mut HeapCoder<'_>,
+    table: &WeightTable<u8, 8>,
+) -> bool {
     matches!(
-        put_list_back(coder, table, &[2, 0, 1]),
+        put_some_back(alloc, first, table, &[2, 0, 1]),
         Put::Refused(AllocError)
-    ) && holds(coder, 256, &[])
+    ) && holds(first, 256, &[])
+        && matches!(
+            try_some_back(alloc, second, table, &[2, 0, 1]),
+            Put::Refused(AllocError)
+        )
+        && holds(second, 256, &[])
+        && matches!(
+            put_list_back(third, table, &[2, 0, 1]),
+            Put::Refused(AllocError)
+        )
+        && holds(third, 256, &[])
 }
 
 /// A coder over a full heap is given three symbols from the back. The first two, 1 and 0, owe no
@@ -161,9 +165,7 @@ fn a_full_heap_stops_reversed_lists(rt: HostRuntime) -> Result<(), Fail> {
     let mut first = coder_in(&heap);
     let mut second = coder_in(&heap);
     let mut third = coder_in(&heap);
-    let are_refused = pairs_are_refused(&mut first, &table)
-        && items_are_refused(&mut second, &table)
-        && list_is_refused(&mut third, &table);
+    let are_refused = lists_are_refused(rt.alloc(), &mut first, &mut second, &mut third, &table);
     drop(filler);
     assert!(rt;
         are_refused

@@ -3,6 +3,7 @@
 ghost use Rattle.constriction_base.specs.Steps.{IsSizes};
 
 use crate::coders::{coder_with, new_coder, table_of};
+use crate::decoders::through_reference;
 use crate::expect::{gives, gives_all, has_head, holds};
 use crate::put::puts;
 use constriction_base::backends::{Holds, Pos, PosSeek, ReadWords, Seek, Stack};
@@ -218,10 +219,9 @@ where
     State: BitArray + PartialEq,
 {
     let mut lent = coder.as_seekable_decoder();
-    let mut borrowed = AnsCoder::<u8, State, Cursor<u8, &[u8]>>::from(coder);
     goes_to(&mut lent, run.place, run.head)
         && gives_all(&mut lent, table, run.first)
-        && gives(&mut borrowed, table, run.last)
+        && through_reference(coder, table, run.last)
 }
 
 /// A decoder that owns the words takes off what lies above the position, and stands there.

@@ -28,7 +28,7 @@ where
 fn ans_sizes(rt: HostRuntime) -> Result<(), Fail> {
     let table = table_of(rt.alloc(), &[255, 1])?;
     let mut coder: AnsCoder<u8, u16> = new_coder(rt.alloc());
-    let wide: DefaultAnsCoder = from_binary([5u32, 0].to_vec(rt.alloc())?);
+    let wide: DefaultAnsCoder = from_binary([5u32, 0].to_vec(rt.alloc())?)?;
     assert!(rt;
         has_sizes(&coder, (0, 0, 0))
             && puts(&mut coder, &table, &[(1, 255), (1, 65535), (1, 65535)])
