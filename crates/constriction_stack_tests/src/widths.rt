@@ -3,14 +3,13 @@
 
 ghost use Rattle.constriction_base.specs.Steps.{IsSizes};
 
-use crate::expect::{coder_of, gives, holds, puts};
+use crate::coders::{coder_with, new_coder};
+use crate::expect::{Shown, exports, gives_all, holds};
+use crate::put::puts;
 use constriction_base::weights::WeightTable;
 use constriction_stack::AnsCoder;
-use constriction_stream::coder::Code;
 use constriction_words::{BitArray, WordOf};
-use std::alloc::Global;
-use std::fmt::Debug;
-use std::process::Abort;
+use std::alloc::{AllocError, Global};
 use std::test::Fail;
 
 /// What a run of steps leads to: the words below the head, and all the words. And its symbols, the
@@ -23,80 +22,78 @@ struct Run<'a, Word, State> {
     back: &'a [usize],
 }
 
-/// The words after the steps of a run, through the coder's parts.
+/// Compares the words after the steps of a run, which go through the coder's parts.
 fn put_on<Word, State, Probability, const PRECISION: usize>(
-    rt: &impl Abort,
     alloc: Global,
     table: &WeightTable<Probability, PRECISION>,
     run: &Run<'_, Word, State>,
-) -> Result<Vec<Word>, Fail>
+) -> bool
 where
-    Word: WordOf<State> + PartialEq + Debug,
-    State: BitArray + PartialEq + Debug,
+    Word: WordOf<State> + PartialEq,
+    State: BitArray + PartialEq,
     Probability: WordOf<Word>,
     requires { IsSizes Word.BITS State.BITS }
 {
-    let mut coder: AnsCoder<Word, State> = AnsCoder::new(alloc);
-    assert!(rt; coder.is_empty());
-    puts(&mut coder, table, run.steps)?;
-    assert!(rt; !coder.is_empty());
-    assert_eq!(rt; coder.bulk().as_slice(), run.below);
+    let mut coder: AnsCoder<Word, State> = new_coder(alloc);
+    if !coder.is_empty() || !puts(&mut coder, table, run.steps) || coder.is_empty() {
+        return false;
+    }
+    if coder.bulk().as_slice() != run.below {
+        return false;
+    }
     let (bulk, state) = coder.into_raw_parts();
-    Ok(AnsCoder::from_raw_parts(bulk, state).into_compressed()?)
+    matches!(exports(coder_with(bulk, state), run.words), Shown::These)
 }
 
 /// Takes the symbols of a run off, by a decoder that borrows the words and by one that owns them.
 fn take_off<Word, State, Probability, const PRECISION: usize>(
-    rt: &impl Abort,
     words: Vec<Word>,
     table: &WeightTable<Probability, PRECISION>,
     run: &Run<'_, Word, State>,
-) -> Result<(), Fail>
+) -> bool
 where
-    Word: WordOf<State> + PartialEq + Debug,
+    Word: WordOf<State>,
     State: BitArray,
     Probability: WordOf<Word>,
     requires { IsSizes Word.BITS State.BITS }
 {
-    assert_eq!(rt; words.as_slice(), run.words);
-    let coder: AnsCoder<Word, State> = coder_of(words)?;
+    let Ok(coder) = AnsCoder::<Word, State>::from_compressed(words) else {
+        return false;
+    };
     let mut lent = coder.as_decoder();
-    gives(&mut lent, table, run.back)?;
-    assert!(rt; lent.is_empty());
+    let is_lent = gives_all(&mut lent, table, run.back);
     let mut owned = coder.into_decoder();
-    gives(&mut owned, table, run.back)?;
-    assert!(rt; owned.is_empty());
-    Ok(())
+    is_lent && gives_all(&mut owned, table, run.back)
 }
 
 /// Clears a coder of some words and a head.
-fn clear<Word, State>(bulk: Vec<Word>, head: State) -> Result<(), Fail>
+fn clears<Word, State>(words: Vec<Word>, head: State) -> bool
 where
-    Word: WordOf<State> + PartialEq + Debug,
-    State: BitArray + PartialEq + Debug,
+    Word: WordOf<State> + PartialEq,
+    State: BitArray + PartialEq,
     requires { IsSizes Word.BITS State.BITS }
 {
-    let mut coder: AnsCoder<Word, State> = AnsCoder::from_raw_parts(bulk, head);
+    let mut coder = coder_with(words, head);
     coder.clear();
     holds(&coder, State::nothing(), &[])
 }
 
 /// Puts symbols on, takes them off, and clears a coder of the words.
 fn there_and_back<Word, State, Probability, const PRECISION: usize>(
-    rt: &impl Abort,
     alloc: Global,
     table: &WeightTable<Probability, PRECISION>,
     run: &Run<'_, Word, State>,
-) -> Result<(), Fail>
+) -> Result<bool, AllocError>
 where
-    Word: WordOf<State> + PartialEq + Debug,
-    State: BitArray + PartialEq + Debug,
+    Word: WordOf<State> + PartialEq,
+    State: BitArray + PartialEq,
     Probability: WordOf<Word>,
     requires { IsSizes Word.BITS State.BITS }
 {
-    let words = put_on(rt, alloc, table, run)?;
-    take_off(rt, words, table, run)?;
-    clear(run.words.to_vec(alloc)?, State::unit())
+    let put = put_on(alloc, table, run);
+    let taken = take_off(run.words.to_vec(alloc)?, table, run);
+    let cleared = clears(run.words.to_vec(alloc)?, State::unit());
+    Ok(put && taken && cleared)
 }
 
 #[test]
@@ -108,7 +105,8 @@ fn calls_at_u8_and_u16(rt: HostRuntime) -> Result<(), Fail> {
         words: &[235, 220, 29],
         back: &[1, 0, 2, 1, 2],
     };
-    there_and_back(&rt, rt.alloc(), &table, &run)
+    assert!(rt; there_and_back(rt.alloc(), &table, &run)?);
+    Ok(())
 }
 
 #[test]
@@ -126,7 +124,8 @@ fn calls_at_u16_and_u32(rt: HostRuntime) -> Result<(), Fail> {
         words: &[45055, 4063, 30340],
         back: &[1, 2, 2, 1, 2],
     };
-    there_and_back(&rt, rt.alloc(), &table, &run)
+    assert!(rt; there_and_back(rt.alloc(), &table, &run)?);
+    Ok(())
 }
 
 #[test]
@@ -144,7 +143,8 @@ fn calls_at_u32_and_u64(rt: HostRuntime) -> Result<(), Fail> {
         words: &[4093640488, 872415071, 83886],
         back: &[2, 0, 1, 1, 2],
     };
-    there_and_back(&rt, rt.alloc(), &table, &run)
+    assert!(rt; there_and_back(rt.alloc(), &table, &run)?);
+    Ok(())
 }
 
 #[test]
@@ -162,5 +162,51 @@ fn calls_at_u32_and_u128(rt: HostRuntime) -> Result<(), Fail> {
         words: &[4294967294, 4294967295, 4294967295, 4294967294, 4294967295],
         back: &[2, 1, 2, 1, 2],
     };
-    there_and_back(&rt, rt.alloc(), &table, &run)
+    assert!(rt; there_and_back(rt.alloc(), &table, &run)?);
+    Ok(())
+}
+
+#[test]
+fn calls_at_u64_and_u128(rt: HostRuntime) -> Result<(), Fail> {
+    let table = WeightTable::<u64, 64>::new(rt.alloc(), &[18446744073709551000, 600, 16])?;
+    let run = Run {
+        steps: &[
+            (2, 18446744073709551600u128),
+            (1, 567137278201564123727121910796909976),
+            (0, 567137278201564142665779159805384184),
+            (2, 35446079887597763497552642459041788),
+            (1, 59076799812681016971779972791715),
+        ],
+        below: &[491913175298921976u64, 18446744073709551612],
+        words: &[
+            491913175298921976,
+            18446744073709551612,
+            18446744073709551011,
+            3202559735019,
+        ],
+        back: &[1, 2, 0, 1, 2],
+    };
+    assert!(rt; there_and_back(rt.alloc(), &table, &run)?);
+    Ok(())
+}
+
+#[test]
+fn calls_at_u16_and_usize(rt: HostRuntime) -> Result<(), Fail> {
+    let table = WeightTable::<u16, 12>::new(rt.alloc(), &[4000, 95, 1])?;
+    let run = Run {
+        steps: &[
+            (2, 4095usize),
+            (1, 180138),
+            (2, 737849343),
+            (2, 3022230913023),
+            (1, 130305871790002),
+            (2, 533732850851852287),
+            (2, 33358303178244095),
+        ],
+        below: &[12287u16],
+        words: &[12287, 49151, 13119, 33587, 118],
+        back: &[2, 2, 1, 2, 2, 1, 2],
+    };
+    assert!(rt; there_and_back(rt.alloc(), &table, &run)?);
+    Ok(())
 }
