@@ -6,8 +6,8 @@ use Rattle.constriction_base.specs.Tables.{Sums, IsLastSymbol}
 use Rattle.constriction_base.proofs.Sums.{sums_of_numbers, last_of_numbers, sums_rise, same_table}
 use Rattle.constriction_base.proofs.weights.WeightTable.new.Goals as goal
 
-pub starts_of-requires : goal.starts_of-requires
-starts_of-requires g c = omega (arith, c.in-Some.ensures.some.less, pow_mono c.requires.1)
+pub starts_of-requires-clause-total : goal.starts_of-requires-clause-total
+starts_of-requires-clause-total g c = omega (arith, c.in-Some.ensures.some.less, pow_mono c.requires.1)
 
 -- the sums of the weights but the last are those of all the weights
 all_sums : {W : Type 0} (number : W → ℕ) (ws : List W) (sums : List ℕ) (n total limit : ℕ) → IsLastSymbol number ws n total limit → Sums number (take (n - 1) ws) sums (length (take (n - 1) ws) + 1) → Sums number ws sums n

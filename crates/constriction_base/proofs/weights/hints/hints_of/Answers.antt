@@ -65,9 +65,11 @@ loop-bucket-preserved g c =
       first = next_place (number c.loop-bucket.first) (number c.shifted_left-width.result) (number c.unit.result) c.args.shift c.loop-bucket.bucket (2 ^ g.Probability.BitArray.BITS) _ first c.unit.ensures c.shifted_left-width.ensures c.wrapping_plus-first.ensures;
       known = omega (arith, s.within, len);
       from = omega (arith, s.above, first);
-      len = rw c.in_ok-push.ensures.items (omega (arith, i.len, length-append hints (symbol ∷ [])));
-      hinted = rw c.in_ok-push.ensures.items (hints_push starts (2 ^ g.row.PRECISION) (2 ^ c.args.shift) hints symbol i.hinted lower (rw i.len hint));
-      lower = rw c.in_ok-push.ensures.items (none_above hints symbol lower);
+      len = rw c.push_reserved.ensures.items (omega (arith, i.len, length-append hints (symbol ∷ [])));
+      counted = omega (arith, c.push_reserved.ensures.len, i.counted);
+      capacity = omega (arith, c.push_reserved.ensures.capacity, i.capacity);
+      hinted = rw c.push_reserved.ensures.items (hints_push starts (2 ^ g.row.PRECISION) (2 ^ c.args.shift) hints symbol i.hinted lower (rw i.len hint));
+      lower = rw c.push_reserved.ensures.items (none_above hints symbol lower);
     }
 
 pub returns-clause-hinted : goal.returns-clause-hinted
@@ -87,4 +89,4 @@ returns-clause-hinted g c =
       from = omega (arith, c.requires.rising.below last inside);
       to = omega (arith, ends_at starts high last (omega (arith, len)));
     } in
-    rw c.in_ok-push-2.ensures.items (hints_push starts high (2 ^ c.args.shift) hints last i.hinted (λ k h. omega (arith, i.lower k h, i.known, len)) (rw place hint))
+    rw c.push_reserved-2.ensures.items (hints_push starts high (2 ^ c.args.shift) hints last i.hinted (λ k h. omega (arith, i.lower k h, i.known, len)) (rw place hint))

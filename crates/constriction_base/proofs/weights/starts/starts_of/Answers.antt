@@ -13,5 +13,7 @@ loop-weight-preserved g c =
     omega (arith, i.left, c.plus-left.ensures, ap number c.weight-item.is, sum_by_more number c.args.weights.now c.loop-weight.weight-index c.weight-item.result (omega arith)) in
     record {
       left = left;
-      sums = rw (c.in_ok-push-2.ensures.items, map_push) (sums_push number c.args.weights.now (map number c.loop-weight.starts.items) c.loop-weight.weight-index (number c.plus-left.result) i.sums left);
+      capacity = omega (arith, c.push_reserved-in-loop-weight.ensures.capacity, i.capacity);
+      counted = omega (arith, c.push_reserved-in-loop-weight.ensures.len, i.counted);
+      sums = rw (c.push_reserved-in-loop-weight.ensures.items, map_push) (sums_push number c.args.weights.now (map number c.loop-weight.starts.items) c.loop-weight.weight-index (number c.plus-left.result) i.sums left);
     }
