@@ -2,7 +2,7 @@
 use Rattle.std.proofs.Common.{◌≡◌, ℕ, ◌+◌, ◌*◌, ◌/◌, ◌%◌, ◌^◌, ◌<◌, ◌≤◌, ◌∙◌, List, ◌∷◌, ap, sym, arith, pow_pos}
 use Rattle.std.proofs.Math.Nat.{le-div_iff_mul-le, mul-le-mul_right}
 use Rattle.std.proofs.lemmas.Nat.{div-mul-add, mod-mul-add}
-use Rattle.constriction_base.specs.Windows.{IsInWindow, IsMovedIn, IsMovedOut}
+use Rattle.constriction_base.specs.Windows.{IsMovedIn, IsMovedOut}
 
 -- what a move out leaves: the number without its low word, which is the next one now
 pub moved_out : (w number : ℕ) (words : List ℕ) (number' : ℕ) (words' : List ℕ) → IsMovedOut w number words number' words'

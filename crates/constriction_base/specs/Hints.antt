@@ -1,5 +1,5 @@
 -- Hints for the search of a quantile's symbol among the starts of intervals.
-use Rattle.std.specs.Prelude.{◌≡◌, ℕ, ◌+◌, ◌*◌, ◌<◌, ◌≤◌, List, length, slice_index}
+use Rattle.std.specs.Prelude.{ℕ, ◌+◌, ◌*◌, ◌<◌, ◌≤◌, List, length, slice_index}
 use Rattle.constriction_base.specs.Tables.{end_of}
 
 -- the interval of this symbol holds the place, or ends at it

@@ -1,6 +1,6 @@
 -- Windows: a number and a list of words, of which moves bring the number into bounds.
 -- The number stands above the words, as the head of a stack of digits in base two to the bits of a word.
-use Rattle.std.specs.Prelude.{◌≡◌, ℕ, ◌+◌, ◌*◌, ◌^◌, ◌<◌, ◌≤◌, List, [], ◌∷◌}
+use Rattle.std.specs.Prelude.{◌≡◌, ℕ, ◌+◌, ◌*◌, ◌^◌, ◌<◌, ◌≤◌, List, ◌∷◌}
 
 -- the number is at least the bound, and below as many times the bound as there are words of w bits
 pub record IsInWindow (w bound number : ℕ) : Type 0 where

@@ -10,7 +10,9 @@
 //! - `seeking`: positions, and going to them.
 //! - `lending`: buffers that lend their words as a slice.
 //! - `conversions`: what turns into a backend for reading, or lends one.
+//! - `both_ways`: the same words as a stack and as a queue.
 
+pub mod both_ways;
 pub mod conversions;
 pub mod lending;
 pub mod reading;
@@ -22,11 +24,12 @@ mod tests;
 mod two_for_one;
 pub mod writing;
 
+pub use both_ways::{BothWays, written_to_queue};
 pub use conversions::{
     AsReadWords, AsSeekReadWords, IntoReadWords, IntoReversed, IntoSeekReadWords,
 };
 pub use lending::{Words, WordsMut};
 pub use reading::{BoundedReadWords, Holds, ReadWords};
-pub use seeking::{Pos, PosSeek, Seek};
+pub use seeking::{CountsWords, Pos, PosSeek, Seek, SeeksBack};
 pub use semantics::{Queue, Semantics, Stack};
 pub use writing::WriteWords;

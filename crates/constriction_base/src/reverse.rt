@@ -3,8 +3,10 @@
 //! Words that stand in the order in which a stack reads them, as in a file that is written from its
 //! end, are read by `Reverse(Cursor::new_at_write_beginning(words))`.
 
+ghost use Rattle.constriction_base.specs.Room.{within};
+
 use crate::backends::{
-    BoundedReadWords, Holds, Pos, PosSeek, Queue, ReadWords, Seek, Stack, Words,
+    BoundedReadWords, Holds, Pos, PosSeek, Queue, ReadWords, Seek, SeeksBack, Stack, Words,
 };
 use crate::cursor::Cursor;
 use constriction_words::BitArray;
@@ -94,6 +96,8 @@ impl<Word: BitArray, Buf: Words<Word> + Drop> PosSeek for Reverse<Cursor<Word, B
 impl<Word: BitArray, Buf: Words<Word> + Drop> Pos for Reverse<Cursor<Word, Buf>> {
     ghost stands_at = { λ r position. ⟦<Cursor<Word, Buf> as Pos>⟧.stands_at r.0 position };
 
+    ghost can_tell = { λ r. ⟦<Cursor<Word, Buf> as Pos>⟧.can_tell r.0 };
+
     fn pos(&self) -> usize {
         self.0.pos()
     }
@@ -102,9 +106,19 @@ impl<Word: BitArray, Buf: Words<Word> + Drop> Pos for Reverse<Cursor<Word, Buf>>
 impl<Word: BitArray, Buf: Words<Word> + Drop> Seek for Reverse<Cursor<Word, Buf>> {
     ghost can_seek = { λ r position. ⟦<Cursor<Word, Buf> as Seek>⟧.can_seek r.0 position };
 
+    ghost seek_fails = { λ r position. ⟦<Cursor<Word, Buf> as Seek>⟧.seek_fails r.0 position };
+
     ghost sought = { λ old position new. ⟦<Cursor<Word, Buf> as Seek>⟧.sought old.0 position new.0 };
+
+    ghost stays = { λ old position new. ⟦<Cursor<Word, Buf> as Seek>⟧.stays old.0 position new.0 };
 
     fn seek(&mut self, position: usize) -> Result<(), ()> {
         self.0.seek(position)
     }
+}
+
+impl<Word: BitArray, Buf: Words<Word> + Drop> SeeksBack for Reverse<Cursor<Word, Buf>> {
+    ghost reach_law = { λ r position stands. stands.1 };
+
+    ghost accept_law = { λ r position stands past. within stands.1 past };
 }

@@ -2,8 +2,10 @@
 //! queue at their beginning.
 
 ghost use Rattle.std.specs.Prelude.{◌≡◌, List, length, reverse, take, drop};
+ghost use Rattle.std.proofs.Common.{sym};
+ghost use Rattle.std.proofs.lemmas.List.{reverse-reverse};
 
-use crate::backends::{Holds, IntoReadWords, IntoSeekReadWords, Queue, Stack, Words};
+use crate::backends::{BothWays, Holds, IntoReadWords, IntoSeekReadWords, Queue, Stack, Words};
 use crate::cursor::Cursor;
 use constriction_words::BitArray;
 
@@ -32,6 +34,8 @@ impl<'a, Word: BitArray + 'a> Words<Word> for &'a [Word] {
 impl<'a, Word: BitArray + 'a> IntoReadWords<Word, Stack> for &'a [Word] {
     type IntoReadWords = Cursor<Word, &'a [Word]>;
 
+    ghost becomes = { λ old new. (new.buf.now ≡ old.now) × (new.pos ≡ length old.now) };
+
     fn into_read_words(self) -> Cursor<Word, &'a [Word]> {
         Cursor::new_at_write_end(self)
     }
@@ -39,6 +43,8 @@ impl<'a, Word: BitArray + 'a> IntoReadWords<Word, Stack> for &'a [Word] {
 
 impl<'a, Word: BitArray + 'a> IntoReadWords<Word, Queue> for &'a [Word] {
     type IntoReadWords = Cursor<Word, &'a [Word]>;
+
+    ghost becomes = { λ old new. (new.buf.now ≡ old.now) × (new.pos ≡ 0) };
 
     fn into_read_words(self) -> Cursor<Word, &'a [Word]> {
         Cursor::new_at_write_beginning(self)
@@ -48,6 +54,8 @@ impl<'a, Word: BitArray + 'a> IntoReadWords<Word, Queue> for &'a [Word] {
 impl<'a, Word: BitArray + 'a> IntoSeekReadWords<Word, Stack> for &'a [Word] {
     type IntoSeekReadWords = Cursor<Word, &'a [Word]>;
 
+    ghost becomes = { λ old new. (new.buf.now ≡ old.now) × (new.pos ≡ length old.now) };
+
     fn into_seek_read_words(self) -> Cursor<Word, &'a [Word]> {
         IntoReadWords::<Word, Stack>::into_read_words(self)
     }
@@ -56,7 +64,13 @@ impl<'a, Word: BitArray + 'a> IntoSeekReadWords<Word, Stack> for &'a [Word] {
 impl<'a, Word: BitArray + 'a> IntoSeekReadWords<Word, Queue> for &'a [Word] {
     type IntoSeekReadWords = Cursor<Word, &'a [Word]>;
 
+    ghost becomes = { λ old new. (new.buf.now ≡ old.now) × (new.pos ≡ 0) };
+
     fn into_seek_read_words(self) -> Cursor<Word, &'a [Word]> {
         IntoReadWords::<Word, Queue>::into_read_words(self)
     }
+}
+
+impl<'a, Word: BitArray + 'a> BothWays<Word> for &'a [Word] {
+    ghost turned_law = { λ s. sym (reverse-reverse s.now) };
 }

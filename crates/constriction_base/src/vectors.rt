@@ -5,11 +5,13 @@
 
 ghost use Rattle.std.specs.Prelude.{◌≡◌, ◌+◌, ◌-◌, ℕ, true, false, List, [], ◌∷◌, ◌++◌, ◌<◌, ◌≤◌, ◌==◌, Option, Result, Ok, Err, None, length, reverse, IsTrue, vec_len, vec_capacity, slice_set, take};
 ghost use Rattle.constriction_base.specs.Backends.{Reads};
-ghost use Rattle.constriction_base.specs.Room.{no_room_left, room_for};
+ghost use Rattle.constriction_base.specs.Room.{no_room_left, room_for, at_length, within, words_counted};
+ghost use Rattle.std.proofs.Common.{sym};
+ghost use Rattle.std.proofs.lemmas.List.{reverse-reverse};
 
 use crate::backends::{
-    BoundedReadWords, Holds, Pos, PosSeek, Queue, ReadWords, Seek, Stack, Words, WordsMut,
-    WriteWords,
+    BothWays, BoundedReadWords, CountsWords, Holds, Pos, PosSeek, Queue, ReadWords, Seek,
+    SeeksBack, Stack, Words, WordsMut, WriteWords,
 };
 use constriction_words::BitArray;
 use std::alloc::{AllocError, Allocator};
@@ -90,6 +92,8 @@ impl<Word: BitArray, A: Allocator> WriteWords<Word> for Vec<Word, A> {
 
     ghost prepare_law = { λ v count e. room_for (vec_capacity v - vec_len v) count };
 
+    ghost full_law = { λ _ _ _ never _. never };
+
     ghost knows_words = { tt };
 }
 
@@ -101,6 +105,8 @@ impl<Word: BitArray, A: Allocator> PosSeek for Vec<Word, A> {
 impl<Word: BitArray, A: Allocator> Pos for Vec<Word, A> {
     ghost stands_at = { λ v position. position ≡ vec_len v };
 
+    ghost can_tell = { λ _. Unit {0} };
+
     fn pos(&self) -> usize {
         self.len()
     }
@@ -109,7 +115,11 @@ impl<Word: BitArray, A: Allocator> Pos for Vec<Word, A> {
 impl<Word: BitArray, A: Allocator> Seek for Vec<Word, A> {
     ghost can_seek = { λ v position. position ≤ vec_len v };
 
+    ghost seek_fails = { λ v position. vec_len v < position };
+
     ghost sought = { λ old position new. (new.items ≡ take position old.items) × (vec_capacity new ≡ vec_capacity old) };
+
+    ghost stays = { λ old _ new. new ≡ old };
 
     fn seek(&mut self, position: usize) -> Result<(), ()> {
         if position > self.len() {
@@ -118,6 +128,22 @@ impl<Word: BitArray, A: Allocator> Seek for Vec<Word, A> {
         self.truncate(position);
         Ok(())
     }
+}
+
+impl<Word: BitArray, A: Allocator> CountsWords<Word> for Vec<Word, A> {
+    ghost count_law = { λ v place stands. words_counted v.items (vec_len v) place v.ok.0 stands };
+
+    ghost told_law = { λ _. tt };
+}
+
+impl<Word: BitArray, A: Allocator> SeeksBack for Vec<Word, A> {
+    ghost reach_law = { λ v position stands. at_length position (vec_len v) stands };
+
+    ghost accept_law = { λ v position stands past. within (at_length position (vec_len v) stands) past };
+}
+
+impl<Word: BitArray, A: Allocator> BothWays<Word> for Vec<Word, A> {
+    ghost turned_law = { λ v. sym (reverse-reverse v.items) };
 }
 
 impl<Word: BitArray, A: Allocator> Words<Word> for Vec<Word, A> {

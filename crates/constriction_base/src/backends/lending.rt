@@ -3,6 +3,8 @@
 ghost use Rattle.std.specs.Prelude.{◌≡◌, ◌<◌, List, length, reverse, slice_set};
 
 /// Lends its words, the first in front.
+///
+/// An implementation chooses freely which words it lends.
 pub trait Words<Word> {
     /// The words that are lent.
     ghost lent: { Self → List Word };
@@ -13,6 +15,8 @@ pub trait Words<Word> {
 }
 
 /// Its words can be changed, and stay as many as they are.
+///
+/// An implementation chooses nothing here: what is changed is what it lends.
 pub trait WordsMut<Word>: Words<Word> {
     /// Puts a word in the place of another.
     fn set_word(&mut self, index: usize, word: Word)

@@ -8,6 +8,9 @@ use crate::backends::semantics::Semantics;
 /// What holds words that can be read in an order.
 ///
 /// A type that is both a stack and a queue holds a list for each.
+///
+/// An implementation chooses freely what it lists: the clauses of the traits that read and write tie the
+/// list to their calls, where `is_list` holds.
 pub trait Holds<Word, S: Semantics> {
     /// The words that the next reads give, in their order. It means nothing where `is_list` fails.
     ghost words: { Self → List Word };
@@ -20,6 +23,9 @@ pub trait Holds<Word, S: Semantics> {
 ///
 /// As a `Stack` a backend gives the word that was written last, as a `Queue` the one that was
 /// written first.
+///
+/// An implementation chooses freely what a read may answer and leave, and when it seems exhausted; where it
+/// knows its words, these bound both choices.
 ///
 /// ```
 /// let mut cursor = Cursor::new_at_write_end([7u32, 9].as_slice());
@@ -51,6 +57,8 @@ pub trait ReadWords<Word, S: Semantics>: Holds<Word, S> {
 }
 
 /// It is known how many words are left.
+///
+/// An implementation chooses nothing here: it knows its words, and they are counted.
 pub trait BoundedReadWords<Word, S: Semantics>: ReadWords<Word, S> {
     /// The number of words that are left, in the order of reading `S`.
     fn remaining(&self) -> usize

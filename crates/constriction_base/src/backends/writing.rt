@@ -8,6 +8,10 @@ use crate::backends::semantics::Stack;
 /// Words can be put on the stack that the type holds.
 ///
 /// Which error a call may answer is a function of what the backend holds at the moment of the call.
+///
+/// An implementation chooses freely which errors these are, how many writes are sure to succeed (it
+/// may name none), whether `prepare` makes room, which errors are lack of room and when it seems full. The
+/// laws tie these choices to one another, and the clauses tie them to the calls.
 pub trait WriteWords<Word>: Holds<Word, Stack> {
     /// Why a word could not be written: want of memory for a vector, want of room for a cursor.
     type WriteError;
@@ -37,27 +41,32 @@ pub trait WriteWords<Word>: Holds<Word, Stack> {
         ensures kept { OnErr result (Self.words self.new ≡ Self.words self.old) }
         ensures err { IfErr result (λ e. write_fails self.old e) };
 
-    /// Whether the next write may be refused for lack of room. `false` promises that it is not, so a
-    /// backend that grows as long as there is memory always answers `false`.
+    /// Whether the next write, or a `prepare` for it, may be refused for lack of room. `false` promises
+    /// that it is not, so a backend that grows as long as there is memory always answers `false`.
     fn maybe_full(&self) -> bool
         ensures value { result ≡ seems_full self.now }
         ensures room_left { result ≡ false → (e : Self.WriteError) → is_lack_of_room e → write_fails self.now e → ⊥ };
 
-    /// Asks for room for `count` further words, and changes no word. A refusal leaves the room there was.
+    /// Asks for room for `count` further words, and changes no word. A refusal leaves the room there was,
+    /// and either way a write may answer no error that it could not answer before.
     ///
     /// After `Ok` over a vector the next `count` writes succeed. Over a cursor it promises nothing.
     fn prepare(&mut self, count: usize) -> Result<(), Self::WriteError>
         ensures words { Self.words self.new ≡ Self.words self.old }
         ensures room { OnOk result (room self.old ≤ room self.new) }
-        ensures still { OnErr result (room self.old ≤ room self.new) }
+        ensures kept_room { OnErr result (room self.old ≤ room self.new) }
         ensures made { OnOk result (makes_room → count ≤ room self.new) }
-        ensures fails { OnOk result ((e : Self.WriteError) → write_fails self.new e → write_fails self.old e) }
+        ensures fails { (e : Self.WriteError) → write_fails self.new e → write_fails self.old e }
         ensures err { IfErr result (λ e. prepare_fails self.old count e) };
 
     // Where there is room, nothing is refused.
     ghost room_law: { (b : Self) (e : Self.WriteError) → 0 < room b → write_fails b e → ⊥ };
 
+    // No count up to the room is refused.
     ghost prepare_law: { (b : Self) (count : ℕ) (e : Self.WriteError) → count ≤ room b → prepare_fails b count e → ⊥ };
+
+    // Where it doesn't seem full, room for a word is not refused for lack of room.
+    ghost full_law: { (b : Self) (e : Self.WriteError) → seems_full b ≡ false → is_lack_of_room e → prepare_fails b 1 e → ⊥ };
 
     ghost knows_words: { Self.is_list };
 }

@@ -2,8 +2,9 @@
 
 ghost use Rattle.std.specs.Prelude.{◌≡◌, ◌+◌, ◌-◌, ℕ, true, false, List, [], ◌∷◌, ◌++◌, ◌<◌, ◌≤◌, ◌==◌, Option, Result, Ok, Err, None, length, reverse, IsTrue, slice_set, take, drop};
 ghost use Rattle.constriction_base.specs.Backends.{Reads, Place};
+ghost use Rattle.constriction_base.specs.Room.{within, words_before};
 
-use crate::backends::{Pos, PosSeek, Seek, Words};
+use crate::backends::{CountsWords, Pos, PosSeek, Seek, SeeksBack, Words};
 use crate::cursor::Cursor;
 use constriction_words::BitArray;
 
@@ -13,7 +14,9 @@ impl<Word: BitArray, Buf: Words<Word> + Drop> PosSeek for Cursor<Word, Buf> {
 }
 
 impl<Word: BitArray, Buf: Words<Word> + Drop> Pos for Cursor<Word, Buf> {
-    ghost stands_at = { λ c position. position ≡ c.pos };
+    ghost stands_at = { λ c position. (position ≡ c.pos) × (position ≤ length (Buf.lent c.buf)) };
+
+    ghost can_tell = { λ _. Unit {0} };
 
     fn pos(&self) -> usize {
         self.pos
@@ -23,7 +26,11 @@ impl<Word: BitArray, Buf: Words<Word> + Drop> Pos for Cursor<Word, Buf> {
 impl<Word: BitArray, Buf: Words<Word> + Drop> Seek for Cursor<Word, Buf> {
     ghost can_seek = { λ c position. position ≤ length (Buf.lent c.buf) };
 
+    ghost seek_fails = { λ c position. length (Buf.lent c.buf) < position };
+
     ghost sought = { λ old position new. new ≡ record { buf = old.buf; pos = position } };
+
+    ghost stays = { λ old _ new. new ≡ old };
 
     fn seek(&mut self, position: usize) -> Result<(), ()> {
         if position > self.buf.words().len() {
@@ -32,4 +39,16 @@ impl<Word: BitArray, Buf: Words<Word> + Drop> Seek for Cursor<Word, Buf> {
         self.pos = position;
         Ok(())
     }
+}
+
+impl<Word: BitArray, Buf: Words<Word> + Drop> CountsWords<Word> for Cursor<Word, Buf> {
+    ghost count_law = { λ c place stands. words_before (Buf.lent c.buf) c.pos place stands };
+
+    ghost told_law = { λ _. tt };
+}
+
+impl<Word: BitArray, Buf: Words<Word> + Drop> SeeksBack for Cursor<Word, Buf> {
+    ghost reach_law = { λ c position stands. stands.1 };
+
+    ghost accept_law = { λ c position stands past. within stands.1 past };
 }

@@ -62,5 +62,7 @@ impl<Word: BitArray, Buf: WordsMut<Word> + Drop> WriteWords<Word> for Cursor<Wor
 
     ghost prepare_law = { λ _ _ _ _ fails. fails };
 
+    ghost full_law = { λ _ _ _ _ fails. fails };
+
     ghost knows_words = { tt };
 }

@@ -13,6 +13,8 @@ use std::alloc::Allocator;
 impl<Word: BitArray, A: Allocator> IntoReadWords<Word, Stack> for Vec<Word, A> {
     type IntoReadWords = Cursor<Word, Vec<Word, A>>;
 
+    ghost becomes = { λ old new. (new.buf ≡ old) × (new.pos ≡ length old.items) };
+
     fn into_read_words(self) -> Cursor<Word, Vec<Word, A>> {
         Cursor::new_at_write_end(self)
     }
@@ -20,6 +22,8 @@ impl<Word: BitArray, A: Allocator> IntoReadWords<Word, Stack> for Vec<Word, A> {
 
 impl<Word: BitArray, A: Allocator> IntoReadWords<Word, Queue> for Vec<Word, A> {
     type IntoReadWords = Cursor<Word, Vec<Word, A>>;
+
+    ghost becomes = { λ old new. (new.buf ≡ old) × (new.pos ≡ 0) };
 
     fn into_read_words(self) -> Cursor<Word, Vec<Word, A>> {
         Cursor::new_at_write_beginning(self)
@@ -29,6 +33,8 @@ impl<Word: BitArray, A: Allocator> IntoReadWords<Word, Queue> for Vec<Word, A> {
 impl<Word: BitArray, A: Allocator> IntoSeekReadWords<Word, Stack> for Vec<Word, A> {
     type IntoSeekReadWords = Cursor<Word, Vec<Word, A>>;
 
+    ghost becomes = { λ old new. (new.buf ≡ old) × (new.pos ≡ length old.items) };
+
     fn into_seek_read_words(self) -> Cursor<Word, Vec<Word, A>> {
         IntoReadWords::<Word, Stack>::into_read_words(self)
     }
@@ -36,6 +42,8 @@ impl<Word: BitArray, A: Allocator> IntoSeekReadWords<Word, Stack> for Vec<Word, 
 
 impl<Word: BitArray, A: Allocator> IntoSeekReadWords<Word, Queue> for Vec<Word, A> {
     type IntoSeekReadWords = Cursor<Word, Vec<Word, A>>;
+
+    ghost becomes = { λ old new. (new.buf ≡ old) × (new.pos ≡ 0) };
 
     fn into_seek_read_words(self) -> Cursor<Word, Vec<Word, A>> {
         IntoReadWords::<Word, Queue>::into_read_words(self)
@@ -45,6 +53,8 @@ impl<Word: BitArray, A: Allocator> IntoSeekReadWords<Word, Queue> for Vec<Word, 
 impl<'a, Word: BitArray + 'a, A: Allocator + 'a> AsReadWords<'a, Word, Stack> for Vec<Word, A> {
     type AsReadWords = Cursor<Word, &'a [Word]>;
 
+    ghost becomes = { λ old new. (new.buf.now ≡ old.items) × (new.pos ≡ length old.items) };
+
     fn as_read_words(&'a self) -> Cursor<Word, &'a [Word]> {
         Cursor::new_at_write_end(self.as_slice())
     }
@@ -52,6 +62,8 @@ impl<'a, Word: BitArray + 'a, A: Allocator + 'a> AsReadWords<'a, Word, Stack> fo
 
 impl<'a, Word: BitArray + 'a, A: Allocator + 'a> AsReadWords<'a, Word, Queue> for Vec<Word, A> {
     type AsReadWords = Cursor<Word, &'a [Word]>;
+
+    ghost becomes = { λ old new. (new.buf.now ≡ old.items) × (new.pos ≡ 0) };
 
     fn as_read_words(&'a self) -> Cursor<Word, &'a [Word]> {
         Cursor::new_at_write_beginning(self.as_slice())
@@ -61,6 +73,8 @@ impl<'a, Word: BitArray + 'a, A: Allocator + 'a> AsReadWords<'a, Word, Queue> fo
 impl<'a, Word: BitArray + 'a, A: Allocator + 'a> AsSeekReadWords<'a, Word, Stack> for Vec<Word, A> {
     type AsSeekReadWords = Cursor<Word, &'a [Word]>;
 
+    ghost becomes = { λ old new. (new.buf.now ≡ old.items) × (new.pos ≡ length old.items) };
+
     fn as_seek_read_words(&'a self) -> Cursor<Word, &'a [Word]> {
         AsReadWords::<'a, Word, Stack>::as_read_words(self)
     }
@@ -68,6 +82,8 @@ impl<'a, Word: BitArray + 'a, A: Allocator + 'a> AsSeekReadWords<'a, Word, Stack
 
 impl<'a, Word: BitArray + 'a, A: Allocator + 'a> AsSeekReadWords<'a, Word, Queue> for Vec<Word, A> {
     type AsSeekReadWords = Cursor<Word, &'a [Word]>;
+
+    ghost becomes = { λ old new. (new.buf.now ≡ old.items) × (new.pos ≡ 0) };
 
     fn as_seek_read_words(&'a self) -> Cursor<Word, &'a [Word]> {
         AsReadWords::<'a, Word, Queue>::as_read_words(self)

@@ -1,8 +1,10 @@
 //! A borrowed vector of words, as a buffer and as what turns into a cursor over its words.
 
 ghost use Rattle.std.specs.Prelude.{◌≡◌, List, length, reverse, take, drop};
+ghost use Rattle.std.proofs.Common.{sym};
+ghost use Rattle.std.proofs.lemmas.List.{reverse-reverse};
 
-use crate::backends::{Holds, IntoReadWords, IntoSeekReadWords, Queue, Stack, Words};
+use crate::backends::{BothWays, Holds, IntoReadWords, IntoSeekReadWords, Queue, Stack, Words};
 use crate::cursor::Cursor;
 use constriction_words::BitArray;
 use std::alloc::Allocator;
@@ -30,6 +32,8 @@ impl<'a, Word: BitArray + 'a, A: Allocator + 'a> Words<Word> for &'a Vec<Word, A
 impl<'a, Word: BitArray + 'a, A: Allocator + 'a> IntoReadWords<Word, Stack> for &'a Vec<Word, A> {
     type IntoReadWords = Cursor<Word, &'a [Word]>;
 
+    ghost becomes = { λ old new. (new.buf.now ≡ old.now.items) × (new.pos ≡ length old.now.items) };
+
     fn into_read_words(self) -> Cursor<Word, &'a [Word]> {
         Cursor::new_at_write_end(self.as_slice())
     }
@@ -37,6 +41,8 @@ impl<'a, Word: BitArray + 'a, A: Allocator + 'a> IntoReadWords<Word, Stack> for 
 
 impl<'a, Word: BitArray + 'a, A: Allocator + 'a> IntoReadWords<Word, Queue> for &'a Vec<Word, A> {
     type IntoReadWords = Cursor<Word, &'a [Word]>;
+
+    ghost becomes = { λ old new. (new.buf.now ≡ old.now.items) × (new.pos ≡ 0) };
 
     fn into_read_words(self) -> Cursor<Word, &'a [Word]> {
         Cursor::new_at_write_beginning(self.as_slice())
@@ -47,6 +53,8 @@ impl<'a, Word: BitArray + 'a, A: Allocator + 'a> IntoSeekReadWords<Word, Stack>
     for &'a Vec<Word, A> {
     type IntoSeekReadWords = Cursor<Word, &'a [Word]>;
 
+    ghost becomes = { λ old new. (new.buf.now ≡ old.now.items) × (new.pos ≡ length old.now.items) };
+
     fn into_seek_read_words(self) -> Cursor<Word, &'a [Word]> {
         IntoReadWords::<Word, Stack>::into_read_words(self)
     }
@@ -56,7 +64,13 @@ impl<'a, Word: BitArray + 'a, A: Allocator + 'a> IntoSeekReadWords<Word, Queue>
     for &'a Vec<Word, A> {
     type IntoSeekReadWords = Cursor<Word, &'a [Word]>;
 
+    ghost becomes = { λ old new. (new.buf.now ≡ old.now.items) × (new.pos ≡ 0) };
+
     fn into_seek_read_words(self) -> Cursor<Word, &'a [Word]> {
         IntoReadWords::<Word, Queue>::into_read_words(self)
     }
+}
+
+impl<'a, Word: BitArray + 'a, A: Allocator + 'a> BothWays<Word> for &'a Vec<Word, A> {
+    ghost turned_law = { λ v. sym (reverse-reverse v.now.items) };
 }

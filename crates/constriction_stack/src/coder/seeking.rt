@@ -4,7 +4,7 @@ ghost use Rattle.std.specs.Prelude.{◌≡◌, map};
 
 use crate::coder::AnsCoder;
 use constriction_base::backends::{
-    AsReadWords, AsSeekReadWords, Holds, IntoSeekReadWords, Pos, PosSeek, Seek, Stack,
+    AsReadWords, AsSeekReadWords, Holds, IntoSeekReadWords, Pos, PosSeek, Seek, SeeksBack, Stack,
 };
 use constriction_words::{BitArray, WordOf};
 use std::marker::PhantomData;
@@ -71,6 +71,8 @@ impl<Word: WordOf<State>, State: BitArray, Backend: Holds<Word, Stack> + Pos> Po
     for AnsCoder<Word, State, Backend> {
     ghost stands_at = { λ coder position. Backend.stands_at coder.backend position.0 × (State.number position.1 ≡ coder.state.head) };
 
+    ghost can_tell = { λ coder. Backend.can_tell coder.backend };
+
     /// Where the backend stands now, and the head.
     fn pos(&self) -> (Backend::Position, State) {
         (self.bulk.pos(), self.state)
@@ -81,17 +83,31 @@ impl<Word: WordOf<State>, State: BitArray, Backend: Holds<Word, Stack> + Seek> S
     for AnsCoder<Word, State, Backend> {
     ghost can_seek = { λ coder position. Backend.can_seek coder.backend position.0 };
 
+    ghost seek_fails = { λ coder position. Backend.seek_fails coder.backend position.0 };
+
     ghost sought = { λ old position new. Backend.sought old.backend position.0 new.backend
         × (new.state ≡ record { head = State.number position.1; words = map Word.number (Backend.words new.backend) }) };
+
+    ghost stays = { λ old position new. Backend.stays old.backend position.0 new.backend
+        × (new.state ≡ record { head = old.state.head; words = map Word.number (Backend.words new.backend) })
+        × (new.backend ≡ old.backend → new ≡ old) };
 
     /// Goes to a position that was recorded before: the head that was recorded, over the words that
     /// the backend holds at its position.
     ///
-    /// Errors: `Err(())` where the backend can't go to its position. The head stays too.
+    /// Errors: `Err(())` where the backend refuses to go to its position. The head stays, and the coder is
+    /// as before where the backend is.
     fn seek(&mut self, position: (Backend::Position, State)) -> Result<(), ()> {
         let (place, state) = position;
         self.bulk.seek(place)?;
         self.state = state;
         Ok(())
     }
+}
+
+impl<Word: WordOf<State>, State: BitArray, Backend: Holds<Word, Stack> + SeeksBack> SeeksBack
+    for AnsCoder<Word, State, Backend> {
+    ghost reach_law = { λ coder position stands. Backend.reach_law coder.backend position.0 stands.0 };
+
+    ghost accept_law = { λ coder position stands fails. Backend.accept_law coder.backend position.0 stands.0 fails };
 }

@@ -1,9 +1,9 @@
-use Rattle.std.proofs.Common.{◌≡◌, ℕ, List, ◌++◌, ◌∷◌, [], ◌+◌, ◌-◌, ◌*◌, ◌%◌, ◌^◌, ◌<◌, ◌≤◌, ◌∙◌, ap, arith, pow_pos, pow-add, map, length, get_or, length-append}
+use Rattle.std.proofs.Common.{◌≡◌, ℕ, ◌∷◌, [], ◌+◌, ◌-◌, ◌*◌, ◌%◌, ◌^◌, ◌<◌, ◌≤◌, ◌∙◌, ap, arith, pow_pos, pow-add, map, length, get_or, length-append}
 use Rattle.std.proofs.Math.Nat.{mod-eq_of_lt, mul-le-mul_right}
 use Rattle.std.proofs.Math.Pow.{pow_mono}
 use Rattle.std.proofs.lemmas.List.{length-map}
 use Rattle.constriction_base.specs.Entries.{ends_at}
-use Rattle.constriction_base.specs.Hints.{IsHint, AreHints}
+use Rattle.constriction_base.specs.Hints.{IsHint}
 use Rattle.constriction_base.proofs.HintLemmas.{hints_push, hint_of, none_above}
 use Rattle.constriction_base.proofs.weights.hints.hints_of.Goals as goal
 
