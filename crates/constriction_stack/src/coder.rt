@@ -29,7 +29,7 @@ pub mod words;
 
 ghost use Rattle.std.specs.Prelude.{◌≡◌, ◌↔◌, [], IsTrue};
 ghost use Rattle.constriction_base.specs.Steps.{IsSizes};
-ghost use Rattle.constriction_stack.specs.Ans.{AnsState, AnsValue, value_of};
+ghost use Rattle.constriction_stack.specs.Ans.{AnsState, AnsValue, IsCoder, value_of};
 
 use constriction_base::backends::{Holds, Stack};
 use constriction_words::{BitArray, WordOf};
@@ -69,7 +69,8 @@ impl<Word: WordOf<State>, State: BitArray> AnsCoder<Word, State, Vec<Word>> {
     #[inline]
     pub fn new(alloc: Global) -> Self
         requires { IsSizes Word.BITS State.BITS }
-        ensures { result.state ≡ record { head = 0; words = [] } }
+        ensures state { result.state ≡ record { head = 0; words = [] } }
+        ensures coder { IsCoder Word.number (⟦<Vec<Word> as Holds<Word, Stack>>⟧.words) Word.BITS State.BITS result }
     {
         AnsCoder {
             bulk: Vec::new(alloc),

@@ -24,6 +24,7 @@ impl<Word: WordOf<State>, State: BitArray, Backend: WriteWords<Word>> AnsCoder<
         requires empty { Backend.words bulk ≡ [] }
         ensures state { result.state ≡ record { head = 0; words = [] } }
         ensures backend { result.backend ≡ bulk }
+        ensures coder { IsCoder Word.number Backend.words Word.BITS State.BITS result }
     {
         AnsCoder {
             bulk,
@@ -51,19 +52,21 @@ impl<Word: WordOf<State>, State: BitArray, Backend: ReadWords<Word, Stack>> AnsC
         requires { IsSizes Word.BITS State.BITS }
         ensures ok { Backend.is_list → IfOk result (λ new.
             new.state ≡ binary_state Word.BITS State.BITS (map Word.number (Backend.words bulk))) }
+        ensures coder { IfOk result (λ new. IsCoder Word.number Backend.words Word.BITS State.BITS new) }
         ensures reads { IfOk result (λ new.
             BinaryFilledBy Word.number Backend.reads Word.BITS State.BITS bulk new.state.head new.backend) }
         ensures err { IfErr result (λ e.
             BinaryRefused Word.number Backend.reads Word.BITS State.BITS bulk e) }
     {
-        match filled(&mut bulk, State::unit()) {
-            Ok(head) => Ok(AnsCoder {
-                bulk,
-                state: head,
-                word: PhantomData,
-            }),
-            Err(error) => Err(error),
-        }
+        let head = match filled(&mut bulk, State::unit()) {
+            Err(error) => return Err(error),
+            Ok(head) => head,
+        };
+        Ok(AnsCoder {
+            bulk,
+            state: head,
+            word: PhantomData,
+        })
     }
 }
 

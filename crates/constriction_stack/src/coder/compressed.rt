@@ -38,6 +38,7 @@ impl<Word: WordOf<State>, State: BitArray, Backend: ReadWords<Word, Stack>> AnsC
         ensures ok { Backend.is_list → IfOk result (λ new.
             new.state ≡ filled Word.BITS State.BITS 0 (map Word.number (Backend.words bulk))) }
         ensures high { Backend.is_list → OnOk result (BeginsHigh (map Word.number (Backend.words bulk))) }
+        ensures coder { IfOk result (λ new. IsCoder Word.number Backend.words Word.BITS State.BITS new) }
         ensures reads { IfOk result (λ new.
             FilledBy Word.number Backend.reads Word.BITS State.BITS bulk new.state.head new.backend) }
         ensures refused { IfErr result (λ rest.
@@ -59,14 +60,15 @@ impl<Word: WordOf<State>, State: BitArray, Backend: ReadWords<Word, Stack>> AnsC
         if top.is_nothing() {
             return Err(bulk);
         }
-        match filled(&mut bulk, top.widen()) {
-            Ok(head) => Ok(AnsCoder {
-                bulk,
-                state: head,
-                word: PhantomData,
-            }),
-            Err(_) => Err(bulk),
-        }
+        let head = match filled(&mut bulk, top.widen()) {
+            Err(_) => return Err(bulk),
+            Ok(head) => head,
+        };
+        Ok(AnsCoder {
+            bulk,
+            state: head,
+            word: PhantomData,
+        })
     }
 }
 

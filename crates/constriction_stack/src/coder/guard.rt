@@ -6,7 +6,7 @@ ghost use Rattle.std.specs.Borrow.{sem, RestsIfErr};
 ghost use Rattle.constriction_base.specs.Digits.{fixed_digits};
 ghost use Rattle.constriction_base.specs.Steps.{IsSizes};
 ghost use Rattle.constriction_base.specs.declared.errors.CoderError.TheVariants as coder_error;
-ghost use Rattle.constriction_stack.specs.Ans.{PartlyExported, count_of_words, exported};
+ghost use Rattle.constriction_stack.specs.Ans.{IsCoder, PartlyExported, count_of_words, exported};
 ghost use Rattle.constriction_stack.specs.Binary.{IsBinary, PartlyBinary, binary_words};
 ghost use Rattle.constriction_stack.specs.Guards.{LeftByRefusal, NeverRefused, without};
 
@@ -48,7 +48,7 @@ where
     /// The backend, with the words on it.
     pub fn backend(&self) -> &Backend
         ensures backend { result.now ≡ (lender self.now).now.backend }
-        ensures words { map Word.number (Backend.words result.now) ≡ (lender self.now).now.state.words }
+        ensures coder { IsCoder Word.number Backend.words Word.BITS State.BITS (lender self.now).now }
     {
         let inner: &AnsCoder<Word, State, Backend> = &*self.inner;
         &inner.bulk

@@ -1,6 +1,6 @@
 //! The two steps: a symbol is put on, or taken off.
 
-ghost use Rattle.std.specs.Prelude.{◌≡◌, ◌+◌, ◌≤◌, ◌↔◌, ℕ, Result, IsTrue};
+ghost use Rattle.std.specs.Prelude.{◌≡◌, ◌+◌, ◌≤◌, ◌↔◌, ◌⊎◌, ℕ, Result, IsTrue};
 ghost use Rattle.std.specs.Bool.{OnFalse};
 ghost use Rattle.constriction_base.specs.Steps.{Step};
 ghost use Rattle.constriction_base.specs.declared.errors.DefaultEncoderFrontendError.TheVariants.{ImpossibleSymbol};
@@ -52,7 +52,8 @@ impl<
 
     ghost symbols_left = { λ _. 0xffff_ffff_ffff_ffff };
 
-    ghost has_room = { λ coder. (e : Backend.WriteError) → Backend.is_lack_of_room e → Backend.write_fails coder.backend e → ⊥ };
+    ghost has_room = { λ coder. (e : Backend.WriteError) → Backend.is_lack_of_room e →
+        Backend.prepare_fails coder.backend 1 e ⊎ Backend.write_fails coder.backend e → ⊥ };
 
     /// There is no limit.
     #[inline]
