@@ -12,4 +12,3 @@ pub mod SizesCounted
 pub mod WordsShown
 pub mod Guards
 mod BinaryRows
-pub mod Lists

@@ -18,11 +18,11 @@ use std::test::Fail;
 #[test]
 fn lists_stop_at_the_first_fault(rt: HostRuntime) -> Result<(), Fail> {
     let table = WeightTable::<u8, 8>::new(rt.alloc(), &[255, 1])?;
-    let unknown = Err(CoderError::Frontend(DefaultEncoderFrontendError::ImpossibleSymbol));
+    let impossible = Err(CoderError::Frontend(DefaultEncoderFrontendError::ImpossibleSymbol));
     let mut pile = Pile::new(rt.alloc(), 9);
     assert_eq!(rt;
         pile.encode_symbols([(&1, &table), (&5, &table), (&1, &table)]),
-        unknown
+        impossible
     );
     assert_eq!(rt; pile.held(), [255].as_slice());
     let mut pile = Pile::new(rt.alloc(), 9);
@@ -33,7 +33,7 @@ fn lists_stop_at_the_first_fault(rt: HostRuntime) -> Result<(), Fail> {
     );
     assert_eq!(rt; pile.held(), [255].as_slice());
     let mut pile = Pile::new(rt.alloc(), 9);
-    assert_eq!(rt; pile.encode_iid_symbols(&[0, 1, 2, 0], &table), unknown);
+    assert_eq!(rt; pile.encode_iid_symbols(&[0, 1, 2, 0], &table), impossible);
     assert_eq!(rt; pile.held(), [0, 255].as_slice());
     assert_eq!(rt; pile.symbols_left(), 7);
     Ok(())

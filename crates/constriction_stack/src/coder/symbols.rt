@@ -1,10 +1,10 @@
 //! The two steps: a symbol is put on, or taken off.
 
-ghost use Rattle.std.specs.Prelude.{◌≡◌, ◌+◌, ◌≤◌, ◌↔◌, ◌⊎◌, ℕ, Result, IsTrue};
+ghost use Rattle.std.specs.Prelude.{◌≡◌, ◌+◌, ◌≤◌, ◌↔◌, IsTrue, ⊤};
 ghost use Rattle.std.specs.Bool.{OnFalse};
 ghost use Rattle.constriction_base.specs.Steps.{Step};
 ghost use Rattle.constriction_base.specs.declared.errors.DefaultEncoderFrontendError.TheVariants.{ImpossibleSymbol};
-ghost use Rattle.constriction_stream.specs.Symbols.{EncodesSymbol, DecodesSymbol, as_backend};
+ghost use Rattle.constriction_stream.specs.Symbols.{EncodesSymbol, DecodesSymbol, ByBackend, HasRoom, GoesOn, IsBackendError, never_frontend};
 ghost use Rattle.constriction_stack.specs.Steps.{Encodes, Decodes};
 
 use crate::coder::AnsCoder;
@@ -43,17 +43,22 @@ impl<
 
     type BackendError = Backend::WriteError;
 
-    ghost encodes = { λ old step answer new. (result : Result (Unit {0}) Backend.WriteError)
-        × Encodes Word.number Backend.words Word.BITS State.BITS Backend.room Backend.makes_room Backend.prepare_fails Backend.write_fails
-        old step result new
-        × (answer ≡ as_backend result) };
+    ghost encodes = { ByBackend (Encodes Word.number Backend.words Word.BITS State.BITS
+        Backend.room Backend.makes_room Backend.prepare_fails Backend.write_fails) };
 
-    ghost is_unknown_symbol = { λ error. error ≡ ImpossibleSymbol };
+    ghost is_impossible_symbol = { λ error. error ≡ ImpossibleSymbol };
+
+    ghost counts_symbols = { ⊥ };
 
     ghost symbols_left = { λ _. 0xffff_ffff_ffff_ffff };
 
-    ghost has_room = { λ coder. (e : Backend.WriteError) → Backend.is_lack_of_room e →
-        Backend.prepare_fails coder.backend 1 e ⊎ Backend.write_fails coder.backend e → ⊥ };
+    ghost is_lack_of_room = { λ error. IsBackendError error Backend.is_lack_of_room };
+
+    ghost tells_room = { λ _. ⊤ };
+
+    ghost never_impossible = { λ old step e new impossible step_gives. never_frontend step_gives.0 e step_gives.2 };
+
+    ghost never_full = { λ e impossible lack. lack };
 
     /// There is no limit.
     #[inline]
@@ -80,7 +85,7 @@ impl<
         M: EncoderModel<PRECISION>,
         M::Probability: WordOf<Word>,
         ensures step { EncodesSymbol (⟦<AnsCoder<Word, State, Backend> as Encode<PRECISION>>⟧.encodes)
-            (⟦<AnsCoder<Word, State, Backend> as Encode<PRECISION>>⟧.is_unknown_symbol)
+            (⟦<AnsCoder<Word, State, Backend> as Encode<PRECISION>>⟧.is_impossible_symbol)
             PRECISION (M.table model) symbol.now self.old result self.new }
         ensures left { ⟦<AnsCoder<Word, State, Backend> as Encode<PRECISION>>⟧.symbols_left self.old
             ≤ ⟦<AnsCoder<Word, State, Backend> as Encode<PRECISION>>⟧.symbols_left self.new + 1 }
@@ -99,12 +104,13 @@ impl<
         }
     }
 
-    /// Whether the backend may be full: false promises that it has room for the word that a step may
-    /// write.
+    /// Whether the backend may be full: false promises that no step is refused for lack of room.
     #[inline]
     fn maybe_full(&self) -> bool
         ensures value { result ≡ Backend.seems_full self.now.backend }
-        ensures room { OnFalse result (⟦<AnsCoder<Word, State, Backend> as Encode<PRECISION>>⟧.has_room self.now) }
+        ensures room { OnFalse result (⟦<AnsCoder<Word, State, Backend> as Encode<PRECISION>>⟧.tells_room self.now
+            → HasRoom (⟦<AnsCoder<Word, State, Backend> as Encode<PRECISION>>⟧.encodes)
+            (⟦<AnsCoder<Word, State, Backend> as Encode<PRECISION>>⟧.is_lack_of_room) self.now) }
     {
         self.bulk.maybe_full()
     }
@@ -120,13 +126,13 @@ impl<
 
     type BackendError = Backend::ReadError;
 
-    ghost decodes = { λ old step answer new. (result : Result (Unit {0}) Backend.ReadError)
-        × Decodes Word.number Backend.words Backend.is_list Backend.reads Word.BITS State.BITS old step result new
-        × (answer ≡ as_backend result) };
+    ghost decodes = { ByBackend (Decodes Word.number Backend.words Backend.is_list Backend.reads Word.BITS State.BITS) };
 
     ghost halts = { λ _ _ _. ⊥ };
 
     ghost has_data = { λ coder. coder.state.head ≡ 0 → ⊥ };
+
+    ghost is_end_of_data = { λ _. ⊥ };
 
     /// Takes a symbol off, under a model of `PRECISION` bits, which are those of a word at most.
     ///
@@ -171,6 +177,9 @@ impl<
     fn maybe_exhausted(&self) -> bool
         ensures value { IsTrue result ↔ (self.now.state.head ≡ 0) }
         ensures data { OnFalse result (⟦<AnsCoder<Word, State, Backend> as Decode<PRECISION>>⟧.has_data self.now) }
+        ensures goes_on { OnFalse result (GoesOn (⟦<AnsCoder<Word, State, Backend> as Decode<PRECISION>>⟧.decodes)
+            (⟦<AnsCoder<Word, State, Backend> as Decode<PRECISION>>⟧.halts)
+            (⟦<AnsCoder<Word, State, Backend> as Decode<PRECISION>>⟧.is_end_of_data) self.now) }
     {
         self.state.is_nothing()
     }

@@ -24,7 +24,7 @@ where
     M::Probability: WordOf<C::Word>,
     requires { 0 < C.symbols_left coder.old }
     ensures { IfSome result (λ other. (between : C)
-        × EncodesSymbol C.encodes C.is_unknown_symbol 8 (M.table model.now) symbol.now coder.old (Ok tt) between
+        × EncodesSymbol C.encodes C.is_impossible_symbol 8 (M.table model.now) symbol.now coder.old (Ok tt) between
         × DecodesSymbol C.decodes C.halts 8 (M.table model.now) between (Ok other) coder.new) }
 {
     match coder.encode_symbol(symbol, model) {
@@ -47,12 +47,12 @@ where
     M: EncoderModel<8>,
     M::Probability: WordOf<C::Word>,
     requires { length symbols.now ≤ C.symbols_left coder.old }
-    ensures ok { IfOk result (λ _. StepsAll (λ old symbol result new. EncodesSymbol C.encodes C.is_unknown_symbol 8 (M.table model.now) symbol old result new)
+    ensures ok { IfOk result (λ _. StepsAll (λ old symbol result new. EncodesSymbol C.encodes C.is_impossible_symbol 8 (M.table model.now) symbol old result new)
         coder.old symbols.now coder.new) }
     ensures err { IfErr result (λ e. (coded : List M.Symbol) × (fault : M.Symbol) × (more : List M.Symbol) × (symbols.now ≡ coded ++ fault ∷ more)
-        × (between : C) × StepsAll (λ old symbol result new. EncodesSymbol C.encodes C.is_unknown_symbol 8 (M.table model.now) symbol old result new)
+        × (between : C) × StepsAll (λ old symbol result new. EncodesSymbol C.encodes C.is_impossible_symbol 8 (M.table model.now) symbol old result new)
         coder.old coded between
-        × EncodesSymbol C.encodes C.is_unknown_symbol 8 (M.table model.now) fault between (Err e) coder.new) }
+        × EncodesSymbol C.encodes C.is_impossible_symbol 8 (M.table model.now) fault between (Err e) coder.new) }
 {
     coder.encode_iid_symbols(symbols, model)
 }

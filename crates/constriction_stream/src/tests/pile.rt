@@ -70,11 +70,19 @@ impl Encode<8> for Pile {
         (λ _. new.quantiles.items ≡ old.quantiles.items ++ e.left ∷ [])
         (λ error. (error ≡ coder_error.Backend alloc_error) × (new.quantiles.items ≡ old.quantiles.items)) };
 
-    ghost is_unknown_symbol = { λ error. error ≡ frontend.ImpossibleSymbol };
+    ghost is_impossible_symbol = { λ error. error ≡ frontend.ImpossibleSymbol };
+
+    ghost counts_symbols = { ⊤ };
 
     ghost symbols_left = { λ pile. pile.limit - vec_len pile.quantiles };
 
-    ghost has_room = { λ pile. vec_len pile.quantiles < pile.limit };
+    ghost is_lack_of_room = { λ _. ⊥ };
+
+    ghost tells_room = { λ _. ⊤ };
+
+    ghost never_impossible = { λ old step e new impossible step_gives. step_gives.1.0 };
+
+    ghost never_full = { λ e impossible lack. lack };
 
     fn symbols_left(&self) -> usize {
         self.limit.saturating_sub(self.quantiles.len())

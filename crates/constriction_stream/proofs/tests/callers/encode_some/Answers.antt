@@ -21,10 +21,10 @@ returns-clause-ok g c =
     let e = c.encode_iid_symbols.ensures.steps in
     MatchResult-weaker c.encode_iid_symbols.result e.5
     (λ _ p.
-    subst (λ z. StepsAll (λ old symbol result new. EncodesSymbol g.C.Encode.encodes g.C.Encode.is_unknown_symbol 8 (g.M.EntropyModel.table c.args.model.now) symbol old result new) c.args.coder.now z c.encode_iid_symbols.new.self)
+    subst (λ z. StepsAll (λ old symbol result new. EncodesSymbol g.C.Encode.encodes g.C.Encode.is_impossible_symbol 8 (g.M.EntropyModel.table c.args.model.now) symbol old result new) c.args.coder.now z c.encode_iid_symbols.new.self)
     (items_from_drains e.2 (p.1.1.0, p.1.1.1, λ _. (p.1.0, p.1.1.2)) (YieldsList-from_slice _ e.1.0))
-    (subst (λ z. StepsAll (λ old symbol result new. EncodesSymbol g.C.Encode.encodes g.C.Encode.is_unknown_symbol 8 (g.M.EntropyModel.table c.args.model.now) symbol old result new) c.args.coder.now (map (λ s. s.now) e.2) z) p.0
-    (StepsAll-map (λ s. s.now) (λ old symbol result new. EncodesSymbol g.C.Encode.encodes g.C.Encode.is_unknown_symbol 8 (g.M.EntropyModel.table c.args.model.now) symbol.now old result new) (λ old symbol result new. EncodesSymbol g.C.Encode.encodes g.C.Encode.is_unknown_symbol 8 (g.M.EntropyModel.table c.args.model.now) symbol old result new)
+    (subst (λ z. StepsAll (λ old symbol result new. EncodesSymbol g.C.Encode.encodes g.C.Encode.is_impossible_symbol 8 (g.M.EntropyModel.table c.args.model.now) symbol old result new) c.args.coder.now (map (λ s. s.now) e.2) z) p.0
+    (StepsAll-map (λ s. s.now) (λ old symbol result new. EncodesSymbol g.C.Encode.encodes g.C.Encode.is_impossible_symbol 8 (g.M.EntropyModel.table c.args.model.now) symbol.now old result new) (λ old symbol result new. EncodesSymbol g.C.Encode.encodes g.C.Encode.is_impossible_symbol 8 (g.M.EntropyModel.table c.args.model.now) symbol old result new)
     (λ old new x s. s) c.args.coder.now e.2 e.3 e.4)))
     (λ _ _. tt)
 
@@ -40,6 +40,6 @@ returns-clause-err g c =
       sym e.1.0 ∙ fronts_are e.0 e.2 p.2.0 p.2.1
           ∙ ap (λ ys. map (λ s. s.now) e.2 ++ ys) p.2.2,
       e.3,
-      StepsAll-map (λ s. s.now) (λ old symbol result new. EncodesSymbol g.C.Encode.encodes g.C.Encode.is_unknown_symbol 8 (g.M.EntropyModel.table c.args.model.now) symbol.now old result new) (λ old symbol result new. EncodesSymbol g.C.Encode.encodes g.C.Encode.is_unknown_symbol 8 (g.M.EntropyModel.table c.args.model.now) symbol old result new) (λ old new x s. s) c.args.coder.now e.2 e.3 e.4,
+      StepsAll-map (λ s. s.now) (λ old symbol result new. EncodesSymbol g.C.Encode.encodes g.C.Encode.is_impossible_symbol 8 (g.M.EntropyModel.table c.args.model.now) symbol.now old result new) (λ old symbol result new. EncodesSymbol g.C.Encode.encodes g.C.Encode.is_impossible_symbol 8 (g.M.EntropyModel.table c.args.model.now) symbol old result new) (λ old new x s. s) c.args.coder.now e.2 e.3 e.4,
       p.3,
     ))
