@@ -3,6 +3,7 @@ pub mod Heads
 pub mod Pushing
 pub mod Importing
 pub mod Exporting
+pub mod Coders
 pub mod Entering
 pub mod Rows
 pub mod BinaryForms

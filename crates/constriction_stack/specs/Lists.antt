@@ -9,7 +9,7 @@ use Rattle.constriction_stack.specs.Ans.{AnsValue}
 use Rattle.constriction_stack.specs.Steps.{Encodes}
 
 -- an encode of a symbol by its table: the encode of its entry, or, where it has none, `ImpossibleSymbol` and the coder as it was
-abbrev pub PutsSymbol : {B E S : Type 0} → ℕ → ℕ → (B → ℕ) → (B → ℕ → E → Type 0) → (B → E → Type 0)
+abbrev pub PutsSymbol : {W B E S : Type 0} → (W → ℕ) → (B → List W) → ℕ → ℕ → (B → ℕ) → Type 0 → (B → ℕ → E → Type 0) → (B → E → Type 0)
     → ℕ → List (S × ℕ × ℕ) → S → AnsValue B → Result (Unit {0}) (CoderError DefaultEncoderFrontendError E) → AnsValue B → Type 0
-PutsSymbol w s room prepare_fails write_fails =
-    EncodesSymbol (ByBackend (Encodes w s room prepare_fails write_fails)) (λ error. error ≡ ImpossibleSymbol)
+PutsSymbol number held w s room makes_room prepare_fails write_fails =
+    EncodesSymbol (ByBackend (Encodes number held w s room makes_room prepare_fails write_fails)) (λ error. error ≡ ImpossibleSymbol)

@@ -1,11 +1,8 @@
 //! The two steps: a symbol is put on, or taken off.
 
-ghost use Rattle.std.specs.Prelude.{◌≡◌, ◌+◌, ◌≤◌, ◌↔◌, ℕ, Result, Ok, Err, IfOk, IsTrue, ⊤};
+ghost use Rattle.std.specs.Prelude.{◌≡◌, ◌+◌, ◌≤◌, ◌↔◌, IsTrue, ⊤};
 ghost use Rattle.std.specs.Bool.{OnFalse};
 ghost use Rattle.constriction_base.specs.Steps.{Step};
-ghost use Rattle.constriction_base.specs.Tables.{Has};
-ghost use Rattle.constriction_base.specs.declared.errors.CoderError.TheVariants as coder_error;
-ghost use Rattle.constriction_base.specs.declared.errors.DefaultEncoderFrontendError.TheVariants as frontend_error;
 ghost use Rattle.constriction_base.specs.declared.errors.DefaultEncoderFrontendError.TheVariants.{ImpossibleSymbol};
 ghost use Rattle.constriction_stream.specs.Symbols.{EncodesSymbol, DecodesSymbol, ByBackend, HasRoom, GoesOn, IsBackendError, never_frontend};
 ghost use Rattle.constriction_stack.specs.Steps.{Encodes, Decodes};
@@ -46,7 +43,8 @@ impl<
 
     type BackendError = Backend::WriteError;
 
-    ghost encodes = { ByBackend (Encodes Word.BITS State.BITS Backend.room Backend.prepare_fails Backend.write_fails) };
+    ghost encodes = { ByBackend (Encodes Word.number Backend.words Word.BITS State.BITS
+        Backend.room Backend.makes_room Backend.prepare_fails Backend.write_fails) };
 
     ghost is_impossible_symbol = { λ error. error ≡ ImpossibleSymbol };
 
@@ -91,17 +89,6 @@ impl<
             PRECISION (M.table model) symbol.now self.old result self.new }
         ensures left { ⟦<AnsCoder<Word, State, Backend> as Encode<PRECISION>>⟧.symbols_left self.old
             ≤ ⟦<AnsCoder<Word, State, Backend> as Encode<PRECISION>>⟧.symbols_left self.new + 1 }
-        ensures ok { IfOk result (λ _. (left p : ℕ) × Has (M.table model) symbol.now left p
-            × Encodes Word.BITS State.BITS Backend.room Backend.prepare_fails Backend.write_fails
-            self.old record { precision = PRECISION; left = left; p = p } (Ok tt) self.new) }
-        ensures refused { (e : Backend.WriteError) → result ≡ Err (coder_error.Backend e) →
-            (left p : ℕ) × Has (M.table model) symbol.now left p
-            × Encodes Word.BITS State.BITS Backend.room Backend.prepare_fails Backend.write_fails
-            self.old record { precision = PRECISION; left = left; p = p } (Err e) self.new }
-        ensures unknown { (result ≡ Err (coder_error.Frontend frontend_error.ImpossibleSymbol))
-            ↔ ((left p : ℕ) → Has (M.table model) symbol.now left p → ⊥) }
-        ensures untouched { result ≡ Err (coder_error.Frontend frontend_error.ImpossibleSymbol)
-            → self.new ≡ self.old }
     {
         let Some((left, p)) = model.left_cumulative_and_probability(symbol) else {
             return Err(CoderError::Frontend(DefaultEncoderFrontendError::ImpossibleSymbol));
@@ -139,7 +126,7 @@ impl<
 
     type BackendError = Backend::ReadError;
 
-    ghost decodes = { ByBackend (Decodes Word.number Backend.is_list Backend.reads Word.BITS State.BITS) };
+    ghost decodes = { ByBackend (Decodes Word.number Backend.words Backend.is_list Backend.reads Word.BITS State.BITS) };
 
     ghost halts = { λ _ _ _. ⊥ };
 
@@ -165,13 +152,6 @@ impl<
         ensures step { DecodesSymbol (⟦<AnsCoder<Word, State, Backend> as Decode<PRECISION>>⟧.decodes)
             (⟦<AnsCoder<Word, State, Backend> as Decode<PRECISION>>⟧.halts)
             PRECISION (M.table model) self.old result self.new }
-        ensures ok { IfOk result (λ symbol. (left p : ℕ) × Has (M.table model) symbol left p
-            × Decodes Word.number Backend.is_list Backend.reads Word.BITS State.BITS
-            self.old record { precision = PRECISION; left = left; p = p } (Ok tt) self.new) }
-        ensures refused { (e : Backend.ReadError) → result ≡ Err (coder_error.Backend e) →
-            (symbol : M.Symbol) × (left p : ℕ) × Has (M.table model) symbol left p
-            × Decodes Word.number Backend.is_list Backend.reads Word.BITS State.BITS
-            self.old record { precision = PRECISION; left = left; p = p } (Err e) self.new }
     {
         let precision = PRECISION as u32;
         let quantile = M::Probability::narrow(Word::narrow(self.state.low_bits(precision)));

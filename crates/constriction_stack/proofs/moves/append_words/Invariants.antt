@@ -1,6 +1,6 @@
 use Rattle.std.specs.Prelude.{◌≡◌, ℕ, ◌+◌, ◌-◌, ◌≤◌, ◌^◌, List, ◌++◌, drop, map}
 use Rattle.constriction_base.specs.Digits.{fixed_digits}
-use Rattle.constriction_stack.proofs.coder.guard.show_words.Given as goal
+use Rattle.constriction_stack.proofs.moves.append_words.Given as goal
 
 abbrev pub invariant-words : goal.invariant-words
 invariant-words g l =
