@@ -197,14 +197,19 @@ moves_more number reads w from head new_head old last new word i r is =
 pub imports_of : {W E B : Type 0} (number : W → ℕ) (reads : B → Result (Option W) E → B → Type 0) (w head : ℕ) (old between new : B) (word : W) → reads old (Ok (Some word)) between → 0 < number word
     → MovesIn number reads w (number word) between head new → Imports number reads w old head new
 imports_of number reads w head old between new word r some i =
-    let first : 0 * 2 ^ w + number word ≡ number word = omega arith in
     record {
       words = word ∷ i.words;
       given = (between, r, i.given);
       high = some;
-      is = rw first i.is;
+      is = i.is;
     }
 
 -- a head of 1 has no words below it
 pub no_words_of_one : (w m : ℕ) (x : AnsState) → 1 ≤ w → x.head ≡ 1 → IsBinary w m x → m ≡ 0
 no_words_of_one w m x some is i = binary_one w m x.head some i.from (omega (arith, is))
+
+-- and is binary
+pub one_is_binary : (w : ℕ) (x : AnsState) → x.head ≡ 1 → IsBinary w 0 x
+one_is_binary w x is =
+    let none : 0 * w ≡ 0 = omega arith in
+    record { from = rw none (omega (arith, is)); below = rw none (omega (arith, is)) }
