@@ -1,5 +1,5 @@
 -- Any words are those of one binary state, and a binary state has one number of words.
-use Rattle.std.proofs.Common.{◌≡◌, ℕ, zero, suc, ◌+◌, ◌-◌, ◌*◌, ◌/◌, ◌%◌, ◌^◌, ◌<◌, ◌≤◌, List, [], ◌∷◌, ◌++◌, length, refl, sym, ap, ◌∙◌, arith, inl, inr, pow_pos, pow-add, le-ltb, append_assoc, div-add-mod', div-lt_iff_lt-mul, le-div_iff_mul-le, mul-le-mul_right}
+use Rattle.std.proofs.Common.{◌≡◌, ℕ, zero, suc, ◌+◌, ◌-◌, ◌*◌, ◌/◌, ◌%◌, ◌^◌, ◌<◌, ◌≤◌, List, [], ◌∷◌, ◌++◌, length, refl, sym, subst, ap, ◌∙◌, arith, inl, inr, pow_pos, pow-add, le-ltb, append_assoc, div-add-mod', div-lt_iff_lt-mul, le-div_iff_mul-le, mul-le-mul_right}
 use Rattle.std.proofs.lemmas.Bool.{cases_lt}
 use Rattle.std.proofs.lemmas.Nat.{div-mul-add, mod-mul-add}
 use Rattle.std.specs.Prelude.{Option, Some, Result, Ok, map}
@@ -197,11 +197,12 @@ moves_more number reads w from head new_head old last new word i r is =
 pub imports_of : {W E B : Type 0} (number : W → ℕ) (reads : B → Result (Option W) E → B → Type 0) (w head : ℕ) (old between new : B) (word : W) → reads old (Ok (Some word)) between → 0 < number word
     → MovesIn number reads w (number word) between head new → Imports number reads w old head new
 imports_of number reads w head old between new word r some i =
+    let first : 0 * 2 ^ w + number word ≡ number word = omega arith in
     record {
       words = word ∷ i.words;
       given = (between, r, i.given);
       high = some;
-      is = i.is;
+      is = subst (λ k. head ≡ number_from_digits_after (2 ^ w) k (map number i.words)) (sym first) i.is;
     }
 
 -- a head of 1 has no words below it

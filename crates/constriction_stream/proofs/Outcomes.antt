@@ -1,6 +1,8 @@
 -- What the clause `step` of `encode_symbol`, and that of `decode_symbol`, says of each answer, for any coder.
-use Rattle.std.specs.Prelude.{◌≡◌, ℕ, List, ◌↔◌, Result, Ok, Err}
+use Rattle.std.specs.Prelude.{◌≡◌, ℕ, List, ◌↔◌, Bool, false, Result, Ok, Err}
+use Rattle.std.specs.Bool.{OnFalse}
 use Rattle.std.proofs.Common.{inl, inr}
+use Rattle.std.proofs.lemmas.Bool.{OnFalse_from}
 use Rattle.constriction_base.specs.Steps.{Step}
 use Rattle.constriction_base.specs.Tables.{Has}
 use Rattle.constriction_base.specs.declared.errors.CoderError.{CoderError}
@@ -106,6 +108,14 @@ room_by steps is_lack_of_room coder never step (Frontend e) new (answer, given, 
 room_by steps is_lack_of_room coder never step (Backend e) new (Ok u, given, is) lack = absurd cc
 room_by steps is_lack_of_room coder never step (Backend e) new (Err refusal, given, is) lack =
     let same : refusal ≡ e = cc in never step e new (rw same at given) lack
+
+-- so `maybe_full` keeps its promise, where the coder can tell
+pub room_unless : {C B : Type 0} (F : Type 0) (full : Bool) (tells : Type 0) (steps : C → Step → Result (Unit {0}) B → C → Type 0) (is_lack_of_room : B → Type 0) (coder : C)
+    → (full ≡ false → tells → (step : Step) (e : B) (new : C) → steps coder step (Err e) new → is_lack_of_room e → ⊥)
+    → OnFalse full (tells → HasRoom {E = CoderError F B} (ByBackend steps) (λ error. IsBackendError error is_lack_of_room) coder)
+room_unless {B = B} F full tells steps is_lack_of_room coder never =
+    OnFalse_from full (tells → HasRoom {E = CoderError F B} (ByBackend steps) (λ error. IsBackendError error is_lack_of_room) coder)
+    (λ not_full told. room_by steps is_lack_of_room coder (never not_full told))
 
 -- ---- a decoder whose steps answer what its backend does
 

@@ -69,3 +69,6 @@ GoesOn {C} {E} decodes halts is_end_of_data coder =
 pub never_frontend : {T F B : Type 0} (answer : Result T B) (e : F) → ◌≡◌ {A = Result T (CoderError F B)} (Err (Frontend e)) (as_backend answer) → ⊥
 never_frontend (Ok x) e is = cc
 never_frontend (Err refusal) e is = cc
+
+pub never_backend : {F B : Type 0} (e : F) (refusal : B) → ◌≡◌ {A = CoderError F B} (Frontend e) (Backend refusal) → ⊥
+never_backend e refusal is = cc

@@ -10,13 +10,12 @@ ghost use Rattle.constriction_stream.specs.Lists.{StepsUntilFault, GivesAtMost, 
 
 mod reverse;
 
-pub use reverse::EncodeReverse;
-
 use crate::coder::Code;
 use crate::errors::TryCodingError;
 use constriction_base::errors::CoderError;
 use constriction_base::model::{EncoderModel, EntropyModel};
 use constriction_words::WordOf;
+pub use reverse::EncodeReverse;
 
 /// What lends a symbol, as `&Symbol` does. List calls take symbols in this way.
 pub trait Lent<Symbol> {

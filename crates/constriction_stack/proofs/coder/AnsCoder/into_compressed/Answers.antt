@@ -1,5 +1,6 @@
 use Rattle.std.specs.Prelude.{◌≡◌, ℕ, ◌^◌, List, ◌++◌, Ok, map}
 use Rattle.std.proofs.Common.{ap, inl, inr, refl, sym, ◌∙◌}
+use Rattle.std.proofs.lemmas.Bool.{false≢true}
 use Rattle.constriction_stack.specs.Ans.{AnsState, count_of_words}
 use Rattle.constriction_stack.proofs.Exporting.{base_two}
 use Rattle.constriction_stack.proofs.Guards.{all_digits, partly_compressed}
@@ -20,7 +21,7 @@ returns-in-Ok-clause-empty g c = rw (← c.self.view_is) (λ (zero : g.State.Bit
 pub returns-in-Err-clause-empty : goal.returns-in-Err-clause-empty
 returns-in-Err-clause-empty g c = rw (← c.self.view_is) (λ (zero : g.State.BitArray.number c.self.inside.state ≡ 0).
     let none : c.count_of_words-count.result ≡ 0 = c.count_of_words-count.ensures ∙ ap (count_of_words g.Word.BitArray.BITS) zero in
-    absurd (c.in-Err.ensures.empty none).0)
+    absurd (false≢true (c.in-Err.ensures.empty none).0))
 
 pub returns-in-Err-clause-room : goal.returns-in-Err-clause-room
 returns-in-Err-clause-room g c = rw (← c.self.view_is) (rw c.count_of_words-count.ensures at c.in-Err.ensures.room)

@@ -1,15 +1,16 @@
 //! Callers that know of a coder only what its traits say.
 
-ghost use Rattle.std.specs.Prelude.{◌≡◌, ◌+◌, ◌<◌, ◌≤◌, ◌∷◌, ◌++◌, ℕ, List, length, IfOk, IfErr, IfSome, MatchOption, MatchResult, Ok, Err};
-ghost use Rattle.std.specs.Iterator.{at_most};
+ghost use Rattle.std.specs.Prelude.{◌≡◌, ◌<◌, ◌≤◌, ◌↔◌, ◌∷◌, ◌++◌, List, length, reverse, IfOk, IfErr, IfSome, MatchOption, Ok, Err};
+ghost use Rattle.constriction_base.specs.declared.errors.CoderError.TheVariants as coder_error;
 ghost use Rattle.constriction_stream.specs.Lists.{StepsAll};
-ghost use Rattle.constriction_stream.specs.Symbols.{EncodesSymbol, DecodesSymbol};
+ghost use Rattle.constriction_stream.specs.Symbols.{EncodesSymbol, DecodesSymbol, Impossible};
 
-use crate::decoding::Decode;
-use crate::encoding::Encode;
-use crate::errors::TryCodingError;
+use crate::sources::Mixed;
 use constriction_base::errors::CoderError;
 use constriction_base::model::{DecoderModel, EncoderModel, EntropyModel};
+use constriction_stream::decoding::Decode;
+use constriction_stream::encoding::{Encode, EncodeReverse};
+use constriction_stream::errors::TryCodingError;
 use constriction_words::WordOf;
 
 /// Puts a symbol on a coder and takes it off.
@@ -162,65 +163,73 @@ where
     symbols.next()
 }
 
-/// Gives one thing so many times, and doesn't say beforehand how many.
-#[derive(Drop)]
-pub struct Ones<'a, T> {
-    pub count: usize,
-    pub one: &'a T,
+/// Puts symbols on a coder, the last one first.
+pub fn encode_last_first<C, M>(
+    coder: &mut C,
+    symbols: &[M::Symbol],
+    model: &M,
+) -> Result<(), CoderError<C::FrontendError, C::BackendError>>
+where
+    C: EncodeReverse<8>,
+    M: EncoderModel<8>,
+    M::Probability: WordOf<C::Word>,
+    requires { length symbols.now ≤ C.symbols_left coder.old }
+    ensures { IfOk result (λ _. StepsAll (λ old symbol result new. EncodesSymbol C.encodes C.is_impossible_symbol 8 (M.table model.now) symbol old result new)
+        coder.old (reverse symbols.now) coder.new) }
+{
+    coder.encode_iid_symbols_reverse(symbols, model)
 }
 
-impl<'a, T> Iterator for Ones<'a, T> {
-    type Item = &'a T;
-
-    ghost next_gives = { λ old result new. (new.one ≡ old.one)
-        × MatchOption result ((old.count ≡ 0) × (new.count ≡ 0)) (λ one. (one ≡ old.one) × (old.count ≡ new.count + 1)) };
-
-    ghost remaining = { λ ones. at_most ones.count };
-
-    fn next(&mut self) -> Option<&'a T> {
-        if self.count == 0 {
-            return None;
-        }
-        self.count -= 1;
-        Some(self.one)
-    }
+/// Puts a symbol on a coder. The error of an impossible symbol comes where the model doesn't know it, and
+/// nowhere else.
+pub fn encode_exactly<C, M>(
+    coder: &mut C,
+    symbol: &M::Symbol,
+    model: &M,
+) -> Result<(), CoderError<C::FrontendError, C::BackendError>>
+where
+    C: Encode<8>,
+    M: EncoderModel<8>,
+    M::Probability: WordOf<C::Word>,
+    requires { C.counts_symbols → 0 < C.symbols_left coder.old }
+    ensures { ((e : C.FrontendError) × C.is_impossible_symbol e × (result ≡ Err (coder_error.Frontend e)))
+        ↔ Impossible (M.table model.now) symbol.now }
+{
+    coder.encode_symbol(symbol, model)
 }
 
-/// Gives one thing so many times, and an error in place of the one behind which so many are left.
-#[derive(Drop)]
-pub struct Mixed<'a, T> {
-    pub count: usize,
-    pub bad: usize,
-    pub one: &'a T,
+/// Puts a symbol on a coder that says that it is not full. Where it can tell, no error says that it is.
+pub fn encode_unless_full<C, M>(
+    coder: &mut C,
+    symbol: &M::Symbol,
+    model: &M,
+) -> Option<Result<(), CoderError<C::FrontendError, C::BackendError>>>
+where
+    C: Encode<8>,
+    M: EncoderModel<8>,
+    M::Probability: WordOf<C::Word>,
+    requires { C.counts_symbols → 0 < C.symbols_left coder.old }
+    ensures { C.tells_room coder.old → IfSome result (λ answer. IfErr answer (λ e. C.is_lack_of_room e → ⊥)) }
+{
+    if coder.maybe_full() {
+        return None;
+    }
+    Some(coder.encode_symbol(symbol, model))
 }
 
-impl<'a, T> Iterator for Mixed<'a, T> {
-    type Item = Result<&'a T, u8>;
-
-    ghost next_gives = { λ old result new. (new.one ≡ old.one) × (new.bad ≡ old.bad)
-        × MatchOption result ((old.count ≡ 0) × (new.count ≡ 0)) (λ _. old.count ≡ new.count + 1) };
-
-    ghost remaining = { λ mixed. at_most mixed.count };
-
-    fn next(&mut self) -> Option<Result<&'a T, u8>> {
-        if self.count == 0 {
-            return None;
-        }
-        self.count -= 1;
-        if self.count == self.bad {
-            Some(Err(7))
-        } else {
-            Some(Ok(self.one))
-        }
+/// Takes a symbol from a coder that says that it is not exhausted. No error says that its data ended.
+pub fn decode_unless_exhausted<C, M>(
+    coder: &mut C,
+    model: &M,
+) -> Option<Result<M::Symbol, CoderError<C::FrontendError, C::BackendError>>>
+where
+    C: Decode<8>,
+    M: DecoderModel<8>,
+    M::Probability: WordOf<C::Word>,
+    ensures { IfSome result (λ answer. IfErr answer (λ e. C.is_end_of_data e → ⊥)) }
+{
+    if coder.maybe_exhausted() {
+        return None;
     }
-
-    fn size_hint(&self) -> (usize, Option<usize>) {
-        (self.count, Some(self.count))
-    }
-}
-
-impl<T> ExactSizeIterator for Mixed<'_, T> {
-    fn len(&self) -> usize {
-        self.count
-    }
+    Some(coder.decode_symbol(model))
 }

@@ -1,19 +1,20 @@
 //! The coder: a pile of quantiles, with room for so many.
 
-ghost use Rattle.std.specs.Prelude.{◌≡◌, ◌+◌, ◌-◌, ◌%◌, ◌<◌, ◌∷◌, ◌++◌, [], ℕ, length, vec_len, IsTrue, MatchResult, alloc_error, Result, Ok};
+ghost use Rattle.std.specs.Prelude.{◌≡◌, ◌+◌, ◌-◌, ◌%◌, ◌<◌, ◌∷◌, ◌++◌, [], ℕ, length, vec_len, IsTrue, MatchResult, alloc_error, Result, Ok, ⊤};
 ghost use Rattle.std.specs.Bool.{OnFalse};
 ghost use Rattle.constriction_base.specs.Steps.{Step};
 ghost use Rattle.constriction_base.specs.Tables.{Covers};
 ghost use Rattle.constriction_base.specs.declared.errors.CoderError.{CoderError};
 ghost use Rattle.constriction_base.specs.declared.errors.CoderError.TheVariants as coder_error;
 ghost use Rattle.constriction_base.specs.declared.errors.DefaultEncoderFrontendError.TheVariants as frontend;
-ghost use Rattle.constriction_stream.specs.declared.tests.pile.Empty.TheVariants as empty;
+ghost use Rattle.constriction_stream.specs.Symbols.{HasRoom, never_backend};
+ghost use Rattle.constriction_stream_tests.specs.declared.pile.Empty.TheVariants as empty;
 
-use crate::coder::Code;
-use crate::decoding::Decode;
-use crate::encoding::Encode;
 use constriction_base::errors::{CoderError, DefaultEncoderFrontendError};
 use constriction_base::model::{DecoderModel, EncoderModel, EntropyModel};
+use constriction_stream::coder::Code;
+use constriction_stream::decoding::Decode;
+use constriction_stream::encoding::{Encode, EncodeReverse};
 use constriction_words::{BitArray, WordOf};
 use std::alloc::{AllocError, Global};
 
@@ -41,10 +42,9 @@ impl Pile {
         }
     }
 
-    pub fn held(&self) -> &[u32]
-        ensures { result.now ≡ self.now.quantiles.items }
-    {
-        self.quantiles.as_slice()
+    /// These quantiles are on the pile.
+    pub fn holds(&self, quantiles: &[u32]) -> bool {
+        self.quantiles.as_slice() == quantiles
     }
 }
 
@@ -80,7 +80,7 @@ impl Encode<8> for Pile {
 
     ghost tells_room = { λ _. ⊤ };
 
-    ghost never_impossible = { λ old step e new impossible step_gives. step_gives.1.0 };
+    ghost never_impossible = { λ old step e new impossible given. never_backend e alloc_error given.1.0 };
 
     ghost never_full = { λ e impossible lack. lack };
 
@@ -109,12 +109,15 @@ impl Encode<8> for Pile {
     }
 
     fn maybe_full(&self) -> bool
+        ensures room { OnFalse result (⊤ → HasRoom (⟦<Pile as Encode<8>>⟧.encodes) (⟦<Pile as Encode<8>>⟧.is_lack_of_room) self.now) }
         ensures promise { OnFalse result (vec_len self.now.quantiles < self.now.limit) }
         ensures full { self.now.limit ≡ vec_len self.now.quantiles → IsTrue result }
     {
         self.limit <= self.quantiles.len()
     }
 }
+
+impl EncodeReverse<8> for Pile {}
 
 impl Decode<8> for Pile {
     type FrontendError = Empty;
@@ -127,6 +130,8 @@ impl Decode<8> for Pile {
     ghost halts = { λ old error new. (error ≡ coder_error.Frontend empty.Empty) × (old.quantiles.items ≡ []) × (new.quantiles.items ≡ []) × (new.limit ≡ old.limit) };
 
     ghost has_data = { λ pile. 0 < vec_len pile.quantiles };
+
+    ghost is_end_of_data = { λ error. error ≡ coder_error.Frontend empty.Empty };
 
     fn decode_symbol<M>(&mut self, model: M) -> Result<M::Symbol, CoderError<Empty, AllocError>>
     where

@@ -1,7 +1,7 @@
 use Rattle.std.proofs.Common.{rules, ◌≡◌, ℕ, ◌%◌, ◌^◌, ◌<◌, ◌≤◌, arith, refl}
 use Rattle.std.proofs.Math.Nat.{mod-eq_of_lt}
 use Rattle.std.proofs.Common.{pow_mono}
-use Rattle.constriction_stream.proofs.tests.pile.PileDecode8.decode_symbol.Goals as goal
+use Rattle.constriction_stream_tests.proofs.pile.PileDecode8.decode_symbol.Goals as goal
 
 -- a quantile of eight bits fits
 fits : (q bits : ℕ) → 8 ≤ bits → q % 256 % 4294967296 % 2 ^ bits ≡ q % 256

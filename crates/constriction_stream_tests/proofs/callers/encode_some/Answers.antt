@@ -6,7 +6,7 @@ use Rattle.std.proofs.lemmas.Iterator.{items_from_drains, YieldsList-from_slice}
 use Rattle.constriction_stream.specs.Lists.{StepsAll}
 use Rattle.constriction_stream.specs.Symbols.{EncodesSymbol}
 use Rattle.constriction_stream.proofs.Lists.{StepsAll-map, Yields-front}
-use Rattle.constriction_stream.proofs.tests.callers.encode_some.Goals as goal
+use Rattle.constriction_stream_tests.proofs.callers.encode_some.Goals as goal
 
 -- what an iterator over a slice has given is the front of the slice
 fronts_are : {A : Type 0} (s : Iter A) (xs : List (Bor A)) (t : Iter A)

@@ -1,5 +1,5 @@
 use Rattle.std.proofs.Common.{◌≤◌}
-use Rattle.constriction_stream.proofs.tests.callers.decode_all.Given as goal
+use Rattle.constriction_stream_tests.proofs.callers.decode_all.Given as goal
 
 abbrev pub invariant-loop-answer : goal.invariant-loop-answer
 invariant-loop-answer g l =
