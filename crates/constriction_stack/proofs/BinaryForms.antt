@@ -1,5 +1,5 @@
 -- Any words are those of one binary state, and a binary state has one number of words.
-use Rattle.std.proofs.Common.{◌≡◌, ℕ, zero, suc, ◌+◌, ◌-◌, ◌*◌, ◌/◌, ◌%◌, ◌^◌, ◌<◌, ◌≤◌, List, [], ◌∷◌, ◌++◌, length, refl, sym, ap, ◌∙◌, arith, inl, inr, pow_pos, pow-add, le-ltb, append_assoc, div-add-mod', div-lt_iff_lt-mul, le-div_iff_mul-le, mul-le-mul_right}
+use Rattle.std.proofs.Common.{◌≡◌, ℕ, zero, suc, ◌+◌, ◌-◌, ◌*◌, ◌/◌, ◌%◌, ◌^◌, ◌<◌, ◌≤◌, List, [], ◌∷◌, ◌++◌, length, refl, sym, subst, ap, ◌∙◌, arith, inl, inr, pow_pos, pow-add, le-ltb, append_assoc, div-add-mod', div-lt_iff_lt-mul, le-div_iff_mul-le, mul-le-mul_right}
 use Rattle.std.proofs.lemmas.Bool.{cases_lt}
 use Rattle.std.proofs.lemmas.Nat.{div-mul-add, mod-mul-add}
 use Rattle.std.specs.Prelude.{Option, Some, Result, Ok, map}
@@ -202,9 +202,15 @@ imports_of number reads w head old between new word r some i =
       words = word ∷ i.words;
       given = (between, r, i.given);
       high = some;
-      is = rw first i.is;
+      is = subst (λ k. head ≡ number_from_digits_after (2 ^ w) k (map number i.words)) (sym first) i.is;
     }
 
 -- a head of 1 has no words below it
 pub no_words_of_one : (w m : ℕ) (x : AnsState) → 1 ≤ w → x.head ≡ 1 → IsBinary w m x → m ≡ 0
 no_words_of_one w m x some is i = binary_one w m x.head some i.from (omega (arith, is))
+
+-- and is binary
+pub one_is_binary : (w : ℕ) (x : AnsState) → x.head ≡ 1 → IsBinary w 0 x
+one_is_binary w x is =
+    let none : 0 * w ≡ 0 = omega arith in
+    record { from = rw none (omega (arith, is)); below = rw none (omega (arith, is)) }

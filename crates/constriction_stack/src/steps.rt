@@ -70,8 +70,14 @@ pub fn pushed_onto<Word: WordOf<State>, State: BitArray, Backend: WriteWords<Wor
     if head.shifted_right(State::BITS - precision).is_below(p) {
         return Ok(pushed(head, left, p, precision));
     }
-    bulk.prepare(1)?;
-    bulk.write(Word::narrow(head))?;
+    match bulk.prepare(1) {
+        Ok(()) => {}
+        Err(error) => return Err(error),
+    }
+    match bulk.write(Word::narrow(head)) {
+        Ok(()) => {}
+        Err(refusal) => return Err(refusal),
+    }
     Ok(pushed(head.shifted_right(Word::BITS), left, p, precision))
 }
 

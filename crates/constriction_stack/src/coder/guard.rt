@@ -107,9 +107,10 @@ where
     {
         let count = count_of_words::<Word, State>(self.state);
         match show_words(&mut self.bulk, self.state, count) {
-            Ok(()) => Ok(count),
-            Err(error) => Err(error),
+            Ok(()) => {}
+            Err(error) => return Err(error),
         }
+        Ok(count)
     }
 
     /// Writes the head's words below its leading 1 onto the backend, and keeps the head. Returns
@@ -136,9 +137,10 @@ where
             return Err(CoderError::Frontend(()));
         };
         match show_words(&mut self.bulk, self.state, count) {
-            Ok(()) => Ok(count),
-            Err(error) => Err(CoderError::Backend(error)),
+            Ok(()) => {}
+            Err(error) => return Err(CoderError::Backend(error)),
         }
+        Ok(count)
     }
 }
 

@@ -149,9 +149,6 @@ impl<
     where
         M: DecoderModel<PRECISION>,
         M::Probability: WordOf<Word>,
-        ensures step { DecodesSymbol (⟦<AnsCoder<Word, State, Backend> as Decode<PRECISION>>⟧.decodes)
-            (⟦<AnsCoder<Word, State, Backend> as Decode<PRECISION>>⟧.halts)
-            PRECISION (M.table model) self.old result self.new }
     {
         let precision = PRECISION as u32;
         let quantile = M::Probability::narrow(Word::narrow(self.state.low_bits(precision)));
