@@ -54,6 +54,7 @@
 //!
 //! - [`stream::Code`], [`stream::Encode`], [`stream::Decode`]: what every such coder does, symbol by
 //!   symbol or list by list; [`stream::Lent`] is a symbol that a list call is handed.
+//! - [`stream::EncodeReverse`]: lists from the last symbol to the first, for coders that are stacks.
 //! - [`stream::IntoDecoder`], [`stream::AsDecoder`]: a decoder made of an encoder, or over one.
 //! - [`stream::DecodeSymbols`], [`stream::TryDecodeSymbols`], [`stream::DecodeIidSymbols`]: decoded
 //!   symbols as iterators.
@@ -96,7 +97,7 @@ pub mod stream {
     pub use constriction_stream::coder::Code;
     pub use constriction_stream::conversions::{AsDecoder, IntoDecoder};
     pub use constriction_stream::decoding::Decode;
-    pub use constriction_stream::encoding::{Encode, Lent};
+    pub use constriction_stream::encoding::{Encode, EncodeReverse, Lent};
     pub use constriction_stream::errors::TryCodingError;
     pub use constriction_stream::iterators::{DecodeIidSymbols, DecodeSymbols, TryDecodeSymbols};
 

@@ -5,7 +5,6 @@ pub mod Runs
 pub mod HintLemmas
 pub mod Worked
 pub mod WindowLemmas
-pub mod Taken
 pub mod Entering
 pub mod Heads
 pub mod Sizes

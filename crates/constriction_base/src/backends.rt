@@ -20,10 +20,6 @@ pub mod reading;
 pub mod seeking;
 pub mod semantics;
 pub mod taking;
-#[cfg(test)]
-mod tests;
-#[cfg(test)]
-mod two_for_one;
 pub mod writing;
 
 pub use both_ways::{BothWays, written_to_queue};

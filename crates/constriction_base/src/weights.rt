@@ -2,8 +2,6 @@
 
 mod hints;
 mod starts;
-#[cfg(test)]
-mod tests;
 
 ghost use Rattle.std.specs.Prelude.{◌≡◌, ◌≢◌, ◌+◌, ◌-◌, ◌*◌, ◌^◌, ◌<◌, ◌≤◌, ◌↔◌, [], length, map, sum_by, slice_index, OnOk, IfOk, IsErrOf};
 ghost use Rattle.constriction_base.specs.Tables.{IsRising, table_of, weights_between};

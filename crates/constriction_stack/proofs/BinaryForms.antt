@@ -1,5 +1,5 @@
 -- Any words are those of one binary state, and a binary state has one number of words.
-use Rattle.std.proofs.Common.{◌≡◌, ℕ, zero, suc, ◌+◌, ◌-◌, ◌*◌, ◌/◌, ◌%◌, ◌^◌, ◌<◌, ◌≤◌, List, [], ◌∷◌, ◌++◌, length, refl, sym, ap, ◌∙◌, arith, inl, inr, pow_pos, pow-add, le-ltb, append_assoc, div-add-mod', div-lt_iff_lt-mul, le-div_iff_mul-le, mul-le-mul_right}
+use Rattle.std.proofs.Common.{◌≡◌, ℕ, zero, suc, ◌+◌, ◌-◌, ◌*◌, ◌/◌, ◌%◌, ◌^◌, ◌<◌, ◌≤◌, List, [], ◌∷◌, ◌++◌, length, refl, sym, subst, ap, ◌∙◌, arith, inl, inr, pow_pos, pow-add, le-ltb, append_assoc, div-add-mod', div-lt_iff_lt-mul, le-div_iff_mul-le, mul-le-mul_right}
 use Rattle.std.proofs.lemmas.Bool.{cases_lt}
 use Rattle.std.proofs.lemmas.Nat.{div-mul-add, mod-mul-add}
 use Rattle.std.specs.Prelude.{Option, Some, Result, Ok, map}
@@ -8,8 +8,8 @@ use Rattle.std.proofs.lemmas.List.{map_push}
 use Rattle.std.specs.Int.Digits.{number_from_digits, number_from_digits_after}
 use Rattle.constriction_base.specs.Digits.{fixed_digits}
 use Rattle.constriction_base.specs.Steps.{IsSizes, AreWords}
-use Rattle.constriction_stack.specs.Ans.{AnsState, IsValid, filled}
-use Rattle.constriction_stack.specs.Binary.{IsBinary, BinaryImports, binary_state, binary_words}
+use Rattle.constriction_stack.specs.Ans.{AnsState, Imports, IsValid, filled}
+use Rattle.constriction_stack.specs.Binary.{IsBinary, MovesIn, binary_state, binary_words}
 use Rattle.constriction_stack.proofs.Exporting.{gives_push}
 use Rattle.constriction_stack.proofs.Sizes.{Facts, facts, pow_le}
 use Rattle.constriction_stack.proofs.Importing.{filled_low, filled_full, valid_filled}
@@ -179,30 +179,38 @@ fixed_less b (suc count) n ws some =
     let less : suc count - 1 ≡ count = omega arith in
     rw less (sym (fixed_next b count n ws))
 
--- ---- words that are read below a one
+-- ---- words that are read below a head
 
-pub binary_imports_none : {W E B : Type 0} (number : W → ℕ) (reads : B → Result (Option W) E → B → Type 0) (w : ℕ) (old : B) → BinaryImports number reads w old 1 old
-binary_imports_none number reads w old = record { words = []; given = refl; is = refl }
+pub moves_none : {W E B : Type 0} (number : W → ℕ) (reads : B → Result (Option W) E → B → Type 0) (w from : ℕ) (old : B) → MovesIn number reads w from old from old
+moves_none number reads w from old = record { words = []; given = refl; is = refl }
 
-pub binary_imports_more : {W E B : Type 0} (number : W → ℕ) (reads : B → Result (Option W) E → B → Type 0) (w head new_head : ℕ) (old last new : B) (word : W) → BinaryImports number reads w old head last
-    → reads last (Ok (Some word)) new → new_head ≡ head * 2 ^ w + number word → BinaryImports number reads w old new_head new
-binary_imports_more number reads w head new_head old last new word i r is =
+pub moves_more : {W E B : Type 0} (number : W → ℕ) (reads : B → Result (Option W) E → B → Type 0) (w from head new_head : ℕ) (old last new : B) (word : W) → MovesIn number reads w from old head last
+    → reads last (Ok (Some word)) new → new_head ≡ head * 2 ^ w + number word → MovesIn number reads w from old new_head new
+moves_more number reads w from head new_head old last new word i r is =
     record {
       words = i.words ++ word ∷ [];
       given = gives_push reads old last new i.words word i.given r;
-      is = rw (map_push number i.words word, number_after_append (2 ^ w) 1 (map number i.words) (number word ∷ []), ← i.is) is;
+      is = rw (map_push number i.words word, number_after_append (2 ^ w) from (map number i.words) (number word ∷ []), ← i.is) is;
+    }
+
+-- and those that are read below a first one that isn't 0
+pub imports_of : {W E B : Type 0} (number : W → ℕ) (reads : B → Result (Option W) E → B → Type 0) (w head : ℕ) (old between new : B) (word : W) → reads old (Ok (Some word)) between → 0 < number word
+    → MovesIn number reads w (number word) between head new → Imports number reads w old head new
+imports_of number reads w head old between new word r some i =
+    let first : 0 * 2 ^ w + number word ≡ number word = omega arith in
+    record {
+      words = word ∷ i.words;
+      given = (between, r, i.given);
+      high = some;
+      is = subst (λ k. head ≡ number_from_digits_after (2 ^ w) k (map number i.words)) (sym first) i.is;
     }
 
 -- a head of 1 has no words below it
-pub bits_of_one : (bits n : ℕ) → n ≡ 1 → n < 2 ^ bits → 2 ^ bits ≤ 2 * n + 1 → bits ≡ 1
-bits_of_one bits n is below least = bits_of_binary 1 0 bits n below least (omega (arith, is)) (omega (arith, is))
+pub no_words_of_one : (w m : ℕ) (x : AnsState) → 1 ≤ w → x.head ≡ 1 → IsBinary w m x → m ≡ 0
+no_words_of_one w m x some is i = binary_one w m x.head some i.from (omega (arith, is))
 
-pub no_words_of_one : (w bits n : ℕ) → 1 ≤ w → n ≡ 1 → n < 2 ^ bits → 2 ^ bits ≤ 2 * n + 1 → (bits - 1) / w ≡ 0
-no_words_of_one w bits n some is below least =
-    let none : bits - 1 ≡ 0 * w + 0 = omega (arith, bits_of_one bits n is below least) in
-    ap (λ k. k / w) none ∙ div-mul-add 0 w 0 some
-
-pub whole_of_one : (w bits n : ℕ) → 1 ≤ w → n ≡ 1 → n < 2 ^ bits → 2 ^ bits ≤ 2 * n + 1 → (bits - 1) % w ≡ 0
-whole_of_one w bits n some is below least =
-    let none : bits - 1 ≡ 0 * w + 0 = omega (arith, bits_of_one bits n is below least) in
-    ap (λ k. k % w) none ∙ mod-mul-add 0 w 0 some
+-- and is binary
+pub one_is_binary : (w : ℕ) (x : AnsState) → x.head ≡ 1 → IsBinary w 0 x
+one_is_binary w x is =
+    let none : 0 * w ≡ 0 = omega arith in
+    record { from = rw none (omega (arith, is)); below = rw none (omega (arith, is)) }

@@ -48,30 +48,6 @@ pub gives_push : {W E B : Type 0} (reads : B → Result (Option W) E → B → T
 gives_push reads old between new [] w h r = (new, subst (λ from. reads from (Ok (Some w)) new) h r, refl)
 gives_push reads old between new (v ∷ ws) w h r = (h.0, h.1, gives_push reads h.0 between new ws w h.2 r)
 
--- a list that doesn't begin with zero goes on so
-high_push : (b d : ℕ) (ds : List ℕ) → 0 < number_from_digits b ds → BeginsHigh ds → BeginsHigh (ds ++ d ∷ [])
-high_push b d [] some h = absurd (omega arith)
-high_push b d (v ∷ vs) some h = h
-
--- one word more moves into a head
-pub imports_more : {W E B : Type 0} (number : W → ℕ) (reads : B → Result (Option W) E → B → Type 0) (w head new_head : ℕ) (old last new : B) (word : W) → Imports number reads w old head last → 0 < head
-    → reads last (Ok (Some word)) new → new_head ≡ head * 2 ^ w + number word → Imports number reads w old new_head new
-imports_more number reads w head new_head old last new word i some r is =
-    let b : ℕ = 2 ^ w in
-    let before : List ℕ = map number i.words in
-    let all : map number (i.words ++ word ∷ []) ≡ before ++ number word ∷ [] = map_push number i.words word in
-    record {
-      words = i.words ++ word ∷ [];
-      given = gives_push reads old last new i.words word i.given r;
-      high = rw all (high_push b (number word) before (rw (← i.is) some) i.high);
-      is = rw (all, number_after_append b 0 before (number word ∷ []), ← i.is) is;
-    }
-
-pub imports_first : {W E B : Type 0} (number : W → ℕ) (reads : B → Result (Option W) E → B → Type 0) (w head : ℕ) (old new : B) (word : W) → reads old (Ok (Some word)) new
-    → 0 < number word → head ≡ number word → Imports number reads w old head new
-imports_first number reads w head old new word r some is =
-    record { words = word ∷ []; given = (new, r, refl); high = some; is = omega (arith, is) }
-
 -- no word has been read yet
 pub imports_none : {W E B : Type 0} (number : W → ℕ) (reads : B → Result (Option W) E → B → Type 0) (w : ℕ) (old : B) → Imports number reads w old 0 old
 imports_none number reads w old = record { words = []; given = refl; high = tt; is = refl }

@@ -3,6 +3,7 @@ pub mod Heads
 pub mod Pushing
 pub mod Importing
 pub mod Exporting
+pub mod Coders
 pub mod Entering
 pub mod Rows
 pub mod BinaryForms
@@ -11,4 +12,3 @@ pub mod SizesCounted
 pub mod WordsShown
 pub mod Guards
 mod BinaryRows
-pub mod Lists

@@ -3,7 +3,7 @@
 -- numbers of bits of a word and of a head.
 use Rattle.std.specs.Prelude.{◌≡◌, ℕ, ◌+◌, ◌-◌, ◌*◌, ◌/◌, ◌%◌, ◌<◌, ◌≤◌, ◌^◌, ◌⊎◌, List, [], ◌∷◌, ◌++◌, Option, Some, None, Result, Ok, map, nat_lt, if◌then◌else◌, length, ⊤}
 use Rattle.std.specs.Int.Digits.{digits_of, number_from_digits}
-use Rattle.constriction_base.specs.Steps.{Step, AreWords}
+use Rattle.constriction_base.specs.Steps.{Step, IsSizes, AreWords}
 
 -- what the coder holds: a number, the head, and a stack of words below it, the top one first
 -- (Duda's state x, of which all but the leading part was moved out)
@@ -105,6 +105,17 @@ pub record PartlyExported (w : ℕ) (x : AnsState) (words : List ℕ) : Type 0 w
 pub record AnsValue (B : Type 0) : Type 0 where
   pub state : AnsState
   pub backend : B
+
+-- the value of a coder that has this head and holds its words on this backend
+abbrev pub value_of : {W B : Type 0} → (W → ℕ) → (B → List W) → ℕ → B → AnsValue B
+value_of number words head backend = record { state = record { head = head; words = map number (words backend) }; backend = backend }
+
+-- what is true of every coder: its sizes are allowed, its head has s bits at most, and the words below
+-- its head are those of the backend
+pub record IsCoder {W B : Type 0} (number : W → ℕ) (words : B → List W) (w s : ℕ) (coder : AnsValue B) : Type 0 where
+  pub sizes : IsSizes w s
+  pub head_fits : coder.state.head < 2 ^ s
+  pub words_are : coder.state.words ≡ map number (words coder.backend)
 
 -- a push has to write a word first: the head has no room for the step
 abbrev pub OwesWord : ℕ → Step → AnsState → Type 0

@@ -27,19 +27,27 @@ pub record PartlyBinary (w m : ℕ) (x : AnsState) (words : List ℕ) : Type 0 w
   pub digits : missing ++ written ≡ fixed_digits (2 ^ w) m x.head
   pub holds : words ≡ written ++ x.words
 
--- words that reads gave, and the head that they make below a leading one
-pub record BinaryImports {W E B : Type 0} (number : W → ℕ) (reads : B → Result (Option W) E → B → Type 0) (w : ℕ) (old : B) (head : ℕ) (new : B) : Type 0 where
+-- words that reads gave, and the head that they make below the one that they moved into
+pub record MovesIn {W E B : Type 0} (number : W → ℕ) (reads : B → Result (Option W) E → B → Type 0) (w from : ℕ) (old : B) (head : ℕ) (new : B) : Type 0 where
   pub words : List W
   pub given : Gives reads old words new
-  pub is : head ≡ number_from_digits_after (2 ^ w) 1 (map number words)
+  pub is : head ≡ number_from_digits_after (2 ^ w) from (map number words)
 
--- an import that succeeded: reads went on until the head was full or no word was left
-abbrev pub BinaryFilledBy : {W E B : Type 0} → (W → ℕ) → (B → Result (Option W) E → B → Type 0) → ℕ → ℕ → B → ℕ → B → Type 0
-BinaryFilledBy {W} {E} {B} number reads w s old head new =
-    (last : B) × BinaryImports number reads w old head last
+-- a head that was filled: reads went on until it was full or no word was left
+abbrev pub FilledFrom : {W E B : Type 0} → (W → ℕ) → (B → Result (Option W) E → B → Type 0) → ℕ → ℕ → ℕ → B → ℕ → B → Type 0
+FilledFrom {W} {E} {B} number reads w s from old head new =
+    (last : B) × MovesIn number reads w from old head last
     × (((2 ^ (s - w) ≤ head) × (new ≡ last)) ⊎ ((head < 2 ^ (s - w)) × reads last (Ok None) new))
 
--- an import that was refused: a read that was owed answered the error
+-- a head that could not be filled: a read that was owed answered the error
+abbrev pub RefusedFrom : {W E B : Type 0} → (W → ℕ) → (B → Result (Option W) E → B → Type 0) → ℕ → ℕ → ℕ → B → E → B → Type 0
+RefusedFrom {W} {E} {B} number reads w s from old e rest =
+    (head : ℕ) × (last : B) × MovesIn number reads w from old head last × (head < 2 ^ (s - w)) × reads last (Err e) rest
+
+-- an import that succeeded: below a leading one
+abbrev pub BinaryFilledBy : {W E B : Type 0} → (W → ℕ) → (B → Result (Option W) E → B → Type 0) → ℕ → ℕ → B → ℕ → B → Type 0
+BinaryFilledBy number reads w s old head new = FilledFrom number reads w s 1 old head new
+
+-- an import that was refused
 abbrev pub BinaryRefused : {W E B : Type 0} → (W → ℕ) → (B → Result (Option W) E → B → Type 0) → ℕ → ℕ → B → E → Type 0
-BinaryRefused {W} {E} {B} number reads w s old e =
-    (head : ℕ) × (last : B) × (rest : B) × BinaryImports number reads w old head last × (head < 2 ^ (s - w)) × reads last (Err e) rest
+BinaryRefused {W} {E} {B} number reads w s old e = (rest : B) × RefusedFrom number reads w s 1 old e rest

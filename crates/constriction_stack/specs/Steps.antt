@@ -2,10 +2,13 @@
 -- holds, what a read may answer, and which errors a write and a `prepare` may answer.
 use Rattle.std.specs.Prelude.{◌≡◌, ℕ, ◌+◌, ◌-◌, ◌<◌, ◌≤◌, ◌^◌, ◌⊎◌, List, ◌∷◌, ◌++◌, Option, None, Some, Result, Ok, Err, length, OnOk, OnErr, IfErr}
 use Rattle.constriction_base.specs.Steps.{Step}
-use Rattle.constriction_stack.specs.Ans.{AnsValue, IsValid, IsPush, Holds, OwesWord, OwesRead, RefillsBy, Imports, pop, left_of_head, words_after}
+use Rattle.constriction_stack.specs.Ans.{AnsValue, IsCoder, IsValid, IsPush, Holds, OwesWord, OwesRead, RefillsBy, Imports, pop, left_of_head, words_after}
 
 -- an encode of a step
-pub record Encodes {B E : Type 0} (w s : ℕ) (room : B → ℕ) (prepare_fails : B → ℕ → E → Type 0) (write_fails : B → E → Type 0) (old : AnsValue B) (step : Step) (answer : Result (Unit {0}) E) (new : AnsValue B) : Type 0 where
+pub record Encodes {W B E : Type 0} (number : W → ℕ) (held : B → List W) (w s : ℕ) (room : B → ℕ) (makes_room : Type 0) (prepare_fails : B → ℕ → E → Type 0) (write_fails : B → E → Type 0) (old : AnsValue B) (step : Step) (answer : Result (Unit {0}) E) (new : AnsValue B) : Type 0 where
+  -- before and after it is a coder, whatever the answer
+  pub before : IsCoder number held w s old
+  pub after : IsCoder number held w s new
   -- onto a valid state it is the push
   pub pushed : OnOk answer (IsValid w s old.state → IsPush w s step old.state new.state)
   -- one word more at most
@@ -16,11 +19,15 @@ pub record Encodes {B E : Type 0} (w s : ℕ) (room : B → ℕ) (prepare_fails 
   pub untouched : (OwesWord s step old.state → ⊥) → new.backend ≡ old.backend
   -- an error leaves the head and the words
   pub kept : OnErr answer (new.state ≡ old.state)
-  -- and is one of those that the backend may answer where one word is owed
-  pub error : IfErr answer (λ e. OwesWord s step old.state × (prepare_fails old.backend 1 e ⊎ write_fails old.backend e))
+  -- and comes only where one word is owed: the backend had no room for one; or, where asking for room makes
+  -- none, the write was refused
+  pub error : IfErr answer (λ e. OwesWord s step old.state × (prepare_fails old.backend 1 e ⊎ ((makes_room → ⊥) × write_fails old.backend e)))
 
 -- a decode at a step, of a coder over a backend that knows its words (is_list) or whose reads tell them
-pub record Decodes {W B E : Type 0} (number : W → ℕ) (is_list : Type 0) (reads : B → Result (Option W) E → B → Type 0) (w s : ℕ) (old : AnsValue B) (step : Step) (answer : Result (Unit {0}) E) (new : AnsValue B) : Type 0 where
+pub record Decodes {W B E : Type 0} (number : W → ℕ) (held : B → List W) (is_list : Type 0) (reads : B → Result (Option W) E → B → Type 0) (w s : ℕ) (old : AnsValue B) (step : Step) (answer : Result (Unit {0}) E) (new : AnsValue B) : Type 0 where
+  -- before and after it is a coder, whatever the answer
+  pub before : IsCoder number held w s old
+  pub after : IsCoder number held w s new
   -- the head's quantile is one of the step's
   pub holds : Holds step old.state
   -- of every state, valid or not, it is the pop

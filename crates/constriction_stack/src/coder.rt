@@ -27,9 +27,9 @@ pub mod slices;
 pub mod symbols;
 pub mod words;
 
-ghost use Rattle.std.specs.Prelude.{◌≡◌, ◌↔◌, [], map, IsTrue};
+ghost use Rattle.std.specs.Prelude.{◌≡◌, ◌↔◌, [], IsTrue};
 ghost use Rattle.constriction_base.specs.Steps.{IsSizes};
-ghost use Rattle.constriction_stack.specs.Ans.{AnsState, AnsValue};
+ghost use Rattle.constriction_stack.specs.Ans.{AnsState, AnsValue, IsCoder, value_of};
 
 use constriction_base::backends::{Holds, Stack};
 use constriction_words::{BitArray, WordOf};
@@ -58,10 +58,7 @@ impl<Word: WordOf<State>, State: BitArray, Backend: Holds<Word, Stack>> Model
     for AnsCoder<Word, State, Backend> {
     ghost Value = { AnsValue Backend };
 
-    ghost view = { λ c. record {
-      state = record { head = State.number c.state; words = map Word.number (Backend.words c.bulk) };
-      backend = c.bulk;
-    } };
+    ghost view = { λ c. value_of Word.number Backend.words (State.number c.state) c.bulk };
 
     ghost invariant = { λ _. IsSizes Word.BITS State.BITS };
 }
@@ -72,7 +69,8 @@ impl<Word: WordOf<State>, State: BitArray> AnsCoder<Word, State, Vec<Word>> {
     #[inline]
     pub fn new(alloc: Global) -> Self
         requires { IsSizes Word.BITS State.BITS }
-        ensures { result.state ≡ record { head = 0; words = [] } }
+        ensures state { result.state ≡ record { head = 0; words = [] } }
+        ensures coder { IsCoder Word.number (⟦<Vec<Word> as Holds<Word, Stack>>⟧.words) Word.BITS State.BITS result }
     {
         AnsCoder {
             bulk: Vec::new(alloc),

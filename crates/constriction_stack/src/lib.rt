@@ -25,6 +25,7 @@
 //! The modules:
 //! - [`coder`]: the coder, its steps, its words, and what else can be asked of it.
 //! - `steps`: what a step does to the head, as functions of numbers.
+//! - `moves`: words that move between a head and a backend, as many as there are.
 //!
 //! Contracts cite the definitions of `specs/Ans.antt` (states, pop and push, the words of a state)
 //! and of `specs/Steps.antt` (what a call over a backend may answer and leave). They speak of
@@ -33,6 +34,7 @@
 #![tactic(auto)]
 
 pub mod coder;
+mod moves;
 mod steps;
 
 pub use crate::coder::{AnsCoder, DefaultAnsCoder, SmallAnsCoder};

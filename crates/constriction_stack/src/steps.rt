@@ -1,8 +1,9 @@
 //! The steps of a coder on its head and its backend.
 
-ghost use Rattle.std.specs.Prelude.{◌≡◌, ◌+◌, ◌-◌, ◌*◌, ◌/◌, ◌%◌, ◌^◌, ◌<◌, ◌≤◌, ◌⊎◌, ◌∷◌, map, length, IfOk, IfErr, OnOk, OnErr, Err};
+ghost use Rattle.std.specs.Prelude.{◌≡◌, ◌+◌, ◌-◌, ◌*◌, ◌/◌, ◌%◌, ◌^◌, ◌<◌, ◌≤◌, map, MatchResult, Ok, Err};
 ghost use Rattle.constriction_base.specs.Steps.{Step, IsStep, IsSizes};
-ghost use Rattle.constriction_stack.specs.Ans.{AnsState, IsPush, IsValid, RefillsBy, count_of_words, refilled, words_after};
+ghost use Rattle.constriction_stack.specs.Ans.{AnsState, AnsValue, RefillsBy, refilled, value_of};
+ghost use Rattle.constriction_stack.specs.Steps.{Encodes};
 
 use constriction_base::backends::{Holds, ReadWords, Stack, WriteWords};
 use constriction_words::{BitArray, WordOf};
@@ -28,14 +29,13 @@ pub fn refilled<Word: WordOf<State>, State: BitArray, Backend: ReadWords<Word, S
     head: State,
 ) -> Result<State, Backend::ReadError>
     requires { IsSizes Word.BITS State.BITS }
-    ensures list { Backend.is_list → IfOk result (λ new.
-        refilled Word.BITS State.BITS (State.number head) (map Word.number (Backend.words bulk.old))
-        ≡ record { head = State.number new; words = map Word.number (Backend.words bulk.new) }) }
-    ensures run { IfOk result (λ new. RefillsBy Word.number Backend.reads Word.BITS State.BITS
-        (State.number head) bulk.old (State.number new) bulk.new) }
-    ensures kept { Backend.is_list → OnErr result (Backend.words bulk.new ≡ Backend.words bulk.old) }
-    ensures err { IfErr result (λ e. (State.number head < 2 ^ (State.BITS - Word.BITS))
-        × Backend.reads bulk.old (Err e) bulk.new) }
+    ensures list { Backend.is_list → MatchResult result
+        (λ new. refilled Word.BITS State.BITS (State.number head) (map Word.number (Backend.words bulk.old))
+        ≡ record { head = State.number new; words = map Word.number (Backend.words bulk.new) })
+        (λ _. Backend.words bulk.new ≡ Backend.words bulk.old) }
+    ensures reads { MatchResult result
+        (λ new. RefillsBy Word.number Backend.reads Word.BITS State.BITS (State.number head) bulk.old (State.number new) bulk.new)
+        (λ e. (State.number head < 2 ^ (State.BITS - Word.BITS)) × Backend.reads bulk.old (Err e) bulk.new) }
 {
     if !head.shifted_right(State::BITS - Word::BITS).is_nothing() {
         return Ok(head);
@@ -57,26 +57,27 @@ pub fn pushed_onto<Word: WordOf<State>, State: BitArray, Backend: WriteWords<Wor
 ) -> Result<State, Backend::WriteError>
     requires sizes { IsSizes Word.BITS State.BITS }
     requires step { IsStep Word.BITS record { precision = precision; left = State.number left; p = State.number p } }
-    ensures ok { let old : AnsState = record { head = State.number head; words = map Word.number (Backend.words bulk.old) } in
-        IsValid Word.BITS State.BITS old → IfOk result (λ new.
-        IsPush Word.BITS State.BITS record { precision = precision; left = State.number left; p = State.number p } old
-        record { head = State.number new; words = map Word.number (Backend.words bulk.new) }) }
-    ensures words { IfOk result (λ _. map Word.number (Backend.words bulk.new)
-        ≡ words_after Word.BITS State.BITS record { precision = precision; left = State.number left; p = State.number p }
-        record { head = State.number head; words = map Word.number (Backend.words bulk.old) }) }
-    ensures room { OnOk result (Backend.room bulk.old + length (Backend.words bulk.old)
-        ≤ Backend.room bulk.new + length (Backend.words bulk.new)) }
-    ensures untouched { State.number head / 2 ^ (State.BITS - precision) < State.number p
-        → bulk.new ≡ bulk.old }
-    ensures kept { OnErr result (Backend.words bulk.new ≡ Backend.words bulk.old) }
-    ensures err { IfErr result (λ e. (State.number p ≤ State.number head / 2 ^ (State.BITS - precision))
-        × (Backend.prepare_fails bulk.old 1 e ⊎ Backend.write_fails bulk.old e)) }
+    ensures { MatchResult result
+        (λ new. Encodes Word.number Backend.words Word.BITS State.BITS Backend.room Backend.makes_room Backend.prepare_fails Backend.write_fails
+        (value_of Word.number Backend.words (State.number head) bulk.old)
+        record { precision = precision; left = State.number left; p = State.number p } (Ok tt)
+        (value_of Word.number Backend.words (State.number new) bulk.new))
+        (λ e. Encodes Word.number Backend.words Word.BITS State.BITS Backend.room Backend.makes_room Backend.prepare_fails Backend.write_fails
+        (value_of Word.number Backend.words (State.number head) bulk.old)
+        record { precision = precision; left = State.number left; p = State.number p } (Err e)
+        (value_of Word.number Backend.words (State.number head) bulk.new)) }
 {
     if head.shifted_right(State::BITS - precision).is_below(p) {
         return Ok(pushed(head, left, p, precision));
     }
-    bulk.prepare(1)?;
-    bulk.write(Word::narrow(head))?;
+    match bulk.prepare(1) {
+        Ok(()) => {}
+        Err(error) => return Err(error),
+    }
+    match bulk.write(Word::narrow(head)) {
+        Ok(()) => {}
+        Err(refusal) => return Err(refusal),
+    }
     Ok(pushed(head.shifted_right(Word::BITS), left, p, precision))
 }
 
@@ -93,19 +94,4 @@ fn pushed<State: BitArray>(head: State, left: State, p: State, precision: u32) -
 {
     let prefix = head.quotient(p).shifted_left(precision);
     prefix.plus(left.plus(head.remainder(p)))
-}
-
-/// How many words a head has without leading zeros.
-#[inline]
-pub fn words_of_head<Word: WordOf<State>, State: BitArray>(head: State) -> usize
-    requires { IsSizes Word.BITS State.BITS }
-    ensures { result ≡ count_of_words Word.BITS (State.number head) }
-{
-    let mut count = 0;
-    let mut rest = head;
-    'words: while !rest.is_nothing() {
-        count += 1;
-        rest = rest.shifted_right(Word::BITS);
-    }
-    count
 }

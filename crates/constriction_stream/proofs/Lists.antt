@@ -1,5 +1,7 @@
 -- Lists of steps.
 use Rattle.std.specs.Iterator.{Yields}
+use Rattle.std.specs.Iterator.Adapters.{rev_source, rev_steps}
+use Rattle.std.specs.declared.iter.Rev.{Rev}
 use Rattle.std.proofs.Common.{◌≡◌, ◌∙◌, ap, Option, Some, List, [], ◌∷◌, ◌++◌, Result, Ok, refl, sym, subst, map}
 use Rattle.constriction_stream.specs.Lists.{StepsAll}
 
@@ -24,3 +26,9 @@ pub Yields-front : {S A B : Type 0} (steps : S → Option A → S → Type 0) (r
 Yields-front steps rest view each s [] t run = ap rest run
 Yields-front steps rest view each s (x ∷ xs) t run =
     each s run.0 x run.1 ∙ ap (λ ys. view x ∷ ys) (Yields-front steps rest view each run.0 xs t run.2)
+
+-- what a reversed iterator gives is what its source gives from the back
+pub Yields-back : {S A : Type 0} (steps : S → Option A → S → Type 0) (s : Rev S) (xs : List A) (t : Rev S)
+    → Yields (rev_steps steps) s xs t → Yields steps (rev_source s) xs (rev_source t)
+Yields-back steps s [] t run = ap rev_source run
+Yields-back steps s (x ∷ xs) t run = (rev_source run.0, run.1, Yields-back steps run.0 xs t run.2)

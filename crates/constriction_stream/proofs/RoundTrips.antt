@@ -131,28 +131,28 @@ list_comes_back IsValid shown content encodes decodes old new from to items deco
     (next_in_reverse IsValid shown content encodes decodes old new items undo lawful valid put).0 taken same
 
 -- an encode that went well was a step at an entry
-pub encoded : {C S F B : Type 0} (encodes : C → Step → Result (Unit {0}) (CoderError F B) → C → Type 0) (is_unknown : F → Type 0) (old new : C) (x : Coded S)
-    → EncodesSymbol encodes is_unknown x.precision x.table x.symbol old (Ok tt) new → StepsAtEntry encodes old x (Ok tt) new
-encoded encodes is_unknown old new x (inl known) = known
-encoded {F = F} {B = B} encodes is_unknown old new x (inr unknown) =
-    absurd (subst (λ (r : Result (Unit {0}) (CoderError F B)). MatchResult r (λ _. ⊤) (λ _. ⊥)) unknown.3 tt)
+pub encoded : {C S F B : Type 0} (encodes : C → Step → Result (Unit {0}) (CoderError F B) → C → Type 0) (is_impossible : F → Type 0) (old new : C) (x : Coded S)
+    → EncodesSymbol encodes is_impossible x.precision x.table x.symbol old (Ok tt) new → StepsAtEntry encodes old x (Ok tt) new
+encoded encodes is_impossible old new x (inl known) = known
+encoded {F = F} {B = B} encodes is_impossible old new x (inr impossible) =
+    absurd (subst (λ (r : Result (Unit {0}) (CoderError F B)). MatchResult r (λ _. ⊤) (λ _. ⊥)) impossible.3 tt)
 
 -- a list call's steps as steps at entries: of pairs of symbols and models, and of symbols by one model
-pub encoded_pairs : {C S A M F B : Type 0} (encodes : C → Step → Result (Unit {0}) (CoderError F B) → C → Type 0) (is_unknown : F → Type 0)
+pub encoded_pairs : {C S A M F B : Type 0} (encodes : C → Step → Result (Unit {0}) (CoderError F B) → C → Type 0) (is_impossible : F → Type 0)
     (precision : ℕ) (table : M → List (S × ℕ × ℕ)) (lent : A → S) (old : C) (pairs : List (A × M)) (new : C)
-    → StepsAll (EncodesPair encodes is_unknown precision table lent) old pairs new
+    → StepsAll (EncodesPair encodes is_impossible precision table lent) old pairs new
     → StepsAll (StepsAtEntry encodes) old (map (coded precision table lent) pairs) new
-encoded_pairs encodes is_unknown precision table lent old pairs new all =
-    StepsAll-map (coded precision table lent) (EncodesPair encodes is_unknown precision table lent) (StepsAtEntry encodes)
-    (λ old new pair step. encoded encodes is_unknown old new (coded precision table lent pair) step) old pairs new all
+encoded_pairs encodes is_impossible precision table lent old pairs new all =
+    StepsAll-map (coded precision table lent) (EncodesPair encodes is_impossible precision table lent) (StepsAtEntry encodes)
+    (λ old new pair step. encoded encodes is_impossible old new (coded precision table lent pair) step) old pairs new all
 
-pub encoded_symbols : {C S F B : Type 0} (encodes : C → Step → Result (Unit {0}) (CoderError F B) → C → Type 0) (is_unknown : F → Type 0)
+pub encoded_symbols : {C S F B : Type 0} (encodes : C → Step → Result (Unit {0}) (CoderError F B) → C → Type 0) (is_impossible : F → Type 0)
     (precision : ℕ) (table : List (S × ℕ × ℕ)) (old : C) (symbols : List S) (new : C)
-    → StepsAll (λ old symbol result new. EncodesSymbol encodes is_unknown precision table symbol old result new) old symbols new
+    → StepsAll (λ old symbol result new. EncodesSymbol encodes is_impossible precision table symbol old result new) old symbols new
     → StepsAll (StepsAtEntry encodes) old (map (coded_by precision table) symbols) new
-encoded_symbols encodes is_unknown precision table old symbols new all =
-    StepsAll-map (coded_by precision table) (λ old symbol result new. EncodesSymbol encodes is_unknown precision table symbol old result new) (StepsAtEntry encodes)
-    (λ old new symbol step. encoded encodes is_unknown old new (coded_by precision table symbol) step) old symbols new all
+encoded_symbols encodes is_impossible precision table old symbols new all =
+    StepsAll-map (coded_by precision table) (λ old symbol result new. EncodesSymbol encodes is_impossible precision table symbol old result new) (StepsAtEntry encodes)
+    (λ old new symbol step. encoded encodes is_impossible old new (coded_by precision table symbol) step) old symbols new all
 
 -- the entries of the symbols, as a list of steps
 pub entries_of : {S C E : Type 0} (step : C → Step → Result (Unit {0}) E → C → Type 0) (old new : C) (items : List (Coded S))

@@ -18,10 +18,10 @@ StepsUntilFault {C} {I} {A} step gives next old result new =
     (λ _. (mid ≡ new) × Drains next iterator coded)
     (λ e. (item : A) × (rest : I) × YieldsThen next iterator coded (Some item) rest × step mid item (Err e) new)
 
--- each such iterator can be asked, ends, and gives at most so many items
-abbrev pub GivesAtMost : {I : Type 0} → (I → Type 0) → (I → Type 0) → (I → Count) → ℕ → Type 0
-GivesAtMost {I} gives can_next remaining count =
-    (iterator : I) → gives iterator → can_next iterator × IsFinite (remaining iterator) × (size (remaining iterator) ≤ count)
+-- each such iterator can be asked, and ends; and to a coder that counts symbols it gives no more items than symbols are left
+abbrev pub GivesAtMost : {I : Type 0} → (I → Type 0) → (I → Type 0) → (I → Count) → Type 0 → ℕ → Type 0
+GivesAtMost {I} gives can_next remaining counts left =
+    (iterator : I) → gives iterator → can_next iterator × IsFinite (remaining iterator) × (counts → size (remaining iterator) ≤ left)
 
 -- what is left is lowered by no more than the items that each such iterator gives at most
 abbrev pub LowersByItems : {I : Type 0} → (I → Type 0) → (I → Count) → ℕ → ℕ → Type 0

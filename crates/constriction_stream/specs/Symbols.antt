@@ -5,25 +5,33 @@ use Rattle.constriction_base.specs.Tables.{Has}
 use Rattle.constriction_base.specs.declared.errors.CoderError.{CoderError}
 use Rattle.constriction_base.specs.declared.errors.CoderError.TheVariants.{Frontend, Backend}
 
+-- the step of an entry of the symbol
+abbrev pub AtEntry : {S : Type 0} → ℕ → List (S × ℕ × ℕ) → S → (Step → Type 0) → Type 0
+AtEntry precision table symbol holds = (left p : ℕ) × Has table symbol left p × holds (record { precision = precision; left = left; p = p })
+
+-- the symbol has no entry: the model doesn't know it
+abbrev pub Impossible : {S : Type 0} → List (S × ℕ × ℕ) → S → Type 0
+Impossible table symbol = (left p : ℕ) → Has table symbol left p → ⊥
+
 -- the step of the symbol's entry; or, where the table has none, a frontend's refusal that leaves the coder
 abbrev pub EncodesSymbol : {C S F B : Type 0} → (C → Step → Result (Unit {0}) (CoderError F B) → C → Type 0) → (F → Type 0)
     → ℕ → List (S × ℕ × ℕ) → S → C → Result (Unit {0}) (CoderError F B) → C → Type 0
-EncodesSymbol {F = F} encodes is_unknown precision table symbol old result new =
-    ((left p : ℕ) × Has table symbol left p × encodes old (record { precision = precision; left = left; p = p }) result new)
-    ⊎ (((left p : ℕ) → Has table symbol left p → ⊥) × (e : F) × is_unknown e × (result ≡ Err (Frontend e)) × (new ≡ old))
+EncodesSymbol {F = F} encodes is_impossible precision table symbol old result new =
+    AtEntry precision table symbol (λ step. encodes old step result new)
+    ⊎ (Impossible table symbol × (e : F) × is_impossible e × (result ≡ Err (Frontend e)) × (new ≡ old))
 
 -- the same of a symbol that is lent and a model, whose table this is
 abbrev pub EncodesPair : {C S A M F B : Type 0} → (C → Step → Result (Unit {0}) (CoderError F B) → C → Type 0) → (F → Type 0)
     → ℕ → (M → List (S × ℕ × ℕ)) → (A → S) → C → A × M → Result (Unit {0}) (CoderError F B) → C → Type 0
-EncodesPair encodes is_unknown precision table lent old pair result new =
-    EncodesSymbol encodes is_unknown precision (table pair.1) (lent pair.0) old result new
+EncodesPair encodes is_impossible precision table lent old pair result new =
+    EncodesSymbol encodes is_impossible precision (table pair.1) (lent pair.0) old result new
 
 -- the step of an entry, whose symbol is the answer; or an error, of such a step or before any entry was looked for
 abbrev pub DecodesSymbol : {C S E : Type 0} → (C → Step → Result (Unit {0}) E → C → Type 0) → (C → E → C → Type 0)
     → ℕ → List (S × ℕ × ℕ) → C → Result S E → C → Type 0
 DecodesSymbol {S = S} decodes halts precision table old result new =
     MatchResult result
-    (λ symbol. (left p : ℕ) × Has table symbol left p × decodes old (record { precision = precision; left = left; p = p }) (Ok tt) new)
+    (λ symbol. AtEntry precision table symbol (λ step. decodes old step (Ok tt) new))
     (λ e. halts old e new ⊎ ((symbol : S) × (left p : ℕ) × Has table symbol left p × decodes old (record { precision = precision; left = left; p = p }) (Err e) new))
 
 -- the same of a model, whose table this is
@@ -35,3 +43,32 @@ DecodesByModel decodes halts precision table old model result new = DecodesSymbo
 abbrev pub as_backend : {T F B : Type 0} → Result T B → Result T (CoderError F B)
 as_backend (Ok x) = Ok x
 as_backend (Err e) = Err (Backend e)
+
+-- an error of the backend, of which this holds
+abbrev pub IsBackendError : {F B : Type 0} → CoderError F B → (B → Type 0) → Type 0
+IsBackendError (Frontend e) holds = ⊥
+IsBackendError (Backend e) holds = holds e
+
+-- a step whose answer is that of a backend, so that the coder itself refuses none
+abbrev pub ByBackend : {C F B : Type 0} → (C → Step → Result (Unit {0}) B → C → Type 0)
+    → C → Step → Result (Unit {0}) (CoderError F B) → C → Type 0
+ByBackend {B = B} steps old step answer new = (result : Result (Unit {0}) B) × steps old step result new × (answer ≡ as_backend result)
+
+-- no step is refused for lack of room
+abbrev pub HasRoom : {C E : Type 0} → (C → Step → Result (Unit {0}) E → C → Type 0) → (E → Type 0) → C → Type 0
+HasRoom {C} {E} encodes is_lack_of_room coder =
+    (step : Step) (e : E) (new : C) → encodes coder step (Err e) new → is_lack_of_room e → ⊥
+
+-- no step is refused because the data ended, neither where the model is asked nor before
+abbrev pub GoesOn : {C E : Type 0} → (C → Step → Result (Unit {0}) E → C → Type 0) → (C → E → C → Type 0) → (E → Type 0) → C → Type 0
+GoesOn {C} {E} decodes halts is_end_of_data coder =
+    ((step : Step) (e : E) (new : C) → decodes coder step (Err e) new → is_end_of_data e → ⊥)
+    × ((e : E) (new : C) → halts coder e new → is_end_of_data e → ⊥)
+
+-- a backend's answer is no frontend's refusal
+pub never_frontend : {T F B : Type 0} (answer : Result T B) (e : F) → ◌≡◌ {A = Result T (CoderError F B)} (Err (Frontend e)) (as_backend answer) → ⊥
+never_frontend (Ok x) e is = cc
+never_frontend (Err refusal) e is = cc
+
+pub never_backend : {F B : Type 0} (e : F) (refusal : B) → ◌≡◌ {A = CoderError F B} (Frontend e) (Backend refusal) → ⊥
+never_backend e refusal is = cc

@@ -4,7 +4,7 @@ ghost use Rattle.std.specs.Prelude.{◌≡◌, Result};
 ghost use Rattle.std.specs.Bool.{OnFalse};
 ghost use Rattle.constriction_base.specs.Steps.{Step};
 ghost use Rattle.constriction_base.specs.declared.errors.CoderError.{CoderError};
-ghost use Rattle.constriction_stream.specs.Symbols.{DecodesSymbol};
+ghost use Rattle.constriction_stream.specs.Symbols.{DecodesSymbol, GoesOn};
 
 use crate::coder::Code;
 use crate::iterators::{DecodeIidSymbols, DecodeSymbols, TryDecodeSymbols};
@@ -15,6 +15,9 @@ use constriction_words::WordOf;
 /// A coder that gives symbols, under models of `PRECISION` bits.
 ///
 /// `PRECISION` is at least 1 and at most the number of bits of a word, which the models promise.
+///
+/// What an implementation chooses freely is said at each ghost member. Generic code knows of a choice only
+/// what the clauses say; a caller that needs more names the coder.
 pub trait Decode<const PRECISION: usize>: Code {
     /// Why the coder itself refuses a step, as that its data ended or is invalid for the model.
     type FrontendError;
@@ -22,14 +25,20 @@ pub trait Decode<const PRECISION: usize>: Code {
     /// Why what holds the compressed data refuses a step.
     type BackendError;
 
-    /// What the step of an interval may answer, and the coder that it leaves.
+    /// What the step of an interval may answer, and the coder that it leaves. It is chosen freely: it is
+    /// what the coder does.
     ghost decodes: { Self → Step → Result (Unit {0}) (CoderError Self.FrontendError Self.BackendError) → Self → Type 0 };
 
-    /// How a step may be refused before the model is asked, and the coder that this leaves.
+    /// How a step may be refused before the model is asked, and the coder that this leaves. It is chosen
+    /// freely, and nothing where the model is always asked.
     ghost halts: { Self → CoderError Self.FrontendError Self.BackendError → Self → Type 0 };
 
-    /// What the coder promises where `maybe_exhausted` answers false.
+    /// What the coder says of what it holds where `maybe_exhausted` answers false. It is chosen freely.
     ghost has_data: { Self → Type 0 };
+
+    /// The error says that the data ended. It is chosen freely, and no error for a coder that goes on past
+    /// the end.
+    ghost is_end_of_data: { CoderError Self.FrontendError Self.BackendError → Type 0 };
 
     /// Decodes a symbol: that of the model's interval which holds the coder's next quantile.
     ///
@@ -103,9 +112,11 @@ pub trait Decode<const PRECISION: usize>: Code {
         }
     }
 
-    /// Whether all that was encoded may have been taken. False promises that it was not.
+    /// Whether all that was encoded may have been taken. False promises that it was not, and that the next
+    /// step isn't refused because the data ended.
     fn maybe_exhausted(&self) -> bool
-        ensures { OnFalse result (has_data self.now) }
+        ensures data { OnFalse result (has_data self.now) }
+        ensures goes_on { OnFalse result (GoesOn decodes halts is_end_of_data self.now) }
     {
         true
     }

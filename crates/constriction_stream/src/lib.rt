@@ -36,5 +36,3 @@ pub mod decoding;
 pub mod encoding;
 pub mod errors;
 pub mod iterators;
-#[cfg(test)]
-mod tests;

@@ -1,13 +1,13 @@
 //! Words from a coder, and a coder from words, where a leading 1 that isn't written marks the top of
 //! the head: any words are those of a coder.
 
-ghost use Rattle.std.specs.Prelude.{◌≡◌, ◌↔◌, ◌⊎◌, ◌<◌, ◌^◌, ◌++◌, ℕ, [], map, None, Some, Ok, Err, IfOk, IfErr, OnErr};
-ghost use Rattle.constriction_base.specs.Digits.{fixed_digits};
+ghost use Rattle.std.specs.Prelude.{◌≡◌, ◌↔◌, ◌⊎◌, ◌<◌, ℕ, [], map, None, Some, Ok, Err, IfOk, IfErr};
 ghost use Rattle.constriction_base.specs.Steps.{IsSizes};
-ghost use Rattle.constriction_stack.specs.Ans.{AnsState};
+ghost use Rattle.constriction_stack.specs.Ans.{AnsState, IsCoder};
 ghost use Rattle.constriction_stack.specs.Binary.{BinaryFilledBy, BinaryRefused, IsBinary, PartlyBinary, binary_state, binary_words};
 
 use crate::coder::AnsCoder;
+use crate::moves::{append_words, filled, words_below_one};
 use constriction_base::backends::{Holds, ReadWords, Stack, WriteWords};
 use constriction_words::{BitArray, WordOf};
 use std::marker::PhantomData;
@@ -24,6 +24,7 @@ impl<Word: WordOf<State>, State: BitArray, Backend: WriteWords<Word>> AnsCoder<
         requires empty { Backend.words bulk ≡ [] }
         ensures state { result.state ≡ record { head = 0; words = [] } }
         ensures backend { result.backend ≡ bulk }
+        ensures coder { IsCoder Word.number Backend.words Word.BITS State.BITS result }
     {
         AnsCoder {
             bulk,
@@ -51,25 +52,16 @@ impl<Word: WordOf<State>, State: BitArray, Backend: ReadWords<Word, Stack>> AnsC
         requires { IsSizes Word.BITS State.BITS }
         ensures ok { Backend.is_list → IfOk result (λ new.
             new.state ≡ binary_state Word.BITS State.BITS (map Word.number (Backend.words bulk))) }
+        ensures coder { IfOk result (λ new. IsCoder Word.number Backend.words Word.BITS State.BITS new) }
         ensures reads { IfOk result (λ new.
             BinaryFilledBy Word.number Backend.reads Word.BITS State.BITS bulk new.state.head new.backend) }
         ensures err { IfErr result (λ e.
             BinaryRefused Word.number Backend.reads Word.BITS State.BITS bulk e) }
     {
-        let mut head = State::unit();
-        'words: while head.shifted_right(State::BITS - Word::BITS).is_nothing() {
-            match bulk.read() {
-                Err(error) => return Err(error),
-                Ok(None) => {
-                    return Ok(AnsCoder {
-                        bulk,
-                        state: head,
-                        word: PhantomData,
-                    });
-                }
-                Ok(Some(word)) => head = head.shifted_left(Word::BITS).plus(word.widen()),
-            }
-        }
+        let head = match filled(&mut bulk, State::unit()) {
+            Err(error) => return Err(error),
+            Ok(head) => head,
+        };
         Ok(AnsCoder {
             bulk,
             state: head,
@@ -100,61 +92,25 @@ impl<Word: WordOf<State>, State: BitArray, Backend: WriteWords<Word>> AnsCoder<
             × (map Word.number (Backend.words all) ≡ binary_words Word.BITS m self.state)) }
         ensures empty { self.state.head ≡ 1 → result ≡ Ok self.backend }
         ensures refused { (result ≡ Err None) ↔ ((m : ℕ) → IsBinary Word.BITS m self.state → ⊥) }
-        // No room for them all, or after a beginning of them.
+        // No room for them all; or, where asking for room makes none, a write after a beginning of them.
         ensures err { (e : Backend.WriteError) → result ≡ Err (Some e) →
             (m : ℕ) × IsBinary Word.BITS m self.state × (Backend.room self.backend < m)
             × (Backend.prepare_fails self.backend m e
-            ⊎ ((last : Backend) × Backend.write_fails last e
-            × PartlyBinary Word.BITS m self.state (map Word.number (Backend.words last)))) }
+            ⊎ ((Backend.makes_room → ⊥) × ((last : Backend) × Backend.write_fails last e
+            × PartlyBinary Word.BITS m self.state (map Word.number (Backend.words last))))) }
+        ensures coder { IsCoder Word.number Backend.words Word.BITS State.BITS self }
     {
         let AnsCoder {
-            bulk,
+            mut bulk,
             state: head,
             word: _,
         } = self;
-        if head.is_nothing() {
+        let Some(count) = words_below_one::<Word, State>(head) else {
             return Err(None);
-        }
-        let bits = head.bit_length() - 1;
-        if bits % Word::BITS != 0 {
-            return Err(None);
-        }
-        match with_words_of(bulk, head, bits / Word::BITS) {
-            Ok(all) => Ok(all),
-            Err(error) => Err(Some(error)),
+        };
+        match append_words(&mut bulk, head, count) {
+            Ok(()) => Ok(bulk),
+            Err((_, error)) => Err(Some(error)),
         }
     }
-}
-
-/// A backend with the lowest words of a head written onto it, the lowest first.
-fn with_words_of<Word: WordOf<State>, State: BitArray, Backend: WriteWords<Word> + Drop>(
-    mut bulk: Backend,
-    head: State,
-    count: u32,
-) -> Result<Backend, Backend::WriteError>
-    requires { IsSizes Word.BITS State.BITS }
-    ensures ok { IfOk result (λ all. map Word.number (Backend.words all)
-        ≡ fixed_digits (2 ^ Word.BITS) count (State.number head) ++ map Word.number (Backend.words bulk)) }
-    ensures empty { count ≡ 0 → result ≡ Ok bulk }
-    ensures room { OnErr result (Backend.room bulk < count) }
-    ensures err { IfErr result (λ e. Backend.prepare_fails bulk count e
-        ⊎ ((last : Backend) × Backend.write_fails last e
-        × PartlyBinary Word.BITS count record { head = State.number head; words = map Word.number (Backend.words bulk) }
-        (map Word.number (Backend.words last)))) }
-{
-    if count == 0 {
-        return Ok(bulk);
-    }
-    bulk.prepare(count as usize)?;
-    let mut rest = head;
-    let mut left = count;
-    'words: while left > 0 {
-        match bulk.write(Word::narrow(rest)) {
-            Ok(()) => {}
-            Err(error) => return Err(error),
-        }
-        rest = rest.shifted_right(Word::BITS);
-        left -= 1;
-    }
-    Ok(bulk)
 }

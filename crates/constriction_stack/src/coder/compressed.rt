@@ -2,11 +2,11 @@
 
 ghost use Rattle.std.specs.Prelude.{◌≡◌, ◌⊎◌, ◌<◌, ℕ, map, Ok, IfOk, IfErr, OnOk, OnErr};
 ghost use Rattle.constriction_base.specs.Steps.{IsSizes};
-ghost use Rattle.constriction_stack.specs.Ans.{BeginsHigh, PartlyExported, count_of_words, exported, filled};
+ghost use Rattle.constriction_stack.specs.Ans.{BeginsHigh, IsCoder, PartlyExported, count_of_words, exported, filled};
 ghost use Rattle.constriction_stack.specs.Steps.{FilledBy, ImportRefused, ListRefused};
 
 use crate::coder::AnsCoder;
-use crate::steps::words_of_head;
+use crate::moves::{append_words, count_of_words, filled};
 use constriction_base::backends::{Holds, ReadWords, Stack, WriteWords};
 use constriction_words::{BitArray, WordOf};
 use std::marker::PhantomData;
@@ -38,6 +38,7 @@ impl<Word: WordOf<State>, State: BitArray, Backend: ReadWords<Word, Stack>> AnsC
         ensures ok { Backend.is_list → IfOk result (λ new.
             new.state ≡ filled Word.BITS State.BITS 0 (map Word.number (Backend.words bulk))) }
         ensures high { Backend.is_list → OnOk result (BeginsHigh (map Word.number (Backend.words bulk))) }
+        ensures coder { IfOk result (λ new. IsCoder Word.number Backend.words Word.BITS State.BITS new) }
         ensures reads { IfOk result (λ new.
             FilledBy Word.number Backend.reads Word.BITS State.BITS bulk new.state.head new.backend) }
         ensures refused { IfErr result (λ rest.
@@ -59,20 +60,10 @@ impl<Word: WordOf<State>, State: BitArray, Backend: ReadWords<Word, Stack>> AnsC
         if top.is_nothing() {
             return Err(bulk);
         }
-        let mut head: State = top.widen();
-        'words: while head.shifted_right(State::BITS - Word::BITS).is_nothing() {
-            match bulk.read() {
-                Err(_) => return Err(bulk),
-                Ok(None) => {
-                    return Ok(AnsCoder {
-                        bulk,
-                        state: head,
-                        word: PhantomData,
-                    });
-                }
-                Ok(Some(word)) => head = head.shifted_left(Word::BITS).plus(word.widen()),
-            }
-        }
+        let head = match filled(&mut bulk, top.widen()) {
+            Err(_) => return Err(bulk),
+            Ok(head) => head,
+        };
         Ok(AnsCoder {
             bulk,
             state: head,
@@ -99,29 +90,22 @@ impl<Word: WordOf<State>, State: BitArray, Backend: WriteWords<Word>> AnsCoder<
             map Word.number (Backend.words all) ≡ exported Word.BITS self.state) }
         ensures empty { self.state.head ≡ 0 → result ≡ Ok self.backend }
         ensures room { OnErr result (Backend.room self.backend < count_of_words Word.BITS self.state.head) }
-        // No room for them all, or after a beginning of them.
+        // No room for them all; or, where asking for room makes none, a write after a beginning of them.
         ensures err { IfErr result (λ e.
             Backend.prepare_fails self.backend (count_of_words Word.BITS self.state.head) e
-            ⊎ ((last : Backend) × Backend.write_fails last e
-            × PartlyExported Word.BITS self.state (map Word.number (Backend.words last)))) }
+            ⊎ ((Backend.makes_room → ⊥) × ((last : Backend) × Backend.write_fails last e
+            × PartlyExported Word.BITS self.state (map Word.number (Backend.words last))))) }
+        ensures coder { IsCoder Word.number Backend.words Word.BITS State.BITS self }
     {
         let AnsCoder {
             mut bulk,
             state: head,
             word: _,
         } = self;
-        if head.is_nothing() {
-            return Ok(bulk);
+        let count = count_of_words::<Word, State>(head);
+        match append_words(&mut bulk, head, count) {
+            Ok(()) => Ok(bulk),
+            Err((_, error)) => Err(error),
         }
-        bulk.prepare(words_of_head::<Word, State>(head))?;
-        let mut rest = head;
-        'words: while !rest.is_nothing() {
-            match bulk.write(Word::narrow(rest)) {
-                Ok(()) => {}
-                Err(error) => return Err(error),
-            }
-            rest = rest.shifted_right(Word::BITS);
-        }
-        Ok(bulk)
     }
 }

@@ -1,6 +1,7 @@
 //! Decoders of what a coder holds, as the coder traits ask for them.
 
-ghost use Rattle.std.specs.Prelude.{◌≡◌};
+ghost use Rattle.std.specs.Prelude.{◌≡◌, length};
+ghost use Rattle.constriction_stack.specs.Ans.{IsCoder};
 
 use crate::coder::AnsCoder;
 use constriction_base::backends::{AsReadWords, Holds, IntoReadWords, Stack, WriteWords};
@@ -9,7 +10,6 @@ use constriction_stream::conversions::{AsDecoder, IntoDecoder};
 use constriction_words::{BitArray, WordOf};
 use std::alloc::Allocator;
 use std::convert::Infallible;
-use std::marker::PhantomData;
 
 impl<
     Word: WordOf<State>,
@@ -21,22 +21,14 @@ impl<
 
     type Error = Infallible;
 
-    ghost becomes = { λ coder decoder. decoder.state ≡ coder.state };
+    ghost becomes = { λ coder decoder. (decoder.state ≡ coder.state) × Backend.becomes coder.backend decoder.backend
+        × IsCoder Word.number (⟦<Backend::IntoReadWords as Holds<Word, Stack>>⟧.words) Word.BITS State.BITS decoder };
 
     ghost fails = { λ _ _. ⊥ };
 
     /// The same state over a backend for reading. It is never refused.
     fn into_decoder(self) -> Result<AnsCoder<Word, State, Backend::IntoReadWords>, Infallible> {
-        let AnsCoder {
-            bulk,
-            state,
-            word: _,
-        } = self;
-        Ok(AnsCoder {
-            bulk: bulk.into_read_words(),
-            state,
-            word: PhantomData,
-        })
+        Ok(self.into_decoder())
     }
 }
 
@@ -49,14 +41,15 @@ impl<
 > AsDecoder<'a, PRECISION> for AnsCoder<Word, State, Vec<Word, A>> {
     type AsDecoder = AnsCoder<Word, State, Cursor<Word, &'a [Word]>>;
 
-    ghost reads = { λ coder decoder. decoder.state ≡ coder.state };
+    ghost reads = { λ coder decoder. (decoder.state ≡ coder.state)
+        × (decoder.backend.buf.now ≡ coder.backend.items) × (decoder.backend.pos ≡ length coder.backend.items)
+        × IsCoder Word.number (⟦<Cursor<Word, &'a [Word]> as Holds<Word, Stack>>⟧.words) Word.BITS State.BITS decoder };
 
     /// The same state over the coder's words, which are borrowed.
     fn as_decoder(&'a self) -> AnsCoder<Word, State, Cursor<Word, &'a [Word]>> {
-        AnsCoder {
-            bulk: AsReadWords::<'a, Word, Stack>::as_read_words(&self.bulk),
-            state: self.state,
-            word: PhantomData,
-        }
+        AnsCoder::from_raw_parts(
+            AsReadWords::<'a, Word, Stack>::as_read_words(&self.bulk),
+            self.state,
+        )
     }
 }

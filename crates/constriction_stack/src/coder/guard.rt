@@ -6,12 +6,12 @@ ghost use Rattle.std.specs.Borrow.{sem, RestsIfErr};
 ghost use Rattle.constriction_base.specs.Digits.{fixed_digits};
 ghost use Rattle.constriction_base.specs.Steps.{IsSizes};
 ghost use Rattle.constriction_base.specs.declared.errors.CoderError.TheVariants as coder_error;
-ghost use Rattle.constriction_stack.specs.Ans.{PartlyExported, count_of_words, exported};
+ghost use Rattle.constriction_stack.specs.Ans.{IsCoder, PartlyExported, count_of_words, exported};
 ghost use Rattle.constriction_stack.specs.Binary.{IsBinary, PartlyBinary, binary_words};
-ghost use Rattle.constriction_stack.specs.Guards.{NeverRefused, without};
+ghost use Rattle.constriction_stack.specs.Guards.{LeftByRefusal, NeverRefused, without};
 
 use crate::coder::AnsCoder;
-use crate::steps::words_of_head;
+use crate::moves::{append_words, count_of_words, words_below_one};
 use constriction_base::backends::{Holds, ReadWords, Stack, WriteWords};
 use constriction_base::errors::CoderError;
 use constriction_words::{BitArray, WordOf};
@@ -48,7 +48,7 @@ where
     /// The backend, with the words on it.
     pub fn backend(&self) -> &Backend
         ensures backend { result.now ≡ (lender self.now).now.backend }
-        ensures words { map Word.number (Backend.words result.now) ≡ (lender self.now).now.state.words }
+        ensures coder { IsCoder Word.number Backend.words Word.BITS State.BITS (lender self.now).now }
     {
         let inner: &AnsCoder<Word, State, Backend> = &*self.inner;
         &inner.bulk
@@ -91,20 +91,21 @@ where
     Backend: WriteWords<Word> + ReadWords<Word, Stack>,
     Backend::ReadError: Drop,
 {
-    /// Writes the head's words onto the backend, and keeps the head. Answers how many they are.
+    /// Writes the head's words onto the backend, and keeps the head. Returns how many they are.
     fn put_compressed(&mut self) -> Result<usize, Backend::WriteError>
         ensures shows { OnOk result (self.new.state
             ≡ record { head = self.old.state.head; words = exported Word.BITS self.old.state }) }
         ensures back { IfOk result (λ count. without count self.new.state ≡ self.old.state) }
-        ensures head { self.new.state.head ≡ self.old.state.head }
-        ensures kept { NeverRefused Backend.reads → OnErr result (self.new.state ≡ self.old.state) }
-        ensures room { OnErr result (Backend.room self.old.backend < count_of_words Word.BITS self.old.state.head) }
-        ensures err { IfErr result (λ e.
-            Backend.prepare_fails self.old.backend (count_of_words Word.BITS self.old.state.head) e
-            ⊎ ((last : Backend) × Backend.write_fails last e
-            × PartlyExported Word.BITS self.old.state (map Word.number (Backend.words last)))) }
+        ensures left { IfErr result (λ e. LeftByRefusal (NeverRefused Backend.reads)
+            ((Backend.makes_room → ⊥) × ((last : Backend) × Backend.write_fails last e
+            × PartlyExported Word.BITS self.old.state (map Word.number (Backend.words last))))
+            self.old.state self.new.state) }
+        ensures err { IfErr result (λ e. (Backend.room self.old.backend < count_of_words Word.BITS self.old.state.head)
+            × (Backend.prepare_fails self.old.backend (count_of_words Word.BITS self.old.state.head) e
+            ⊎ ((Backend.makes_room → ⊥) × ((last : Backend) × Backend.write_fails last e
+            × PartlyExported Word.BITS self.old.state (map Word.number (Backend.words last)))))) }
     {
-        let count = words_of_head::<Word, State>(self.state);
+        let count = count_of_words::<Word, State>(self.state);
         match show_words(&mut self.bulk, self.state, count) {
             Ok(()) => {}
             Err(error) => return Err(error),
@@ -112,31 +113,29 @@ where
         Ok(count)
     }
 
-    /// Writes the head's words below its leading 1 onto the backend, and keeps the head. Answers
+    /// Writes the head's words below its leading 1 onto the backend, and keeps the head. Returns
     /// how many they are.
     fn put_binary(&mut self) -> Result<usize, CoderError<(), Backend::WriteError>>
         ensures shows { OnOk result ((m : ℕ) × IsBinary Word.BITS m self.old.state × (self.new.state
             ≡ record { head = self.old.state.head; words = binary_words Word.BITS m self.old.state })) }
         ensures back { IfOk result (λ count. without count self.new.state ≡ self.old.state) }
-        ensures head { self.new.state.head ≡ self.old.state.head }
-        ensures kept { NeverRefused Backend.reads → OnErr result (self.new.state ≡ self.old.state) }
-        ensures refused { (result ≡ Err (coder_error.Frontend tt))
+        ensures frontend { (result ≡ Err (coder_error.Frontend tt))
             ↔ ((m : ℕ) → IsBinary Word.BITS m self.old.state → ⊥) }
         ensures untouched { result ≡ Err (coder_error.Frontend tt) → self.new ≡ self.old }
+        ensures left { (e : Backend.WriteError) → result ≡ Err (coder_error.Backend e) →
+            LeftByRefusal (NeverRefused Backend.reads)
+            ((Backend.makes_room → ⊥) × ((m : ℕ) × (last : Backend) × Backend.write_fails last e
+            × PartlyBinary Word.BITS m self.old.state (map Word.number (Backend.words last))))
+            self.old.state self.new.state }
         ensures err { (e : Backend.WriteError) → result ≡ Err (coder_error.Backend e) →
             (m : ℕ) × IsBinary Word.BITS m self.old.state × (Backend.room self.old.backend < m)
             × (Backend.prepare_fails self.old.backend m e
-            ⊎ ((last : Backend) × Backend.write_fails last e
-            × PartlyBinary Word.BITS m self.old.state (map Word.number (Backend.words last)))) }
+            ⊎ ((Backend.makes_room → ⊥) × ((last : Backend) × Backend.write_fails last e
+            × PartlyBinary Word.BITS m self.old.state (map Word.number (Backend.words last))))) }
     {
-        if self.state.is_nothing() {
+        let Some(count) = words_below_one::<Word, State>(self.state) else {
             return Err(CoderError::Frontend(()));
-        }
-        let bits = self.state.bit_length() - 1;
-        if bits % Word::BITS != 0 {
-            return Err(CoderError::Frontend(()));
-        }
-        let count = (bits / Word::BITS) as usize;
+        };
         match show_words(&mut self.bulk, self.state, count) {
             Ok(()) => {}
             Err(error) => return Err(CoderError::Backend(error)),
@@ -168,14 +167,16 @@ where
         ensures shows { IfOk result (λ g. (lender g).now.state
             ≡ record { head = self.old.state.head; words = exported Word.BITS self.old.state }) }
         ensures back { IfOk result (λ g. without (written g) (lender g).now.state ≡ self.old.state) }
-        ensures room { OnErr result (Backend.room self.old.backend < count_of_words Word.BITS self.old.state.head) }
-        ensures err { IfErr result (λ e.
-            Backend.prepare_fails self.old.backend (count_of_words Word.BITS self.old.state.head) e
-            ⊎ ((last : Backend) × Backend.write_fails last e
-            × PartlyExported Word.BITS self.old.state (map Word.number (Backend.words last)))) }
-        ensures* refused { sem 𝓛 (RestsIfErr (the_row Word.row State.row Backend.row Word.NonZero.row State.NonZero.row Word.BitArray State.BitArray Backend.Holds)
+        ensures err { IfErr result (λ e. (Backend.room self.old.backend < count_of_words Word.BITS self.old.state.head)
+            × (Backend.prepare_fails self.old.backend (count_of_words Word.BITS self.old.state.head) e
+            ⊎ ((Backend.makes_room → ⊥) × ((last : Backend) × Backend.write_fails last e
+            × PartlyExported Word.BITS self.old.state (map Word.number (Backend.words last)))))) }
+        ensures* left { sem 𝓛 (RestsIfErr (the_row Word.row State.row Backend.row Word.NonZero.row State.NonZero.row Word.BitArray State.BitArray Backend.Holds)
             self.entry (λ g. (lender g).ghost_name) result
-            (λ after. (after.state.head ≡ self.old.state.head) × (NeverRefused Backend.reads → after.state ≡ self.old.state))) }
+            (λ after. IfErr result (λ e. LeftByRefusal (NeverRefused Backend.reads)
+            ((Backend.makes_room → ⊥) × ((last : Backend) × Backend.write_fails last e
+            × PartlyExported Word.BITS self.old.state (map Word.number (Backend.words last))))
+            self.old.state after.state))) }
     {
         let count = self.put_compressed()?;
         Ok(CoderGuard { inner: self, count })
@@ -204,11 +205,16 @@ where
         ensures err { (e : Backend.WriteError) → result ≡ Err (coder_error.Backend e) →
             (m : ℕ) × IsBinary Word.BITS m self.old.state × (Backend.room self.old.backend < m)
             × (Backend.prepare_fails self.old.backend m e
-            ⊎ ((last : Backend) × Backend.write_fails last e
-            × PartlyBinary Word.BITS m self.old.state (map Word.number (Backend.words last)))) }
-        ensures* refused { sem 𝓛 (RestsIfErr (the_row Word.row State.row Backend.row Word.NonZero.row State.NonZero.row Word.BitArray State.BitArray Backend.Holds)
+            ⊎ ((Backend.makes_room → ⊥) × ((last : Backend) × Backend.write_fails last e
+            × PartlyBinary Word.BITS m self.old.state (map Word.number (Backend.words last))))) }
+        ensures* left { sem 𝓛 (RestsIfErr (the_row Word.row State.row Backend.row Word.NonZero.row State.NonZero.row Word.BitArray State.BitArray Backend.Holds)
             self.entry (λ g. (lender g).ghost_name) result
-            (λ after. (after.state.head ≡ self.old.state.head) × (NeverRefused Backend.reads → after.state ≡ self.old.state))) }
+            (λ after. (result ≡ Err (coder_error.Frontend tt) → after ≡ self.old)
+            × ((e : Backend.WriteError) → result ≡ Err (coder_error.Backend e) →
+            LeftByRefusal (NeverRefused Backend.reads)
+            ((Backend.makes_room → ⊥) × ((m : ℕ) × (last : Backend) × Backend.write_fails last e
+            × PartlyBinary Word.BITS m self.old.state (map Word.number (Backend.words last))))
+            self.old.state after.state))) }
     {
         match self.put_binary() {
             Ok(count) => Ok(CoderGuard { inner: self, count }),
@@ -223,7 +229,8 @@ where
     Word: BitArray,
     Backend: WriteWords<Word> + ReadWords<Word, Stack>,
     Backend::ReadError: Drop,
-    ensures { NeverRefused Backend.reads → Backend.words bulk.new ≡ drop count (Backend.words bulk.old) }
+    ensures none { count ≡ 0 → bulk.new ≡ bulk.old }
+    ensures words { NeverRefused Backend.reads → Backend.words bulk.new ≡ drop count (Backend.words bulk.old) }
 {
     for _i in 0..count {
         match bulk.read() {
@@ -244,32 +251,22 @@ where
     Backend: WriteWords<Word> + ReadWords<Word, Stack>,
     Backend::ReadError: Drop,
     requires { IsSizes Word.BITS State.BITS }
-    ensures ok { OnOk result (map Word.number (Backend.words bulk.new)
-        ≡ fixed_digits (2 ^ Word.BITS) count (State.number head) ++ map Word.number (Backend.words bulk.old)) }
-    ensures back { OnOk result (drop count (Backend.words bulk.new) ≡ Backend.words bulk.old) }
-    ensures kept { NeverRefused Backend.reads → OnErr result (Backend.words bulk.new ≡ Backend.words bulk.old) }
+    ensures ok { OnOk result ((map Word.number (Backend.words bulk.new)
+        ≡ fixed_digits (2 ^ Word.BITS) count (State.number head) ++ map Word.number (Backend.words bulk.old))
+        × (drop count (Backend.words bulk.new) ≡ Backend.words bulk.old)) }
     ensures room { OnErr result (Backend.room bulk.old < count) }
-    ensures err { IfErr result (λ e. Backend.prepare_fails bulk.old count e
-        ⊎ ((last : Backend) × Backend.write_fails last e
+    ensures err { IfErr result (λ e.
+        ((Backend.words bulk.new ≡ Backend.words bulk.old) × Backend.prepare_fails bulk.old count e)
+        ⊎ ((NeverRefused Backend.reads → Backend.words bulk.new ≡ Backend.words bulk.old)
+        × (Backend.makes_room → ⊥) × ((last : Backend) × Backend.write_fails last e
         × PartlyBinary Word.BITS count record { head = State.number head; words = map Word.number (Backend.words bulk.old) }
-        (map Word.number (Backend.words last)))) }
+        (map Word.number (Backend.words last))))) }
 {
-    if count == 0 {
-        return Ok(());
-    }
-    bulk.prepare(count)?;
-    let mut rest = head;
-    let mut left = count;
-    'words: while left > 0 {
-        match bulk.write(Word::narrow(rest)) {
-            Ok(()) => {}
-            Err(error) => {
-                take_back::<Word, Backend>(bulk, count - left);
-                return Err(error);
-            }
+    match append_words(bulk, head, count) {
+        Ok(()) => Ok(()),
+        Err((written, error)) => {
+            take_back::<Word, Backend>(bulk, written);
+            Err(error)
         }
-        rest = rest.shifted_right(Word::BITS);
-        left -= 1;
     }
-    Ok(())
 }

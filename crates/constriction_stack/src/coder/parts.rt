@@ -2,7 +2,7 @@
 
 ghost use Rattle.std.specs.Prelude.{◌≡◌, map};
 ghost use Rattle.constriction_base.specs.Steps.{IsSizes};
-ghost use Rattle.constriction_stack.specs.Ans.{AnsState, AnsValue};
+ghost use Rattle.constriction_stack.specs.Ans.{AnsState, AnsValue, IsCoder};
 
 use crate::coder::AnsCoder;
 use constriction_base::backends::{Holds, Stack};
@@ -23,6 +23,7 @@ impl<Word: WordOf<State>, State: BitArray, Backend: Holds<Word, Stack>> AnsCoder
         ensures state { result.state
             ≡ record { head = State.number state; words = map Word.number (Backend.words bulk) } }
         ensures backend { result.backend ≡ bulk }
+        ensures coder { IsCoder Word.number Backend.words Word.BITS State.BITS result }
     {
         AnsCoder {
             bulk,
@@ -37,6 +38,7 @@ impl<Word: WordOf<State>, State: BitArray, Backend: Holds<Word, Stack>> AnsCoder
         ensures backend { result.0 ≡ self.backend }
         ensures state { self.state
             ≡ record { head = State.number result.1; words = map Word.number (Backend.words result.0) } }
+        ensures coder { IsCoder Word.number Backend.words Word.BITS State.BITS self }
     {
         let AnsCoder {
             bulk,
@@ -50,7 +52,7 @@ impl<Word: WordOf<State>, State: BitArray, Backend: Holds<Word, Stack>> AnsCoder
     #[inline]
     pub fn bulk(&self) -> &Backend
         ensures backend { result.now ≡ self.now.backend }
-        ensures words { map Word.number (Backend.words result.now) ≡ self.now.state.words }
+        ensures coder { IsCoder Word.number Backend.words Word.BITS State.BITS self.now }
     {
         &self.bulk
     }

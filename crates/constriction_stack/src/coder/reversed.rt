@@ -4,18 +4,17 @@ ghost use Rattle.std.specs.Prelude.{◌≡◌, ◌↔◌, ◌-◌, false, length
 ghost use Rattle.std.specs.Iterator.Adapters.{fuse_done, fuse_source};
 ghost use Rattle.constriction_base.specs.Iterators.{FusedRead};
 ghost use Rattle.constriction_base.specs.Steps.{IsSizes};
-ghost use Rattle.constriction_stack.specs.Ans.{BeginsHigh, filled};
+ghost use Rattle.constriction_stack.specs.Ans.{BeginsHigh, IsCoder, filled};
 ghost use Rattle.constriction_stack.specs.Binary.{BinaryFilledBy, BinaryRefused, binary_state};
 ghost use Rattle.constriction_stack.specs.Steps.{FilledBy, ImportRefused};
 
 use crate::coder::AnsCoder;
-use constriction_base::backends::{Holds, IntoReversed, Words};
+use constriction_base::backends::{Holds, IntoReversed, Stack, Words};
 use constriction_base::cursor::Cursor;
 use constriction_base::iterators::FallibleIteratorReadWords;
 use constriction_base::reverse::Reverse;
 use constriction_words::{BitArray, WordOf};
 use std::iter::Fuse;
-use std::marker::PhantomData;
 
 impl<Word: WordOf<State>, State: BitArray, Buf: Words<Word> + Drop> AnsCoder<
     Word,
@@ -115,16 +114,9 @@ impl<Word: WordOf<State>, State: BitArray, Backend: IntoReversed<Word>> AnsCoder
     pub fn into_reversed(self) -> AnsCoder<Word, State, Backend::IntoReversed>
         ensures state { result.state ≡ self.state }
         ensures turned { Backend.turns self.backend result.backend }
+        ensures coder { IsCoder Word.number (⟦<Backend::IntoReversed as Holds<Word, Stack>>⟧.words) Word.BITS State.BITS result }
     {
-        let AnsCoder {
-            bulk,
-            state,
-            word: _,
-        } = self;
-        AnsCoder {
-            bulk: bulk.into_reversed_stack(),
-            state,
-            word: PhantomData,
-        }
+        let (bulk, head) = self.into_raw_parts();
+        AnsCoder::from_raw_parts(bulk.into_reversed_stack(), head)
     }
 }

@@ -1,13 +1,13 @@
 //! Coders that go to positions: how many words lie below the head, and the head.
 
 ghost use Rattle.std.specs.Prelude.{◌≡◌, map};
+ghost use Rattle.constriction_stack.specs.Ans.{IsCoder};
 
 use crate::coder::AnsCoder;
 use constriction_base::backends::{
     AsReadWords, AsSeekReadWords, Holds, IntoSeekReadWords, Pos, PosSeek, Seek, SeeksBack, Stack,
 };
 use constriction_words::{BitArray, WordOf};
-use std::marker::PhantomData;
 
 impl<Word: WordOf<State>, State: BitArray, Backend: IntoSeekReadWords<Word, Stack>> AnsCoder<
     Word,
@@ -16,18 +16,12 @@ impl<Word: WordOf<State>, State: BitArray, Backend: IntoSeekReadWords<Word, Stac
 > {
     /// The same state over a backend for reading that can go to positions.
     pub fn into_seekable_decoder(self) -> AnsCoder<Word, State, Backend::IntoSeekReadWords>
-        ensures { result.state ≡ self.state }
+        ensures state { result.state ≡ self.state }
+        ensures place { Backend.becomes self.backend result.backend }
+        ensures coder { IsCoder Word.number (⟦<Backend::IntoSeekReadWords as Holds<Word, Stack>>⟧.words) Word.BITS State.BITS result }
     {
-        let AnsCoder {
-            bulk,
-            state,
-            word: _,
-        } = self;
-        AnsCoder {
-            bulk: bulk.into_seek_read_words(),
-            state,
-            word: PhantomData,
-        }
+        let (bulk, head) = self.into_raw_parts();
+        AnsCoder::from_raw_parts(bulk.into_seek_read_words(), head)
     }
 }
 
@@ -40,13 +34,11 @@ impl<Word: WordOf<State>, State: BitArray, Backend: Holds<Word, Stack>> AnsCoder
     pub fn as_seekable_decoder<'a>(&'a self) -> AnsCoder<Word, State, Backend::AsSeekReadWords>
     where
         Backend: AsSeekReadWords<'a, Word, Stack>,
-        ensures { result.state ≡ self.now.state }
+        ensures state { result.state ≡ self.now.state }
+        ensures place { Backend.becomes self.now.backend result.backend }
+        ensures coder { IsCoder Word.number (⟦<Backend::AsSeekReadWords as Holds<Word, Stack>>⟧.words) Word.BITS State.BITS result }
     {
-        AnsCoder {
-            bulk: self.bulk.as_seek_read_words(),
-            state: self.state,
-            word: PhantomData,
-        }
+        AnsCoder::from_raw_parts(self.bulk.as_seek_read_words(), self.state)
     }
 }
 
@@ -54,7 +46,8 @@ impl<Word: WordOf<State>, State: BitArray, Backend: Holds<Word, Stack>> AnsCoder
 impl<'a, Word: WordOf<State>, State: BitArray, Backend: AsReadWords<'a, Word, Stack>> From<
     &'a AnsCoder<Word, State, Backend>,
 > for AnsCoder<Word, State, <Backend as AsReadWords<'a, Word, Stack>>::AsReadWords> {
-    ghost from_gives = { λ coder result. result.state ≡ coder.now.state };
+    ghost from_gives = { λ coder result. (result.state ≡ coder.now.state)
+        × IsCoder Word.number (⟦<<Backend as AsReadWords<'a, Word, Stack>>::AsReadWords as Holds<Word, Stack>>⟧.words) Word.BITS State.BITS result };
 
     fn from(coder: &'a AnsCoder<Word, State, Backend>) -> Self {
         coder.as_decoder()

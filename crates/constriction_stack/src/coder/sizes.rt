@@ -5,7 +5,7 @@ ghost use Rattle.constriction_stack.specs.Ans.{exported};
 ghost use Rattle.constriction_stack.specs.Sizes.{SizesFit, valid_bit_count};
 
 use crate::coder::AnsCoder;
-use crate::steps::words_of_head;
+use crate::moves::count_of_words;
 use constriction_base::backends::{BoundedReadWords, Stack};
 use constriction_words::{BitArray, WordOf};
 
@@ -19,7 +19,7 @@ impl<Word: WordOf<State>, State: BitArray, Backend: BoundedReadWords<Word, Stack
     pub fn sizes_fit(&self) -> bool
         ensures { IsTrue result ↔ SizesFit Word.BITS self.now.state }
     {
-        let head = words_of_head::<Word, State>(self.state);
+        let head = count_of_words::<Word, State>(self.state);
         match self.bulk.remaining().checked_add(head) {
             Some(words) => words <= usize::MAX / Word::BITS as usize,
             None => false,
@@ -32,7 +32,7 @@ impl<Word: WordOf<State>, State: BitArray, Backend: BoundedReadWords<Word, Stack
         requires { SizesFit Word.BITS self.now.state }
         ensures { result ≡ length (exported Word.BITS self.now.state) }
     {
-        self.bulk.remaining() + words_of_head::<Word, State>(self.state)
+        self.bulk.remaining() + count_of_words::<Word, State>(self.state)
     }
 
     /// The number of bits of the words that [`AnsCoder::into_compressed`] gives.

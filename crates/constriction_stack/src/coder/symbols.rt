@@ -1,13 +1,10 @@
 //! The two steps: a symbol is put on, or taken off.
 
-ghost use Rattle.std.specs.Prelude.{◌≡◌, ◌+◌, ◌≤◌, ◌↔◌, ℕ, Result, Ok, Err, IfOk, IsTrue};
+ghost use Rattle.std.specs.Prelude.{◌≡◌, ◌+◌, ◌≤◌, ◌↔◌, IsTrue, ⊤};
 ghost use Rattle.std.specs.Bool.{OnFalse};
 ghost use Rattle.constriction_base.specs.Steps.{Step};
-ghost use Rattle.constriction_base.specs.Tables.{Has};
-ghost use Rattle.constriction_base.specs.declared.errors.CoderError.TheVariants as coder_error;
-ghost use Rattle.constriction_base.specs.declared.errors.DefaultEncoderFrontendError.TheVariants as frontend_error;
 ghost use Rattle.constriction_base.specs.declared.errors.DefaultEncoderFrontendError.TheVariants.{ImpossibleSymbol};
-ghost use Rattle.constriction_stream.specs.Symbols.{EncodesSymbol, DecodesSymbol, as_backend};
+ghost use Rattle.constriction_stream.specs.Symbols.{EncodesSymbol, DecodesSymbol, ByBackend, HasRoom, GoesOn, IsBackendError, never_frontend};
 ghost use Rattle.constriction_stack.specs.Steps.{Encodes, Decodes};
 
 use crate::coder::AnsCoder;
@@ -46,15 +43,22 @@ impl<
 
     type BackendError = Backend::WriteError;
 
-    ghost encodes = { λ old step answer new. (result : Result (Unit {0}) Backend.WriteError)
-        × Encodes Word.BITS State.BITS Backend.room Backend.prepare_fails Backend.write_fails old step result new
-        × (answer ≡ as_backend result) };
+    ghost encodes = { ByBackend (Encodes Word.number Backend.words Word.BITS State.BITS
+        Backend.room Backend.makes_room Backend.prepare_fails Backend.write_fails) };
 
-    ghost is_unknown_symbol = { λ error. error ≡ ImpossibleSymbol };
+    ghost is_impossible_symbol = { λ error. error ≡ ImpossibleSymbol };
+
+    ghost counts_symbols = { ⊥ };
 
     ghost symbols_left = { λ _. 0xffff_ffff_ffff_ffff };
 
-    ghost has_room = { λ coder. (e : Backend.WriteError) → Backend.is_lack_of_room e → Backend.write_fails coder.backend e → ⊥ };
+    ghost is_lack_of_room = { λ error. IsBackendError error Backend.is_lack_of_room };
+
+    ghost tells_room = { λ _. ⊤ };
+
+    ghost never_impossible = { λ old step e new impossible step_gives. never_frontend step_gives.0 e step_gives.2 };
+
+    ghost never_full = { λ e impossible lack. lack };
 
     /// There is no limit.
     #[inline]
@@ -81,21 +85,10 @@ impl<
         M: EncoderModel<PRECISION>,
         M::Probability: WordOf<Word>,
         ensures step { EncodesSymbol (⟦<AnsCoder<Word, State, Backend> as Encode<PRECISION>>⟧.encodes)
-            (⟦<AnsCoder<Word, State, Backend> as Encode<PRECISION>>⟧.is_unknown_symbol)
+            (⟦<AnsCoder<Word, State, Backend> as Encode<PRECISION>>⟧.is_impossible_symbol)
             PRECISION (M.table model) symbol.now self.old result self.new }
         ensures left { ⟦<AnsCoder<Word, State, Backend> as Encode<PRECISION>>⟧.symbols_left self.old
             ≤ ⟦<AnsCoder<Word, State, Backend> as Encode<PRECISION>>⟧.symbols_left self.new + 1 }
-        ensures ok { IfOk result (λ _. (left p : ℕ) × Has (M.table model) symbol.now left p
-            × Encodes Word.BITS State.BITS Backend.room Backend.prepare_fails Backend.write_fails
-            self.old record { precision = PRECISION; left = left; p = p } (Ok tt) self.new) }
-        ensures refused { (e : Backend.WriteError) → result ≡ Err (coder_error.Backend e) →
-            (left p : ℕ) × Has (M.table model) symbol.now left p
-            × Encodes Word.BITS State.BITS Backend.room Backend.prepare_fails Backend.write_fails
-            self.old record { precision = PRECISION; left = left; p = p } (Err e) self.new }
-        ensures unknown { (result ≡ Err (coder_error.Frontend frontend_error.ImpossibleSymbol))
-            ↔ ((left p : ℕ) → Has (M.table model) symbol.now left p → ⊥) }
-        ensures untouched { result ≡ Err (coder_error.Frontend frontend_error.ImpossibleSymbol)
-            → self.new ≡ self.old }
     {
         let Some((left, p)) = model.left_cumulative_and_probability(symbol) else {
             return Err(CoderError::Frontend(DefaultEncoderFrontendError::ImpossibleSymbol));
@@ -111,12 +104,13 @@ impl<
         }
     }
 
-    /// Whether the backend may be full: false promises that it has room for the word that a step may
-    /// write.
+    /// Whether the backend may be full: false promises that no step is refused for lack of room.
     #[inline]
     fn maybe_full(&self) -> bool
         ensures value { result ≡ Backend.seems_full self.now.backend }
-        ensures room { OnFalse result (⟦<AnsCoder<Word, State, Backend> as Encode<PRECISION>>⟧.has_room self.now) }
+        ensures room { OnFalse result (⟦<AnsCoder<Word, State, Backend> as Encode<PRECISION>>⟧.tells_room self.now
+            → HasRoom (⟦<AnsCoder<Word, State, Backend> as Encode<PRECISION>>⟧.encodes)
+            (⟦<AnsCoder<Word, State, Backend> as Encode<PRECISION>>⟧.is_lack_of_room) self.now) }
     {
         self.bulk.maybe_full()
     }
@@ -132,13 +126,13 @@ impl<
 
     type BackendError = Backend::ReadError;
 
-    ghost decodes = { λ old step answer new. (result : Result (Unit {0}) Backend.ReadError)
-        × Decodes Word.number Backend.is_list Backend.reads Word.BITS State.BITS old step result new
-        × (answer ≡ as_backend result) };
+    ghost decodes = { ByBackend (Decodes Word.number Backend.words Backend.is_list Backend.reads Word.BITS State.BITS) };
 
     ghost halts = { λ _ _ _. ⊥ };
 
     ghost has_data = { λ coder. coder.state.head ≡ 0 → ⊥ };
+
+    ghost is_end_of_data = { λ _. ⊥ };
 
     /// Takes a symbol off, under a model of `PRECISION` bits, which are those of a word at most.
     ///
@@ -155,16 +149,6 @@ impl<
     where
         M: DecoderModel<PRECISION>,
         M::Probability: WordOf<Word>,
-        ensures step { DecodesSymbol (⟦<AnsCoder<Word, State, Backend> as Decode<PRECISION>>⟧.decodes)
-            (⟦<AnsCoder<Word, State, Backend> as Decode<PRECISION>>⟧.halts)
-            PRECISION (M.table model) self.old result self.new }
-        ensures ok { IfOk result (λ symbol. (left p : ℕ) × Has (M.table model) symbol left p
-            × Decodes Word.number Backend.is_list Backend.reads Word.BITS State.BITS
-            self.old record { precision = PRECISION; left = left; p = p } (Ok tt) self.new) }
-        ensures refused { (e : Backend.ReadError) → result ≡ Err (coder_error.Backend e) →
-            (symbol : M.Symbol) × (left p : ℕ) × Has (M.table model) symbol left p
-            × Decodes Word.number Backend.is_list Backend.reads Word.BITS State.BITS
-            self.old record { precision = PRECISION; left = left; p = p } (Err e) self.new }
     {
         let precision = PRECISION as u32;
         let quantile = M::Probability::narrow(Word::narrow(self.state.low_bits(precision)));
@@ -190,6 +174,9 @@ impl<
     fn maybe_exhausted(&self) -> bool
         ensures value { IsTrue result ↔ (self.now.state.head ≡ 0) }
         ensures data { OnFalse result (⟦<AnsCoder<Word, State, Backend> as Decode<PRECISION>>⟧.has_data self.now) }
+        ensures goes_on { OnFalse result (GoesOn (⟦<AnsCoder<Word, State, Backend> as Decode<PRECISION>>⟧.decodes)
+            (⟦<AnsCoder<Word, State, Backend> as Decode<PRECISION>>⟧.halts)
+            (⟦<AnsCoder<Word, State, Backend> as Decode<PRECISION>>⟧.is_end_of_data) self.now) }
     {
         self.state.is_nothing()
     }

@@ -2,7 +2,7 @@
 
 ghost use Rattle.std.specs.Prelude.{◌≡◌, ◌^◌, ◌++◌, map, reverse};
 ghost use Rattle.std.specs.Int.Digits.{digits_of};
-ghost use Rattle.constriction_stack.specs.Ans.{exported};
+ghost use Rattle.constriction_stack.specs.Ans.{IsCoder, exported};
 
 use crate::coder::AnsCoder;
 use constriction_base::backends::{Holds, Stack, Words};
@@ -92,7 +92,8 @@ impl<
 
 impl<Word: WordOf<State>, State: BitArray, Backend: Holds<Word, Stack> + Clone> Clone
     for AnsCoder<Word, State, Backend> {
-    ghost is_clone = { λ old new. Backend.is_clone old.backend new.backend × (new.state.head ≡ old.state.head) };
+    ghost is_clone = { λ old new. Backend.is_clone old.backend new.backend × (new.state.head ≡ old.state.head)
+        × IsCoder Word.number Backend.words Word.BITS State.BITS new };
 
     ghost is_infallible = { λ coder. Backend.is_infallible coder.backend };
 

@@ -1,120 +1,44 @@
-use Rattle.std.specs.Prelude.{◌≡◌, ◌-◌, ◌/◌, Ok, map}
-use Rattle.std.proofs.Common.{arith, ap, refl}
-use Rattle.constriction_stack.specs.Ans.{AnsState}
-use Rattle.constriction_stack.proofs.Exporting.{some_of}
-use Rattle.constriction_stack.proofs.BinaryForms.{binary_of_whole, whole_of_binary, some_bits, no_words_of_one, whole_of_one}
+use Rattle.std.specs.Prelude.{◌≡◌, [], Ok, map}
+use Rattle.std.proofs.Common.{ap, inl, inr, refl}
+use Rattle.std.proofs.lemmas.Bool.{false≢true}
+use Rattle.constriction_stack.proofs.BinaryForms.{no_words_of_one, one_is_binary}
 use Rattle.constriction_stack.proofs.coder.AnsCoder.into_binary.Goals as goal
 
-pub returns-then-bits-BITS-ne0-clause-empty : goal.returns-then-bits-BITS-ne0-clause-empty
-returns-then-bits-BITS-ne0-clause-empty g c =
-    let w = g.Word.BitArray.BITS in
-    let number = g.Word.BitArray.number in
-    let head = g.State.BitArray.number c.self.inside.state in
-    let bits = c.bit_length-bits.result in
-    let state : AnsState = record { head = head; words = map number (g.Backend.Holds.words c.self.inside.bulk) } in
-    let below = c.bit_length-bits.ensures.below in
-    let least = c.bit_length-bits.ensures.least in
-    rw (← c.self.view_is) (λ one. absurd (c.if-bits-BITS-ne0.true (rw c.BITS.ensures (whole_of_one w bits head c.self.invariant.some_bits one below least))))
+pub returns-in_default-clause-empty : goal.returns-in_default-clause-empty
+returns-in_default-clause-empty g c = rw (← c.self.view_is) (λ one. absurd (c.in_default.ensures.none 0 [] (one_is_binary g.Word.BitArray.BITS (record { head = g.State.BitArray.number c.self.inside.state; words = [] }) one)))
 
-pub returns-then-bits-BITS-ne0-clause-refused : goal.returns-then-bits-BITS-ne0-clause-refused
-returns-then-bits-BITS-ne0-clause-refused g c =
-    let w = g.Word.BitArray.BITS in
-    let number = g.Word.BitArray.number in
-    let head = g.State.BitArray.number c.self.inside.state in
-    let bits = c.bit_length-bits.result in
-    let state : AnsState = record { head = head; words = map number (g.Backend.Holds.words c.self.inside.bulk) } in
-    let below = c.bit_length-bits.ensures.below in
-    let least = c.bit_length-bits.ensures.least in
-    rw (← c.self.view_is) (
-      λ e m i. c.if-bits-BITS-ne0.true (rw c.BITS.ensures (whole_of_binary w m bits state c.self.invariant.some_bits below least i)),
-      λ none. refl,
-    )
+pub returns-in_default-clause-refused : goal.returns-in_default-clause-refused
+returns-in_default-clause-refused g c = rw (← c.self.view_is) (λ is m i. c.in_default.ensures.none m _ i, λ none. refl)
 
 pub returns-in-Ok-clause-ok : goal.returns-in-Ok-clause-ok
-returns-in-Ok-clause-ok g c =
-    let w = g.Word.BitArray.BITS in
-    let number = g.Word.BitArray.number in
-    let head = g.State.BitArray.number c.self.inside.state in
-    let bits = c.bit_length-bits.result in
-    let state : AnsState = record { head = head; words = map number (g.Backend.Holds.words c.self.inside.bulk) } in
-    let below = c.bit_length-bits.ensures.below in
-    let least = c.bit_length-bits.ensures.least in
-    let some = some_bits bits head (some_of head c.if-is_nothing.ensures.1) below in
-    let whole = rw c.BITS.ensures at c.if-bits-BITS-ne0.false in
-    let binary = binary_of_whole w bits state below least some whole in
-    rw (← c.self.view_is) ((bits - 1) / w, binary, rw c.BITS-2.ensures at c.in-Ok.ensures.ok)
+returns-in-Ok-clause-ok g c = rw (← c.self.view_is) (c.in-Some.count, c.in-Some.ensures.some _, c.in-Ok.ensures.ok.0)
 
 pub returns-in-Ok-clause-empty : goal.returns-in-Ok-clause-empty
-returns-in-Ok-clause-empty g c =
-    let w = g.Word.BitArray.BITS in
-    let number = g.Word.BitArray.number in
-    let head = g.State.BitArray.number c.self.inside.state in
-    let bits = c.bit_length-bits.result in
-    let state : AnsState = record { head = head; words = map number (g.Backend.Holds.words c.self.inside.bulk) } in
-    let below = c.bit_length-bits.ensures.below in
-    let least = c.bit_length-bits.ensures.least in
-    rw (← c.self.view_is) (λ one.
-    let none = no_words_of_one w bits head c.self.invariant.some_bits one below least in
-    let is = c.in-Ok.ensures.empty (rw c.BITS-2.ensures none) in
-    let same : c.in-Ok.all ≡ c.self.inside.bulk = cc in
-    ap Ok same)
+returns-in-Ok-clause-empty g c = rw (← c.self.view_is) (λ one.
+    let none = no_words_of_one g.Word.BitArray.BITS c.in-Some.count (record { head = g.State.BitArray.number c.self.inside.state; words = [] }) c.self.invariant.some_bits one (c.in-Some.ensures.some []) in
+    ap Ok (c.append_words.ensures.empty none).1)
 
 pub returns-in-Ok-clause-refused : goal.returns-in-Ok-clause-refused
-returns-in-Ok-clause-refused g c =
-    let w = g.Word.BitArray.BITS in
-    let number = g.Word.BitArray.number in
-    let head = g.State.BitArray.number c.self.inside.state in
-    let bits = c.bit_length-bits.result in
-    let state : AnsState = record { head = head; words = map number (g.Backend.Holds.words c.self.inside.bulk) } in
-    let below = c.bit_length-bits.ensures.below in
-    let least = c.bit_length-bits.ensures.least in
-    let some = some_bits bits head (some_of head c.if-is_nothing.ensures.1) below in
-    let whole = rw c.BITS.ensures at c.if-bits-BITS-ne0.false in
-    let binary = binary_of_whole w bits state below least some whole in
-    rw (← c.self.view_is) (λ e m i. absurd cc, λ none. absurd (none ((bits - 1) / w) binary))
+returns-in-Ok-clause-refused g c = rw (← c.self.view_is) (λ is m i. absurd cc, λ none. absurd (none c.in-Some.count (c.in-Some.ensures.some _)))
 
 pub returns-in-Err-clause-empty : goal.returns-in-Err-clause-empty
-returns-in-Err-clause-empty g c =
-    let w = g.Word.BitArray.BITS in
-    let number = g.Word.BitArray.number in
-    let head = g.State.BitArray.number c.self.inside.state in
-    let bits = c.bit_length-bits.result in
-    let state : AnsState = record { head = head; words = map number (g.Backend.Holds.words c.self.inside.bulk) } in
-    let below = c.bit_length-bits.ensures.below in
-    let least = c.bit_length-bits.ensures.least in
-    rw (← c.self.view_is) (λ one.
-    let none = no_words_of_one w bits head c.self.invariant.some_bits one below least in
-    let is = c.in-Err.ensures.empty (rw c.BITS-2.ensures none) in
-    absurd cc)
+returns-in-Err-clause-empty g c = rw (← c.self.view_is) (λ one.
+    let none = no_words_of_one g.Word.BitArray.BITS c.in-Some.count (record { head = g.State.BitArray.number c.self.inside.state; words = [] }) c.self.invariant.some_bits one (c.in-Some.ensures.some []) in
+    absurd (false≢true (c.in-Err.ensures.empty none).0))
 
 pub returns-in-Err-clause-refused : goal.returns-in-Err-clause-refused
-returns-in-Err-clause-refused g c =
-    let w = g.Word.BitArray.BITS in
-    let number = g.Word.BitArray.number in
-    let head = g.State.BitArray.number c.self.inside.state in
-    let bits = c.bit_length-bits.result in
-    let state : AnsState = record { head = head; words = map number (g.Backend.Holds.words c.self.inside.bulk) } in
-    let below = c.bit_length-bits.ensures.below in
-    let least = c.bit_length-bits.ensures.least in
-    let some = some_bits bits head (some_of head c.if-is_nothing.ensures.1) below in
-    let whole = rw c.BITS.ensures at c.if-bits-BITS-ne0.false in
-    let binary = binary_of_whole w bits state below least some whole in
-    rw (← c.self.view_is) (λ e m i. absurd cc, λ none. absurd (none ((bits - 1) / w) binary))
+returns-in-Err-clause-refused g c = rw (← c.self.view_is) (λ is m i. absurd cc, λ none. absurd (none c.in-Some.count (c.in-Some.ensures.some _)))
 
 pub returns-in-Err-clause-err : goal.returns-in-Err-clause-err
 returns-in-Err-clause-err g c =
-    let w = g.Word.BitArray.BITS in
-    let number = g.Word.BitArray.number in
-    let head = g.State.BitArray.number c.self.inside.state in
-    let bits = c.bit_length-bits.result in
-    let state : AnsState = record { head = head; words = map number (g.Backend.Holds.words c.self.inside.bulk) } in
-    let below = c.bit_length-bits.ensures.below in
-    let least = c.bit_length-bits.ensures.least in
-    let some = some_bits bits head (some_of head c.if-is_nothing.ensures.1) below in
-    let whole = rw c.BITS.ensures at c.if-bits-BITS-ne0.false in
-    let binary = binary_of_whole w bits state below least some whole in
     rw (← c.self.view_is) (λ e is.
     let same : e ≡ c.in-Err.error = cc in
-    let room = rw c.BITS-2.ensures at c.in-Err.ensures.room in
-    let fails = rw c.BITS-2.ensures at c.in-Err.ensures.err in
-    rw same ((bits - 1) / w, binary, room, fails))
+    rw same (
+      c.in-Some.count,
+      c.in-Some.ensures.some _,
+      c.in-Err.ensures.room,
+      elim c.in-Err.ensures.err [
+        | inl none ↦ inl none.2
+        | inr some ↦ inr (some.0, (some.1.0, some.1.1, some.1.2))
+      ],
+    ))

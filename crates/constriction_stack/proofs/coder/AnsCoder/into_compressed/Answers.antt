@@ -1,54 +1,37 @@
-use Rattle.std.specs.Prelude.{◌%◌, ◌^◌, [], ◌∷◌}
-use Rattle.std.proofs.Common.{arith, ◌∙◌, ap, refl, inr, append-nil}
-use Rattle.std.specs.Int.Digits.{digits_of}
-use Rattle.constriction_stack.proofs.Exporting.{no_room, some_of, shr_smaller, next_digit, one_digit_less}
+use Rattle.std.specs.Prelude.{◌≡◌, ℕ, ◌^◌, List, ◌++◌, Ok, map}
+use Rattle.std.proofs.Common.{ap, inl, inr, refl, sym, ◌∙◌}
+use Rattle.std.proofs.lemmas.Bool.{false≢true}
+use Rattle.constriction_stack.specs.Ans.{AnsState, count_of_words}
+use Rattle.constriction_stack.proofs.Exporting.{base_two}
+use Rattle.constriction_stack.proofs.Guards.{all_digits, partly_compressed}
 use Rattle.constriction_stack.proofs.coder.AnsCoder.into_compressed.Goals as goal
 
-pub words-smaller : goal.words-smaller
-words-smaller g c =
-    let some = some_of _ c.words-test.ensures.1 in
-    rw (c.shifted_right-rest.ensures, c.BITS.ensures) (shr_smaller g.Word.BitArray.BITS (g.State.BitArray.number c.words.rest) c.self.invariant.some_bits some)
-
-pub words-preserved : goal.words-preserved
-words-preserved g c =
+pub returns-in-Ok-clause-ok : goal.returns-in-Ok-clause-ok
+returns-in-Ok-clause-ok g c =
     let w = g.Word.BitArray.BITS in
-    let rest = g.State.BitArray.number c.words.rest in
-    let some = some_of _ c.words-test.ensures.1 in
-    record {
-      written = rest % 2 ^ w ∷ c.words.invariant.written;
-      digits = rw (c.shifted_right-rest.ensures, c.BITS.ensures) (next_digit w rest c.words.invariant.written c.self.invariant.some_bits some ∙ c.words.invariant.digits);
-      holds = rw (c.in-Ok.ensures.ok, c.narrow.ensures) (ap (λ ws. rest % 2 ^ w ∷ ws) c.words.invariant.holds);
-      room = rw (c.shifted_right-rest.ensures, c.BITS.ensures) (omega (arith, c.words.invariant.room, c.in-Ok.ensures.room, one_digit_less w rest c.self.invariant.some_bits some));
-    }
+    let head = g.State.BitArray.number c.self.inside.state in
+    let below = map g.Word.BitArray.number (g.Backend.Holds.words c.self.inside.bulk) in
+    rw (← c.self.view_is) (c.in-Ok.ensures.ok.0 ∙ ap (λ (ds : List ℕ). ds ++ below) (all_digits (2 ^ w) c.count_of_words-count.result head (base_two w c.self.invariant.some_bits) (sym c.count_of_words-count.ensures)))
 
-pub words-init : goal.words-init
-words-init g c =
-    rw (← c.self.view_is) record {
-      written = [];
-      digits = append-nil _;
-      holds = rw c.in_ok-prepare.ensures.words refl;
-      room = omega (arith, c.in_ok-prepare.ensures.room);
-    }
+pub returns-in-Ok-clause-empty : goal.returns-in-Ok-clause-empty
+returns-in-Ok-clause-empty g c = rw (← c.self.view_is) (λ (zero : g.State.BitArray.number c.self.inside.state ≡ 0).
+    let none : c.count_of_words-count.result ≡ 0 = c.count_of_words-count.ensures ∙ ap (count_of_words g.Word.BitArray.BITS) zero in
+    ap Ok (c.append_words.ensures.empty none).1)
+
+pub returns-in-Err-clause-empty : goal.returns-in-Err-clause-empty
+returns-in-Err-clause-empty g c = rw (← c.self.view_is) (λ (zero : g.State.BitArray.number c.self.inside.state ≡ 0).
+    let none : c.count_of_words-count.result ≡ 0 = c.count_of_words-count.ensures ∙ ap (count_of_words g.Word.BitArray.BITS) zero in
+    absurd (false≢true (c.in-Err.ensures.empty none).0))
+
+pub returns-in-Err-clause-room : goal.returns-in-Err-clause-room
+returns-in-Err-clause-room g c = rw (← c.self.view_is) (rw c.count_of_words-count.ensures at c.in-Err.ensures.room)
 
 pub returns-in-Err-clause-err : goal.returns-in-Err-clause-err
 returns-in-Err-clause-err g c =
-    let some = some_of _ c.words-test.ensures.1 in
-    let less = one_digit_less g.Word.BitArray.BITS (g.State.BitArray.number c.words.rest) c.self.invariant.some_bits some in
-    inr (
-      c.words.bulk,
-      c.in-Err.ensures.err,
-      record {
-        missing = digits_of (2 ^ g.Word.BitArray.BITS) (g.State.BitArray.number c.words.rest);
-        written = c.words.invariant.written;
-        some_missing = omega (arith, less);
-        digits = c.words.invariant.digits;
-        holds = c.words.invariant.holds;
-      },
-    )
-
-pub returns-in-Err-clause-room : goal.returns-in-Err-clause-room
-returns-in-Err-clause-room g c =
-    let some = some_of _ c.words-test.ensures.1 in
-    let less = one_digit_less g.Word.BitArray.BITS (g.State.BitArray.number c.words.rest) c.self.invariant.some_bits some in
-    let full = no_room _ (λ room. g.met.Backend.WriteWords.room_law c.words.bulk c.in-Err.error room c.in-Err.ensures.err) in
-    omega (arith, less, full, c.words.invariant.room)
+    let w = g.Word.BitArray.BITS in
+    let number = g.Word.BitArray.number in
+    let state : AnsState = record { head = g.State.BitArray.number c.self.inside.state; words = map number (g.Backend.Holds.words c.self.inside.bulk) } in
+    rw (← c.self.view_is) (elim c.in-Err.ensures.err [
+      | inl none ↦ inl (rw c.count_of_words-count.ensures at none.2)
+      | inr some ↦ inr (some.0, (some.1.0, some.1.1, partly_compressed w c.count_of_words-count.result state (map number (g.Backend.Holds.words some.1.0)) c.self.invariant.some_bits c.count_of_words-count.ensures some.1.2))
+    ])

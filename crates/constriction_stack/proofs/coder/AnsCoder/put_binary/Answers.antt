@@ -1,87 +1,52 @@
-use Rattle.std.specs.Prelude.{◌≡◌, ◌-◌, ◌/◌, map}
-use Rattle.std.proofs.Common.{refl}
+use Rattle.std.specs.Prelude.{◌≡◌, ℕ, List, map}
+use Rattle.std.proofs.Common.{ap, inl, inr, refl, sym}
 use Rattle.constriction_stack.specs.Ans.{AnsState}
-use Rattle.constriction_stack.proofs.Exporting.{some_of}
-use Rattle.constriction_stack.proofs.BinaryForms.{binary_of_whole, whole_of_binary, some_bits}
-use Rattle.constriction_stack.proofs.Guards.{shown_binary}
+use Rattle.constriction_stack.proofs.Guards.{shown_binary, taken_off}
 use Rattle.constriction_stack.proofs.coder.AnsCoder.put_binary.Goals as goal
 
-pub returns-then-bits-BITS-ne0-clause-refused : goal.returns-then-bits-BITS-ne0-clause-refused
-returns-then-bits-BITS-ne0-clause-refused g c =
-    let w = g.Word.BitArray.BITS in
-    let number = g.Word.BitArray.number in
-    let head = g.State.BitArray.number c.self.inside.state in
-    let bits = c.bit_length-bits.result in
-    let below = map number (g.Backend.Holds.words c.self.inside.bulk) in
-    let state : AnsState = record { head = head; words = below } in
-    let below_bits = c.bit_length-bits.ensures.below in
-    let least = c.bit_length-bits.ensures.least in
-    rw (← c.self.view_is) (
-      λ e m i. c.if-bits-BITS-ne0.true (rw c.BITS.ensures (whole_of_binary w m bits state c.self.invariant.some_bits below_bits least i)),
-      λ none. refl,
-    )
+pub returns-in_default-clause-frontend : goal.returns-in_default-clause-frontend
+returns-in_default-clause-frontend g c = rw (← c.self.view_is) (λ is m i. c.in_default.ensures.none m _ i, λ none. refl)
 
 pub returns-clause-shows : goal.returns-clause-shows
 returns-clause-shows g c =
-    let w = g.Word.BitArray.BITS in
     let number = g.Word.BitArray.number in
     let head = g.State.BitArray.number c.self.inside.state in
-    let bits = c.bit_length-bits.result in
     let below = map number (g.Backend.Holds.words c.self.inside.bulk) in
-    let state : AnsState = record { head = head; words = below } in
-    let below_bits = c.bit_length-bits.ensures.below in
-    let least = c.bit_length-bits.ensures.least in
-    let some = some_bits bits head (some_of head c.if-is_nothing.ensures.1) below_bits in
-    let whole = rw c.BITS.ensures at c.if-bits-BITS-ne0.false in
-    let binary = binary_of_whole w bits state below_bits least some whole in
     let words = map number (g.Backend.Holds.words c.show_words.new.bulk) in
-    rw (← c.self.view_is) ((bits - 1) / w, binary, shown_binary w ((bits - 1) / w) head below words (rw c.BITS-2.ensures at c.in-Ok.ensures.ok))
+    rw (← c.self.view_is) (c.in-Some.count, c.in-Some.ensures.some below, shown_binary g.Word.BitArray.BITS c.in-Some.count head below words c.in-Ok.ensures.ok.0)
 
-pub returns-clause-refused : goal.returns-clause-refused
-returns-clause-refused g c =
-    let w = g.Word.BitArray.BITS in
+pub returns-clause-back : goal.returns-clause-back
+returns-clause-back g c =
+    rw (← c.self.view_is) (sym (taken_off g.Word.BitArray.number (g.State.BitArray.number c.self.inside.state) c.in-Some.count (g.Backend.Holds.words c.show_words.new.bulk) (g.Backend.Holds.words c.self.inside.bulk) (sym c.in-Ok.ensures.ok.1)))
+
+pub returns-clause-frontend : goal.returns-clause-frontend
+returns-clause-frontend g c = rw (← c.self.view_is) (λ is m i. absurd cc, λ none. absurd (none c.in-Some.count (c.in-Some.ensures.some _)))
+
+pub returns-in-Err-clause-frontend : goal.returns-in-Err-clause-frontend
+returns-in-Err-clause-frontend g c = rw (← c.self.view_is) (λ is m i. absurd cc, λ none. absurd (none c.in-Some.count (c.in-Some.ensures.some _)))
+
+pub returns-in-Err-clause-left : goal.returns-in-Err-clause-left
+returns-in-Err-clause-left g c =
     let number = g.Word.BitArray.number in
     let head = g.State.BitArray.number c.self.inside.state in
-    let bits = c.bit_length-bits.result in
-    let below = map number (g.Backend.Holds.words c.self.inside.bulk) in
-    let state : AnsState = record { head = head; words = below } in
-    let below_bits = c.bit_length-bits.ensures.below in
-    let least = c.bit_length-bits.ensures.least in
-    let some = some_bits bits head (some_of head c.if-is_nothing.ensures.1) below_bits in
-    let whole = rw c.BITS.ensures at c.if-bits-BITS-ne0.false in
-    let binary = binary_of_whole w bits state below_bits least some whole in
-    rw (← c.self.view_is) (λ e m i. absurd cc, λ none. absurd (none ((bits - 1) / w) binary))
-
-pub returns-in-Err-clause-refused : goal.returns-in-Err-clause-refused
-returns-in-Err-clause-refused g c =
-    let w = g.Word.BitArray.BITS in
-    let number = g.Word.BitArray.number in
-    let head = g.State.BitArray.number c.self.inside.state in
-    let bits = c.bit_length-bits.result in
-    let below = map number (g.Backend.Holds.words c.self.inside.bulk) in
-    let state : AnsState = record { head = head; words = below } in
-    let below_bits = c.bit_length-bits.ensures.below in
-    let least = c.bit_length-bits.ensures.least in
-    let some = some_bits bits head (some_of head c.if-is_nothing.ensures.1) below_bits in
-    let whole = rw c.BITS.ensures at c.if-bits-BITS-ne0.false in
-    let binary = binary_of_whole w bits state below_bits least some whole in
-    rw (← c.self.view_is) (λ e m i. absurd cc, λ none. absurd (none ((bits - 1) / w) binary))
+    let state : List g.row.Word.Denot → AnsState = λ ws. record { head = head; words = map number ws } in
+    rw (← c.self.view_is) (λ e is.
+    let same : e ≡ c.in-Err.error = cc in
+    rw same (elim c.in-Err.ensures.err [
+      | inl none ↦ inl (ap state none.0)
+      | inr some ↦ inr (refl, λ never. ap state (some.0 never), (some.1, (c.in-Some.count, some.2.0, some.2.1, some.2.2)))
+    ]))
 
 pub returns-in-Err-clause-err : goal.returns-in-Err-clause-err
 returns-in-Err-clause-err g c =
-    let w = g.Word.BitArray.BITS in
-    let number = g.Word.BitArray.number in
-    let head = g.State.BitArray.number c.self.inside.state in
-    let bits = c.bit_length-bits.result in
-    let below = map number (g.Backend.Holds.words c.self.inside.bulk) in
-    let state : AnsState = record { head = head; words = below } in
-    let below_bits = c.bit_length-bits.ensures.below in
-    let least = c.bit_length-bits.ensures.least in
-    let some = some_bits bits head (some_of head c.if-is_nothing.ensures.1) below_bits in
-    let whole = rw c.BITS.ensures at c.if-bits-BITS-ne0.false in
-    let binary = binary_of_whole w bits state below_bits least some whole in
     rw (← c.self.view_is) (λ e is.
     let same : e ≡ c.in-Err.error = cc in
-    let room = rw c.BITS-2.ensures at c.in-Err.ensures.room in
-    let fails = rw c.BITS-2.ensures at c.in-Err.ensures.err in
-    rw same ((bits - 1) / w, binary, room, fails))
+    rw same (
+      c.in-Some.count,
+      c.in-Some.ensures.some _,
+      c.in-Err.ensures.room,
+      elim c.in-Err.ensures.err [
+        | inl none ↦ inl none.1
+        | inr some ↦ inr (some.1, some.2)
+      ],
+    ))

@@ -1,45 +1,8 @@
-use Rattle.std.specs.Prelude.{◌%◌, ◌-◌, ◌^◌, [], ◌∷◌, ◌++◌, drop, map}
-use Rattle.std.proofs.Common.{arith, ◌∙◌, ap, refl, inr, append-nil}
-use Rattle.constriction_base.specs.Digits.{fixed_digits}
-use Rattle.constriction_stack.proofs.BinaryForms.{fixed_less}
-use Rattle.constriction_stack.proofs.Guards.{drop_written, drop_nothing}
-use Rattle.constriction_stack.proofs.SizesCounted.{fixed-length}
+use Rattle.std.proofs.Common.{ap, ◌∙◌, inl, inr}
 use Rattle.constriction_stack.proofs.coder.guard.show_words.Goals as goal
 
-pub words-init : goal.words-init
-words-init g c =
-    record {
-      within = omega arith;
-      written = [];
-      digits = append-nil _;
-      holds = refl;
-      back = drop_nothing c.args.count _;
-      room = omega arith;
-    }
-
-pub words-preserved : goal.words-preserved
-words-preserved g c =
-    let w = g.Word.BitArray.BITS in
-    let rest = g.State.BitArray.number c.words.rest in
-    record {
-      within = omega (arith, c.words.invariant.within);
-      written = rest % 2 ^ w ∷ c.words.invariant.written;
-      digits = rw (c.shifted_right-rest.ensures, c.BITS.ensures) (fixed_less (2 ^ w) c.words.left rest c.words.invariant.written (omega arith) ∙ c.words.invariant.digits);
-      holds = rw (c.in-Ok.ensures.ok, c.narrow.ensures) (ap (λ ws. rest % 2 ^ w ∷ ws) c.words.invariant.holds);
-      back = drop_written c.args.count c.words.left c.narrow.result (g.Backend.Holds.words c.prepare.new.self) (g.Backend.Holds.words c.words.bulk) (g.Backend.Holds.words c.write.new.self) (omega arith) c.words.invariant.within c.in-Ok.ensures.ok c.words.invariant.back;
-      room = omega (arith, c.words.invariant.room, c.in-Ok.ensures.room);
-    }
-
 pub returns-in-Err-clause-err : goal.returns-in-Err-clause-err
-returns-in-Err-clause-err g c =
-    inr (
-      c.words.bulk,
-      c.in-Err.ensures.err,
-      record {
-        missing = fixed_digits (2 ^ g.Word.BitArray.BITS) c.words.left (g.State.BitArray.number c.words.rest);
-        written = c.words.invariant.written;
-        some_missing = omega (arith, fixed-length (2 ^ g.Word.BitArray.BITS) c.words.left (g.State.BitArray.number c.words.rest));
-        digits = c.words.invariant.digits;
-        holds = c.words.invariant.holds ∙ ap (λ ws. c.words.invariant.written ++ map g.Word.BitArray.number ws) c.in_ok-prepare.ensures.words;
-      },
-    )
+returns-in-Err-clause-err g c = elim c.in-Err.ensures.err [
+  | inl none ↦ inl (ap g.Backend.Holds.words (c.take_back.ensures.none none.0) ∙ none.1, none.2)
+  | inr some ↦ inr (λ never. c.take_back.ensures.words never ∙ some.1.3, some.0, (some.1.0, some.1.1, some.1.2))
+]

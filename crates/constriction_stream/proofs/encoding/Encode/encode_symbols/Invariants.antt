@@ -7,7 +7,7 @@ abbrev pub invariant-loop-symbol : goal.invariant-loop-symbol
 invariant-loop-symbol g l =
     (goal.iterator-loop-symbol g).can_next l.symbol-iterator
     × (goal.iterator-loop-symbol g).is_finite l.symbol-iterator
-    × StepsAll (EncodesPair g.Self.Encode.encodes g.Self.Encode.is_unknown_symbol g.row.PRECISION g.M.EntropyModel.table g.S.Lent.lent) l.initial.self l.yielded l.self
-    × ((goal.iterator-loop-symbol g).remaining l.symbol-iterator ≤ g.Self.Encode.symbols_left l.self)
+    × StepsAll (EncodesPair g.Self.Encode.encodes g.Self.Encode.is_impossible_symbol g.row.PRECISION g.M.EntropyModel.table g.S.Lent.lent) l.initial.self l.yielded l.self
+    × (g.Self.Encode.counts_symbols → (goal.iterator-loop-symbol g).remaining l.symbol-iterator ≤ g.Self.Encode.symbols_left l.self)
     × (g.Self.Encode.symbols_left l.initial.self + (goal.iterator-loop-symbol g).remaining l.symbol-iterator
     ≤ g.Self.Encode.symbols_left l.self + (goal.iterator-loop-symbol g).remaining l.initial.symbol-iterator)

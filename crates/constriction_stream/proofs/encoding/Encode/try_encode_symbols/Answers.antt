@@ -35,7 +35,7 @@ loop-symbol_and_model-preserved g c =
     let on = c.in-Some.ensures.goes.on c.loop-symbol_and_model.invariant.1 in (
       on.0,
       on.1,
-      StepsAll-more (TriesItem (EncodesPair g.Self.Encode.encodes g.Self.Encode.is_unknown_symbol g.row.PRECISION g.M.EntropyModel.table g.S.Lent.lent))
+      StepsAll-more (TriesItem (EncodesPair g.Self.Encode.encodes g.Self.Encode.is_impossible_symbol g.row.PRECISION g.M.EntropyModel.table g.S.Lent.lent))
           c.args.self.now c.loop-symbol_and_model.yielded c.loop-symbol_and_model.self c.in-Some.symbol_and_model c.encode_symbol.new.self
           c.loop-symbol_and_model.invariant.2 (rw c.in-Ok.is (Ok tt, rw c.lend.ensures at c.in-Ok-encode_symbol.ensures.step, refl)),
       omega (arith, on.2, c.encode_symbol.ensures.left, c.loop-symbol_and_model.invariant.3),

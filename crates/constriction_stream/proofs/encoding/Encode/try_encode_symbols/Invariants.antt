@@ -7,7 +7,7 @@ abbrev pub invariant-loop-symbol_and_model : goal.invariant-loop-symbol_and_mode
 invariant-loop-symbol_and_model g l =
     (goal.iterator-loop-symbol_and_model g).can_next l.symbol_and_model-iterator
     × (goal.iterator-loop-symbol_and_model g).is_finite l.symbol_and_model-iterator
-    × StepsAll (TriesItem (EncodesPair g.Self.Encode.encodes g.Self.Encode.is_unknown_symbol g.row.PRECISION g.M.EntropyModel.table g.S.Lent.lent)) l.initial.self l.yielded l.self
-    × ((goal.iterator-loop-symbol_and_model g).remaining l.symbol_and_model-iterator ≤ g.Self.Encode.symbols_left l.self)
+    × StepsAll (TriesItem (EncodesPair g.Self.Encode.encodes g.Self.Encode.is_impossible_symbol g.row.PRECISION g.M.EntropyModel.table g.S.Lent.lent)) l.initial.self l.yielded l.self
+    × (g.Self.Encode.counts_symbols → (goal.iterator-loop-symbol_and_model g).remaining l.symbol_and_model-iterator ≤ g.Self.Encode.symbols_left l.self)
     × (g.Self.Encode.symbols_left l.initial.self + (goal.iterator-loop-symbol_and_model g).remaining l.symbol_and_model-iterator
     ≤ g.Self.Encode.symbols_left l.self + (goal.iterator-loop-symbol_and_model g).remaining l.initial.symbol_and_model-iterator)

@@ -5,4 +5,4 @@ pub returns-clause-restored : goal.returns-clause-restored
 returns-clause-restored g c =
     let head = g.State.BitArray.number c.inner.inside.state in
     rw (← c.inner.view_is) (λ never.
-    taken_off g.Word.BitArray.number head c.args.self.count (g.Backend.Holds.words c.inner.inside.bulk) (g.Backend.Holds.words c.take_back.new.bulk) (c.take_back.ensures never))
+    taken_off g.Word.BitArray.number head c.args.self.count (g.Backend.Holds.words c.inner.inside.bulk) (g.Backend.Holds.words c.take_back.new.bulk) (c.take_back.ensures.words never))

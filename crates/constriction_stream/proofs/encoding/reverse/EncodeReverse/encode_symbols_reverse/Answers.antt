@@ -1,0 +1,43 @@
+use Rattle.std.specs.Iterator.Adapters.{rev_source}
+use Rattle.std.proofs.Common.{arith, refl}
+use Rattle.constriction_stream.specs.Symbols.{EncodesPair}
+use Rattle.constriction_stream.proofs.Lists.{StepsAll-more, Yields-back}
+use Rattle.constriction_stream.proofs.encoding.reverse.EncodeReverse.encode_symbols_reverse.Goals as goal
+
+pub returns-in-Err : goal.returns-in-Err
+returns-in-Err g c = record {
+  steps = (
+    rev_source c.into_iter-symbol-iterator.result,
+    rw (c.into_iter-symbol-iterator.ensures.into_iter_gives, c.rev-symbol-items.ensures.source) c.into_iter.ensures.into_iter_gives,
+    c.loop-symbol.yielded,
+    c.loop-symbol.self,
+    c.loop-symbol.invariant.2,
+    ((c.in-Some.symbol, c.in-Some.model), rev_source c.next.new.self, (rev_source c.loop-symbol.symbol-iterator, Yields-back g.I.IntoIter.DoubleEndedIterator.next_back_gives _ _ _ c.loop-symbol.yielded_by, c.in-Some.ensures.steps), rw c.lend.ensures at c.in-Err.ensures.step),
+  );
+  left = λ count most. omega (arith, most (rev_source c.into_iter-symbol-iterator.result) (rw (c.into_iter-symbol-iterator.ensures.into_iter_gives, c.rev-symbol-items.ensures.source) c.into_iter.ensures.into_iter_gives), (c.in-Some.ensures.goes.on c.loop-symbol.invariant.1).2, c.encode_symbol.ensures.left, c.loop-symbol.invariant.4);
+}
+
+pub returns : goal.returns
+returns g c = record {
+  steps = (
+    rev_source c.into_iter-symbol-iterator.result,
+    rw (c.into_iter-symbol-iterator.ensures.into_iter_gives, c.rev-symbol-items.ensures.source) c.into_iter.ensures.into_iter_gives,
+    c.loop-symbol.yielded,
+    c.loop-symbol.self,
+    c.loop-symbol.invariant.2,
+    (refl, (rev_source c.next.new.self, (rev_source c.loop-symbol.symbol-iterator, Yields-back g.I.IntoIter.DoubleEndedIterator.next_back_gives _ _ _ c.loop-symbol.yielded_by, c.in-None.ensures.steps))),
+  );
+  left = λ count most. omega (arith, most (rev_source c.into_iter-symbol-iterator.result) (rw (c.into_iter-symbol-iterator.ensures.into_iter_gives, c.rev-symbol-items.ensures.source) c.into_iter.ensures.into_iter_gives), c.loop-symbol.invariant.4);
+}
+
+pub loop-symbol-preserved : goal.loop-symbol-preserved
+loop-symbol-preserved g c =
+    let on = c.in-Some.ensures.goes.on c.loop-symbol.invariant.1 in (
+      on.0,
+      on.1,
+      StepsAll-more (EncodesPair g.Self.Encode.encodes g.Self.Encode.is_impossible_symbol g.row.PRECISION g.M.EntropyModel.table g.S.Lent.lent)
+          c.args.self.now c.loop-symbol.yielded c.loop-symbol.self (c.in-Some.symbol, c.in-Some.model) c.encode_symbol.new.self
+          c.loop-symbol.invariant.2 (rw c.lend.ensures at c.in-Ok.ensures.step),
+      λ counts. omega (arith, on.2, c.encode_symbol.ensures.left, c.loop-symbol.invariant.3 counts),
+      omega (arith, on.2, c.encode_symbol.ensures.left, c.loop-symbol.invariant.4),
+    )

@@ -1,0 +1,116 @@
+//! Lists of symbols that are encoded from the last to the first.
+
+ghost use Rattle.constriction_stream.specs.Symbols.{EncodesSymbol, EncodesPair};
+ghost use Rattle.constriction_stream.specs.Lists.{StepsUntilFault, GivesAtMost, LowersByItems, TriesItem};
+
+use crate::encoding::{Encode, Lent};
+use crate::errors::TryCodingError;
+use constriction_base::errors::CoderError;
+use constriction_base::model::{EncoderModel, EntropyModel};
+use constriction_words::WordOf;
+
+/// An encoder whose last symbol is decoded first, as a stack is one: lists that it takes from the last
+/// symbol to the first are decoded in order.
+///
+/// It has no members of its own, and a coder that is a stack implements it in one line.
+pub trait EncodeReverse<const PRECISION: usize>: Encode<PRECISION> {
+    /// Encodes symbols from the last to the first, each by its own model, up to the first that is
+    /// refused. A decoder then gives them in the order of the list. To a coder that counts symbols as many
+    /// must be left as there are items.
+    ///
+    /// Errors: that of the first step that is refused. Exactly the symbols behind it are encoded, and
+    /// the items before it aren't asked for.
+    final fn encode_symbols_reverse<S, M, I>(
+        &mut self,
+        symbols_and_models: I,
+    ) -> Result<(), CoderError<Self::FrontendError, Self::BackendError>>
+    where
+        M: EncoderModel<PRECISION>,
+        M::Probability: WordOf<Self::Word>,
+        S: Lent<M::Symbol> + Drop,
+        I: IntoIterator<Item = (S, M)>,
+        I::IntoIter: DoubleEndedIterator + Drop,
+        requires { GivesAtMost (I.into_iter_gives symbols_and_models) I.IntoIter.can_next_back I.IntoIter.remaining Self.counts_symbols (Self.symbols_left self.old) }
+        ensures steps { StepsUntilFault (EncodesPair Self.encodes Self.is_impossible_symbol PRECISION M.table S.lent)
+            (I.into_iter_gives symbols_and_models) I.IntoIter.next_back_gives self.old result self.new }
+        ensures left { LowersByItems (I.into_iter_gives symbols_and_models) I.IntoIter.remaining (Self.symbols_left self.old) (Self.symbols_left self.new) }
+    {
+        for (symbol, model) in symbols_and_models.into_iter().rev() {
+            match self.encode_symbol(symbol.lend(), model) {
+                Ok(()) => {}
+                Err(error) => return Err(error),
+            }
+        }
+        Ok(())
+    }
+
+    /// Encodes symbols from the last to the first, each by its own model, where an item may be an error in
+    /// place of both. To a coder that counts symbols as many must be left as there are items.
+    ///
+    /// Errors, after which exactly the symbols behind the item are encoded:
+    /// - `InvalidEntropyModel(error)`, where an item is an error. It leaves the coder.
+    /// - `CodingError(error)`, where a step is refused.
+    final fn try_encode_symbols_reverse<S, M, E, I>(
+        &mut self,
+        symbols_and_models: I,
+    ) -> Result<(), TryCodingError<CoderError<Self::FrontendError, Self::BackendError>, E>>
+    where
+        M: EncoderModel<PRECISION>,
+        M::Probability: WordOf<Self::Word>,
+        S: Lent<M::Symbol> + Drop,
+        I: IntoIterator<Item = Result<(S, M), E>>,
+        I::IntoIter: DoubleEndedIterator + Drop,
+        requires { GivesAtMost (I.into_iter_gives symbols_and_models) I.IntoIter.can_next_back I.IntoIter.remaining Self.counts_symbols (Self.symbols_left self.old) }
+        ensures steps { StepsUntilFault (TriesItem (EncodesPair Self.encodes Self.is_impossible_symbol PRECISION M.table S.lent))
+            (I.into_iter_gives symbols_and_models) I.IntoIter.next_back_gives self.old result self.new }
+        ensures left { LowersByItems (I.into_iter_gives symbols_and_models) I.IntoIter.remaining (Self.symbols_left self.old) (Self.symbols_left self.new) }
+    {
+        for symbol_and_model in symbols_and_models.into_iter().rev() {
+            let (symbol, model) = match symbol_and_model {
+                Ok(pair) => pair,
+                Err(error) => return Err(TryCodingError::InvalidEntropyModel(error)),
+            };
+            match self.encode_symbol(symbol.lend(), model) {
+                Ok(()) => {}
+                Err(error) => return Err(TryCodingError::CodingError(error)),
+            }
+        }
+        Ok(())
+    }
+
+    /// Encodes symbols from the last to the first, all by one model, up to the first that is refused. A
+    /// decoder then gives them in the order of the list. To a coder that counts symbols as many must be
+    /// left as there are items.
+    ///
+    /// Errors: that of the first step that is refused. Exactly the symbols behind it are encoded, and
+    /// those before it aren't asked for.
+    ///
+    /// ```
+    /// coder.encode_iid_symbols_reverse([2usize, 0, 1].as_slice(), &table)?;
+    /// coder.decode_symbol(&table)?; // 2
+    /// ```
+    final fn encode_iid_symbols_reverse<S, M, I>(
+        &mut self,
+        symbols: I,
+        model: M,
+    ) -> Result<(), CoderError<Self::FrontendError, Self::BackendError>>
+    where
+        M: EncoderModel<PRECISION> + Copy,
+        M::Probability: WordOf<Self::Word>,
+        S: Lent<M::Symbol> + Drop,
+        I: IntoIterator<Item = S>,
+        I::IntoIter: DoubleEndedIterator + Drop,
+        requires { GivesAtMost (I.into_iter_gives symbols) I.IntoIter.can_next_back I.IntoIter.remaining Self.counts_symbols (Self.symbols_left self.old) }
+        ensures steps { StepsUntilFault (λ old symbol result new. EncodesSymbol Self.encodes Self.is_impossible_symbol PRECISION (M.table model) (S.lent symbol) old result new)
+            (I.into_iter_gives symbols) I.IntoIter.next_back_gives self.old result self.new }
+        ensures left { LowersByItems (I.into_iter_gives symbols) I.IntoIter.remaining (Self.symbols_left self.old) (Self.symbols_left self.new) }
+    {
+        for symbol in symbols.into_iter().rev() {
+            match self.encode_symbol(symbol.lend(), model) {
+                Ok(()) => {}
+                Err(refusal) => return Err(refusal),
+            }
+        }
+        Ok(())
+    }
+}
