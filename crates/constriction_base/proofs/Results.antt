@@ -1,6 +1,6 @@
 -- Clauses on answers that are known to be one or the other.
-use Rattle.std.proofs.Common.{Result, Ok, Err, true, false}
-use Rattle.std.specs.Prelude.{IsErr, IfOk, OnOk, is_err}
+use Rattle.std.proofs.Common.{Result, Ok, Err}
+use Rattle.std.specs.Prelude.{IsErr, IfOk, OnOk}
 
 -- an error has made nothing
 pub none_made : {T E : Type 0} (P : T → Type 0) (answer : Result T E) → IsErr answer → IfOk answer P

@@ -4,7 +4,6 @@ use Rattle.std.proofs.Math.Pow.{pow_mono}
 use Rattle.std.proofs.lemmas.List.{length-take-le, length-map, take-take}
 use Rattle.constriction_base.specs.Tables.{Sums, IsLastSymbol}
 use Rattle.constriction_base.proofs.Sums.{sums_of_numbers, last_of_numbers, sums_rise, same_table}
-use Rattle.std.proofs.Common.{◌≤◌, ◌<◌}
 use Rattle.constriction_base.proofs.Results.{none_made, either_way}
 use Rattle.constriction_base.proofs.weights.WeightTable.new.Goals as goal
 

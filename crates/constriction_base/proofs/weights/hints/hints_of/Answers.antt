@@ -5,7 +5,6 @@ use Rattle.std.proofs.lemmas.List.{length-map}
 use Rattle.constriction_base.specs.Entries.{ends_at}
 use Rattle.constriction_base.specs.Hints.{IsHint}
 use Rattle.constriction_base.proofs.HintLemmas.{hints_push, hint_of, none_above}
-use Rattle.std.proofs.Common.{Result, Ok, Err, true, false}
 use Rattle.constriction_base.proofs.Results.{none_made}
 use Rattle.constriction_base.proofs.weights.hints.hints_of.Goals as goal
 

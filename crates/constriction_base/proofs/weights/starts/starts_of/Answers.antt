@@ -3,7 +3,7 @@ use Rattle.std.specs.Prelude.{sum_by}
 use Rattle.std.proofs.lemmas.List.{map_push}
 use Rattle.std.proofs.lemmas.List.Sums.{sum_by_more}
 use Rattle.constriction_base.proofs.Sums.{sums_push}
-use Rattle.std.proofs.Common.{ℕ, ◌<◌, ◌^◌, List, [], ◌∷◌, length, refl, sym, subst, true, false, Result, Ok, Err}
+use Rattle.std.proofs.Common.{ℕ, ◌<◌, List, [], ◌∷◌, length, refl, subst}
 use Rattle.constriction_base.proofs.Results.{none_made}
 use Rattle.std.proofs.lemmas.List.Sums.{sum_by-take-le}
 use Rattle.constriction_base.specs.Tables.{Sums}
