@@ -6,6 +6,7 @@ use Rattle.constriction_base.specs.Entries.{ends_at}
 use Rattle.constriction_base.specs.Hints.{IsHint}
 use Rattle.constriction_base.proofs.HintLemmas.{hints_push, hint_of, none_above}
 use Rattle.constriction_base.proofs.Results.{none_made}
+use Rattle.std.proofs.Common.{sym}
 use Rattle.constriction_base.proofs.weights.hints.hints_of.Goals as goal
 
 -- one, moved up to a place within the bits
@@ -134,3 +135,23 @@ pub returns-clause-len : goal.returns-clause-len
 returns-clause-len g c =
     let last = length c.args.starts.now - 1 in
     rw c.push_reserved-2.ensures.items (omega (arith, c.loop-bucket.invariant.len, length-append c.loop-bucket.hints.items (last ∷ []), c.loop-bucket-test.false, c.loop-bucket.auto.bucket-end, pow_mono c.requires.within.1))
+
+zero_place : (width all : ℕ) → 0 < all → 0 * width % all ≡ 0
+zero_place width all some =
+    let none : 0 * width ≡ 0 = omega arith in
+    ap (λ n. n % all) none ∙ mod-eq_of_lt some
+
+pub loop-bucket-init : goal.loop-bucket-init
+loop-bucket-init g c =
+    let number = g.Probability.BitArray.number in
+    let items = c.in_ok-hints.ensures.items in
+    record {
+      first = c.nothing-first.ensures ∙ sym (zero_place (2 ^ c.args.shift) (2 ^ g.Probability.BitArray.BITS) (pow_pos g.Probability.BitArray.BITS));
+      known = omega (arith, length-map c.args.starts.now number, c.requires.some);
+      from = omega (arith, c.requires.rising.first);
+      len = ap length items;
+      counted = c.in_ok-hints.ensures.len;
+      capacity = c.in_ok-hints.ensures.exact;
+      hinted = rw items (record { each = λ k h. absurd (omega (arith, h)); rising = λ k h. absurd (omega (arith, h)) });
+      lower = λ k h. absurd (omega (arith, h, ap length items));
+    }
