@@ -4,7 +4,7 @@ use constriction_base::backends::Pos;
 use constriction_base::cursor::Cursor;
 use constriction_base::iterators::FallibleIteratorReadWords;
 use constriction_base::reverse::Reverse;
-use constriction_stack::coder::compressed::CompressedDataEndsWithZeroWord;
+use constriction_stack::coder::words::CompressedDataEndsWithZeroWord;
 use constriction_stack::{AnsCoder, DefaultAnsCoder};
 use constriction_stack_tests::expect::{holds, puts, table_of};
 use constriction_stream::coder::Code;

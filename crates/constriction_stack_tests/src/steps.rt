@@ -2,7 +2,7 @@
 
 use crate::expect::{coder_of, gives, holds, puts, table_of};
 use constriction_base::weights::WeightTable;
-use constriction_stack::coder::compressed::CompressedDataEndsWithZeroWord;
+use constriction_stack::coder::words::CompressedDataEndsWithZeroWord;
 use constriction_stack::{AnsCoder, DefaultAnsCoder, SmallAnsCoder};
 use std::test::Fail;
 

@@ -1,21 +1,22 @@
-//! The two steps: a symbol is put on, or taken off.
+//! The two steps: a symbol is put on, or taken off. Lists of symbols are put on in their order by the trait
+//! `Encode`, and from the last to the first by `EncodeReverse`.
 
-ghost use Rattle.std.specs.Prelude.{◌≡◌, ◌+◌, ◌≤◌, ◌↔◌, IsTrue, ⊤};
-ghost use Rattle.std.specs.Bool.{OnFalse};
 ghost use Rattle.constriction_base.specs.Steps.{Step};
 ghost use Rattle.constriction_base.specs.declared.errors.DefaultEncoderFrontendError.TheVariants.{ImpossibleSymbol};
-ghost use Rattle.constriction_stream.specs.Symbols.{EncodesSymbol, DecodesSymbol, ByBackend, HasRoom, GoesOn, IsBackendError, never_frontend};
-ghost use Rattle.constriction_stack.specs.Steps.{Encodes, Decodes};
+ghost use Rattle.constriction_stack.specs.Steps.{Decodes, Encodes};
+ghost use Rattle.constriction_stream.specs.Symbols.{ByBackend, DecodesSymbol, EncodesSymbol, GoesOn, HasRoom, IsBackendError, never_frontend};
+ghost use Rattle.std.specs.Bool.{OnFalse};
+ghost use Rattle.std.specs.Prelude.{IsTrue, ⊤, ◌+◌, ◌↔◌, ◌≡◌, ◌≤◌};
 
-use crate::coder::AnsCoder;
-use crate::steps::{popped, pushed_onto, refilled};
 use constriction_base::backends::{Holds, ReadWords, Stack, WriteWords};
 use constriction_base::errors::{CoderError, DefaultEncoderError, DefaultEncoderFrontendError};
 use constriction_base::model::{DecoderModel, EncoderModel, EntropyModel};
 use constriction_stream::coder::Code;
 use constriction_stream::decoding::Decode;
-use constriction_stream::encoding::Encode;
+use constriction_stream::encoding::{Encode, EncodeReverse};
 use constriction_words::{BitArray, WordOf};
+use crate::coder::AnsCoder;
+use crate::steps::{popped, pushed_onto, refilled};
 use std::convert::Infallible;
 
 impl<Word: WordOf<State>, State: BitArray, Backend: Holds<Word, Stack>> Code
@@ -181,3 +182,10 @@ impl<
         self.state.is_nothing()
     }
 }
+
+impl<
+    Word: WordOf<State>,
+    State: BitArray,
+    Backend: WriteWords<Word>,
+    const PRECISION: usize,
+> EncodeReverse<PRECISION> for AnsCoder<Word, State, Backend> {}

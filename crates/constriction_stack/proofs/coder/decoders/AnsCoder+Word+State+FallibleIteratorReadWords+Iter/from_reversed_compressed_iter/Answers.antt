@@ -1,4 +1,4 @@
-use Rattle.constriction_stack.proofs.coder.reversed.AnsCoder+Word+State+FallibleIteratorReadWords+Iter.from_reversed_compressed_iter.Goals as goal
+use Rattle.constriction_stack.proofs.coder.decoders.AnsCoder+Word+State+FallibleIteratorReadWords+Iter.from_reversed_compressed_iter.Goals as goal
 
 pub returns-in-Ok-clause-reads : goal.returns-in-Ok-clause-reads
 returns-in-Ok-clause-reads g c = rw c.new.ensures.value at c.in-Ok.ensures.reads
