@@ -206,6 +206,16 @@ pub fn compared<Word: PartialEq>(words: &[Word], expected: &[Word]) -> Shown {
     }
 }
 
+/// The backend and the head of a coder.
+pub fn parts_of<Word, State, Backend>(coder: AnsCoder<Word, State, Backend>) -> (Backend, State)
+where
+    Word: WordOf<State>,
+    State: BitArray,
+    Backend: Holds<Word, Stack>,
+{
+    coder.into_raw_parts()
+}
+
 /// The words that a coder exports.
 pub fn words_of<Word, State, Backend>(
     coder: AnsCoder<Word, State, Backend>,

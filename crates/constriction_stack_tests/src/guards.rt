@@ -6,9 +6,9 @@ ghost use Rattle.constriction_stack.specs.Guards.{NeverRefused};
 use crate::coders::{
     CursorCoder, HeapCoder, coder_over, coder_over_with, coder_with, new_coder, table_of,
 };
-use crate::expect::{Shown, bulk_at, compared, gives, has_head, holds};
+use crate::expect::{Shown, bulk_at, compared, gives, has_head, holds, parts_of};
 use crate::put::puts;
-use constriction_base::backends::{BoundedReadWords, ReadWords, Stack, WriteWords};
+use constriction_base::backends::{BoundedReadWords, Pos, ReadWords, Stack, WriteWords};
 use constriction_base::errors::{BoundedWriteError, CoderError};
 use constriction_base::weights::WeightTable;
 use constriction_stack::AnsCoder;
@@ -161,8 +161,12 @@ fn shows_both(coder: &mut CursorCoder<'_, u16>) -> bool {
 #[test]
 fn words_through_a_guard_over_a_cursor(rt: HostRuntime) {
     let mut buf = [0u8; 2];
-    let are_shown = shows_both(&mut coder_over_with(&mut buf, 259u16));
-    assert!(rt; are_shown && buf == [3u8, 1]);
+    let mut coder = coder_over_with(&mut buf, 259u16);
+    let are_shown = shows_both(&mut coder);
+    let (cursor, head) = parts_of(coder);
+    assert!(rt; are_shown && cursor.pos() == 0 && head == 259);
+    drop(cursor);
+    assert!(rt; buf == [3u8, 1]);
 }
 
 /// A head of four words, which is a 1 above three words: both forms over a vector.
