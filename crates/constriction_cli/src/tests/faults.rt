@@ -46,6 +46,20 @@ fn fault_texts(rt: HostRuntime) -> Result<(), Fail> {
     Ok(())
 }
 
+/// The lines of a coder's faults are its own texts.
+#[test]
+fn coder_texts(rt: HostRuntime) -> Result<(), Fail> {
+    let symbol = DefaultEncoderFrontendError::ImpossibleSymbol;
+    let line = format!(in rt.alloc(); "{symbol}\n")?;
+    assert_eq!(rt; Fault::Encoder(symbol).line(), line.as_bytes());
+    let line = format!(in rt.alloc(); "{CompressedDataEndsWithZeroWord}\n")?;
+    assert_eq!(rt;
+        Fault::ZeroWord(CompressedDataEndsWithZeroWord).line(),
+        line.as_bytes()
+    );
+    Ok(())
+}
+
 /// The arguments are not one known command.
 #[test]
 fn usage(rt: HostRuntime) -> Result<(), Fail> {
