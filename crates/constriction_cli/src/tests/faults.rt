@@ -52,11 +52,9 @@ fn coder_texts(rt: HostRuntime) -> Result<(), Fail> {
     let symbol = DefaultEncoderFrontendError::ImpossibleSymbol;
     let line = format!(in rt.alloc(); "{symbol}\n")?;
     assert_eq!(rt; Fault::Encoder(symbol).line(), line.as_bytes());
-    let line = format!(in rt.alloc(); "{CompressedDataEndsWithZeroWord}\n")?;
-    assert_eq!(rt;
-        Fault::ZeroWord(CompressedDataEndsWithZeroWord).line(),
-        line.as_bytes()
-    );
+    let zero_word = CompressedDataEndsWithZeroWord;
+    let line = format!(in rt.alloc(); "{zero_word}\n")?;
+    assert_eq!(rt; Fault::ZeroWord(zero_word).line(), line.as_bytes());
     Ok(())
 }
 
