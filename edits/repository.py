@@ -90,8 +90,10 @@ class Stamps:
     """The stamps that the file edits/STAMPS has, a line for each crate."""
 
     def __init__(self):
-        lines = read(STAMPS).splitlines() if os.path.exists(STAMPS) else []
-        self.kept = dict(line.split() for line in lines if line.strip())
+        text = read(STAMPS) if os.path.exists(STAMPS) else ""
+        if not re.fullmatch(r"(\w+ [0-9a-f]{64}\n)*", text):
+            raise ValueError("edits/STAMPS has a line that is no stamp, as a merge leaves it: take out what is not a crate and its sum")
+        self.kept = dict(line.split() for line in text.splitlines())
 
     def fault(self, name, stamp):
         """Returns what is wrong with a crate's stamp, or '' where it holds."""

@@ -107,7 +107,7 @@ pub mod stream {
     }
 
     pub mod stack {
-        pub use constriction_stack::coder::compressed::CompressedDataEndsWithZeroWord;
+        pub use constriction_stack::coder::words::CompressedDataEndsWithZeroWord;
         pub use constriction_stack::coder::guard::CoderGuard;
         pub use constriction_stack::coder::words::AnsCompressedIter;
         pub use constriction_stack::{AnsCoder, DefaultAnsCoder, SmallAnsCoder};

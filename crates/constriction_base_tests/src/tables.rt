@@ -167,8 +167,8 @@ fn table_finds<Probability: BitArray + PartialEq, const PRECISION: usize>(
     quantile: Probability,
     expected: (usize, Probability, Probability),
 ) -> bool
-    requires { (1 ≤ PRECISION) × (PRECISION ≤ Probability.BITS) }
-    requires { Probability.number quantile < 2 ^ PRECISION }
+    requires sized { (1 ≤ PRECISION) × (PRECISION ≤ Probability.BITS) }
+    requires below { Probability.number quantile < 2 ^ PRECISION }
 {
     match table_of::<Probability, PRECISION>(alloc, weights) {
         Ok(table) => finds(&table, quantile, expected),

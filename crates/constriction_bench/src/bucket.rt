@@ -49,12 +49,7 @@ impl BucketTable {
 
 /// The symbol whose interval holds the first quantile of a part, if it is one of the first 256 and begins where
 /// `starts` says.
-fn first_of(
-    table: &WeightTable<u32, 24>,
-    starts: &[u32],
-    count: usize,
-    part: u32,
-) -> Option<u8>
+fn first_of(table: &WeightTable<u32, 24>, starts: &[u32], count: usize, part: u32) -> Option<u8>
     requires starts { length starts.now ≡ count + 1 }
     requires part { part < 4096 }
     ensures { IfSome result (λ symbol. Begins starts.now count symbol part) }

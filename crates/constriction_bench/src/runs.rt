@@ -26,7 +26,10 @@ where
 {
     let mut coder: AnsCoder<Word, State, Vec<Word>> = AnsCoder::new(alloc);
     for place in 0..symbols.len() {
-        if coder.encode_symbol(&symbols[symbols.len() - 1 - place], model).is_err() {
+        if coder
+            .encode_symbol(&symbols[symbols.len() - 1 - place], model)
+            .is_err()
+        {
             return None;
         }
     }

@@ -1,39 +1,23 @@
-//! The coder: what it holds, and when it is empty.
+//! The coder: what it holds, its parts, and when it is empty.
 //!
 //! - [`symbols`]: the two steps, `encode_symbol` and `decode_symbol`.
-//! - [`lists`]: lists of symbols, from the last to the first.
-//! - [`compressed`]: words from a coder, and a coder from words.
-//! - [`parts`]: a coder from a backend and a head, and back.
-//! - [`readers`]: the same state over another backend, for reading.
-//! - [`decoders`]: the same, as the coder traits ask for it.
-//! - [`binary`]: words of which any list is that of a coder.
-//! - [`slices`], [`reversed`]: coders over borrowed words, and over words in the order of reading.
-//! - [`seeking`]: going to positions.
-//! - [`sizes`]: how much a coder holds, in words and in bits.
-//! - [`words`]: the words of a coder that stays as it is.
+//! - [`words`]: words from a coder, a coder from words, and how many they are.
+//! - [`decoders`]: the same state over another backend, coders over borrowed words or words in the order of
+//!   reading, and going to positions.
 //! - [`guard`]: its words on the backend, for as long as they are looked at.
 
-pub mod binary;
-pub mod compressed;
 pub mod decoders;
 pub mod guard;
-pub mod lists;
-pub mod parts;
-pub mod readers;
-pub mod reversed;
-pub mod seeking;
-pub mod sizes;
-pub mod slices;
 pub mod symbols;
 pub mod words;
 
-ghost use Rattle.std.specs.Prelude.{◌≡◌, ◌↔◌, [], IsTrue};
 ghost use Rattle.constriction_base.specs.Steps.{IsSizes};
-ghost use Rattle.constriction_stack.specs.Ans.{AnsState, AnsValue, IsCoder, value_of};
+ghost use Rattle.constriction_stack.specs.Ans.{AnsState, AnsValue, IsCoder, empty, value_of};
+ghost use Rattle.std.specs.Prelude.{IsTrue, [], map, ◌↔◌, ◌≡◌};
 
-use constriction_base::backends::{Holds, Stack};
+use constriction_base::backends::{Holds, Stack, WriteWords};
 use constriction_words::{BitArray, WordOf};
-use std::alloc::{Allocator, Global};
+use std::alloc::{AllocError, Allocator, Global};
 use std::marker::{Model, PhantomData};
 
 /// A stack of symbols over words of the type `Word`, with a head of the type `State`, which has a
@@ -69,7 +53,7 @@ impl<Word: WordOf<State>, State: BitArray> AnsCoder<Word, State, Vec<Word>> {
     #[inline]
     pub fn new(alloc: Global) -> Self
         requires { IsSizes Word.BITS State.BITS }
-        ensures state { result.state ≡ record { head = 0; words = [] } }
+        ensures state { result.state ≡ empty }
         ensures coder { IsCoder Word.number (⟦<Vec<Word> as Holds<Word, Stack>>⟧.words) Word.BITS State.BITS result }
     {
         AnsCoder {
@@ -83,7 +67,7 @@ impl<Word: WordOf<State>, State: BitArray> AnsCoder<Word, State, Vec<Word>> {
 impl<Word: WordOf<State>, State: BitArray, A: Allocator> AnsCoder<Word, State, Vec<Word, A>> {
     /// Takes everything off: the coder is as a new one, but keeps its memory.
     pub fn clear(&mut self)
-        ensures { self.new.state ≡ record { head = 0; words = [] } }
+        ensures { self.new.state ≡ empty }
     {
         self.bulk.clear();
         self.state = State::nothing();
@@ -102,5 +86,90 @@ impl<Word: WordOf<State>, State: BitArray, Backend: Holds<Word, Stack>> AnsCoder
         ensures { IsTrue result ↔ (self.now.state.head ≡ 0) }
     {
         self.state.is_nothing()
+    }
+}
+
+impl<Word: WordOf<State>, State: BitArray, Backend: Holds<Word, Stack>> AnsCoder<
+    Word,
+    State,
+    Backend,
+> {
+    /// The coder of the words of a backend below a head. Any head is taken: where it is below 2 to
+    /// the (bits of `State` - bits of `Word`) though there are words, decoding is as ever, and
+    /// encoding is safe but isn't undone by decoding.
+    #[inline]
+    pub fn from_raw_parts(bulk: Backend, state: State) -> Self
+        requires { IsSizes Word.BITS State.BITS }
+        ensures state { result.state
+            ≡ record { head = State.number state; words = map Word.number (Backend.words bulk) } }
+        ensures backend { result.backend ≡ bulk }
+        ensures coder { IsCoder Word.number Backend.words Word.BITS State.BITS result }
+    {
+        AnsCoder {
+            bulk,
+            state,
+            word: PhantomData,
+        }
+    }
+
+    /// The backend, which holds the words below the head, and the head.
+    #[inline]
+    pub fn into_raw_parts(self) -> (Backend, State)
+        ensures backend { result.0 ≡ self.backend }
+        ensures state { self.state
+            ≡ record { head = State.number result.1; words = map Word.number (Backend.words result.0) } }
+        ensures coder { IsCoder Word.number Backend.words Word.BITS State.BITS self }
+    {
+        let AnsCoder {
+            bulk,
+            state: head,
+            word: _,
+        } = self;
+        (bulk, head)
+    }
+
+    /// The backend, which holds the words below the head.
+    #[inline]
+    pub fn bulk(&self) -> &Backend
+        ensures backend { result.now ≡ self.now.backend }
+        ensures coder { IsCoder Word.number Backend.words Word.BITS State.BITS self.now }
+    {
+        &self.bulk
+    }
+}
+
+impl<Word: WordOf<State>, State: BitArray, Backend: WriteWords<Word>> AnsCoder<
+    Word,
+    State,
+    Backend,
+> {
+    /// A coder that holds nothing, over a backend that holds nothing: head 0, and no words.
+    #[inline]
+    pub fn with_write_backend(bulk: Backend) -> Self
+        requires sizes { IsSizes Word.BITS State.BITS }
+        requires empty { Backend.words bulk ≡ [] }
+        ensures state { result.state ≡ empty }
+        ensures backend { result.backend ≡ bulk }
+        ensures coder { IsCoder Word.number Backend.words Word.BITS State.BITS result }
+    {
+        AnsCoder::from_raw_parts(bulk, State::nothing())
+    }
+}
+
+impl<Word: WordOf<State>, State: BitArray, Backend: Holds<Word, Stack> + Clone> Clone
+    for AnsCoder<Word, State, Backend> {
+    ghost is_clone = { λ old new. Backend.is_clone old.backend new.backend × (new.state.head ≡ old.state.head)
+        × IsCoder Word.number Backend.words Word.BITS State.BITS new };
+
+    ghost is_infallible = { λ coder. Backend.is_infallible coder.backend };
+
+    /// The same head over a clone of the backend. It is refused only where the backend's clone is.
+    fn clone(&self) -> Result<Self, AllocError> {
+        let bulk = self.bulk.clone()?;
+        Ok(AnsCoder {
+            bulk,
+            state: self.state,
+            word: PhantomData,
+        })
     }
 }

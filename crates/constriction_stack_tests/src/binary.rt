@@ -3,13 +3,13 @@
 ghost use Rattle.constriction_base.specs.Steps.{IsSizes};
 
 use crate::coders::{HeapCoder, coder_over_with, coder_with, new_coder};
-use crate::expect::{Shown, binary_of, compared, holds};
+use crate::expect::{Shown, binary_is_done, binary_is_refused, binary_of, compared, holds};
 use crate::guards::shows_in_binary;
+use constriction_base::backends::{ReadWords, Stack};
 use constriction_stack::{AnsCoder, DefaultAnsCoder};
 use constriction_words::{BitArray, WordOf};
 use linked_list_allocator::LocalHeap;
 use std::alloc::{AllocError, Global};
-use std::convert::Infallible;
 use std::test::Fail;
 
 /// Compares the words of the binary form.
@@ -36,9 +36,11 @@ where
 }
 
 /// A coder of the words of a binary form.
-pub fn from_binary<Word: WordOf<State>, State: BitArray>(
-    words: Vec<Word>,
-) -> Result<AnsCoder<Word, State>, Infallible>
+pub fn from_binary<Word: WordOf<State>, State: BitArray, Backend>(
+    words: Backend,
+) -> Result<AnsCoder<Word, State, Backend>, Backend::ReadError>
+where
+    Backend: ReadWords<Word, Stack> + Drop,
     requires { IsSizes Word.BITS State.BITS }
 {
     AnsCoder::from_binary(words)
@@ -103,18 +105,17 @@ fn ans_binary_forms(rt: HostRuntime) -> Result<(), Fail> {
 #[test]
 fn binary_exports_to_cursors(rt: HostRuntime) {
     let mut one = [0u8; 1];
-    let is_refused = matches!(binary_of(coder_over_with(&mut one, 66051u32)), Err(Some(_)));
+    let is_refused = binary_is_refused(coder_over_with(&mut one, 66051u32));
     let mut two = [0u8; 2];
-    let is_done = binary_of(coder_over_with(&mut two, 66051u32)).is_ok();
+    let is_done = binary_is_done(coder_over_with(&mut two, 66051u32));
     assert!(rt; is_refused && one == [3u8] && is_done && two == [3u8, 2]);
 }
 
-/// Exports a coder over a heap of its own in the binary form.
-fn exports_from_heap(coder: HeapCoder<'_>, words: &[u8]) -> Shown {
+/// Compares the words of the binary form over a heap.
+fn heap_exports(coder: HeapCoder<'_>, words: &[u8]) -> bool {
     match binary_of(coder) {
-        Ok(all) => compared(&all, words),
-        Err(None) => Shown::Impossible,
-        Err(Some(AllocError)) => Shown::Refused,
+        Ok(all) => all.as_slice() == words,
+        Err(_) => false,
     }
 }
 
@@ -125,8 +126,8 @@ fn a_full_heap_refuses_a_binary_export(rt: HostRuntime) -> Result<(), Fail> {
     let filler: Vec<u8, &LocalHeap> = Vec::with_capacity(&heap, 512)?;
     let first: HeapCoder<'_> = coder_with(Vec::new(&heap), 259);
     let second: HeapCoder<'_> = coder_with(Vec::new(&heap), 259);
-    let is_refused = matches!(exports_from_heap(first, &[3]), Shown::Refused);
+    let is_refused = binary_is_refused(first);
     drop(filler);
-    assert!(rt; is_refused && matches!(exports_from_heap(second, &[3]), Shown::These));
+    assert!(rt; is_refused && heap_exports(second, &[3]));
     Ok(())
 }

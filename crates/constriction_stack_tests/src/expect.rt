@@ -206,6 +206,16 @@ pub fn compared<Word: PartialEq>(words: &[Word], expected: &[Word]) -> Shown {
     }
 }
 
+/// The backend and the head of a coder.
+pub fn parts_of<Word, State, Backend>(coder: AnsCoder<Word, State, Backend>) -> (Backend, State)
+where
+    Word: WordOf<State>,
+    State: BitArray,
+    Backend: Holds<Word, Stack>,
+{
+    coder.into_raw_parts()
+}
+
 /// The words that a coder exports.
 pub fn words_of<Word, State, Backend>(
     coder: AnsCoder<Word, State, Backend>,
@@ -230,16 +240,48 @@ where
     coder.into_binary()
 }
 
+/// Whether an export is refused.
+pub fn export_is_refused<Word, State, Backend>(coder: AnsCoder<Word, State, Backend>) -> bool
+where
+    Word: WordOf<State>,
+    State: BitArray,
+    Backend: WriteWords<Word> + Drop,
+    Backend::WriteError: Drop,
+{
+    coder.into_compressed().is_err()
+}
+
+/// Whether an export in the binary form is refused by the backend.
+pub fn binary_is_refused<Word, State, Backend>(coder: AnsCoder<Word, State, Backend>) -> bool
+where
+    Word: WordOf<State>,
+    State: BitArray,
+    Backend: WriteWords<Word> + Drop,
+    Backend::WriteError: Drop,
+{
+    matches!(coder.into_binary(), Err(Some(_)))
+}
+
+/// Whether an export in the binary form is done.
+pub fn binary_is_done<Word, State, Backend>(coder: AnsCoder<Word, State, Backend>) -> bool
+where
+    Word: WordOf<State>,
+    State: BitArray,
+    Backend: WriteWords<Word> + Drop,
+    Backend::WriteError: Drop,
+{
+    coder.into_binary().is_ok()
+}
+
 /// Compares the words that a coder exports.
-pub fn exports<Word, State, A>(coder: AnsCoder<Word, State, Vec<Word, A>>, words: &[Word]) -> Shown
+pub fn exports<Word, State>(coder: AnsCoder<Word, State>, words: &[Word]) -> bool
 where
     Word: WordOf<State> + PartialEq,
     State: BitArray,
-    A: Allocator + Drop,
 {
     match words_of(coder) {
-        Ok(all) => compared(&all, words),
-        Err(_) => Shown::Refused,
+        Ok(all) => all.as_slice() == words,
+        Err(_) => false,
     }
 }
 

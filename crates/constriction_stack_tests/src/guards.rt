@@ -6,9 +6,9 @@ ghost use Rattle.constriction_stack.specs.Guards.{NeverRefused};
 use crate::coders::{
     CursorCoder, HeapCoder, coder_over, coder_over_with, coder_with, new_coder, table_of,
 };
-use crate::expect::{Shown, bulk_at, compared, gives, has_head, holds};
+use crate::expect::{Shown, bulk_at, compared, gives, has_head, holds, parts_of};
 use crate::put::puts;
-use constriction_base::backends::{Pos, PosSeek, ReadWords, Stack, WriteWords};
+use constriction_base::backends::{BoundedReadWords, Pos, ReadWords, Stack, WriteWords};
 use constriction_base::errors::{BoundedWriteError, CoderError};
 use constriction_base::weights::WeightTable;
 use constriction_stack::AnsCoder;
@@ -18,34 +18,32 @@ use std::alloc::Allocator;
 use std::mem;
 use std::test::Fail;
 
-/// Looks at the words of any coder, which is as before then.
-fn looked_at<Word: WordOf<State>, State: BitArray, Backend>(
+/// How many words a guard shows. The coder is as before then.
+fn count_shown<Word: WordOf<State>, State: BitArray, Backend>(
     coder: &mut AnsCoder<Word, State, Backend>,
-) -> Result<(), Backend::WriteError>
+) -> Result<usize, Backend::WriteError>
 where
-    Backend: WriteWords<Word> + ReadWords<Word, Stack>,
+    Backend: WriteWords<Word> + BoundedReadWords<Word, Stack>,
     Backend::ReadError: Drop,
     requires { NeverRefused Backend.reads }
     ensures { coder.new.state ≡ coder.old.state }
 {
     let guard = coder.get_compressed()?;
-    let _words = guard.backend();
-    Ok(())
+    Ok(guard.backend().remaining())
 }
 
-/// The same by the binary form.
-fn looked_at_in_binary<Word: WordOf<State>, State: BitArray, Backend>(
+/// The same of the binary form.
+fn count_shown_in_binary<Word: WordOf<State>, State: BitArray, Backend>(
     coder: &mut AnsCoder<Word, State, Backend>,
-) -> Result<(), CoderError<(), Backend::WriteError>>
+) -> Result<usize, CoderError<(), Backend::WriteError>>
 where
-    Backend: WriteWords<Word> + ReadWords<Word, Stack>,
+    Backend: WriteWords<Word> + BoundedReadWords<Word, Stack>,
     Backend::ReadError: Drop,
     requires { NeverRefused Backend.reads }
     ensures { coder.new.state ≡ coder.old.state }
 {
     let guard = coder.get_binary()?;
-    let _words = guard.backend();
-    Ok(())
+    Ok(guard.backend().remaining())
 }
 
 /// Compares the words that a guard shows.
@@ -78,42 +76,14 @@ where
     }
 }
 
-/// Where the backend stands that a guard shows.
-fn place_shown<Word, State, Backend>(
-    coder: &mut AnsCoder<Word, State, Backend>,
-) -> Result<usize, Backend::WriteError>
-where
-    Word: WordOf<State>,
-    State: BitArray,
-    Backend: WriteWords<Word> + ReadWords<Word, Stack> + Pos + PosSeek<Position = usize>,
-    Backend::ReadError: Drop,
-{
-    let guard = coder.get_compressed()?;
-    Ok(guard.backend().pos())
-}
-
-/// The same of the binary form.
-fn place_shown_in_binary<Word, State, Backend>(
-    coder: &mut AnsCoder<Word, State, Backend>,
-) -> Result<usize, CoderError<(), Backend::WriteError>>
-where
-    Word: WordOf<State>,
-    State: BitArray,
-    Backend: WriteWords<Word> + ReadWords<Word, Stack> + Pos + PosSeek<Position = usize>,
-    Backend::ReadError: Drop,
-{
-    let guard = coder.get_binary()?;
-    Ok(guard.backend().pos())
-}
-
 /// The words of a new coder, and after three symbols, through guards.
 fn shows_steps(coder: &mut AnsCoder<u8, u16>, table: &WeightTable<u8, 8>) -> bool {
     matches!(shows(coder, &[]), Shown::These)
         && puts(coder, table, &[(1, 255), (1, 65535), (1, 65535)])
         && matches!(shows(coder, &[255, 255, 255]), Shown::These)
         && holds(coder, 65535, &[255])
-        && looked_at(coder).is_ok()
-        && matches!(looked_at_in_binary(coder), Err(CoderError::Frontend(())))
+        && matches!(count_shown(coder), Ok(3))
+        && matches!(count_shown_in_binary(coder), Err(CoderError::Frontend(())))
         && holds(coder, 65535, &[255])
         && gives(coder, table, &[1, 1, 1])
 }
@@ -138,7 +108,7 @@ fn the_text_of_a_guard(rt: HostRuntime) -> Result<(), Fail> {
 /// Two symbols, and then no room for the words of the head.
 fn shows_none(coder: &mut CursorCoder<'_, u16>, table: &WeightTable<u8, 8>) -> bool {
     puts(coder, table, &[(1, 255), (1, 65535)])
-        && matches!(place_shown(coder), Err(BoundedWriteError::OutOfSpace))
+        && matches!(count_shown(coder), Err(BoundedWriteError::OutOfSpace))
         && bulk_at(coder, 0)
         && has_head(coder, 65535)
 }
@@ -155,15 +125,15 @@ fn ans_cursor_full(rt: HostRuntime) -> Result<(), Fail> {
 /// Whether a buffer has no room for a head's words in the binary form.
 fn is_full_in_binary(coder: &mut CursorCoder<'_, u32>, head: u32) -> bool {
     matches!(
-        place_shown_in_binary(coder),
+        count_shown_in_binary(coder),
         Err(CoderError::Backend(BoundedWriteError::OutOfSpace))
     ) && bulk_at(coder, 0)
         && has_head(coder, head)
 }
 
 /// Whether a guard shows a head's words in the binary form, behind which the cursor stands.
-fn is_shown_in_binary(coder: &mut CursorCoder<'_, u32>, head: u32, place: usize) -> bool {
-    matches!(place_shown_in_binary(coder), Ok(found) if found == place)
+fn is_shown_in_binary(coder: &mut CursorCoder<'_, u32>, head: u32, count: usize) -> bool {
+    matches!(count_shown_in_binary(coder), Ok(found) if found == count)
         && bulk_at(coder, 0)
         && has_head(coder, head)
 }
@@ -181,8 +151,8 @@ fn a_full_cursor_refuses_a_binary_guard(rt: HostRuntime) {
 
 /// Both forms of a head of two words, of which the binary one has one.
 fn shows_both(coder: &mut CursorCoder<'_, u16>) -> bool {
-    matches!(place_shown(coder), Ok(2))
-        && matches!(place_shown_in_binary(coder), Ok(1))
+    matches!(count_shown(coder), Ok(2))
+        && matches!(count_shown_in_binary(coder), Ok(1))
         && bulk_at(coder, 0)
         && has_head(coder, 259)
 }
@@ -191,8 +161,12 @@ fn shows_both(coder: &mut CursorCoder<'_, u16>) -> bool {
 #[test]
 fn words_through_a_guard_over_a_cursor(rt: HostRuntime) {
     let mut buf = [0u8; 2];
-    let are_shown = shows_both(&mut coder_over_with(&mut buf, 259u16));
-    assert!(rt; are_shown && buf == [3u8, 1]);
+    let mut coder = coder_over_with(&mut buf, 259u16);
+    let are_shown = shows_both(&mut coder);
+    let (cursor, head) = parts_of(coder);
+    assert!(rt; are_shown && cursor.pos() == 0 && head == 259);
+    drop(cursor);
+    assert!(rt; buf == [3u8, 1]);
 }
 
 /// A head of four words, which is a 1 above three words: both forms over a vector.
@@ -203,10 +177,10 @@ fn shows_four(coder: &mut AnsCoder<u8, u32>) -> bool {
         && holds(coder, 16909060, &[9])
 }
 
-/// The words of that head over a buffer: the place behind them, or none where there is no room.
+/// The words of that head over a buffer: how many they are, or none where there is no room.
 fn shows_four_over(coder: &mut CursorCoder<'_, u32>, has_room: bool) -> bool {
-    let is_shown = match place_shown(coder) {
-        Ok(place) => has_room && place == 4,
+    let is_shown = match count_shown(coder) {
+        Ok(count) => has_room && count == 4,
         Err(BoundedWriteError::OutOfSpace) => !has_room,
         Err(BoundedWriteError::Memory) => false,
     };

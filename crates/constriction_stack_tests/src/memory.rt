@@ -2,7 +2,7 @@
 //! once there is memory.
 
 use crate::coders::{HeapCoder, coder_in, coder_with, table_of};
-use crate::expect::{holds, words_of};
+use crate::expect::{export_is_refused, holds};
 use crate::put::{Put, put_list, put_one, put_some, puts, try_some};
 use constriction_base::weights::WeightTable;
 use linked_list_allocator::LocalHeap;
@@ -27,7 +27,7 @@ fn a_full_heap_changes_nothing(rt: HostRuntime) -> Result<(), Fail> {
     let mut coder: HeapCoder<'_> = coder_with(Vec::new(&heap), 65535);
     let export: HeapCoder<'_> = coder_with(Vec::new(&heap), 515);
     let is_refused = step_is_refused(&mut coder, &table, &[]);
-    let is_export_refused = words_of(export).is_err();
+    let is_export_refused = export_is_refused(export);
     drop(filler);
     let goes = step_goes(&mut coder, &table, &[255]);
     coder.clear();

@@ -2,7 +2,7 @@
 
 use crate::coders::{CursorCoder, coder_over_with, coder_with, table_of};
 use crate::expect::{
-    Shown, coder_of, exports, gives, has_head, holds, seems_exhausted, seems_full, words_of,
+    coder_of, export_is_refused, exports, gives, has_head, holds, seems_exhausted, seems_full,
 };
 use crate::put::{Put, put_one, puts};
 use constriction_base::backends::{ReadWords, Stack};
@@ -79,10 +79,7 @@ fn a_read_error_ends_an_import(rt: HostRuntime) {
 
 /// An export of the head 515, which asks for memory.
 fn exports_two_words(alloc: Global) -> bool {
-    matches!(
-        exports(coder_with(Vec::<u8>::new(alloc), 515u16), &[3, 2]),
-        Shown::These
-    )
+    exports(coder_with(Vec::<u8>::new(alloc), 515u16), &[3, 2])
 }
 
 /// Where memory is refused, it is asked for once more, so that this passes whichever allocation
@@ -96,8 +93,8 @@ fn an_export_finds_memory(rt: HostRuntime) {
 #[test]
 fn a_refused_export(rt: HostRuntime) {
     let mut one = [0u8; 1];
-    let is_refused = words_of(coder_over_with(&mut one, 515u16)).is_err();
+    let is_refused = export_is_refused(coder_over_with(&mut one, 515u16));
     let mut two = [0u8; 2];
-    let is_done = words_of(coder_over_with(&mut two, 515u16)).is_ok();
+    let is_done = !export_is_refused(coder_over_with(&mut two, 515u16));
     assert!(rt; is_refused && one == [3u8] && is_done && two == [3u8, 2]);
 }

@@ -1,10 +1,10 @@
 //! Worked steps, one by one. Heads and words by hand.
 
 use crate::coders::{coder_with, new_coder, table_of};
-use crate::expect::{Shown, coder_of, exports, gives, gives_all, holds, imports};
+use crate::expect::{coder_of, exports, gives, gives_all, holds, imports};
 use crate::put::puts;
 use constriction_base::weights::WeightTable;
-use constriction_stack::coder::compressed::CompressedDataEndsWithZeroWord;
+use constriction_stack::coder::words::CompressedDataEndsWithZeroWord;
 use constriction_stack::{AnsCoder, DefaultAnsCoder, SmallAnsCoder};
 use std::alloc::Global;
 use std::test::Fail;
@@ -23,7 +23,7 @@ fn ans_word_moves_out(rt: HostRuntime) -> Result<(), Fail> {
     let mut coder: AnsCoder<u8, u16> = new_coder(rt.alloc());
     let words = [255u8, 255, 255].to_vec(rt.alloc())?;
     let stepped = three_ones(&mut coder, &table);
-    let exported = matches!(exports(coder, &[255, 255, 255]), Shown::These);
+    let exported = exports(coder, &[255, 255, 255]);
     let imported = imports::<u8, u16, _, _, 8>(words, &table, &[1, 1, 1]);
     assert!(rt; stepped && exported && imported);
     Ok(())
@@ -34,7 +34,7 @@ fn ans_left_zero(rt: HostRuntime) -> Result<(), Fail> {
     let table = table_of(rt.alloc(), &[255, 1])?;
     let mut coder: AnsCoder<u8, u16> = new_coder(rt.alloc());
     let stepped = puts(&mut coder, &table, &[(0, 0)]) && coder.is_empty();
-    let exported = matches!(exports(coder, &[]), Shown::These);
+    let exported = exports(coder, &[]);
     let imported = imports::<u8, u16, _, _, 8>(Vec::new(rt.alloc()), &table, &[0]);
     assert!(rt; stepped && exported && imported);
     Ok(())

@@ -4,7 +4,7 @@
 ghost use Rattle.constriction_base.specs.Steps.{IsSizes};
 
 use crate::coders::{coder_with, new_coder};
-use crate::expect::{Shown, exports, gives_all, holds};
+use crate::expect::{exports, gives_all, holds};
 use crate::put::puts;
 use constriction_base::weights::WeightTable;
 use constriction_stack::AnsCoder;
@@ -42,7 +42,7 @@ where
         return false;
     }
     let (bulk, state) = coder.into_raw_parts();
-    matches!(exports(coder_with(bulk, state), run.words), Shown::These)
+    exports(coder_with(bulk, state), run.words)
 }
 
 /// Takes the symbols of a run off, by a decoder that borrows the words and by one that owns them.

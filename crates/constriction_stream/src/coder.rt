@@ -8,9 +8,9 @@ pub trait Code {
     type Word: BitArray;
 
     /// What the coder holds besides compressed data.
-    type State;
+    type State: Drop;
 
-    /// What `state` may show of the coder.
+    /// What `state` may show of the coder. It is chosen freely.
     ghost shows: { Self → Self.State → Type 0 };
 
     /// The coder's state, besides the compressed data that it holds.

@@ -8,15 +8,15 @@ use crate::encoding::Encode;
 /// An encoder that becomes a decoder of what it holds.
 pub trait IntoDecoder<const PRECISION: usize>: Encode<PRECISION> {
     /// The decoder.
-    type IntoDecoder: Decode<PRECISION, Word = Self::Word, State = Self::State>;
+    type IntoDecoder: Decode<PRECISION, Word = Self::Word, State = Self::State> + Drop;
 
     /// Why there is none.
     type Error;
 
-    /// The decoder that an encoder may become.
+    /// The decoder that an encoder may become. It is chosen freely: it is what the two have in common.
     ghost becomes: { Self → Self.IntoDecoder → Type 0 };
 
-    /// Why an encoder may not become one.
+    /// Why an encoder may not become one. It is chosen freely, and nothing where each becomes one.
     ghost fails: { Self → Self.Error → Type 0 };
 
     /// The decoder of what the encoder holds.
@@ -28,9 +28,10 @@ pub trait IntoDecoder<const PRECISION: usize>: Encode<PRECISION> {
 /// An encoder whose content a decoder can read meanwhile.
 pub trait AsDecoder<'a, const PRECISION: usize>: Encode<PRECISION> {
     /// The decoder, which borrows what it reads.
-    type AsDecoder: Decode<PRECISION, Word = Self::Word, State = Self::State>;
+    type AsDecoder: Decode<PRECISION, Word = Self::Word, State = Self::State> + Drop;
 
-    /// The decoder that an encoder may lend its content to.
+    /// The decoder that an encoder may lend its content to. It is chosen freely: it is what the two have in
+    /// common.
     ghost reads: { Self → Self.AsDecoder → Type 0 };
 
     /// A decoder of what the encoder holds, which keeps it.

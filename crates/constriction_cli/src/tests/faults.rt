@@ -46,6 +46,18 @@ fn fault_texts(rt: HostRuntime) -> Result<(), Fail> {
     Ok(())
 }
 
+/// The lines of a coder's faults are its own texts.
+#[test]
+fn coder_texts(rt: HostRuntime) -> Result<(), Fail> {
+    let symbol = DefaultEncoderFrontendError::ImpossibleSymbol;
+    let line = format!(in rt.alloc(); "{symbol}\n")?;
+    assert_eq!(rt; Fault::Encoder(symbol).line(), line.as_bytes());
+    let zero_word = CompressedDataEndsWithZeroWord;
+    let line = format!(in rt.alloc(); "{zero_word}\n")?;
+    assert_eq!(rt; Fault::ZeroWord(zero_word).line(), line.as_bytes());
+    Ok(())
+}
+
 /// The arguments are not one known command.
 #[test]
 fn usage(rt: HostRuntime) -> Result<(), Fail> {

@@ -1,15 +1,28 @@
-//! Decoders of what a coder holds, as the coder traits ask for them.
+//! Coders for reading: the same state over another backend, coders over borrowed words and over words in the
+//! order in which they are read, and coders that go to positions.
 
-ghost use Rattle.std.specs.Prelude.{◌≡◌, length};
-ghost use Rattle.constriction_stack.specs.Ans.{IsCoder};
+ghost use Rattle.constriction_base.specs.Iterators.{FusedRead};
+ghost use Rattle.constriction_base.specs.Steps.{IsSizes};
+ghost use Rattle.constriction_stack.specs.Ans.{BeginsHigh, IsCoder, filled};
+ghost use Rattle.constriction_stack.specs.Binary.{BinaryFilledBy, BinaryRefused, binary_state};
+ghost use Rattle.constriction_stack.specs.Steps.{FilledBy, ImportRefused};
+ghost use Rattle.std.specs.Iterator.Adapters.{fuse_done, fuse_source};
+ghost use Rattle.std.specs.Prelude.{IfErr, IfOk, IsOk, false, length, map, reverse, ◌-◌, ◌↔◌, ◌≡◌};
 
 use crate::coder::AnsCoder;
-use constriction_base::backends::{AsReadWords, Holds, IntoReadWords, Stack, WriteWords};
+use crate::coder::words::CompressedDataEndsWithZeroWord;
+use constriction_base::backends::{
+    AsReadWords, AsSeekReadWords, Holds, IntoReadWords, IntoReversed, IntoSeekReadWords, Pos,
+    PosSeek, Seek, SeeksBack, Stack, Words, WriteWords,
+};
 use constriction_base::cursor::Cursor;
+use constriction_base::iterators::FallibleIteratorReadWords;
+use constriction_base::reverse::Reverse;
 use constriction_stream::conversions::{AsDecoder, IntoDecoder};
 use constriction_words::{BitArray, WordOf};
 use std::alloc::Allocator;
 use std::convert::Infallible;
+use std::iter::Fuse;
 
 impl<
     Word: WordOf<State>,
@@ -52,4 +65,276 @@ impl<
             self.state,
         )
     }
+}
+
+impl<Word: WordOf<State>, State: BitArray, Backend: IntoReadWords<Word, Stack>> AnsCoder<
+    Word,
+    State,
+    Backend,
+> {
+    /// The same state over a backend for reading.
+    pub fn into_decoder(self) -> AnsCoder<Word, State, Backend::IntoReadWords>
+        ensures state { result.state ≡ self.state }
+        ensures place { Backend.becomes self.backend result.backend }
+        ensures coder { IsCoder Word.number (⟦<Backend::IntoReadWords as Holds<Word, Stack>>⟧.words) Word.BITS State.BITS result }
+    {
+        let (bulk, head) = self.into_raw_parts();
+        AnsCoder::from_raw_parts(bulk.into_read_words(), head)
+    }
+}
+
+impl<Word: WordOf<State>, State: BitArray, Backend: Holds<Word, Stack>> AnsCoder<
+    Word,
+    State,
+    Backend,
+> {
+    /// The same state over borrowed words, for reading.
+    pub fn as_decoder<'a>(&'a self) -> AnsCoder<Word, State, Backend::AsReadWords>
+    where
+        Backend: AsReadWords<'a, Word, Stack>,
+        ensures state { result.state ≡ self.now.state }
+        ensures place { Backend.becomes self.now.backend result.backend }
+        ensures coder { IsCoder Word.number (⟦<Backend::AsReadWords as Holds<Word, Stack>>⟧.words) Word.BITS State.BITS result }
+    {
+        AnsCoder::from_raw_parts(self.bulk.as_read_words(), self.state)
+    }
+}
+
+impl<'a, Word: WordOf<State> + 'a, State: BitArray> AnsCoder<
+    Word,
+    State,
+    Cursor<Word, &'a [Word]>,
+> {
+    /// The coder whose words these are, as [`AnsCoder::into_compressed`] gives them. Of no words it
+    /// is an empty coder.
+    ///
+    /// The error comes exactly where the last word is zero.
+    pub fn from_compressed_slice(
+        compressed: &'a [Word],
+    ) -> Result<Self, CompressedDataEndsWithZeroWord>
+        requires { IsSizes Word.BITS State.BITS }
+        ensures ok { IfOk result (λ new.
+            new.state ≡ filled Word.BITS State.BITS 0 (map Word.number (reverse compressed.now))) }
+        ensures variant { IsOk result ↔ BeginsHigh (map Word.number (reverse compressed.now)) }
+        ensures buffer { IfOk result (λ new. new.backend.buf.now ≡ compressed.now) }
+    {
+        match Self::from_compressed(Cursor::new_at_write_end(compressed)) {
+            Ok(decoder) => Ok(decoder),
+            Err(_) => Err(CompressedDataEndsWithZeroWord),
+        }
+    }
+
+    /// The coder that any words stand for, as [`AnsCoder::into_binary`] gives them.
+    pub fn from_binary_slice(binary: &'a [Word]) -> Self
+        requires { IsSizes Word.BITS State.BITS }
+        ensures state { result.state
+            ≡ binary_state Word.BITS State.BITS (map Word.number (reverse binary.now)) }
+        ensures buffer { result.backend.buf.now ≡ binary.now }
+    {
+        match Self::from_binary(Cursor::new_at_write_end(binary)) {
+            Ok(coder) => coder,
+            Err(never) => match never {},
+        }
+    }
+}
+
+impl<Word: WordOf<State>, State: BitArray, Buf: Words<Word> + Drop> AnsCoder<
+    Word,
+    State,
+    Reverse<Cursor<Word, Buf>>,
+> {
+    /// The coder whose words these are, in the reverse of the order in which
+    /// [`AnsCoder::into_compressed`] gives them. Of no words it is an empty coder.
+    ///
+    /// The error is the buffer as it came. It comes exactly where the first word is zero.
+    pub fn from_reversed_compressed(compressed: Buf) -> Result<Self, Buf>
+        requires { IsSizes Word.BITS State.BITS }
+        ensures ok { IfOk result (λ new.
+            new.state ≡ filled Word.BITS State.BITS 0 (map Word.number (Buf.lent compressed))) }
+        ensures variant { IsOk result ↔ BeginsHigh (map Word.number (Buf.lent compressed)) }
+        ensures buffer { IfOk result (λ new. new.backend.0.buf ≡ compressed) }
+        ensures rest { IfErr result (λ rest. rest ≡ compressed) }
+    {
+        match Self::from_compressed(Reverse(Cursor::new_at_write_beginning(compressed))) {
+            Ok(coder) => Ok(coder),
+            Err(Reverse(cursor)) => {
+                let (buf, _) = cursor.into_buf_and_pos();
+                Err(buf)
+            }
+        }
+    }
+
+    /// The coder that any words stand for, in the reverse of the order in which
+    /// [`AnsCoder::into_binary`] gives them.
+    pub fn from_reversed_binary(binary: Buf) -> Self
+        requires { IsSizes Word.BITS State.BITS }
+        ensures state { result.state
+            ≡ binary_state Word.BITS State.BITS (map Word.number (Buf.lent binary)) }
+        ensures buffer { result.backend.0.buf ≡ binary }
+    {
+        match Self::from_binary(Reverse(Cursor::new_at_write_beginning(binary))) {
+            Ok(coder) => coder,
+            Err(never) => match never {},
+        }
+    }
+}
+
+impl<
+    Word: WordOf<State>,
+    State: BitArray,
+    ReadError: Drop,
+    Iter: Iterator<Item = Result<Word, ReadError>>,
+> AnsCoder<Word, State, FallibleIteratorReadWords<Iter>> {
+    /// The coder whose words an iterator gives, in the reverse of the order in which
+    /// [`AnsCoder::into_compressed`] gives them. It takes words into the head until that is full; the
+    /// others are taken when decoding needs them.
+    ///
+    /// The error is the iterator as the reads left it. It comes exactly where the first word is zero
+    /// or where an item that was taken is an error.
+    pub fn from_reversed_compressed_iter(compressed: Iter) -> Result<Self, Fuse<Iter>>
+        requires sizes { IsSizes Word.BITS State.BITS }
+        requires can { Iter.can_next compressed }
+        ensures reads { IfOk result (λ new.
+            FilledBy Word.number (FusedRead Iter.next_gives) Word.BITS State.BITS (compressed, false)
+            new.state.head new.backend) }
+        ensures err { IfErr result (λ rest.
+            ImportRefused Word.number (FusedRead Iter.next_gives) Word.BITS State.BITS (compressed, false)
+            (fuse_source rest, fuse_done rest)) }
+    {
+        match Self::from_compressed(FallibleIteratorReadWords::new(compressed)) {
+            Ok(coder) => Ok(coder),
+            Err(rest) => Err(rest.into_iter()),
+        }
+    }
+
+    /// The coder that any words stand for, which an iterator gives in the reverse of the order in
+    /// which [`AnsCoder::into_binary`] gives them. It takes words into the head until that is full;
+    /// the others are taken when decoding needs them.
+    ///
+    /// Errors: that of an item that was taken. The iterator is gone then.
+    pub fn from_reversed_binary_iter(binary: Iter) -> Result<Self, ReadError>
+        requires sizes { IsSizes Word.BITS State.BITS }
+        requires can { Iter.can_next binary }
+        ensures reads { IfOk result (λ new.
+            BinaryFilledBy Word.number (FusedRead Iter.next_gives) Word.BITS State.BITS (binary, false)
+            new.state.head new.backend) }
+        ensures err { IfErr result (λ e.
+            BinaryRefused Word.number (FusedRead Iter.next_gives) Word.BITS State.BITS (binary, false) e) }
+    {
+        Self::from_binary(FallibleIteratorReadWords::new(binary))
+    }
+}
+
+impl<Word: WordOf<State>, State: BitArray, Backend: IntoReversed<Word>> AnsCoder<
+    Word,
+    State,
+    Backend,
+> {
+    /// The same state over the buffer turned round. Between a cursor and a reversed cursor it leads
+    /// both ways: the words below the head stand before the position of the one, the one that is read
+    /// first as the last, and behind the position of the other, in the order in which they are read.
+    pub fn into_reversed(self) -> AnsCoder<Word, State, Backend::IntoReversed>
+        ensures state { result.state ≡ self.state }
+        ensures turned { Backend.turns self.backend result.backend }
+        ensures coder { IsCoder Word.number (⟦<Backend::IntoReversed as Holds<Word, Stack>>⟧.words) Word.BITS State.BITS result }
+    {
+        let (bulk, head) = self.into_raw_parts();
+        AnsCoder::from_raw_parts(bulk.into_reversed_stack(), head)
+    }
+}
+
+impl<Word: WordOf<State>, State: BitArray, Backend: IntoSeekReadWords<Word, Stack>> AnsCoder<
+    Word,
+    State,
+    Backend,
+> {
+    /// The same state over a backend for reading that can go to positions.
+    pub fn into_seekable_decoder(self) -> AnsCoder<Word, State, Backend::IntoSeekReadWords>
+        ensures state { result.state ≡ self.state }
+        ensures place { Backend.becomes self.backend result.backend }
+        ensures coder { IsCoder Word.number (⟦<Backend::IntoSeekReadWords as Holds<Word, Stack>>⟧.words) Word.BITS State.BITS result }
+    {
+        let (bulk, head) = self.into_raw_parts();
+        AnsCoder::from_raw_parts(bulk.into_seek_read_words(), head)
+    }
+}
+
+impl<Word: WordOf<State>, State: BitArray, Backend: Holds<Word, Stack>> AnsCoder<
+    Word,
+    State,
+    Backend,
+> {
+    /// The same state over borrowed words, for reading, which can go to positions.
+    pub fn as_seekable_decoder<'a>(&'a self) -> AnsCoder<Word, State, Backend::AsSeekReadWords>
+    where
+        Backend: AsSeekReadWords<'a, Word, Stack>,
+        ensures state { result.state ≡ self.now.state }
+        ensures place { Backend.becomes self.now.backend result.backend }
+        ensures coder { IsCoder Word.number (⟦<Backend::AsSeekReadWords as Holds<Word, Stack>>⟧.words) Word.BITS State.BITS result }
+    {
+        AnsCoder::from_raw_parts(self.bulk.as_seek_read_words(), self.state)
+    }
+}
+
+/// The same state over borrowed words, for reading, as [`AnsCoder::as_decoder`] gives it.
+impl<'a, Word: WordOf<State>, State: BitArray, Backend: AsReadWords<'a, Word, Stack>> From<
+    &'a AnsCoder<Word, State, Backend>,
+> for AnsCoder<Word, State, <Backend as AsReadWords<'a, Word, Stack>>::AsReadWords> {
+    ghost from_gives = { λ coder result. (result.state ≡ coder.now.state)
+        × IsCoder Word.number (⟦<<Backend as AsReadWords<'a, Word, Stack>>::AsReadWords as Holds<Word, Stack>>⟧.words) Word.BITS State.BITS result };
+
+    fn from(coder: &'a AnsCoder<Word, State, Backend>) -> Self {
+        coder.as_decoder()
+    }
+}
+
+impl<Word: WordOf<State>, State: BitArray, Backend: Holds<Word, Stack> + PosSeek> PosSeek
+    for AnsCoder<Word, State, Backend> {
+    /// The backend's position, and the head.
+    type Position = (Backend::Position, State);
+}
+
+impl<Word: WordOf<State>, State: BitArray, Backend: Holds<Word, Stack> + Pos> Pos
+    for AnsCoder<Word, State, Backend> {
+    ghost stands_at = { λ coder position. Backend.stands_at coder.backend position.0 × (State.number position.1 ≡ coder.state.head) };
+
+    ghost can_tell = { λ coder. Backend.can_tell coder.backend };
+
+    /// Where the backend stands now, and the head.
+    fn pos(&self) -> (Backend::Position, State) {
+        (self.bulk.pos(), self.state)
+    }
+}
+
+impl<Word: WordOf<State>, State: BitArray, Backend: Holds<Word, Stack> + Seek> Seek
+    for AnsCoder<Word, State, Backend> {
+    ghost can_seek = { λ coder position. Backend.can_seek coder.backend position.0 };
+
+    ghost seek_fails = { λ coder position. Backend.seek_fails coder.backend position.0 };
+
+    ghost sought = { λ old position new. Backend.sought old.backend position.0 new.backend
+        × (new.state ≡ record { head = State.number position.1; words = map Word.number (Backend.words new.backend) }) };
+
+    ghost stays = { λ old position new. Backend.stays old.backend position.0 new.backend
+        × (new.state ≡ record { head = old.state.head; words = map Word.number (Backend.words new.backend) })
+        × (new.backend ≡ old.backend → new ≡ old) };
+
+    /// Goes to a position that was recorded before: the head that was recorded, over the words that
+    /// the backend holds at its position.
+    ///
+    /// Errors: `Err(())` where the backend refuses to go to its position. The head stays, and the coder is
+    /// as before where the backend is.
+    fn seek(&mut self, position: (Backend::Position, State)) -> Result<(), ()> {
+        let (place, state) = position;
+        self.bulk.seek(place)?;
+        self.state = state;
+        Ok(())
+    }
+}
+
+impl<Word: WordOf<State>, State: BitArray, Backend: Holds<Word, Stack> + SeeksBack> SeeksBack
+    for AnsCoder<Word, State, Backend> {
+    ghost reach_law = { λ coder position stands. Backend.reach_law coder.backend position.0 stands.0 };
+
+    ghost accept_law = { λ coder position stands fails. Backend.accept_law coder.backend position.0 stands.0 fails };
 }

@@ -1,15 +1,247 @@
-//! The words of a coder that stays as it is, and what is shown of it.
+//! The words of a coder: words from a coder and a coder from words, in two forms, and how many they are.
+//!
+//! In the compressed form the head's words have no leading zeros. In the binary form a leading 1 that isn't
+//! written marks the top of the head, so that any words are those of a coder.
 
-ghost use Rattle.std.specs.Prelude.{◌≡◌, ◌^◌, ◌++◌, map, reverse};
+ghost use Rattle.constriction_base.specs.Steps.{IsSizes};
+ghost use Rattle.constriction_stack.specs.Ans.{AnsState, BeginsHigh, IsCoder, PartlyExported, count_of_words, exported, filled};
+ghost use Rattle.constriction_stack.specs.Binary.{BinaryFilledBy, BinaryRefused, IsBinary, PartlyBinary, binary_state, binary_words};
+ghost use Rattle.constriction_stack.specs.Sizes.{SizesFit, valid_bit_count};
+ghost use Rattle.constriction_stack.specs.Steps.{FilledBy, ImportRefused, ListRefused};
 ghost use Rattle.std.specs.Int.Digits.{digits_of};
-ghost use Rattle.constriction_stack.specs.Ans.{IsCoder, exported};
+ghost use Rattle.std.specs.Prelude.{Err, IfErr, IfOk, IsTrue, None, Ok, OnErr, OnOk, Some, [], length, map, reverse, ℕ, ◌*◌, ◌++◌, ◌<◌, ◌^◌, ◌↔◌, ◌≡◌, ◌⊎◌};
 
 use crate::coder::AnsCoder;
-use constriction_base::backends::{Holds, Stack, Words};
+use crate::moves::{append_words, count_of_words, filled, words_below_one};
+use constriction_base::backends::{BoundedReadWords, Holds, ReadWords, Stack, Words, WriteWords};
 use constriction_words::{BitArray, WordOf};
-use std::alloc::AllocError;
 use std::fmt;
 use std::marker::{Model, PhantomData};
+use thiserror::Error;
+
+/// Words that end with a zero word are those of no coder: the word that was written last is the
+/// highest of the head's, which isn't 0.
+#[derive(Debug, Clone, Copy, PartialEq, Eq, Error)]
+#[error("Tried to decode from compressed data that ends with a zero word, which is invalid for an ANS coder.")]
+pub struct CompressedDataEndsWithZeroWord;
+
+impl<Word: WordOf<State>, State: BitArray, Backend: ReadWords<Word, Stack>> AnsCoder<
+    Word,
+    State,
+    Backend,
+> {
+    /// The coder whose words these are, as [`AnsCoder::into_compressed`] gives them. Of no words it
+    /// is an empty coder.
+    ///
+    /// It reads words into the head until that is full (two words, where `State` has the bits of
+    /// two) or none is left.
+    ///
+    /// The error is the backend as the reads left it. It comes exactly where the last word is zero
+    /// (which was then read) or where a read answered an error.
+    pub fn from_compressed(mut bulk: Backend) -> Result<Self, Backend>
+    where
+        Backend::ReadError: Drop,
+        requires { IsSizes Word.BITS State.BITS }
+        ensures ok { Backend.is_list → IfOk result (λ new.
+            new.state ≡ filled Word.BITS State.BITS 0 (map Word.number (Backend.words bulk))) }
+        ensures high { Backend.is_list → OnOk result (BeginsHigh (map Word.number (Backend.words bulk))) }
+        ensures coder { IfOk result (λ new. IsCoder Word.number Backend.words Word.BITS State.BITS new) }
+        ensures reads { IfOk result (λ new.
+            FilledBy Word.number Backend.reads Word.BITS State.BITS bulk new.state.head new.backend) }
+        ensures err { IfErr result (λ rest.
+            ImportRefused Word.number Backend.reads Word.BITS State.BITS bulk rest) }
+        ensures taken { Backend.is_list → IfErr result (λ rest.
+            ListRefused Backend.ReadError Word.number (Backend.words bulk) (Backend.words rest)) }
+    {
+        let top = match bulk.read() {
+            Err(_) => return Err(bulk),
+            Ok(None) => {
+                return Ok(AnsCoder {
+                    bulk,
+                    state: State::nothing(),
+                    word: PhantomData,
+                });
+            }
+            Ok(Some(word)) => word,
+        };
+        if top.is_nothing() {
+            return Err(bulk);
+        }
+        let head = match filled(&mut bulk, top.widen()) {
+            Err(_) => return Err(bulk),
+            Ok(head) => head,
+        };
+        Ok(AnsCoder {
+            bulk,
+            state: head,
+            word: PhantomData,
+        })
+    }
+}
+
+impl<Word: WordOf<State>, State: BitArray, Backend: WriteWords<Word>> AnsCoder<
+    Word,
+    State,
+    Backend,
+> {
+    /// The words of the coder: those below the head, and then the head's words, the lowest first,
+    /// without leading zero words. It asks the backend for room for the head's words; where the
+    /// head is 0 there are none, and the backend comes back as it is.
+    ///
+    /// Errors: what the backend answers where it has no room for all the head's words, or refuses
+    /// to write one of them. The coder is gone then.
+    pub fn into_compressed(self) -> Result<Backend, Backend::WriteError>
+    where
+        Backend: Drop,
+        ensures ok { IfOk result (λ all.
+            map Word.number (Backend.words all) ≡ exported Word.BITS self.state) }
+        ensures empty { self.state.head ≡ 0 → result ≡ Ok self.backend }
+        ensures room { OnErr result (Backend.room self.backend < count_of_words Word.BITS self.state.head) }
+        // No room for them all; or, where asking for room makes none, a write after a beginning of them.
+        ensures err { IfErr result (λ e.
+            Backend.prepare_fails self.backend (count_of_words Word.BITS self.state.head) e
+            ⊎ ((Backend.makes_room → ⊥) × ((last : Backend) × Backend.write_fails last e
+            × PartlyExported Word.BITS self.state (map Word.number (Backend.words last))))) }
+        ensures coder { IsCoder Word.number Backend.words Word.BITS State.BITS self }
+    {
+        let AnsCoder {
+            mut bulk,
+            state: head,
+            word: _,
+        } = self;
+        let count = count_of_words::<Word, State>(head);
+        match append_words(&mut bulk, head, count) {
+            Ok(()) => Ok(bulk),
+            Err((_, error)) => Err(error),
+        }
+    }
+}
+
+impl<Word: WordOf<State>, State: BitArray, Backend: ReadWords<Word, Stack>> AnsCoder<
+    Word,
+    State,
+    Backend,
+> {
+    /// The coder that any words stand for, as [`AnsCoder::into_binary`] gives them back, zero words
+    /// at the top too. Of no words it is a coder with head 1.
+    ///
+    /// It reads words into the head, below a leading 1, until that is full (one word, where `State`
+    /// has the bits of two) or none is left.
+    ///
+    /// Errors: that of a read. The backend is gone then.
+    pub fn from_binary(mut bulk: Backend) -> Result<Self, Backend::ReadError>
+    where
+        Backend: Drop,
+        requires { IsSizes Word.BITS State.BITS }
+        ensures ok { Backend.is_list → IfOk result (λ new.
+            new.state ≡ binary_state Word.BITS State.BITS (map Word.number (Backend.words bulk))) }
+        ensures coder { IfOk result (λ new. IsCoder Word.number Backend.words Word.BITS State.BITS new) }
+        ensures reads { IfOk result (λ new.
+            BinaryFilledBy Word.number Backend.reads Word.BITS State.BITS bulk new.state.head new.backend) }
+        ensures err { IfErr result (λ e.
+            BinaryRefused Word.number Backend.reads Word.BITS State.BITS bulk e) }
+    {
+        let head = match filled(&mut bulk, State::unit()) {
+            Err(error) => return Err(error),
+            Ok(head) => head,
+        };
+        Ok(AnsCoder {
+            bulk,
+            state: head,
+            word: PhantomData,
+        })
+    }
+}
+
+impl<Word: WordOf<State>, State: BitArray, Backend: WriteWords<Word>> AnsCoder<
+    Word,
+    State,
+    Backend,
+> {
+    /// The words of a coder whose head is a 1 above whole words: those below the head, and then the
+    /// head's words below its leading 1, the lowest first, zero words at the top too. It asks the
+    /// backend for room for the head's words; where the head is 1 there are none, and the backend
+    /// comes back as it is.
+    ///
+    /// Errors, after which the coder is gone:
+    /// - `None` exactly where the head is 0, or its bit length less one is no multiple of the bits of
+    ///   a word.
+    /// - `Some(error)` where the backend has no room for all the head's words, or refuses to write
+    ///   one of them.
+    pub fn into_binary(self) -> Result<Backend, Option<Backend::WriteError>>
+    where
+        Backend: Drop,
+        ensures ok { IfOk result (λ all. (m : ℕ) × IsBinary Word.BITS m self.state
+            × (map Word.number (Backend.words all) ≡ binary_words Word.BITS m self.state)) }
+        ensures empty { self.state.head ≡ 1 → result ≡ Ok self.backend }
+        ensures variant { (result ≡ Err None) ↔ ((m : ℕ) → IsBinary Word.BITS m self.state → ⊥) }
+        // No room for them all; or, where asking for room makes none, a write after a beginning of them.
+        ensures err { (e : Backend.WriteError) → result ≡ Err (Some e) →
+            (m : ℕ) × IsBinary Word.BITS m self.state × (Backend.room self.backend < m)
+            × (Backend.prepare_fails self.backend m e
+            ⊎ ((Backend.makes_room → ⊥) × ((last : Backend) × Backend.write_fails last e
+            × PartlyBinary Word.BITS m self.state (map Word.number (Backend.words last))))) }
+        ensures coder { IsCoder Word.number Backend.words Word.BITS State.BITS self }
+    {
+        let AnsCoder {
+            mut bulk,
+            state: head,
+            word: _,
+        } = self;
+        let Some(below) = words_below_one::<Word, State>(head) else {
+            return Err(None);
+        };
+        match append_words(&mut bulk, head, below) {
+            Ok(()) => Ok(bulk),
+            Err((_, error)) => Err(Some(error)),
+        }
+    }
+}
+
+impl<Word: WordOf<State>, State: BitArray, Backend: BoundedReadWords<Word, Stack>> AnsCoder<
+    Word,
+    State,
+    Backend,
+> {
+    /// Whether the number of bits of the coder's words is a `usize`. Then [`AnsCoder::num_words`],
+    /// [`AnsCoder::num_bits`] and [`AnsCoder::num_valid_bits`] can be asked for.
+    pub fn sizes_fit(&self) -> bool
+        ensures { IsTrue result ↔ SizesFit Word.BITS self.now.state }
+    {
+        let head = count_of_words::<Word, State>(self.state);
+        let Some(words) = self.bulk.remaining().checked_add(head) else {
+            return false;
+        };
+        words <= usize::MAX / Word::BITS as usize
+    }
+
+    /// The number of words that [`AnsCoder::into_compressed`] gives: those below the head, and the
+    /// head's words without leading zero words.
+    pub fn num_words(&self) -> usize
+        requires { SizesFit Word.BITS self.now.state }
+        ensures { result ≡ length (exported Word.BITS self.now.state) }
+    {
+        self.bulk.remaining() + count_of_words::<Word, State>(self.state)
+    }
+
+    /// The number of bits of the words that [`AnsCoder::into_compressed`] gives.
+    pub fn num_bits(&self) -> usize
+        requires { SizesFit Word.BITS self.now.state }
+        ensures { result ≡ Word.BITS * length (exported Word.BITS self.now.state) }
+    {
+        Word::BITS as usize * self.num_words()
+    }
+
+    /// The number of bits that tell anything: those of the words below the head, and the bits of the
+    /// head below its leading 1. It is 0 for a new coder.
+    pub fn num_valid_bits(&self) -> usize
+        requires { SizesFit Word.BITS self.now.state }
+        ensures { result ≡ valid_bit_count Word.BITS self.now.state }
+    {
+        let head = self.state.bit_length().saturating_sub(1);
+        Word::BITS as usize * self.bulk.remaining() + head as usize
+    }
+}
 
 /// The words of a coder, in the order in which [`AnsCoder::into_compressed`] gives them, the top one
 /// last. [`AnsCoder::iter_compressed`] makes it.
@@ -87,23 +319,5 @@ impl<
     /// The list of the words of [`AnsCoder::iter_compressed`].
     fn fmt<W: fmt::Write>(&self, f: &mut fmt::Formatter<W>) -> fmt::Result {
         f.debug_list().entries(self.iter_compressed()).finish()
-    }
-}
-
-impl<Word: WordOf<State>, State: BitArray, Backend: Holds<Word, Stack> + Clone> Clone
-    for AnsCoder<Word, State, Backend> {
-    ghost is_clone = { λ old new. Backend.is_clone old.backend new.backend × (new.state.head ≡ old.state.head)
-        × IsCoder Word.number Backend.words Word.BITS State.BITS new };
-
-    ghost is_infallible = { λ coder. Backend.is_infallible coder.backend };
-
-    /// The same head over a clone of the backend. It is refused only where the backend's clone is.
-    fn clone(&self) -> Result<Self, AllocError> {
-        let bulk = self.bulk.clone()?;
-        Ok(AnsCoder {
-            bulk,
-            state: self.state,
-            word: PhantomData,
-        })
     }
 }

@@ -1,6 +1,6 @@
 use Rattle.std.proofs.Common.{ap, ◌∙◌}
 use Rattle.constriction_stack.proofs.WordsShown.{filled_keeps}
-use Rattle.constriction_stack.proofs.coder.slices.AnsCoder+Word+State+Cursor+Word+ref+slice+Word.from_compressed_slice.Goals as goal
+use Rattle.constriction_stack.proofs.coder.decoders.AnsCoder+Word+State+Cursor+Word+ref+slice+Word.from_compressed_slice.Goals as goal
 
 pub returns-in-Ok-clause-buffer : goal.returns-in-Ok-clause-buffer
 returns-in-Ok-clause-buffer g c =

@@ -1,6 +1,6 @@
 use Rattle.std.proofs.Common.{ap, ◌∙◌}
 use Rattle.constriction_stack.proofs.WordsShown.{filled_keeps}
-use Rattle.constriction_stack.proofs.coder.reversed.AnsCoder+Word+State+Reverse+Cursor+Word+Buf.from_reversed_compressed.Goals as goal
+use Rattle.constriction_stack.proofs.coder.decoders.AnsCoder+Word+State+Reverse+Cursor+Word+Buf.from_reversed_compressed.Goals as goal
 
 pub returns-in-Ok-clause-buffer : goal.returns-in-Ok-clause-buffer
 returns-in-Ok-clause-buffer g c =

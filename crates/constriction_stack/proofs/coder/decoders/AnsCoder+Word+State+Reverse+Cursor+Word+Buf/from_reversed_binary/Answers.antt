@@ -1,6 +1,6 @@
 use Rattle.std.proofs.Common.{ap, ◌∙◌}
 use Rattle.constriction_stack.proofs.WordsShown.{binary_filled_keeps}
-use Rattle.constriction_stack.proofs.coder.reversed.AnsCoder+Word+State+Reverse+Cursor+Word+Buf.from_reversed_binary.Goals as goal
+use Rattle.constriction_stack.proofs.coder.decoders.AnsCoder+Word+State+Reverse+Cursor+Word+Buf.from_reversed_binary.Goals as goal
 
 pub returns-clause-buffer : goal.returns-clause-buffer
 returns-clause-buffer g c =

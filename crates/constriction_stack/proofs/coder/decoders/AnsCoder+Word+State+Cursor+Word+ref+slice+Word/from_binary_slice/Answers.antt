@@ -1,6 +1,6 @@
 use Rattle.std.proofs.Common.{ap, ◌∙◌}
 use Rattle.constriction_stack.proofs.WordsShown.{binary_filled_keeps}
-use Rattle.constriction_stack.proofs.coder.slices.AnsCoder+Word+State+Cursor+Word+ref+slice+Word.from_binary_slice.Goals as goal
+use Rattle.constriction_stack.proofs.coder.decoders.AnsCoder+Word+State+Cursor+Word+ref+slice+Word.from_binary_slice.Goals as goal
 
 pub returns-clause-buffer : goal.returns-clause-buffer
 returns-clause-buffer g c =
