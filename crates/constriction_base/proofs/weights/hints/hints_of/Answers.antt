@@ -3,10 +3,10 @@ use Rattle.std.proofs.Math.Nat.{mod-eq_of_lt, mul-le-mul_right}
 use Rattle.std.proofs.Math.Pow.{pow_mono}
 use Rattle.std.proofs.lemmas.List.{length-map}
 use Rattle.constriction_base.specs.Entries.{ends_at}
-use Rattle.constriction_base.specs.Hints.{IsHint}
+use Rattle.constriction_base.specs.Hints.{AreHints, IsHint}
 use Rattle.constriction_base.proofs.HintLemmas.{hints_push, hint_of, none_above}
 use Rattle.constriction_base.proofs.Results.{none_made}
-use Rattle.std.proofs.Common.{sym}
+use Rattle.std.proofs.Common.{List, sym}
 use Rattle.constriction_base.proofs.weights.hints.hints_of.Goals as goal
 
 -- one, moved up to a place within the bits
@@ -141,6 +141,9 @@ zero_place width all some =
     let none : 0 * width ≡ 0 = omega arith in
     ap (λ n. n % all) none ∙ mod-eq_of_lt some
 
+no_hints : (starts : List ℕ) (high width : ℕ) → AreHints starts high width []
+no_hints starts high width = record { each = λ k h. absurd (omega (arith, h)); rising = λ k h. absurd (omega (arith, h)) }
+
 pub loop-bucket-init : goal.loop-bucket-init
 loop-bucket-init g c =
     let number = g.Probability.BitArray.number in
@@ -152,6 +155,6 @@ loop-bucket-init g c =
       len = ap length items;
       counted = c.in_ok-hints.ensures.len;
       capacity = c.in_ok-hints.ensures.exact;
-      hinted = rw items (record { each = λ k h. absurd (omega (arith, h)); rising = λ k h. absurd (omega (arith, h)) });
+      hinted = rw items (no_hints (map number c.args.starts.now) (2 ^ g.row.PRECISION) (2 ^ c.args.shift));
       lower = λ k h. absurd (omega (arith, h, ap length items));
     }
