@@ -1,7 +1,7 @@
 //! Words that a guard shows, and what its drop leaves. Heads and words by hand.
 
+ghost use Rattle.constriction_base.specs.Readings.{NeverRefused};
 ghost use Rattle.std.specs.Prelude.{◌≡◌, OnOk};
-ghost use Rattle.constriction_stack.specs.Guards.{NeverRefused};
 
 use constriction_base::backends::{Pos, ReadWords, Stack, Words, WriteWords};
 use constriction_base::cursor::Cursor;
