@@ -8,7 +8,7 @@ use constriction_words::{BitArray, WordOf};
 
 /// How many words a head has without leading zeros.
 #[inline]
-pub fn words_of_head<Word: WordOf<State>, State: BitArray>(head: State) -> usize
+pub fn count_of_words<Word: WordOf<State>, State: BitArray>(head: State) -> usize
     requires { IsSizes Word.BITS State.BITS }
     ensures { result ≡ count_of_words Word.BITS (State.number head) }
 {

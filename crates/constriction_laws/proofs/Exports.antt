@@ -6,7 +6,7 @@ use Rattle.constriction_base.specs.Steps.{IsSizes, AreWords}
 use Rattle.constriction_stack.specs.Ans.{AnsState, IsValid, exported}
 use Rattle.constriction_base.specs.Digits.{fixed_digits}
 use Rattle.constriction_stack.specs.Binary.{binary_words}
-use Rattle.constriction_stack.proofs.Sizes.{facts}
+use Rattle.constriction_base.proofs.Sizes.{facts}
 
 -- words before words
 words-append : (w : ℕ) (xs ys : List ℕ) → AreWords w xs → AreWords w ys → AreWords w (xs ++ ys)

@@ -8,11 +8,12 @@ use Rattle.std.proofs.lemmas.List.{map_push}
 use Rattle.std.specs.Int.Digits.{number_from_digits, number_from_digits_after}
 use Rattle.constriction_base.specs.Digits.{fixed_digits}
 use Rattle.constriction_base.specs.Steps.{IsSizes, AreWords}
-use Rattle.constriction_stack.specs.Ans.{AnsState, Imports, IsValid, filled}
+use Rattle.constriction_stack.specs.Ans.{AnsState, IsValid, filled}
 use Rattle.constriction_stack.specs.Binary.{IsBinary, MovesIn, binary_state, binary_words}
-use Rattle.constriction_stack.proofs.Exporting.{gives_push}
-use Rattle.constriction_stack.proofs.Sizes.{Facts, facts, pow_le}
 use Rattle.constriction_stack.proofs.Importing.{filled_low, filled_full, valid_filled}
+use Rattle.constriction_base.specs.Readings.{Imports}
+use Rattle.constriction_base.proofs.Exporting.{gives_push}
+use Rattle.constriction_base.proofs.Sizes.{Facts, facts, pow_le}
 
 -- the powers of one word more
 pub power_more : (w m : ℕ) → 2 ^ (suc m * w) ≡ 2 ^ (m * w) * 2 ^ w

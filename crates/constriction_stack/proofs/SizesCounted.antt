@@ -4,12 +4,13 @@ use Rattle.std.proofs.lemmas.List.{length-append}
 use Rattle.std.proofs.lemmas.Int.Digits.{length-digits_of_step, length-digits_of-le, all_below_base_digits_of, number_digits_of, number_lt}
 use Rattle.std.specs.Int.Digits.{digits_of, number_from_digits}
 use native.Mathlib.Nat.{pow-suc, pow-zero}
+use Rattle.constriction_base.proofs.Guards.{fixed-length}
 use Rattle.constriction_stack.specs.Ans.{AnsState, exported}
 use Rattle.constriction_base.specs.Digits.{fixed_digits}
 use Rattle.constriction_stack.specs.Binary.{IsBinary, binary_words}
 use Rattle.constriction_stack.specs.Sizes.{word_count, bit_count, valid_bit_count, SizesFit}
 use Rattle.constriction_stack.proofs.BinaryForms.{power_more}
-use Rattle.constriction_stack.proofs.Exporting.{base_two}
+use Rattle.constriction_base.proofs.Exporting.{base_two}
 
 pub exported_length : (w : ℕ) (x : AnsState) → length (exported w x) ≡ word_count w x
 exported_length w x = omega (arith, length-append (digits_of (2 ^ w) x.head) x.words)
@@ -24,10 +25,6 @@ bit_count_is (suc bits) n below least =
     let some : 0 < n = omega (arith, up, pow_pos bits) in
     let half = bit_count_is bits (n / 2) (omega (arith, up)) (omega (arith, up)) in
     omega (arith, length-digits_of_step 2 n (omega arith) some, half)
-
-pub fixed-length : (b m n : ℕ) → length (fixed_digits b m n) ≡ m
-fixed-length b zero n = refl
-fixed-length b (suc m) n = omega (arith, length-append (fixed_digits b m (n / b)) (n % b ∷ []), fixed-length b m (n / b))
 
 -- the leading one of a binary head isn't counted
 pub valid_bits_of_binary : (w m : ℕ) (x : AnsState) → IsBinary w m x → valid_bit_count w x ≡ w * length (binary_words w m x)

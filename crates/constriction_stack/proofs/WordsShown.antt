@@ -4,10 +4,11 @@ use Rattle.std.proofs.Common.{◌≡◌, ℕ, ◌/◌, ◌%◌, ◌^◌, ◌<◌
 use Rattle.std.proofs.lemmas.List.{map-append, reverse-append, reverse-reverse}
 use Rattle.std.proofs.lemmas.Int.Digits.{digits_of_step}
 use Rattle.std.specs.Int.Digits.{digits_of}
-use Rattle.constriction_stack.specs.Ans.{AnsState, Gives, exported}
+use Rattle.constriction_stack.specs.Ans.{AnsState, exported}
 use Rattle.constriction_stack.specs.Binary.{BinaryFilledBy}
 use Rattle.constriction_stack.specs.Steps.{FilledBy}
-use Rattle.constriction_stack.proofs.Exporting.{base_two}
+use Rattle.constriction_base.specs.Readings.{Gives}
+use Rattle.constriction_base.proofs.Exporting.{base_two, gives_keeps}
 
 -- ---- words in the order in which they were written
 
@@ -35,11 +36,6 @@ pub one_less : (x : ℕ) (xs ys : List ℕ) → xs ≡ x ∷ ys → length ys < 
 one_less x xs ys is = omega (arith, ap length is)
 
 -- ---- what each read keeps of a backend
-
-pub gives_keeps : {W E B A : Type 0} (seen : B → A) (reads : B → Result (Option W) E → B → Type 0) (old : B) (ws : List W) (new : B) → Gives reads old ws new
-    → ((before after : B) (answer : Result (Option W) E) → reads before answer after → seen after ≡ seen before) → seen new ≡ seen old
-gives_keeps seen reads old [] new h keeps = ap seen h
-gives_keeps seen reads old (w ∷ ws) new h keeps = gives_keeps seen reads h.0 ws new h.2 keeps ∙ keeps old h.0 (Ok (Some w)) h.1
 
 pub filled_keeps : {W E B A : Type 0} (seen : B → A) (number : W → ℕ) (reads : B → Result (Option W) E → B → Type 0) (w s : ℕ) (old : B) (head : ℕ) (new : B) → FilledBy number reads w s old head new
     → ((before after : B) (answer : Result (Option W) E) → reads before answer after → seen after ≡ seen before) → seen new ≡ seen old

@@ -86,15 +86,6 @@ filled w s head (word ∷ words) =
 abbrev pub exported : ℕ → AnsState → List ℕ
 exported w x = digits_of (2 ^ w) x.head ++ x.words
 
--- how many words the head has, without leading zeros
-abbrev pub count_of_words : ℕ → ℕ → ℕ
-count_of_words w head = length (digits_of (2 ^ w) head)
-
--- the word that is read first, if there is one, isn't 0
-abbrev pub BeginsHigh : List ℕ → Type 0
-BeginsHigh [] = ⊤
-BeginsHigh (v ∷ vs) = 0 < v
-
 -- the words of a state of which the last of the head's digits to be written are missing
 pub record PartlyExported (w : ℕ) (x : AnsState) (words : List ℕ) : Type 0 where
   pub missing : List ℕ
@@ -141,15 +132,3 @@ RefillsBy {W} {E} {B} number reads w s head old new_head new =
     ((2 ^ (s - w) ≤ head) × (new_head ≡ head) × (new ≡ old))
     ⊎ ((head < 2 ^ (s - w)) × (new_head ≡ head) × reads old (Ok None) new)
     ⊎ ((head < 2 ^ (s - w)) × ((word : W) × (new_head ≡ head * 2 ^ w + number word) × reads old (Ok (Some word)) new))
-
--- the words that reads gave one after another, and what they left
-abbrev pub Gives : {W E B : Type 0} → (B → Result (Option W) E → B → Type 0) → B → List W → B → Type 0
-Gives reads old [] new = new ≡ old
-Gives {W} {E} {B} reads old (w ∷ ws) new = (between : B) × reads old (Ok (Some w)) between × Gives reads between ws new
-
--- words that reads gave, of which the first isn't 0, and the head that they make
-pub record Imports {W E B : Type 0} (number : W → ℕ) (reads : B → Result (Option W) E → B → Type 0) (w : ℕ) (old : B) (head : ℕ) (new : B) : Type 0 where
-  pub words : List W
-  pub given : Gives reads old words new
-  pub high : BeginsHigh (map number words)
-  pub is : head ≡ number_from_digits (2 ^ w) (map number words)

@@ -3,7 +3,8 @@
 use Rattle.std.specs.Prelude.{◌≡◌, ℕ, ◌+◌, ◌-◌, ◌*◌, ◌<◌, ◌≤◌, ◌^◌, ◌⊎◌, List, ◌++◌, Option, None, Result, Ok, Err, length, map}
 use Rattle.std.specs.Int.Digits.{number_from_digits_after}
 use Rattle.constriction_base.specs.Digits.{fixed_digits}
-use Rattle.constriction_stack.specs.Ans.{AnsState, Gives, filled}
+use Rattle.constriction_stack.specs.Ans.{AnsState, filled}
+use Rattle.constriction_base.specs.Readings.{Gives}
 
 -- the state that any words stand for: they move in below a one while the head has room
 abbrev pub binary_state : ℕ → ℕ → List ℕ → AnsState

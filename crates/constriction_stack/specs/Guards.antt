@@ -2,10 +2,6 @@
 use Rattle.std.specs.Prelude.{◌≡◌, ◌⊎◌, ℕ, List, Option, Result, Err, drop}
 use Rattle.constriction_stack.specs.Ans.{AnsState}
 
--- no read of such a backend is ever refused
-abbrev pub NeverRefused : {W E B : Type 0} → (B → Result (Option W) E → B → Type 0) → Type 0
-NeverRefused {W} {E} {B} reads = (old : B) (e : E) (new : B) → reads old (Err e) new → ⊥
-
 -- the state with so many words taken off the top, below the same head
 abbrev pub without : ℕ → AnsState → AnsState
 without count x = record { head = x.head; words = drop count x.words }

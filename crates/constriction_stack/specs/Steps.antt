@@ -2,7 +2,8 @@
 -- holds, what a read may answer, and which errors a write and a `prepare` may answer.
 use Rattle.std.specs.Prelude.{◌≡◌, ℕ, ◌+◌, ◌-◌, ◌<◌, ◌≤◌, ◌^◌, ◌⊎◌, List, ◌∷◌, ◌++◌, Option, None, Some, Result, Ok, Err, length, OnOk, OnErr, IfErr}
 use Rattle.constriction_base.specs.Steps.{Step}
-use Rattle.constriction_stack.specs.Ans.{AnsValue, IsCoder, IsValid, IsPush, IsNext, OwesWord, OwesRead, RefillsBy, Imports, pop, popped_head, words_after}
+use Rattle.constriction_stack.specs.Ans.{AnsValue, IsCoder, IsValid, IsPush, IsNext, OwesWord, OwesRead, RefillsBy, pop, popped_head, words_after}
+use Rattle.constriction_base.specs.Readings.{Imports}
 
 -- an encode of a step
 pub record EncodeCall {W B E : Type 0} (number : W → ℕ) (held : B → List W) (w s : ℕ) (room : B → ℕ) (makes_room : Type 0) (prepare_fails : B → ℕ → E → Type 0) (write_fails : B → E → Type 0) (old : AnsValue B) (step : Step) (answer : Result (Unit {0}) E) (new : AnsValue B) : Type 0 where

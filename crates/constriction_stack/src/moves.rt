@@ -1,28 +1,13 @@
 //! Words that move between a head and a backend, as many as there are.
 
 ghost use Rattle.std.specs.Prelude.{◌≡◌, ◌-◌, ◌*◌, ◌^◌, ◌<◌, ◌⊎◌, ◌++◌, ℕ, List, drop, map, MatchResult, IsOk, OnOk, OnErr, IfErr, IfSome, IfNone};
-ghost use Rattle.constriction_base.specs.Digits.{fixed_digits};
+ghost use Rattle.constriction_base.specs.Digits.{fixed_digits, count_of_words};
 ghost use Rattle.constriction_base.specs.Steps.{IsSizes};
-ghost use Rattle.constriction_stack.specs.Ans.{AnsState, count_of_words, filled};
+ghost use Rattle.constriction_stack.specs.Ans.{AnsState, filled};
 ghost use Rattle.constriction_stack.specs.Binary.{IsBinary, PartlyBinary, FilledFrom, RefusedFrom};
 
 use constriction_base::backends::{Holds, ReadWords, Stack, WriteWords};
 use constriction_words::{BitArray, WordOf};
-
-/// How many words a head has without leading zeros.
-#[inline]
-pub fn count_of_words<Word: WordOf<State>, State: BitArray>(head: State) -> usize
-    requires { IsSizes Word.BITS State.BITS }
-    ensures { result ≡ count_of_words Word.BITS (State.number head) }
-{
-    let mut count = 0;
-    let mut rest = head;
-    'words: while !rest.is_nothing() {
-        count += 1;
-        rest = rest.shifted_right(Word::BITS);
-    }
-    count
-}
 
 /// How many words a head has below its leading one, if these are whole words.
 pub fn words_below_one<Word: WordOf<State>, State: BitArray>(head: State) -> Option<usize>

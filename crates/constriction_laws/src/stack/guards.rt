@@ -1,7 +1,8 @@
 //! Guards: the words that they show are those of the owning export, and go again.
 
+ghost use Rattle.constriction_base.specs.Digits.{count_of_words};
 ghost use Rattle.std.specs.Prelude.{◌≡◌, ℕ};
-ghost use Rattle.constriction_stack.specs.Ans.{AnsState, count_of_words, exported};
+ghost use Rattle.constriction_stack.specs.Ans.{AnsState, exported};
 ghost use Rattle.constriction_stack.specs.Binary.{binary_words};
 ghost use Rattle.constriction_stack.specs.Guards.{without};
 

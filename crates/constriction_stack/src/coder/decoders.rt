@@ -1,9 +1,10 @@
 //! Coders for reading: the same state over another backend, coders over borrowed words and over words in the
 //! order in which they are read, and coders that go to positions.
 
+ghost use Rattle.constriction_base.specs.Readings.{BeginsHigh};
 ghost use Rattle.constriction_base.specs.Iterators.{FusedRead};
 ghost use Rattle.constriction_base.specs.Steps.{IsSizes};
-ghost use Rattle.constriction_stack.specs.Ans.{BeginsHigh, IsCoder, filled};
+ghost use Rattle.constriction_stack.specs.Ans.{IsCoder, filled};
 ghost use Rattle.constriction_stack.specs.Binary.{BinaryFilledBy, BinaryRefused, binary_state};
 ghost use Rattle.constriction_stack.specs.Steps.{FilledBy, ImportRefused};
 ghost use Rattle.std.specs.Iterator.Adapters.{fuse_done, fuse_source};

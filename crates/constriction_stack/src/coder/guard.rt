@@ -1,19 +1,21 @@
 //! The words of a coder that is used again: a guard shows them on the backend, and its drop takes
 //! them off.
 
+ghost use Rattle.constriction_base.specs.Readings.{NeverRefused};
 ghost use Rattle.std.specs.Prelude.{◌≡◌, ◌↔◌, ◌⊎◌, ◌<◌, ◌^◌, ◌++◌, ℕ, drop, length, map, Ok, Err, IfOk, IfErr, OnOk, OnErr};
 ghost use Rattle.std.specs.Borrow.{sem, RestsIfErr};
-ghost use Rattle.constriction_base.specs.Digits.{fixed_digits};
+ghost use Rattle.constriction_base.specs.Digits.{fixed_digits, count_of_words};
 ghost use Rattle.constriction_base.specs.Steps.{IsSizes};
 ghost use Rattle.constriction_base.specs.declared.errors.CoderError.TheVariants as coder_error;
-ghost use Rattle.constriction_stack.specs.Ans.{IsCoder, PartlyExported, count_of_words, exported};
+ghost use Rattle.constriction_stack.specs.Ans.{IsCoder, PartlyExported, exported};
 ghost use Rattle.constriction_stack.specs.Binary.{IsBinary, PartlyBinary, binary_words};
-ghost use Rattle.constriction_stack.specs.Guards.{LeftByRefusal, NeverRefused, without};
+ghost use Rattle.constriction_stack.specs.Guards.{LeftByRefusal, without};
 
 use crate::coder::AnsCoder;
-use crate::moves::{append_words, count_of_words, words_below_one};
-use constriction_base::backends::{Holds, ReadWords, Stack, WriteWords};
+use crate::moves::{append_words, words_below_one};
+use constriction_base::backends::{Holds, ReadWords, Stack, WriteWords, take_back};
 use constriction_base::errors::CoderError;
+use constriction_base::head_words::count_of_words;
 use constriction_words::{BitArray, WordOf};
 use std::fmt;
 
@@ -219,23 +221,6 @@ where
         match self.put_binary() {
             Ok(count) => Ok(CoderGuard { inner: self, count }),
             Err(error) => Err(error),
-        }
-    }
-}
-
-/// Takes so many words off, as far as the reads go.
-fn take_back<Word, Backend>(bulk: &mut Backend, count: usize)
-where
-    Word: BitArray,
-    Backend: WriteWords<Word> + ReadWords<Word, Stack>,
-    Backend::ReadError: Drop,
-    ensures none { count ≡ 0 → bulk.new ≡ bulk.old }
-    ensures words { NeverRefused Backend.reads → Backend.words bulk.new ≡ drop count (Backend.words bulk.old) }
-{
-    for _i in 0..count {
-        match bulk.read() {
-            Ok(_) => {}
-            Err(_) => return,
         }
     }
 }

@@ -3,8 +3,10 @@
 //! In the compressed form the head's words have no leading zeros. In the binary form a leading 1 that isn't
 //! written marks the top of the head, so that any words are those of a coder.
 
+ghost use Rattle.constriction_base.specs.Readings.{BeginsHigh};
+ghost use Rattle.constriction_base.specs.Digits.{count_of_words};
 ghost use Rattle.constriction_base.specs.Steps.{IsSizes};
-ghost use Rattle.constriction_stack.specs.Ans.{AnsState, BeginsHigh, IsCoder, PartlyExported, count_of_words, exported, filled};
+ghost use Rattle.constriction_stack.specs.Ans.{AnsState, IsCoder, PartlyExported, exported, filled};
 ghost use Rattle.constriction_stack.specs.Binary.{BinaryFilledBy, BinaryRefused, IsBinary, PartlyBinary, binary_state, binary_words};
 ghost use Rattle.constriction_stack.specs.Sizes.{SizesFit, valid_bit_count};
 ghost use Rattle.constriction_stack.specs.Steps.{FilledBy, ImportRefused, ListRefused};
@@ -12,8 +14,9 @@ ghost use Rattle.std.specs.Int.Digits.{digits_of};
 ghost use Rattle.std.specs.Prelude.{Err, IfErr, IfOk, IsTrue, None, Ok, OnErr, OnOk, Some, [], length, map, reverse, ℕ, ◌*◌, ◌++◌, ◌<◌, ◌^◌, ◌↔◌, ◌≡◌, ◌⊎◌};
 
 use crate::coder::AnsCoder;
-use crate::moves::{append_words, count_of_words, filled, words_below_one};
+use crate::moves::{append_words, filled, words_below_one};
 use constriction_base::backends::{BoundedReadWords, Holds, ReadWords, Stack, Words, WriteWords};
+use constriction_base::head_words::count_of_words;
 use constriction_words::{BitArray, WordOf};
 use std::fmt;
 use std::marker::{Model, PhantomData};

@@ -2,8 +2,7 @@ use Rattle.std.specs.Prelude.{◌%◌, ◌-◌, ◌^◌, [], ◌∷◌, ◌++◌
 use Rattle.std.proofs.Common.{arith, ◌∙◌, ap, refl, inr, append-nil}
 use Rattle.constriction_base.specs.Digits.{fixed_digits}
 use Rattle.constriction_stack.proofs.BinaryForms.{fixed_less}
-use Rattle.constriction_stack.proofs.Guards.{drop_written, drop_nothing}
-use Rattle.constriction_stack.proofs.SizesCounted.{fixed-length}
+use Rattle.constriction_base.proofs.Guards.{drop_written, drop_nothing, fixed-length}
 use Rattle.constriction_stack.proofs.moves.append_words.Goals as goal
 
 pub words-init : goal.words-init

@@ -1,9 +1,9 @@
 use Rattle.std.specs.Prelude.{◌-◌, ◌^◌, [], ◌∷◌, ◌++◌}
 use Rattle.std.proofs.Common.{arith, ◌∙◌, refl, sym, inl, pow_pos, mul-le-mul_right, append_assoc}
 use Rattle.std.proofs.lemmas.Bool.{false≢true}
-use Rattle.constriction_stack.proofs.Heads.{room_for_word, large_of_shr, small_of_shr}
 use Rattle.constriction_stack.proofs.Importing.{filled_low, filled_full, filled_grows}
 use Rattle.constriction_stack.proofs.BinaryForms.{moves_more, moves_none}
+use Rattle.constriction_base.proofs.Heads.{room_for_word, large_of_shr, small_of_shr}
 use Rattle.constriction_stack.proofs.moves.filled.Goals as goal
 
 pub words-init : goal.words-init

@@ -1,6 +1,6 @@
 use Rattle.std.proofs.Common.{refl}
-use Rattle.constriction_stack.proofs.Exporting.{some_of}
 use Rattle.constriction_stack.proofs.BinaryForms.{binary_of_whole, none_of_zero, whole_of_binary, some_bits}
+use Rattle.constriction_base.proofs.Exporting.{some_of}
 use Rattle.constriction_stack.proofs.moves.words_below_one.Goals as goal
 
 pub returns-then-is_nothing-clause-none : goal.returns-then-is_nothing-clause-none

@@ -4,4 +4,7 @@ use Rattle.constriction_base.proofs.backends.taking.take_back.Given as goal
 
 abbrev pub invariant-loop-i : goal.invariant-loop-i
 invariant-loop-i g l =
-    NeverRefused g.Backend.ReadWords.reads → g.Backend.Holds.words l.bulk ≡ drop l._i (g.Backend.Holds.words l.initial.bulk)
+    record {
+      none : l._i ≡ 0 → l.bulk ≡ l.initial.bulk;
+      words : NeverRefused g.Backend.ReadWords.reads → g.Backend.Holds.words l.bulk ≡ drop l._i (g.Backend.Holds.words l.initial.bulk);
+    }

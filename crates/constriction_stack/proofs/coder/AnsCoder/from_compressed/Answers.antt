@@ -1,7 +1,7 @@
 use Rattle.std.specs.Prelude.{◌∷◌}
 use Rattle.std.proofs.Common.{ap, ◌∙◌, inr}
 use Rattle.constriction_stack.proofs.BinaryForms.{imports_of}
-use Rattle.constriction_stack.proofs.Exporting.{some_of}
+use Rattle.constriction_base.proofs.Exporting.{some_of}
 use Rattle.constriction_stack.proofs.coder.AnsCoder.from_compressed.Goals as goal
 
 pub returns-in-Err-filled-clause-err : goal.returns-in-Err-filled-clause-err

@@ -1,9 +1,11 @@
 use Rattle.std.specs.Prelude.{◌≡◌, ℕ, ◌^◌, List, ◌++◌, Ok, map}
 use Rattle.std.proofs.Common.{ap, inl, inr, refl, sym, ◌∙◌}
 use Rattle.std.proofs.lemmas.Bool.{false≢true}
-use Rattle.constriction_stack.specs.Ans.{AnsState, count_of_words}
-use Rattle.constriction_stack.proofs.Exporting.{base_two}
-use Rattle.constriction_stack.proofs.Guards.{all_digits, partly_compressed}
+use Rattle.constriction_stack.specs.Ans.{AnsState}
+use Rattle.constriction_stack.proofs.Guards.{partly_compressed}
+use Rattle.constriction_base.specs.Digits.{count_of_words}
+use Rattle.constriction_base.proofs.Exporting.{base_two}
+use Rattle.constriction_base.proofs.Guards.{all_digits}
 use Rattle.constriction_stack.proofs.coder.AnsCoder.into_compressed.Goals as goal
 
 pub returns-in-Ok-clause-ok : goal.returns-in-Ok-clause-ok

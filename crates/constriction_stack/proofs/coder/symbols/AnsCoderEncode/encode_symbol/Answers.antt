@@ -1,6 +1,6 @@
 use Rattle.std.specs.Prelude.{Ok, Err}
 use Rattle.std.proofs.Common.{inl, refl}
-use Rattle.constriction_stack.proofs.Entering.{entry_is_step}
+use Rattle.constriction_base.proofs.Entering.{entry_is_step}
 use Rattle.constriction_stack.proofs.coder.symbols.AnsCoderEncode.encode_symbol.Goals as goal
 
 pub pushed_onto-requires-clause-step : goal.pushed_onto-requires-clause-step

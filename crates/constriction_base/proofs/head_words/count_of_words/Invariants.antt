@@ -1,6 +1,6 @@
 use Rattle.std.specs.Prelude.{◌≡◌, ◌+◌, ◌^◌, length}
 use Rattle.std.specs.Int.Digits.{digits_of}
-use Rattle.constriction_base.proofs.head_words.words_of_head.Given as goal
+use Rattle.constriction_base.proofs.head_words.count_of_words.Given as goal
 
 abbrev pub invariant-words : goal.invariant-words
 invariant-words g l =

@@ -1,6 +1,6 @@
 use Rattle.std.proofs.Common.{arith}
 use Rattle.constriction_base.proofs.Exporting.{some_of, shr_smaller, one_digit_less, digits_within}
-use Rattle.constriction_base.proofs.head_words.words_of_head.Goals as goal
+use Rattle.constriction_base.proofs.head_words.count_of_words.Goals as goal
 
 pub overflow_add-count : goal.overflow_add-count
 overflow_add-count g c =
