@@ -7,7 +7,8 @@
 //! model doesn't know, and how lists go on and stop, is the same for all coders and is said here.
 //!
 //! - [`coder`]: `Code`, the words and the state that every coder has.
-//! - [`encoding`]: `Encode`, with single steps and lists of symbols.
+//! - [`encoding`]: `Encode`, with single steps and lists of symbols; `EncodeReverse`, lists from the last
+//!   symbol to the first.
 //! - [`decoding`]: `Decode`, with single steps and iterators of symbols.
 //! - [`iterators`]: the iterators.
 //! - [`conversions`]: `IntoDecoder` and `AsDecoder`, from an encoder to a decoder.

@@ -1,4 +1,4 @@
-use Rattle.std.proofs.Common.{arith}
+use Rattle.std.proofs.Common.{arith, refl}
 use Rattle.constriction_stream.specs.Symbols.{EncodesSymbol}
 use Rattle.constriction_stream.proofs.Lists.{StepsAll-more}
 use Rattle.constriction_stream.proofs.encoding.Encode.encode_iid_symbols.Goals as goal
@@ -14,3 +14,34 @@ loop-symbol-preserved g c =
       omega (arith, on.2, c.encode_symbol.ensures.left, c.loop-symbol.invariant.3),
       omega (arith, on.2, c.encode_symbol.ensures.left, c.loop-symbol.invariant.4),
     )
+
+pub loop-symbol-init : goal.loop-symbol-init
+loop-symbol-init g c =
+    let given = c.requires c.into_iter-symbol-iterator.result c.into_iter-symbol-iterator.ensures.into_iter_gives in
+    (given.0, given.1, refl, given.2, omega arith)
+
+pub returns : goal.returns
+returns g c = record {
+  steps = (
+    c.into_iter-symbol-iterator.result,
+    c.into_iter-symbol-iterator.ensures.into_iter_gives,
+    c.loop-symbol.yielded,
+    c.loop-symbol.self,
+    c.loop-symbol.invariant.2,
+    (refl, (c.next.new.self, (c.loop-symbol.symbol-iterator, c.loop-symbol.yielded_by, c.in-None.ensures.steps))),
+  );
+  left = λ count most. omega (arith, most c.into_iter-symbol-iterator.result c.into_iter-symbol-iterator.ensures.into_iter_gives, c.loop-symbol.invariant.4);
+}
+
+pub returns-in-Err : goal.returns-in-Err
+returns-in-Err g c = record {
+  steps = (
+    c.into_iter-symbol-iterator.result,
+    c.into_iter-symbol-iterator.ensures.into_iter_gives,
+    c.loop-symbol.yielded,
+    c.loop-symbol.self,
+    c.loop-symbol.invariant.2,
+    (c.in-Some.symbol, c.next.new.self, (c.loop-symbol.symbol-iterator, c.loop-symbol.yielded_by, c.in-Some.ensures.steps), rw c.lend.ensures at c.in-Err.ensures.step),
+  );
+  left = λ count most. omega (arith, most c.into_iter-symbol-iterator.result c.into_iter-symbol-iterator.ensures.into_iter_gives, (c.in-Some.ensures.goes.on c.loop-symbol.invariant.1).2, c.encode_symbol.ensures.left, c.loop-symbol.invariant.4);
+}

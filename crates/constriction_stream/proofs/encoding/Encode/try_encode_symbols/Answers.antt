@@ -41,3 +41,21 @@ loop-symbol_and_model-preserved g c =
       omega (arith, on.2, c.encode_symbol.ensures.left, c.loop-symbol_and_model.invariant.3),
       omega (arith, on.2, c.encode_symbol.ensures.left, c.loop-symbol_and_model.invariant.4),
     )
+
+pub loop-symbol_and_model-init : goal.loop-symbol_and_model-init
+loop-symbol_and_model-init g c =
+    let given = c.requires c.into_iter-symbol_and_model-iterator.result c.into_iter-symbol_and_model-iterator.ensures.into_iter_gives in
+    (given.0, given.1, refl, given.2, omega arith)
+
+pub returns : goal.returns
+returns g c = record {
+  steps = (
+    c.into_iter-symbol_and_model-iterator.result,
+    c.into_iter-symbol_and_model-iterator.ensures.into_iter_gives,
+    c.loop-symbol_and_model.yielded,
+    c.loop-symbol_and_model.self,
+    c.loop-symbol_and_model.invariant.2,
+    (refl, (c.next.new.self, (c.loop-symbol_and_model.symbol_and_model-iterator, c.loop-symbol_and_model.yielded_by, c.in-None.ensures.steps))),
+  );
+  left = λ count most. omega (arith, most c.into_iter-symbol_and_model-iterator.result c.into_iter-symbol_and_model-iterator.ensures.into_iter_gives, c.loop-symbol_and_model.invariant.4);
+}

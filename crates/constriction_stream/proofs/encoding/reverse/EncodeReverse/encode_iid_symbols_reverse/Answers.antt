@@ -41,3 +41,8 @@ loop-symbol-preserved g c =
       λ counts. omega (arith, on.2, c.encode_symbol.ensures.left, c.loop-symbol.invariant.3 counts),
       omega (arith, on.2, c.encode_symbol.ensures.left, c.loop-symbol.invariant.4),
     )
+
+pub loop-symbol-init : goal.loop-symbol-init
+loop-symbol-init g c =
+    let given = c.requires (rev_source c.into_iter-symbol-iterator.result) (rw (c.into_iter-symbol-iterator.ensures.into_iter_gives, c.rev-symbol-items.ensures.source) c.into_iter.ensures.into_iter_gives) in
+    (given.0, given.1, refl, given.2, omega arith)

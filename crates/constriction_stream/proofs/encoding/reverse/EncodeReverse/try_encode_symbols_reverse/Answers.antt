@@ -55,3 +55,8 @@ loop-symbol_and_model-preserved g c =
       λ counts. omega (arith, on.2, c.encode_symbol.ensures.left, c.loop-symbol_and_model.invariant.3 counts),
       omega (arith, on.2, c.encode_symbol.ensures.left, c.loop-symbol_and_model.invariant.4),
     )
+
+pub loop-symbol_and_model-init : goal.loop-symbol_and_model-init
+loop-symbol_and_model-init g c =
+    let given = c.requires (rev_source c.into_iter-symbol_and_model-iterator.result) (rw (c.into_iter-symbol_and_model-iterator.ensures.into_iter_gives, c.rev-symbol_and_model-items.ensures.source) c.into_iter.ensures.into_iter_gives) in
+    (given.0, given.1, refl, given.2, omega arith)
