@@ -50,6 +50,27 @@ where
     gives(coder, table, symbols) && coder.is_empty()
 }
 
+/// Takes lists of symbols off, and compares the head after each.
+pub fn gives_heads<Word, State, Backend, Probability, const PRECISION: usize>(
+    coder: &mut AnsCoder<Word, State, Backend>,
+    table: &WeightTable<Probability, PRECISION>,
+    lists: &[(&[usize], State)],
+) -> bool
+where
+    Word: WordOf<State>,
+    State: BitArray + PartialEq,
+    Backend: ReadWords<Word, Stack>,
+    Backend::ReadError: Drop,
+    Probability: WordOf<Word>,
+{
+    for (symbols, head) in lists {
+        if !gives(coder, table, symbols) || coder.state() != *head {
+            return false;
+        }
+    }
+    true
+}
+
 /// Takes symbols off by a list of tables, until there is none.
 pub fn gives_by_tables<Word, State, Backend, Probability, const PRECISION: usize>(
     coder: &mut AnsCoder<Word, State, Backend>,
@@ -184,26 +205,6 @@ where
     A: Allocator,
 {
     coder.state() == head && coder.bulk().as_slice() == words
-}
-
-/// Whether a call gave the words that a test expects.
-#[derive(Drop)]
-pub enum Shown {
-    These,
-    Others,
-    /// There is no such form of the coder.
-    Impossible,
-    /// The backend refused room.
-    Refused,
-}
-
-/// Compares words.
-pub fn compared<Word: PartialEq>(words: &[Word], expected: &[Word]) -> Shown {
-    if words == expected {
-        Shown::These
-    } else {
-        Shown::Others
-    }
 }
 
 /// The backend and the head of a coder.
