@@ -103,11 +103,12 @@ fn binary_exports_to_cursors(rt: HostRuntime) {
     assert!(rt; is_refused && one == [3u8] && is_done && two == [3u8, 2]);
 }
 
-/// Compares the words of the binary form over a heap.
-fn heap_exports(coder: HeapCoder<'_>, words: &[u8]) -> bool {
+/// Whether a coder over a heap is exported in the binary form, if there is memory.
+fn exports_in(heap: &LocalHeap) -> Option<bool> {
+    let coder: HeapCoder<'_> = coder_with(Vec::new(heap), 259);
     match binary_of(coder) {
-        Ok(all) => all.as_slice() == words,
-        Err(_) => false,
+        Ok(all) => Some(all.as_slice() == [3u8].as_slice()),
+        Err(_) => None,
     }
 }
 
@@ -116,10 +117,8 @@ fn heap_exports(coder: HeapCoder<'_>, words: &[u8]) -> bool {
 fn a_full_heap_refuses_a_binary_export(rt: HostRuntime) -> Result<(), Fail> {
     let heap = LocalHeap::new(rt.alloc(), 512)?;
     let filler: Vec<u8, &LocalHeap> = Vec::with_capacity(&heap, 512)?;
-    let first: HeapCoder<'_> = coder_with(Vec::new(&heap), 259);
-    let second: HeapCoder<'_> = coder_with(Vec::new(&heap), 259);
-    let is_refused = binary_is_refused(first);
+    let is_refused = exports_in(&heap).is_none();
     drop(filler);
-    assert!(rt; is_refused && heap_exports(second, &[3]));
+    assert!(rt; is_refused && exports_in(&heap) == Some(true));
     Ok(())
 }

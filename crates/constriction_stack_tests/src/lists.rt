@@ -4,8 +4,8 @@ ghost use Rattle.std.specs.Prelude.{◌≤◌};
 
 use crate::coders::{coder_over, new_coder, table_of};
 use crate::expect::{
-    coder_of, gives_all, gives_by_items, gives_by_tables, gives_of, has_head, holds,
-    seems_exhausted, seems_full,
+    coder_of, first_of_list, gives_all, gives_by_items, gives_by_tables, gives_list, has_head,
+    holds, seems_exhausted, seems_full,
 };
 use crate::put::{Call, Pair, Put, put_pairs, try_pairs};
 use crate::script::{Act, follows};
@@ -69,7 +69,9 @@ fn iterator_goes_on(rt: HostRuntime) -> Result<(), Fail> {
 fn iterator_dropped_early(rt: HostRuntime) -> Result<(), Fail> {
     let table = table_of(rt.alloc(), &[255, 1])?;
     let mut coder: AnsCoder<u8, u16> = coder_of([255u8, 255, 255].to_vec(rt.alloc())?)?;
-    assert!(rt; gives_of(&mut coder, &table, 3, &[1]) && gives_all(&mut coder, &table, &[1, 1]));
+    assert!(rt;
+        first_of_list(&mut coder, &table, 3) == Some(1) && gives_all(&mut coder, &table, &[1, 1])
+    );
     Ok(())
 }
 
@@ -88,7 +90,7 @@ fn lists_at_u8_and_u16(rt: HostRuntime) -> Result<(), Fail> {
     assert!(rt;
         follows(rt.alloc(), &mut coder, &table, AllocError, &acts)
             && gives_by_tables(&mut coder, tables, &[1, 1])
-            && gives_of(&mut coder, &table, 2, &[0, 1])
+            && gives_list(&mut coder, &table, &[0, 1])
             && coder.is_empty()
     );
     Ok(())
@@ -116,7 +118,7 @@ fn lists_over_a_full_cursor(rt: HostRuntime) -> Result<(), Fail> {
             BoundedWriteError::OutOfSpace,
             &acts
         ) && gives_by_tables(&mut coder, tables, &[1, 1])
-            && gives_of(&mut coder, &table, 2, &[0, 0])
+            && gives_list(&mut coder, &table, &[0, 0])
     );
     Ok(())
 }

@@ -1,7 +1,7 @@
 //! What is refused, and what it leaves.
 
 use crate::coders::{coder_over_with, coder_with, table_of};
-use crate::expect::{coder_of, export_is_refused, exports, gives, has_head};
+use crate::expect::{coder_of, export_is_refused, exports, gives_heads, has_head};
 use crate::put::Call;
 use crate::script::{Act, follows};
 use constriction_base::backends::{ReadWords, Stack};
@@ -56,6 +56,16 @@ fn read_is_refused<Backend: ReadWords<u8, Stack, ReadError = u8>>(
     matches!(coder.decode_symbol(table), Err(CoderError::Backend(3)))
 }
 
+/// The same decode goes once the read does.
+fn goes_after_a_read_error<Backend: ReadWords<u8, Stack, ReadError = u8>>(
+    coder: &mut AnsCoder<u8, u16, Backend>,
+    table: &WeightTable<u8, 8>,
+) -> bool {
+    read_is_refused(coder, table)
+        && has_head(coder, 65535)
+        && gives_heads(coder, table, &[(&[1], 65535)])
+}
+
 #[test]
 fn a_read_error_keeps_the_head(rt: HostRuntime) -> Result<(), Fail> {
     let table = table_of(rt.alloc(), &[255, 1])?;
@@ -64,12 +74,7 @@ fn a_read_error_keeps_the_head(rt: HostRuntime) -> Result<(), Fail> {
         FallibleIteratorReadWords::new(answers.into_iter()),
         65535,
     );
-    assert!(rt;
-        read_is_refused(&mut coder, &table)
-            && has_head(&coder, 65535)
-            && gives(&mut coder, &table, &[1])
-            && has_head(&coder, 65535)
-    );
+    assert!(rt; goes_after_a_read_error(&mut coder, &table));
     Ok(())
 }
 
