@@ -2,7 +2,7 @@
 //! out apart.
 
 use crate::coders::table_of;
-use crate::expect::{coder_of, gives, has_head};
+use crate::expect::{coder_of, gives_heads, has_head};
 use constriction_base::backends::{ReadWords, Stack};
 use constriction_base::cursor::Cursor;
 use constriction_base::iterators::FallibleIteratorReadWords;
@@ -22,14 +22,16 @@ where
     Backend::ReadError: Drop,
 {
     has_head(coder, 65283)
-        && gives(coder, table, &[0, 0, 0, 1, 0, 0, 1, 0, 0, 0])
-        && has_head(coder, 475)
-        && gives(coder, table, &[1])
-        && has_head(coder, 18953)
-        && gives(coder, table, &[0, 1, 0, 0, 0, 0, 1])
-        && has_head(coder, 244)
-        && gives(coder, table, &[1, 0])
-        && has_head(coder, 44)
+        && gives_heads(
+            coder,
+            table,
+            &[
+                (&[0, 0, 0, 1, 0, 0, 1, 0, 0, 0], 475),
+                (&[1], 18953),
+                (&[0, 1, 0, 0, 0, 0, 1], 244),
+                (&[1, 0], 44),
+            ],
+        )
 }
 
 #[test]

@@ -3,30 +3,31 @@
 ghost use Rattle.constriction_base.specs.Steps.{IsSizes};
 
 use crate::coders::{HeapCoder, coder_over_with, coder_with, new_coder};
-use crate::expect::{Shown, binary_is_done, binary_is_refused, binary_of, compared, holds};
-use crate::guards::shows_in_binary;
+use crate::expect::{binary_is_done, binary_is_refused, binary_of, holds};
+use crate::script::{Act, follows};
 use constriction_base::backends::{ReadWords, Stack};
+use constriction_base::weights::WeightTable;
 use constriction_stack::{AnsCoder, DefaultAnsCoder};
 use constriction_words::{BitArray, WordOf};
 use linked_list_allocator::LocalHeap;
 use std::alloc::{AllocError, Global};
 use std::test::Fail;
 
-/// Compares the words of the binary form.
-fn exports_in_binary<Word, State>(coder: AnsCoder<Word, State>, words: &[Word]) -> Shown
+/// Whether these are the words of the binary form, if it has one and there is memory.
+fn exports_in_binary<Word, State>(coder: AnsCoder<Word, State>, words: &[Word]) -> Option<bool>
 where
     Word: WordOf<State> + PartialEq,
     State: BitArray,
 {
     match binary_of(coder) {
-        Ok(all) => compared(&all, words),
-        Err(None) => Shown::Impossible,
-        Err(Some(AllocError)) => Shown::Refused,
+        Ok(all) => Some(all.as_slice() == words),
+        Err(None) => None,
+        Err(Some(AllocError)) => Some(false),
     }
 }
 
 /// The same of a head and no words.
-fn head_in_binary<Word, State>(alloc: Global, head: State, words: &[Word]) -> Shown
+fn head_in_binary<Word, State>(alloc: Global, head: State, words: &[Word]) -> Option<bool>
 where
     Word: WordOf<State> + PartialEq,
     State: BitArray,
@@ -50,9 +51,9 @@ where
 fn ans_binary_zero_words(rt: HostRuntime) -> Result<(), Fail> {
     let coder: DefaultAnsCoder = from_binary([5u32, 0].to_vec(rt.alloc())?)?;
     let is_read = holds(&coder, 4294967296, &[5]);
-    let is_written = matches!(exports_in_binary(coder, &[5, 0]), Shown::These);
+    let is_written = exports_in_binary(coder, &[5, 0]) == Some(true);
     let none: DefaultAnsCoder = new_coder(rt.alloc());
-    assert!(rt; is_read && is_written && matches!(exports_in_binary(none, &[]), Shown::Impossible));
+    assert!(rt; is_read && is_written && exports_in_binary(none, &[]).is_none());
     Ok(())
 }
 
@@ -60,24 +61,15 @@ fn ans_binary_zero_words(rt: HostRuntime) -> Result<(), Fail> {
 #[test]
 fn heads_of_whole_words(rt: HostRuntime) -> Result<(), Fail> {
     for head in [0u32, 2, 3, 255, 32768, 131072, 4294967295] {
-        assert!(rt;
-            matches!(
-                head_in_binary::<u16, u32>(rt.alloc(), head, &[]),
-                Shown::Impossible
-            )
-        );
+        assert!(rt; head_in_binary::<u16, u32>(rt.alloc(), head, &[]).is_none());
     }
     // three words below a leading 1, the lowest first
     let head = 16777216 + 2 * 65536 + 1;
     let coder: AnsCoder<u8, u32> = from_binary([1u8, 0, 2].to_vec(rt.alloc())?)?;
     assert!(rt;
-        matches!(
-            head_in_binary::<u16, u32>(rt.alloc(), 65543, &[7]),
-            Shown::These
-        ) && matches!(
-            head_in_binary::<u8, u32>(rt.alloc(), head, &[1, 0, 2]),
-            Shown::These
-        ) && holds(&coder, head, &[])
+        head_in_binary::<u16, u32>(rt.alloc(), 65543, &[7]) == Some(true)
+            && head_in_binary::<u8, u32>(rt.alloc(), head, &[1, 0, 2]) == Some(true)
+            && holds(&coder, head, &[])
     );
     Ok(())
 }
@@ -85,18 +77,18 @@ fn heads_of_whole_words(rt: HostRuntime) -> Result<(), Fail> {
 /// The binary form through a guard and without one, and heads with no words below their leading 1.
 #[test]
 fn ans_binary_forms(rt: HostRuntime) -> Result<(), Fail> {
+    let table = WeightTable::<u32, 24>::new(rt.alloc(), &[3, 2, 16777211])?;
     let mut coder: DefaultAnsCoder = from_binary([5u32, 0].to_vec(rt.alloc())?)?;
-    let is_shown = matches!(shows_in_binary(&mut coder, &[5, 0]), Shown::These)
-        && holds(&coder, 4294967296, &[5]);
     let mut new: DefaultAnsCoder = new_coder(rt.alloc());
-    let three = head_in_binary::<u32, u64>(rt.alloc(), 3, &[]);
     let one: DefaultAnsCoder = from_binary(Vec::new(rt.alloc()))?;
-    let is_one = holds(&one, 1, &[]) && matches!(exports_in_binary(one, &[]), Shown::These);
+    let acts = [Act::ShowsBinary(&[5, 0]), Act::Holds(4294967296, &[5])];
+    let are_shown = follows(rt.alloc(), &mut coder, &table, AllocError, &acts)
+        && follows(rt.alloc(), &mut new, &table, AllocError, &[Act::NoBinary])
+        && holds(&one, 1, &[]);
     assert!(rt;
-        is_shown
-            && matches!(shows_in_binary(&mut new, &[]), Shown::Impossible)
-            && matches!(three, Shown::Impossible)
-            && is_one
+        are_shown
+            && head_in_binary::<u32, u64>(rt.alloc(), 3, &[]).is_none()
+            && exports_in_binary(one, &[]) == Some(true)
     );
     Ok(())
 }
@@ -111,11 +103,12 @@ fn binary_exports_to_cursors(rt: HostRuntime) {
     assert!(rt; is_refused && one == [3u8] && is_done && two == [3u8, 2]);
 }
 
-/// Compares the words of the binary form over a heap.
-fn heap_exports(coder: HeapCoder<'_>, words: &[u8]) -> bool {
+/// Whether a coder over a heap is exported in the binary form, if there is memory.
+fn exports_in(heap: &LocalHeap) -> Option<bool> {
+    let coder: HeapCoder<'_> = coder_with(Vec::new(heap), 259);
     match binary_of(coder) {
-        Ok(all) => all.as_slice() == words,
-        Err(_) => false,
+        Ok(all) => Some(all.as_slice() == [3u8].as_slice()),
+        Err(_) => None,
     }
 }
 
@@ -124,10 +117,8 @@ fn heap_exports(coder: HeapCoder<'_>, words: &[u8]) -> bool {
 fn a_full_heap_refuses_a_binary_export(rt: HostRuntime) -> Result<(), Fail> {
     let heap = LocalHeap::new(rt.alloc(), 512)?;
     let filler: Vec<u8, &LocalHeap> = Vec::with_capacity(&heap, 512)?;
-    let first: HeapCoder<'_> = coder_with(Vec::new(&heap), 259);
-    let second: HeapCoder<'_> = coder_with(Vec::new(&heap), 259);
-    let is_refused = binary_is_refused(first);
+    let is_refused = exports_in(&heap).is_none();
     drop(filler);
-    assert!(rt; is_refused && heap_exports(second, &[3]));
+    assert!(rt; is_refused && exports_in(&heap) == Some(true));
     Ok(())
 }

@@ -1,13 +1,15 @@
 //! Decoders made through the coder traits, over words that they own or borrow.
 
 use crate::coders::{new_coder, table_of};
-use crate::expect::{gives, gives_all, holds};
-use crate::put::{Put, put_list_back};
+use crate::expect::{gives, gives_all};
+use crate::put::Call;
+use crate::script::{Act, follows};
 use constriction_base::cursor::Cursor;
 use constriction_base::weights::WeightTable;
 use constriction_stack::{AnsCoder, DefaultAnsCoder};
 use constriction_stream::conversions::{AsDecoder, IntoDecoder};
 use constriction_words::{BitArray, WordOf};
+use std::alloc::AllocError;
 use std::test::Fail;
 
 /// Takes all symbols off through the decoder that borrows the words.
@@ -61,12 +63,12 @@ where
 fn decoders_at_u8_and_u16(rt: HostRuntime) -> Result<(), Fail> {
     let table = table_of(rt.alloc(), &[200, 55, 1])?;
     let mut coder: AnsCoder<u8, u16> = new_coder(rt.alloc());
-    let is_read = matches!(put_list_back(&mut coder, &table, &[2, 0, 1]), Put::Done)
-        && holds(&coder, 511, &[0])
-        && through_borrowed(&coder, &table, &[2, 0, 1])
-        && through_reference(&coder, &table, &[2, 0, 1]);
-    let is_taken = through_owned(coder, &table, &[2, 0, 1]);
-    assert!(rt; is_read && is_taken);
+    let symbols = [2usize, 0, 1];
+    let acts = [Act::Done(Call::ListBack, &symbols), Act::Holds(511, &[0])];
+    let are_lent = follows(rt.alloc(), &mut coder, &table, AllocError, &acts)
+        && through_borrowed(&coder, &table, &symbols)
+        && through_reference(&coder, &table, &symbols);
+    assert!(rt; are_lent && through_owned(coder, &table, &symbols));
     Ok(())
 }
 
@@ -75,11 +77,13 @@ fn decoders_at_u32_and_u64(rt: HostRuntime) -> Result<(), Fail> {
     let table = WeightTable::<u32, 24>::new(rt.alloc(), &[3, 2, 16777211])?;
     let mut coder: DefaultAnsCoder = new_coder(rt.alloc());
     let symbols = [0usize, 1, 1, 0, 1, 2, 0];
-    let is_read = matches!(put_list_back(&mut coder, &table, &symbols), Put::Done)
-        && holds(&coder, 4003138579202049, &[2885681152, 16777220])
+    let acts = [
+        Act::Done(Call::ListBack, &symbols),
+        Act::Holds(4003138579202049, &[2885681152, 16777220]),
+    ];
+    let are_lent = follows(rt.alloc(), &mut coder, &table, AllocError, &acts)
         && through_borrowed(&coder, &table, &symbols)
         && through_reference(&coder, &table, &symbols);
-    let is_taken = through_owned(coder, &table, &symbols);
-    assert!(rt; is_read && is_taken);
+    assert!(rt; are_lent && through_owned(coder, &table, &symbols));
     Ok(())
 }

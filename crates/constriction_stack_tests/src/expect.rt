@@ -1,5 +1,6 @@
 //! What a coder gives and holds, compared with values that a test gives.
 
+ghost use Rattle.std.specs.Iterator.{IsFinite};
 ghost use Rattle.constriction_base.specs.Steps.{IsSizes};
 
 use constriction_base::backends::{Holds, Pos, PosSeek, ReadWords, Stack, WriteWords};
@@ -50,6 +51,87 @@ where
     gives(coder, table, symbols) && coder.is_empty()
 }
 
+/// Takes lists of symbols off, and compares the head after each.
+pub fn gives_heads<Word, State, Backend, Probability, const PRECISION: usize>(
+    coder: &mut AnsCoder<Word, State, Backend>,
+    table: &WeightTable<Probability, PRECISION>,
+    lists: &[(&[usize], State)],
+) -> bool
+where
+    Word: WordOf<State>,
+    State: BitArray + PartialEq,
+    Backend: ReadWords<Word, Stack>,
+    Backend::ReadError: Drop,
+    Probability: WordOf<Word>,
+{
+    for (symbols, head) in lists {
+        if !gives(coder, table, symbols) || coder.state() != *head {
+            return false;
+        }
+    }
+    true
+}
+
+/// Compares all symbols that an iterator gives, and how many it says that there are.
+fn are_all<I, E>(given: I, symbols: &[usize]) -> bool
+where
+    I: Iterator<Item = Result<usize, E>> + Drop,
+    E: Drop,
+    requires can { I.can_next given }
+    requires ends { IsFinite (I.remaining given) }
+{
+    if given.size_hint() != (symbols.len(), Some(symbols.len())) {
+        return false;
+    }
+    let mut left = symbols;
+    for found in given {
+        match (found, left.split_first()) {
+            (Ok(symbol), Some((first, rest))) if symbol == *first => left = rest,
+            _ => return false,
+        }
+    }
+    left.is_empty()
+}
+
+/// The same, where some answers are errors in the place of a symbol.
+fn are_all_items<I, E>(given: I, answers: &[Result<usize, u8>]) -> bool
+where
+    I: Iterator<Item = Result<usize, TryCodingError<E, u8>>> + Drop,
+    E: Drop,
+    requires can { I.can_next given }
+    requires ends { IsFinite (I.remaining given) }
+{
+    if given.size_hint() != (answers.len(), Some(answers.len())) {
+        return false;
+    }
+    let mut left = answers;
+    for found in given {
+        let answer = match found {
+            Ok(symbol) => Ok(symbol),
+            Err(TryCodingError::InvalidEntropyModel(error)) => Err(error),
+            Err(TryCodingError::CodingError(_)) => return false,
+        };
+        match left.split_first() {
+            Some((first, rest)) if answer == *first => left = rest,
+            _ => return false,
+        }
+    }
+    left.is_empty()
+}
+
+/// The first symbol that an iterator gives.
+fn first_of<I, E>(mut given: I) -> Option<usize>
+where
+    I: Iterator<Item = Result<usize, E>> + Drop,
+    E: Drop,
+    requires { I.can_next given }
+{
+    match given.next() {
+        Some(Ok(symbol)) => Some(symbol),
+        _ => None,
+    }
+}
+
 /// Takes symbols off by a list of tables, until there is none.
 pub fn gives_by_tables<Word, State, Backend, Probability, const PRECISION: usize>(
     coder: &mut AnsCoder<Word, State, Backend>,
@@ -63,14 +145,7 @@ where
     Backend::ReadError: Drop,
     Probability: WordOf<Word>,
 {
-    let mut given = coder.decode_symbols(tables);
-    for symbol in symbols {
-        match given.next() {
-            Some(Ok(found)) if found == *symbol => {}
-            _ => return false,
-        }
-    }
-    given.next().is_none()
+    are_all(coder.decode_symbols(tables), symbols)
 }
 
 /// The same, where a table may be an error, which is answered in the place of a symbol.
@@ -84,28 +159,13 @@ where
     State: BitArray,
     Probability: WordOf<Word>,
 {
-    let mut given = coder.try_decode_symbols(items);
-    if given.size_hint() != (answers.len(), Some(answers.len())) {
-        return false;
-    }
-    for answer in answers {
-        let found = match given.next() {
-            Some(Ok(symbol)) => Ok(symbol),
-            Some(Err(TryCodingError::InvalidEntropyModel(error))) => Err(error),
-            _ => return false,
-        };
-        if found != *answer {
-            return false;
-        }
-    }
-    given.next().is_none()
+    are_all_items(coder.try_decode_symbols(items), answers)
 }
 
-/// Takes symbols off by one table, which is asked for so many. Where all are taken there is no more.
-pub fn gives_of<Word, State, Backend, Probability, const PRECISION: usize>(
+/// Takes symbols off by one table.
+pub fn gives_list<Word, State, Backend, Probability, const PRECISION: usize>(
     coder: &mut AnsCoder<Word, State, Backend>,
     table: &WeightTable<Probability, PRECISION>,
-    count: usize,
     symbols: &[usize],
 ) -> bool
 where
@@ -115,17 +175,21 @@ where
     Backend::ReadError: Drop,
     Probability: WordOf<Word>,
 {
-    let mut given = coder.decode_iid_symbols(count, table);
-    if given.size_hint() != (count, Some(count)) {
-        return false;
-    }
-    for symbol in symbols {
-        match given.next() {
-            Some(Ok(found)) if found == *symbol => {}
-            _ => return false,
-        }
-    }
-    symbols.len() < count || given.next().is_none()
+    are_all(coder.decode_iid_symbols(symbols.len(), table), symbols)
+}
+
+/// The first of so many symbols by one table. The others aren't taken off.
+pub fn first_of_list<Word, State, Probability, const PRECISION: usize>(
+    coder: &mut AnsCoder<Word, State>,
+    table: &WeightTable<Probability, PRECISION>,
+    count: usize,
+) -> Option<usize>
+where
+    Word: WordOf<State>,
+    State: BitArray,
+    Probability: WordOf<Word>,
+{
+    first_of(coder.decode_iid_symbols(count, table))
 }
 
 /// Whether the next step may be refused for lack of room.
@@ -184,26 +248,6 @@ where
     A: Allocator,
 {
     coder.state() == head && coder.bulk().as_slice() == words
-}
-
-/// Whether a call gave the words that a test expects.
-#[derive(Drop)]
-pub enum Shown {
-    These,
-    Others,
-    /// There is no such form of the coder.
-    Impossible,
-    /// The backend refused room.
-    Refused,
-}
-
-/// Compares words.
-pub fn compared<Word: PartialEq>(words: &[Word], expected: &[Word]) -> Shown {
-    if words == expected {
-        Shown::These
-    } else {
-        Shown::Others
-    }
 }
 
 /// The backend and the head of a coder.

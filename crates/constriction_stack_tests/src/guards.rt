@@ -3,18 +3,15 @@
 ghost use Rattle.constriction_base.specs.Readings.{NeverRefused};
 ghost use Rattle.std.specs.Prelude.{◌≡◌, OnOk};
 
-use crate::coders::{
-    CursorCoder, HeapCoder, coder_over, coder_over_with, coder_with, new_coder, table_of,
-};
-use crate::expect::{Shown, bulk_at, compared, gives, has_head, holds, parts_of};
-use crate::put::puts;
+use crate::coders::{HeapCoder, coder_over, coder_over_with, coder_with, new_coder, table_of};
+use crate::expect::{bulk_at, parts_of};
+use crate::script::{Act, follows};
 use constriction_base::backends::{BoundedReadWords, Pos, ReadWords, Stack, WriteWords};
 use constriction_base::errors::{BoundedWriteError, CoderError};
-use constriction_base::weights::WeightTable;
 use constriction_stack::AnsCoder;
 use constriction_words::{BitArray, WordOf};
 use linked_list_allocator::LocalHeap;
-use std::alloc::Allocator;
+use std::alloc::AllocError;
 use std::mem;
 use std::test::Fail;
 
@@ -46,53 +43,34 @@ where
     Ok(guard.backend().remaining())
 }
 
-/// Compares the words that a guard shows.
-fn shows<Word, State, A>(coder: &mut AnsCoder<Word, State, Vec<Word, A>>, words: &[Word]) -> Shown
-where
-    Word: WordOf<State> + PartialEq,
-    State: BitArray,
-    A: Allocator,
-{
-    match coder.get_compressed() {
-        Ok(guard) => compared(guard.backend(), words),
-        Err(_) => Shown::Refused,
-    }
-}
-
-/// Compares the words of the binary form that a guard shows.
-pub fn shows_in_binary<Word, State, A>(
-    coder: &mut AnsCoder<Word, State, Vec<Word, A>>,
-    words: &[Word],
-) -> Shown
-where
-    Word: WordOf<State> + PartialEq,
-    State: BitArray,
-    A: Allocator,
-{
-    match coder.get_binary() {
-        Ok(guard) => compared(guard.backend(), words),
-        Err(CoderError::Frontend(())) => Shown::Impossible,
-        Err(CoderError::Backend(_)) => Shown::Refused,
-    }
-}
-
-/// The words of a new coder, and after three symbols, through guards.
-fn shows_steps(coder: &mut AnsCoder<u8, u16>, table: &WeightTable<u8, 8>) -> bool {
-    matches!(shows(coder, &[]), Shown::These)
-        && puts(coder, table, &[(1, 255), (1, 65535), (1, 65535)])
-        && matches!(shows(coder, &[255, 255, 255]), Shown::These)
-        && holds(coder, 65535, &[255])
-        && matches!(count_shown(coder), Ok(3))
-        && matches!(count_shown_in_binary(coder), Err(CoderError::Frontend(())))
-        && holds(coder, 65535, &[255])
-        && gives(coder, table, &[1, 1, 1])
-}
-
 #[test]
 fn words_through_a_guard(rt: HostRuntime) -> Result<(), Fail> {
     let table = table_of(rt.alloc(), &[255, 1])?;
-    let mut coder = new_coder(rt.alloc());
-    assert!(rt; shows_steps(&mut coder, &table));
+    let mut coder: AnsCoder<u8, u16> = new_coder(rt.alloc());
+    let acts = [
+        Act::Shows(&[]),
+        Act::Steps(&[(1, 255), (1, 65535), (1, 65535)]),
+        Act::Shows(&[255, 255, 255]),
+        Act::Holds(65535, &[255]),
+        Act::NoBinary,
+        Act::Holds(65535, &[255]),
+        Act::Gives(&[1, 1, 1]),
+    ];
+    assert!(rt; follows(rt.alloc(), &mut coder, &table, AllocError, &acts));
+    Ok(())
+}
+
+/// How many words the callers see that know of the guard what its contract says.
+#[test]
+fn words_that_a_caller_sees(rt: HostRuntime) -> Result<(), Fail> {
+    let mut coder = coder_with([255u8].to_vec(rt.alloc())?, 65535u16);
+    assert!(rt;
+        matches!(count_shown(&mut coder), Ok(3))
+            && matches!(
+                count_shown_in_binary(&mut coder),
+                Err(CoderError::Frontend(()))
+            )
+    );
     Ok(())
 }
 
@@ -105,97 +83,119 @@ fn the_text_of_a_guard(rt: HostRuntime) -> Result<(), Fail> {
     Ok(())
 }
 
-/// Two symbols, and then no room for the words of the head.
-fn shows_none(coder: &mut CursorCoder<'_, u16>, table: &WeightTable<u8, 8>) -> bool {
-    puts(coder, table, &[(1, 255), (1, 65535)])
-        && matches!(count_shown(coder), Err(BoundedWriteError::OutOfSpace))
-        && bulk_at(coder, 0)
-        && has_head(coder, 65535)
-}
-
 #[test]
 fn ans_cursor_full(rt: HostRuntime) -> Result<(), Fail> {
     let table = table_of(rt.alloc(), &[255, 1])?;
     let mut buf = [0u8; 1];
     let mut coder = coder_over(&mut buf);
-    assert!(rt; shows_none(&mut coder, &table));
+    let acts = [
+        Act::Steps(&[(1, 255), (1, 65535)]),
+        Act::ShowsNone,
+        Act::Holds(65535, &[]),
+    ];
+    assert!(rt;
+        follows(
+            rt.alloc(),
+            &mut coder,
+            &table,
+            BoundedWriteError::OutOfSpace,
+            &acts
+        ) && bulk_at(&coder, 0)
+    );
     Ok(())
-}
-
-/// Whether a buffer has no room for a head's words in the binary form.
-fn is_full_in_binary(coder: &mut CursorCoder<'_, u32>, head: u32) -> bool {
-    matches!(
-        count_shown_in_binary(coder),
-        Err(CoderError::Backend(BoundedWriteError::OutOfSpace))
-    ) && bulk_at(coder, 0)
-        && has_head(coder, head)
-}
-
-/// Whether a guard shows a head's words in the binary form, behind which the cursor stands.
-fn is_shown_in_binary(coder: &mut CursorCoder<'_, u32>, head: u32, count: usize) -> bool {
-    matches!(count_shown_in_binary(coder), Ok(found) if found == count)
-        && bulk_at(coder, 0)
-        && has_head(coder, head)
 }
 
 /// A binary head of three words over a buffer of two, and then of three.
 #[test]
-fn a_full_cursor_refuses_a_binary_guard(rt: HostRuntime) {
+fn a_full_cursor_refuses_a_binary_guard(rt: HostRuntime) -> Result<(), Fail> {
+    let table = table_of(rt.alloc(), &[255, 1])?;
     let head = 16777216 + 2 * 65536 + 1u32;
     let mut two = [0u8; 2];
     let mut three = [0u8; 3];
-    let is_refused = is_full_in_binary(&mut coder_over_with(&mut two, head), head);
-    let is_shown = is_shown_in_binary(&mut coder_over_with(&mut three, head), head, 3);
-    assert!(rt; is_refused && is_shown && three == [1u8, 0, 2]);
-}
-
-/// Both forms of a head of two words, of which the binary one has one.
-fn shows_both(coder: &mut CursorCoder<'_, u16>) -> bool {
-    matches!(count_shown(coder), Ok(2))
-        && matches!(count_shown_in_binary(coder), Ok(1))
-        && bulk_at(coder, 0)
-        && has_head(coder, 259)
+    let mut full = coder_over_with(&mut two, head);
+    let mut free = coder_over_with(&mut three, head);
+    let refused = [Act::ShowsNoneInBinary, Act::Holds(head, &[])];
+    let shown = [Act::ShowsBinary(&[1, 0, 2]), Act::Holds(head, &[])];
+    assert!(rt;
+        follows(
+            rt.alloc(),
+            &mut full,
+            &table,
+            BoundedWriteError::OutOfSpace,
+            &refused
+        ) && bulk_at(&full, 0)
+            && follows(
+                rt.alloc(),
+                &mut free,
+                &table,
+                BoundedWriteError::OutOfSpace,
+                &shown
+            )
+            && bulk_at(&free, 0)
+    );
+    Ok(())
 }
 
 /// The words of either form on a cursor with room for them, which are taken off again.
 #[test]
-fn words_through_a_guard_over_a_cursor(rt: HostRuntime) {
+fn words_through_a_guard_over_a_cursor(rt: HostRuntime) -> Result<(), Fail> {
+    let table = table_of(rt.alloc(), &[255, 1])?;
     let mut buf = [0u8; 2];
     let mut coder = coder_over_with(&mut buf, 259u16);
-    let are_shown = shows_both(&mut coder);
+    let acts = [
+        Act::Shows(&[3, 1]),
+        Act::ShowsBinary(&[3]),
+        Act::Holds(259, &[]),
+    ];
+    let are_shown = follows(
+        rt.alloc(),
+        &mut coder,
+        &table,
+        BoundedWriteError::OutOfSpace,
+        &acts,
+    );
     let (cursor, head) = parts_of(coder);
     assert!(rt; are_shown && cursor.pos() == 0 && head == 259);
     drop(cursor);
     assert!(rt; buf == [3u8, 1]);
+    Ok(())
 }
 
-/// A head of four words, which is a 1 above three words: both forms over a vector.
-fn shows_four(coder: &mut AnsCoder<u8, u32>) -> bool {
-    matches!(shows(coder, &[9, 4, 3, 2, 1]), Shown::These)
-        && holds(coder, 16909060, &[9])
-        && matches!(shows_in_binary(coder, &[9, 4, 3, 2]), Shown::These)
-        && holds(coder, 16909060, &[9])
-}
-
-/// The words of that head over a buffer: how many they are, or none where there is no room.
-fn shows_four_over(coder: &mut CursorCoder<'_, u32>, has_room: bool) -> bool {
-    let is_shown = match count_shown(coder) {
-        Ok(count) => has_room && count == 4,
-        Err(BoundedWriteError::OutOfSpace) => !has_room,
-        Err(BoundedWriteError::Memory) => false,
-    };
-    is_shown && bulk_at(coder, 0) && has_head(coder, 16909060)
-}
-
-/// Over a vector, and over a buffer of three words and of four.
+/// A head of four words, which is a 1 above three words: both forms over a vector, and over a buffer
+/// of three words and of four.
 #[test]
 fn guards_of_a_head_of_four_words(rt: HostRuntime) -> Result<(), Fail> {
+    let table = table_of(rt.alloc(), &[255, 1])?;
     let mut coder: AnsCoder<u8, u32> = coder_with([9u8].to_vec(rt.alloc())?, 16909060);
     let mut three = [0u8; 3];
     let mut four = [0u8; 4];
-    let is_refused = shows_four_over(&mut coder_over_with(&mut three, 16909060), false);
-    let is_shown = shows_four_over(&mut coder_over_with(&mut four, 16909060), true);
-    assert!(rt; shows_four(&mut coder) && is_refused && is_shown && four == [4u8, 3, 2, 1]);
+    let mut full = coder_over_with(&mut three, 16909060u32);
+    let mut free = coder_over_with(&mut four, 16909060u32);
+    let both = [
+        Act::Shows(&[9, 4, 3, 2, 1]),
+        Act::Holds(16909060, &[9]),
+        Act::ShowsBinary(&[9, 4, 3, 2]),
+        Act::Holds(16909060, &[9]),
+    ];
+    let refused = [Act::ShowsNone, Act::Holds(16909060, &[])];
+    let shown = [Act::Shows(&[4, 3, 2, 1]), Act::Holds(16909060, &[])];
+    assert!(rt;
+        follows(rt.alloc(), &mut coder, &table, AllocError, &both)
+            && follows(
+                rt.alloc(),
+                &mut full,
+                &table,
+                BoundedWriteError::OutOfSpace,
+                &refused
+            )
+            && follows(
+                rt.alloc(),
+                &mut free,
+                &table,
+                BoundedWriteError::OutOfSpace,
+                &shown
+            )
+    );
     Ok(())
 }
 
@@ -211,37 +211,36 @@ fn forgets(coder: &mut AnsCoder<u8, u16>) -> bool {
 }
 
 /// Calls go on after a guard was forgotten.
-fn goes_on(coder: &mut AnsCoder<u8, u16>, table: &WeightTable<u8, 8>) -> bool {
-    forgets(coder)
-        && holds(coder, 515, &[3, 2])
-        && puts(coder, table, &[(0, 517)])
-        && gives(coder, table, &[0])
-        && matches!(shows(coder, &[3, 2, 3, 2]), Shown::These)
-        && holds(coder, 515, &[3, 2])
-}
-
 #[test]
 fn a_forgotten_guard(rt: HostRuntime) -> Result<(), Fail> {
     let table = table_of(rt.alloc(), &[255, 1])?;
     let mut coder = coder_with(Vec::<u8>::new(rt.alloc()), 515u16);
-    assert!(rt; goes_on(&mut coder, &table));
+    let acts = [
+        Act::Holds(515, &[3, 2]),
+        Act::Steps(&[(0, 517)]),
+        Act::Gives(&[0]),
+        Act::Shows(&[3, 2, 3, 2]),
+        Act::Holds(515, &[3, 2]),
+    ];
+    assert!(rt; forgets(&mut coder) && follows(rt.alloc(), &mut coder, &table, AllocError, &acts));
     Ok(())
 }
 
 /// On a heap that is full, and then isn't.
 #[test]
 fn a_full_heap_refuses_a_guard(rt: HostRuntime) -> Result<(), Fail> {
+    let table = table_of(rt.alloc(), &[255, 1])?;
     let heap = LocalHeap::new(rt.alloc(), 512)?;
     let filler: Vec<u8, &LocalHeap> = Vec::with_capacity(&heap, 512)?;
     let mut coder: HeapCoder<'_> = coder_with(Vec::new(&heap), 259);
-    let are_refused = matches!(shows(&mut coder, &[3, 1]), Shown::Refused)
-        && matches!(shows_in_binary(&mut coder, &[3]), Shown::Refused);
+    let acts = [Act::ShowsNone, Act::ShowsNoneInBinary];
+    let are_refused = follows(rt.alloc(), &mut coder, &table, AllocError, &acts);
     drop(filler);
-    assert!(rt;
-        are_refused
-            && matches!(shows(&mut coder, &[3, 1]), Shown::These)
-            && matches!(shows_in_binary(&mut coder, &[3]), Shown::These)
-            && holds(&coder, 259, &[])
-    );
+    let acts = [
+        Act::Shows(&[3, 1]),
+        Act::ShowsBinary(&[3]),
+        Act::Holds(259, &[]),
+    ];
+    assert!(rt; are_refused && follows(rt.alloc(), &mut coder, &table, AllocError, &acts));
     Ok(())
 }

@@ -8,8 +8,8 @@
 //!
 //! A test brings the clauses of each call that it makes into its own proof. So the calls of the
 //! coder stand in helpers without clauses, once for all tests: [`put`] and [`expect`] for steps,
-//! lists and words, [`coders`] for the coders that tests begin with. A test makes the values, and
-//! asserts what a case, one chain of helpers on a coder, answers.
+//! lists and words, [`coders`] for the coders that tests begin with. A test makes the values, lists
+//! what is done with a coder and what is expected ([`script`]), and asserts once.
 #![tactic(auto)]
 
 #[cfg(test)]
@@ -38,6 +38,8 @@ mod readers;
 mod refusals;
 #[cfg(test)]
 mod reversed_lists;
+#[cfg(test)]
+mod script;
 #[cfg(test)]
 mod seeking;
 #[cfg(test)]

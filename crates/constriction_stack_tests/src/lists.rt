@@ -2,12 +2,13 @@
 
 ghost use Rattle.std.specs.Prelude.{◌≤◌};
 
-use crate::coders::{CursorCoder, coder_over, new_coder, table_of};
+use crate::coders::{coder_over, new_coder, table_of};
 use crate::expect::{
-    coder_of, gives, gives_all, gives_by_items, gives_by_tables, gives_of, has_head, holds,
-    seems_exhausted, seems_full,
+    coder_of, first_of_list, gives_all, gives_by_items, gives_by_tables, gives_list, has_head,
+    holds, seems_exhausted, seems_full,
 };
-use crate::put::{Pair, Put, put_list, put_pairs, put_some, try_pairs, try_some};
+use crate::put::{Call, Pair, Put, put_pairs, try_pairs};
+use crate::script::{Act, follows};
 use constriction_base::errors::BoundedWriteError;
 use constriction_base::model::{DecoderModel, EncoderModel, EntropyModel};
 use constriction_base::weights::WeightTable;
@@ -16,7 +17,7 @@ use constriction_stream::coder::Code;
 use constriction_stream::decoding::Decode;
 use constriction_stream::encoding::Encode;
 use constriction_words::{BitArray, WordOf};
-use std::alloc::Global;
+use std::alloc::AllocError;
 use std::test::Fail;
 
 /// An item of a list that may be faulty, at u8 and u16.
@@ -68,88 +69,76 @@ fn iterator_goes_on(rt: HostRuntime) -> Result<(), Fail> {
 fn iterator_dropped_early(rt: HostRuntime) -> Result<(), Fail> {
     let table = table_of(rt.alloc(), &[255, 1])?;
     let mut coder: AnsCoder<u8, u16> = coder_of([255u8, 255, 255].to_vec(rt.alloc())?)?;
-    assert!(rt; gives_of(&mut coder, &table, 3, &[1]) && gives_all(&mut coder, &table, &[1, 1]));
+    assert!(rt;
+        first_of_list(&mut coder, &table, 3) == Some(1) && gives_all(&mut coder, &table, &[1, 1])
+    );
     Ok(())
-}
-
-/// No symbol, and then four, by three lists.
-fn lists(alloc: Global, coder: &mut AnsCoder<u8, u16>, table: &WeightTable<u8, 8>) -> bool {
-    matches!(put_list(coder, table, &[]), Put::Done)
-        && coder.is_empty()
-        && matches!(put_list(coder, table, &[1, 0]), Put::Done)
-        && matches!(put_some(alloc, coder, table, &[1]), Put::Done)
-        && matches!(try_some(alloc, coder, table, &[1]), Put::Done)
 }
 
 #[test]
 fn lists_at_u8_and_u16(rt: HostRuntime) -> Result<(), Fail> {
     let table = table_of(rt.alloc(), &[255, 1])?;
-    let mut coder = new_coder(rt.alloc());
+    let mut coder: AnsCoder<u8, u16> = new_coder(rt.alloc());
     let tables = [&table, &table].to_vec(rt.alloc())?;
+    let acts = [
+        Act::Done(Call::List, &[]),
+        Act::Empty,
+        Act::Done(Call::List, &[1, 0]),
+        Act::Done(Call::Pairs, &[1]),
+        Act::Done(Call::Items, &[1]),
+    ];
     assert!(rt;
-        lists(rt.alloc(), &mut coder, &table)
+        follows(rt.alloc(), &mut coder, &table, AllocError, &acts)
             && gives_by_tables(&mut coder, tables, &[1, 1])
-            && gives_of(&mut coder, &table, 2, &[0, 1])
+            && gives_list(&mut coder, &table, &[0, 1])
             && coder.is_empty()
     );
     Ok(())
 }
 
-/// Lists that stop at the step that owes a word.
-fn lists_without_room(
-    alloc: Global,
-    coder: &mut CursorCoder<'_, u16>,
-    table: &WeightTable<u8, 8>,
-) -> bool {
-    matches!(put_list(coder, table, &[1]), Put::Done)
-        && matches!(
-            put_some(alloc, coder, table, &[1, 1]),
-            Put::Refused(BoundedWriteError::OutOfSpace)
-        )
-        && has_head(coder, 65535)
-        && matches!(
-            try_some(alloc, coder, table, &[1]),
-            Put::Refused(BoundedWriteError::OutOfSpace)
-        )
-        && has_head(coder, 65535)
-}
-
-/// The lists over a cursor with no room for a word.
+/// The lists over a cursor with no room for a word: each stops at the step that owes one.
 #[test]
 fn lists_over_a_full_cursor(rt: HostRuntime) -> Result<(), Fail> {
     let table = table_of(rt.alloc(), &[255, 1])?;
     let tables = [&table, &table].to_vec(rt.alloc())?;
     let mut buf = [0u8; 0];
     let mut coder = coder_over(&mut buf);
+    let acts = [
+        Act::Done(Call::List, &[1]),
+        Act::Refused(Call::Pairs, &[1, 1]),
+        Act::Holds(65535, &[]),
+        Act::Refused(Call::Items, &[1]),
+        Act::Holds(65535, &[]),
+    ];
     assert!(rt;
-        lists_without_room(rt.alloc(), &mut coder, &table)
-            && gives_by_tables(&mut coder, tables, &[1, 1])
-            && gives_of(&mut coder, &table, 2, &[0, 0])
+        follows(
+            rt.alloc(),
+            &mut coder,
+            &table,
+            BoundedWriteError::OutOfSpace,
+            &acts
+        ) && gives_by_tables(&mut coder, tables, &[1, 1])
+            && gives_list(&mut coder, &table, &[0, 0])
     );
     Ok(())
 }
 
-/// The symbols 1, 0 and 2, 0 by two lists: heads 3, 16777216, 16777226 and 93825036976130, which
-/// owe no word.
-fn lists_of_pairs(
-    alloc: Global,
-    coder: &mut DefaultAnsCoder,
-    table: &WeightTable<u32, 24>,
-) -> bool {
-    matches!(put_some(alloc, coder, table, &[1, 0]), Put::Done)
-        && holds(coder, 16777216, &[])
-        && matches!(try_some(alloc, coder, table, &[2, 0]), Put::Done)
-        && holds(coder, 93825036976130, &[])
-}
-
+/// The symbols 1, 0 and 2, 0 by two lists, and back: heads 3, 16777216, 16777226 and
+/// 93825036976130, which owe no word.
 #[test]
 fn lists_of_pairs_at_u32_and_u64(rt: HostRuntime) -> Result<(), Fail> {
     let table = WeightTable::<u32, 24>::new(rt.alloc(), &[3, 2, 16777211])?;
-    let mut coder = new_coder(rt.alloc());
+    let mut coder: DefaultAnsCoder = new_coder(rt.alloc());
     let tables = [&table, &table].to_vec(rt.alloc())?;
     let items = [Ok(&table)].to_vec(rt.alloc())?;
+    let acts = [
+        Act::Done(Call::Pairs, &[1, 0]),
+        Act::Holds(16777216, &[]),
+        Act::Done(Call::Items, &[2, 0]),
+        Act::Holds(93825036976130, &[]),
+    ];
     assert!(rt;
-        lists_of_pairs(rt.alloc(), &mut coder, &table)
+        follows(rt.alloc(), &mut coder, &table, AllocError, &acts)
             && gives_by_tables(&mut coder, tables, &[0, 2])
             && gives_by_items(&mut coder, items, &[Ok(0)])
             && holds(&coder, 3, &[])

@@ -3,21 +3,14 @@
 
 use crate::coders::{HeapCoder, coder_in, coder_with, table_of};
 use crate::expect::{export_is_refused, holds};
-use crate::put::{Put, put_list, put_one, put_some, puts, try_some};
-use constriction_base::weights::WeightTable;
+use crate::put::Call;
+use crate::script::{Act, follows};
 use linked_list_allocator::LocalHeap;
-use std::alloc::{AllocError, Global};
+use std::alloc::AllocError;
 use std::test::Fail;
 
-/// Symbol 1 onto the head 65535 owes a word, for which there is no memory.
-fn step_is_refused(coder: &mut HeapCoder<'_>, table: &WeightTable<u8, 8>, words: &[u8]) -> bool {
-    matches!(put_one(coder, table, 1), Put::Refused(AllocError)) && holds(coder, 65535, words)
-}
-
-/// The same step where there is memory.
-fn step_goes(coder: &mut HeapCoder<'_>, table: &WeightTable<u8, 8>, words: &[u8]) -> bool {
-    puts(coder, table, &[(1, 65535)]) && holds(coder, 65535, words)
-}
+/// The step that was refused, where there is memory.
+const GOES: [Act<'static, u8, u16>; 2] = [Act::Steps(&[(1, 65535)]), Act::Holds(65535, &[255])];
 
 #[test]
 fn a_full_heap_changes_nothing(rt: HostRuntime) -> Result<(), Fail> {
@@ -26,86 +19,66 @@ fn a_full_heap_changes_nothing(rt: HostRuntime) -> Result<(), Fail> {
     let filler: Vec<u8, &LocalHeap> = Vec::with_capacity(&heap, 512)?;
     let mut coder: HeapCoder<'_> = coder_with(Vec::new(&heap), 65535);
     let export: HeapCoder<'_> = coder_with(Vec::new(&heap), 515);
-    let is_refused = step_is_refused(&mut coder, &table, &[]);
-    let is_export_refused = export_is_refused(export);
+    let acts = [Act::Refused(Call::Each, &[1]), Act::Holds(65535, &[])];
+    let is_refused = follows(rt.alloc(), &mut coder, &table, AllocError, &acts)
+        && export_is_refused(export);
     drop(filler);
-    let goes = step_goes(&mut coder, &table, &[255]);
+    let goes = follows(rt.alloc(), &mut coder, &table, AllocError, &GOES);
     coder.clear();
-    assert!(rt; is_refused && is_export_refused && goes && coder.is_empty());
+    assert!(rt; is_refused && goes && coder.is_empty());
     Ok(())
 }
 
-/// The first two symbols owe no word. The third owes one, which is the first that is written.
-fn list_is_refused(coder: &mut HeapCoder<'_>, table: &WeightTable<u8, 8>) -> bool {
-    matches!(put_list(coder, table, &[1, 1, 1]), Put::Refused(AllocError))
-        && holds(coder, 65535, &[])
-}
-
+/// The first two symbols owe no word. The third owes one, which is the first that is written: by
+/// single steps and by each list.
 #[test]
 fn a_full_heap_refuses_a_first_write(rt: HostRuntime) -> Result<(), Fail> {
     let table = table_of(rt.alloc(), &[255, 1])?;
     let heap = LocalHeap::new(rt.alloc(), 512)?;
     let filler: Vec<u8, &LocalHeap> = Vec::with_capacity(&heap, 512)?;
     let mut coder = coder_in(&heap);
-    let is_refused = list_is_refused(&mut coder, &table);
+    let acts = [
+        Act::Refused(Call::List, &[1, 1, 1]),
+        Act::Holds(65535, &[]),
+        Act::Gives(&[1, 1]),
+        Act::Empty,
+        Act::Refused(Call::Pairs, &[1, 1, 1]),
+        Act::Holds(65535, &[]),
+        Act::Gives(&[1, 1]),
+        Act::Empty,
+        Act::Refused(Call::Items, &[1, 1, 1]),
+        Act::Holds(65535, &[]),
+    ];
+    let are_refused = follows(rt.alloc(), &mut coder, &table, AllocError, &acts);
     drop(filler);
-    assert!(rt; is_refused && step_goes(&mut coder, &table, &[255]));
+    assert!(rt; are_refused && follows(rt.alloc(), &mut coder, &table, AllocError, &GOES));
     Ok(())
 }
 
-/// The same of pairs, and of items on another coder.
-fn pairs_are_refused(
-    alloc: Global,
-    first: &mut HeapCoder<'_>,
-    second: &mut HeapCoder<'_>,
-    table: &WeightTable<u8, 8>,
-) -> bool {
-    matches!(
-        put_some(alloc, first, table, &[1, 1, 1]),
-        Put::Refused(AllocError)
-    ) && holds(first, 65535, &[])
-        && matches!(
-            try_some(alloc, second, table, &[1, 1, 1]),
-            Put::Refused(AllocError)
-        )
-        && holds(second, 65535, &[])
-}
-
-/// Lists of pairs, and of items that may be errors, stop at the step that owes a word.
-#[test]
-fn a_full_heap_stops_lists(rt: HostRuntime) -> Result<(), Fail> {
-    let table = table_of(rt.alloc(), &[255, 1])?;
-    let heap = LocalHeap::new(rt.alloc(), 512)?;
-    let filler: Vec<u8, &LocalHeap> = Vec::with_capacity(&heap, 512)?;
-    let mut first = coder_in(&heap);
-    let mut second = coder_in(&heap);
-    let are_refused = pairs_are_refused(rt.alloc(), &mut first, &mut second, &table);
-    drop(filler);
-    assert!(rt;
-        are_refused
-            && step_goes(&mut first, &table, &[255])
-            && step_goes(&mut second, &table, &[255])
-    );
-    Ok(())
-}
-
-/// The first two steps owe no word. The third is refused a first word, and then, once one is
-/// written, a further step is refused a second one, for which the words have to move.
+/// A step that owes a first word is refused, and then, above a word for which the memory that it
+/// has is just enough, one that owes a second.
 #[test]
 fn a_refused_growth_changes_nothing(rt: HostRuntime) -> Result<(), Fail> {
     let table = table_of(rt.alloc(), &[255, 1])?;
     let heap = LocalHeap::new(rt.alloc(), 512)?;
-    let filler: Vec<u8, &LocalHeap> = Vec::with_capacity(&heap, 512)?;
     let mut coder = coder_in(&heap);
-    let is_refused = puts(&mut coder, &table, &[(1, 255), (1, 65535)])
-        && step_is_refused(&mut coder, &table, &[]);
-    drop(filler);
-    let goes = step_goes(&mut coder, &table, &[255]);
     let mut grown: HeapCoder<'_> = coder_with([7u8].to_vec(&heap)?, 65535);
-    let filler: Vec<u8, &LocalHeap> = Vec::with_capacity(&heap, 480)?;
-    let is_refused_again = step_is_refused(&mut grown, &table, &[7]);
+    let filler: Vec<u8, &LocalHeap> = Vec::with_capacity(&heap, 496)?;
+    let first = [
+        Act::Steps(&[(1, 255), (1, 65535)]),
+        Act::Refused(Call::Each, &[1]),
+        Act::Holds(65535, &[]),
+    ];
+    let second = [Act::Refused(Call::Each, &[1]), Act::Holds(65535, &[7])];
+    let are_refused = follows(rt.alloc(), &mut coder, &table, AllocError, &first)
+        && follows(rt.alloc(), &mut grown, &table, AllocError, &second);
     drop(filler);
-    assert!(rt; is_refused && goes && is_refused_again && step_goes(&mut grown, &table, &[7, 255]));
+    let second = [Act::Steps(&[(1, 65535)]), Act::Holds(65535, &[7, 255])];
+    assert!(rt;
+        are_refused
+            && follows(rt.alloc(), &mut coder, &table, AllocError, &GOES)
+            && follows(rt.alloc(), &mut grown, &table, AllocError, &second)
+    );
     Ok(())
 }
 

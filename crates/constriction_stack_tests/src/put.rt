@@ -97,22 +97,42 @@ where
     true
 }
 
-/// Puts one symbol on.
-pub fn put_one<Backend: WriteWords<u8>>(
-    coder: &mut AnsCoder<u8, u16, Backend>,
-    table: &WeightTable<u8, 8>,
-    symbol: usize,
-) -> Put<Backend::WriteError> {
-    answer_of(coder.encode_symbol(&symbol, table))
+/// Puts symbols on one by one, up to the first that is refused.
+fn put_each<Word, State, Backend, Probability, const PRECISION: usize>(
+    coder: &mut AnsCoder<Word, State, Backend>,
+    table: &WeightTable<Probability, PRECISION>,
+    symbols: &[usize],
+) -> Put<Backend::WriteError>
+where
+    Word: WordOf<State>,
+    State: BitArray,
+    Backend: WriteWords<Word>,
+    Probability: WordOf<Word>,
+{
+    for symbol in symbols {
+        match coder.encode_symbol(symbol, table) {
+            Ok(()) => {}
+            Err(error) => return answer_of(Err(error)),
+        }
+    }
+    Put::Done
 }
 
-/// Puts a list on, by one table.
-pub fn put_list<Backend: WriteWords<u8>>(
-    coder: &mut AnsCoder<u8, u16, Backend>,
-    table: &WeightTable<u8, 8>,
-    symbols: &[usize],
-) -> Put<Backend::WriteError> {
-    answer_of(coder.encode_iid_symbols(symbols, table))
+/// By which call symbols are put on.
+#[derive(Clone, Copy)]
+pub enum Call {
+    /// One step after the other.
+    Each,
+    /// A list by one table.
+    List,
+    /// A vector of pairs of a symbol and a table.
+    Pairs,
+    /// The same as items that may be errors.
+    Items,
+    /// The three from the last to the first.
+    ListBack,
+    PairsBack,
+    ItemsBack,
 }
 
 /// Puts a list on, a table for each symbol.
@@ -153,97 +173,6 @@ where
     tried_answer_of(coder.try_encode_symbols(items))
 }
 
-/// Puts a vector of pairs on.
-pub fn put_some<Word, State, Backend, Probability, const PRECISION: usize>(
-    alloc: Global,
-    coder: &mut AnsCoder<Word, State, Backend>,
-    table: &WeightTable<Probability, PRECISION>,
-    symbols: &[usize],
-) -> Put<Backend::WriteError>
-where
-    Word: WordOf<State>,
-    State: BitArray,
-    Backend: WriteWords<Word>,
-    Probability: WordOf<Word>,
-{
-    match pairs_of(alloc, table, symbols) {
-        Ok(pairs) => put_pairs(coder, pairs),
-        Err(AllocError) => Put::NoMemory,
-    }
-}
-
-/// Puts a vector of items on.
-pub fn try_some<Word, State, Backend, Probability, const PRECISION: usize>(
-    alloc: Global,
-    coder: &mut AnsCoder<Word, State, Backend>,
-    table: &WeightTable<Probability, PRECISION>,
-    symbols: &[usize],
-) -> Put<Backend::WriteError>
-where
-    Word: WordOf<State>,
-    State: BitArray,
-    Backend: WriteWords<Word>,
-    Probability: WordOf<Word>,
-{
-    match items_of(alloc, table, symbols) {
-        Ok(items) => try_pairs(coder, items),
-        Err(AllocError) => Put::NoMemory,
-    }
-}
-
-/// Puts a vector of pairs on, the last one first.
-pub fn put_some_back<Word, State, Backend, Probability, const PRECISION: usize>(
-    alloc: Global,
-    coder: &mut AnsCoder<Word, State, Backend>,
-    table: &WeightTable<Probability, PRECISION>,
-    symbols: &[usize],
-) -> Put<Backend::WriteError>
-where
-    Word: WordOf<State>,
-    State: BitArray,
-    Backend: WriteWords<Word>,
-    Probability: WordOf<Word>,
-{
-    match pairs_of(alloc, table, symbols) {
-        Ok(pairs) => put_pairs_back(coder, pairs),
-        Err(AllocError) => Put::NoMemory,
-    }
-}
-
-/// Puts a vector of items on, the last one first.
-pub fn try_some_back<Word, State, Backend, Probability, const PRECISION: usize>(
-    alloc: Global,
-    coder: &mut AnsCoder<Word, State, Backend>,
-    table: &WeightTable<Probability, PRECISION>,
-    symbols: &[usize],
-) -> Put<Backend::WriteError>
-where
-    Word: WordOf<State>,
-    State: BitArray,
-    Backend: WriteWords<Word>,
-    Probability: WordOf<Word>,
-{
-    match items_of(alloc, table, symbols) {
-        Ok(items) => try_pairs_back(coder, items),
-        Err(AllocError) => Put::NoMemory,
-    }
-}
-
-/// Puts a list on by one table, the last symbol first.
-pub fn put_list_back<Word, State, Backend, Probability, const PRECISION: usize>(
-    coder: &mut AnsCoder<Word, State, Backend>,
-    table: &WeightTable<Probability, PRECISION>,
-    symbols: &[usize],
-) -> Put<Backend::WriteError>
-where
-    Word: WordOf<State>,
-    State: BitArray,
-    Backend: WriteWords<Word>,
-    Probability: WordOf<Word>,
-{
-    answer_of(coder.encode_iid_symbols_reverse(symbols, table))
-}
-
 /// Puts a list on, a table for each symbol, the last one first.
 pub fn put_pairs_back<S, M, I, Word, State, Backend, const PRECISION: usize>(
     coder: &mut AnsCoder<Word, State, Backend>,
@@ -280,4 +209,77 @@ where
     requires { EndsFromBack (I.into_iter_gives items) I.IntoIter.can_next_back I.IntoIter.remaining }
 {
     tried_answer_of(coder.try_encode_symbols_reverse(items))
+}
+
+/// Puts symbols on by a call that takes pairs.
+fn put_pairs_by<Word, State, Backend, Probability, const PRECISION: usize>(
+    alloc: Global,
+    coder: &mut AnsCoder<Word, State, Backend>,
+    table: &WeightTable<Probability, PRECISION>,
+    symbols: &[usize],
+    is_back: bool,
+) -> Put<Backend::WriteError>
+where
+    Word: WordOf<State>,
+    State: BitArray,
+    Backend: WriteWords<Word>,
+    Probability: WordOf<Word>,
+{
+    let Ok(pairs) = pairs_of(alloc, table, symbols) else {
+        return Put::NoMemory;
+    };
+    if is_back {
+        put_pairs_back(coder, pairs)
+    } else {
+        put_pairs(coder, pairs)
+    }
+}
+
+/// Puts symbols on by a call that takes items.
+fn put_items_by<Word, State, Backend, Probability, const PRECISION: usize>(
+    alloc: Global,
+    coder: &mut AnsCoder<Word, State, Backend>,
+    table: &WeightTable<Probability, PRECISION>,
+    symbols: &[usize],
+    is_back: bool,
+) -> Put<Backend::WriteError>
+where
+    Word: WordOf<State>,
+    State: BitArray,
+    Backend: WriteWords<Word>,
+    Probability: WordOf<Word>,
+{
+    let Ok(items) = items_of(alloc, table, symbols) else {
+        return Put::NoMemory;
+    };
+    if is_back {
+        try_pairs_back(coder, items)
+    } else {
+        try_pairs(coder, items)
+    }
+}
+
+/// Puts symbols on by a call.
+pub fn put_by<Word, State, Backend, Probability, const PRECISION: usize>(
+    alloc: Global,
+    coder: &mut AnsCoder<Word, State, Backend>,
+    table: &WeightTable<Probability, PRECISION>,
+    call: Call,
+    symbols: &[usize],
+) -> Put<Backend::WriteError>
+where
+    Word: WordOf<State>,
+    State: BitArray,
+    Backend: WriteWords<Word>,
+    Probability: WordOf<Word>,
+{
+    match call {
+        Call::Each => put_each(coder, table, symbols),
+        Call::List => answer_of(coder.encode_iid_symbols(symbols, table)),
+        Call::ListBack => answer_of(coder.encode_iid_symbols_reverse(symbols, table)),
+        Call::Pairs => put_pairs_by(alloc, coder, table, symbols, false),
+        Call::PairsBack => put_pairs_by(alloc, coder, table, symbols, true),
+        Call::Items => put_items_by(alloc, coder, table, symbols, false),
+        Call::ItemsBack => put_items_by(alloc, coder, table, symbols, true),
+    }
 }

@@ -1,46 +1,50 @@
 //! What is refused, and what it leaves.
 
-use crate::coders::{CursorCoder, coder_over_with, coder_with, table_of};
-use crate::expect::{
-    coder_of, export_is_refused, exports, gives, has_head, holds, seems_exhausted, seems_full,
-};
-use crate::put::{Put, put_one, puts};
+use crate::coders::{coder_over_with, coder_with, table_of};
+use crate::expect::{coder_of, export_is_refused, exports, gives_heads, has_head};
+use crate::put::Call;
+use crate::script::{Act, follows};
 use constriction_base::backends::{ReadWords, Stack};
-use constriction_base::cursor::Cursor;
-use constriction_base::errors::CoderError;
+use constriction_base::errors::{BoundedWriteError, CoderError};
 use constriction_base::iterators::FallibleIteratorReadWords;
 use constriction_base::weights::WeightTable;
 use constriction_stack::AnsCoder;
 use constriction_stream::decoding::Decode;
-use std::alloc::Global;
+use std::alloc::{AllocError, Global};
 use std::test::Fail;
 
 #[test]
 fn an_unknown_symbol_changes_nothing(rt: HostRuntime) -> Result<(), Fail> {
     let table = table_of(rt.alloc(), &[255, 1])?;
     let mut coder = coder_with([7u8].to_vec(rt.alloc())?, 65535u16);
-    assert!(rt;
-        matches!(put_one(&mut coder, &table, 2), Put::Unknown) && holds(&coder, 65535, &[7])
-    );
+    let acts = [Act::Unknown(Call::Each, &[2]), Act::Holds(65535, &[7])];
+    assert!(rt; follows(rt.alloc(), &mut coder, &table, AllocError, &acts));
     Ok(())
 }
 
 /// A buffer of one word takes one, and no other.
-fn full_after_a_word(coder: &mut CursorCoder<'_, u16>, table: &WeightTable<u8, 8>) -> bool {
-    puts(coder, table, &[(1, 255), (1, 65535), (1, 65535)])
-        && seems_full::<_, _, _, 8>(coder)
-        && matches!(put_one(coder, table, 1), Put::Refused(_))
-        && has_head(coder, 65535)
-        && gives(coder, table, &[1, 1, 1])
-        && seems_exhausted::<_, _, _, 8>(coder)
-}
-
 #[test]
 fn a_full_cursor_keeps_the_head(rt: HostRuntime) -> Result<(), Fail> {
     let table = table_of(rt.alloc(), &[255, 1])?;
     let mut buf = [0u8; 1];
     let mut coder = coder_over_with(&mut buf, 0u16);
-    assert!(rt; full_after_a_word(&mut coder, &table));
+    let acts = [
+        Act::Steps(&[(1, 255), (1, 65535), (1, 65535)]),
+        Act::Full,
+        Act::Refused(Call::Each, &[1]),
+        Act::Holds(65535, &[255]),
+        Act::Gives(&[1, 1, 1]),
+        Act::Exhausted,
+    ];
+    assert!(rt;
+        follows(
+            rt.alloc(),
+            &mut coder,
+            &table,
+            BoundedWriteError::OutOfSpace,
+            &acts
+        )
+    );
     Ok(())
 }
 
@@ -52,6 +56,16 @@ fn read_is_refused<Backend: ReadWords<u8, Stack, ReadError = u8>>(
     matches!(coder.decode_symbol(table), Err(CoderError::Backend(3)))
 }
 
+/// The same decode goes once the read does.
+fn goes_after_a_read_error<Backend: ReadWords<u8, Stack, ReadError = u8>>(
+    coder: &mut AnsCoder<u8, u16, Backend>,
+    table: &WeightTable<u8, 8>,
+) -> bool {
+    read_is_refused(coder, table)
+        && has_head(coder, 65535)
+        && gives_heads(coder, table, &[(&[1], 65535)])
+}
+
 #[test]
 fn a_read_error_keeps_the_head(rt: HostRuntime) -> Result<(), Fail> {
     let table = table_of(rt.alloc(), &[255, 1])?;
@@ -60,12 +74,7 @@ fn a_read_error_keeps_the_head(rt: HostRuntime) -> Result<(), Fail> {
         FallibleIteratorReadWords::new(answers.into_iter()),
         65535,
     );
-    assert!(rt;
-        read_is_refused(&mut coder, &table)
-            && has_head(&coder, 65535)
-            && gives(&mut coder, &table, &[1])
-            && has_head(&coder, 65535)
-    );
+    assert!(rt; goes_after_a_read_error(&mut coder, &table));
     Ok(())
 }
 

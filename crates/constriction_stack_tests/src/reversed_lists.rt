@@ -1,66 +1,54 @@
 //! Lists of symbols from the last to the first.
 
-use crate::coders::{CursorCoder, HeapCoder, coder_in, coder_over, new_coder, table_of};
-use crate::expect::{gives, gives_all, has_head, holds};
-use crate::put::{
-    Pair, Put, put_list_back, put_pairs_back, put_some_back, try_pairs_back, try_some_back,
-};
+use crate::coders::{coder_in, coder_over, new_coder, table_of};
+use crate::expect::has_head;
+use crate::put::{Call, Pair, Put, put_pairs_back, try_pairs_back};
+use crate::script::{Act, follows};
 use constriction_base::errors::BoundedWriteError;
 use constriction_base::weights::WeightTable;
 use constriction_stack::{AnsCoder, DefaultAnsCoder};
 use linked_list_allocator::LocalHeap;
-use std::alloc::{AllocError, Global};
+use std::alloc::AllocError;
 use std::test::Fail;
 
 /// An item of a list that may be faulty, at u8 and u16.
 type Item<'a> = Result<Pair<'a, u8, 8>, u8>;
 
-/// No symbol, and then seven, by three lists.
-fn reversed_lists(
-    alloc: Global,
-    coder: &mut AnsCoder<u8, u16>,
-    table: &WeightTable<u8, 8>,
-) -> bool {
-    matches!(put_list_back(coder, table, &[]), Put::Done)
-        && holds(coder, 0, &[])
-        && matches!(put_list_back(coder, table, &[2, 0, 1]), Put::Done)
-        && holds(coder, 511, &[0])
-        && matches!(put_some_back(alloc, coder, table, &[1, 2]), Put::Done)
-        && holds(coder, 2520, &[0, 255])
-        && matches!(try_some_back(alloc, coder, table, &[2, 1]), Put::Done)
-        && holds(coder, 11775, &[0, 255, 245])
-}
-
 #[test]
 fn reversed_lists_at_u8_and_u16(rt: HostRuntime) -> Result<(), Fail> {
     let table = table_of(rt.alloc(), &[200, 55, 1])?;
-    let mut coder = new_coder(rt.alloc());
-    assert!(rt;
-        reversed_lists(rt.alloc(), &mut coder, &table)
-            && gives_all(&mut coder, &table, &[2, 1, 1, 2, 2, 0, 1])
-    );
+    let mut coder: AnsCoder<u8, u16> = new_coder(rt.alloc());
+    let acts = [
+        Act::Done(Call::ListBack, &[]),
+        Act::Holds(0, &[]),
+        Act::Done(Call::ListBack, &[2, 0, 1]),
+        Act::Holds(511, &[0]),
+        Act::Done(Call::PairsBack, &[1, 2]),
+        Act::Holds(2520, &[0, 255]),
+        Act::Done(Call::ItemsBack, &[2, 1]),
+        Act::Holds(11775, &[0, 255, 245]),
+        Act::Gives(&[2, 1, 1, 2, 2, 0, 1]),
+        Act::Empty,
+    ];
+    assert!(rt; follows(rt.alloc(), &mut coder, &table, AllocError, &acts));
     Ok(())
-}
-
-/// Nine symbols by three lists.
-fn wide_lists(alloc: Global, coder: &mut DefaultAnsCoder, table: &WeightTable<u32, 24>) -> bool {
-    let words = [2885681152u32, 16777220, 1426063361, 2617245697];
-    matches!(put_some_back(alloc, coder, table, &[1, 2, 0]), Put::Done)
-        && has_head(coder, 33554436)
-        && matches!(put_list_back(coder, table, &[0, 1, 1, 0]), Put::Done)
-        && has_head(coder, 4003138579202049)
-        && matches!(try_some_back(alloc, coder, table, &[1, 0]), Put::Done)
-        && holds(coder, 10166992900, &words)
 }
 
 #[test]
 fn reversed_lists_at_u32_and_u64(rt: HostRuntime) -> Result<(), Fail> {
     let table = WeightTable::<u32, 24>::new(rt.alloc(), &[3, 2, 16777211])?;
-    let mut coder = new_coder(rt.alloc());
-    assert!(rt;
-        wide_lists(rt.alloc(), &mut coder, &table)
-            && gives_all(&mut coder, &table, &[1, 0, 0, 1, 1, 0, 1, 2, 0])
-    );
+    let mut coder: DefaultAnsCoder = new_coder(rt.alloc());
+    let acts = [
+        Act::Done(Call::PairsBack, &[1, 2, 0]),
+        Act::Holds(33554436, &[]),
+        Act::Done(Call::ListBack, &[0, 1, 1, 0]),
+        Act::Holds(4003138579202049, &[2885681152, 16777220]),
+        Act::Done(Call::ItemsBack, &[1, 0]),
+        Act::Holds(10166992900, &[2885681152, 16777220, 1426063361, 2617245697]),
+        Act::Gives(&[1, 0, 0, 1, 1, 0, 1, 2, 0]),
+        Act::Empty,
+    ];
+    assert!(rt; follows(rt.alloc(), &mut coder, &table, AllocError, &acts));
     Ok(())
 }
 
@@ -70,15 +58,20 @@ fn stops_at_unknown(coder: &mut AnsCoder<u8, u16>, table: &WeightTable<u8, 8>) -
         put_pairs_back(coder, [(&0, table), (&5, table), (&1, table)]),
         Put::Unknown
     ) && has_head(coder, 255)
-        && matches!(put_list_back(coder, table, &[0, 5, 1]), Put::Unknown)
-        && holds(coder, 65535, &[])
 }
 
 #[test]
 fn a_reversed_list_stops_at_unknown(rt: HostRuntime) -> Result<(), Fail> {
     let table = table_of(rt.alloc(), &[255, 1])?;
     let mut coder = new_coder(rt.alloc());
-    assert!(rt; stops_at_unknown(&mut coder, &table));
+    let acts = [
+        Act::Unknown(Call::ListBack, &[0, 5, 1]),
+        Act::Holds(65535, &[]),
+    ];
+    assert!(rt;
+        stops_at_unknown(&mut coder, &table)
+            && follows(rt.alloc(), &mut coder, &table, AllocError, &acts)
+    );
     Ok(())
 }
 
@@ -101,76 +94,55 @@ fn a_reversed_list_stops_at_bad_model(rt: HostRuntime) -> Result<(), Fail> {
 }
 
 /// The last step of three finds no room for its word. The two behind it are kept.
-fn lists_without_room(
-    alloc: Global,
-    coder: &mut CursorCoder<'_, u16>,
-    table: &WeightTable<u8, 8>,
-) -> bool {
-    matches!(
-        put_list_back(coder, table, &[2, 0, 1]),
-        Put::Refused(BoundedWriteError::OutOfSpace)
-    ) && has_head(coder, 256)
-        && matches!(
-            put_some_back(alloc, coder, table, &[2]),
-            Put::Refused(BoundedWriteError::OutOfSpace)
-        )
-        && matches!(
-            try_some_back(alloc, coder, table, &[2]),
-            Put::Refused(BoundedWriteError::OutOfSpace)
-        )
-        && has_head(coder, 256)
-        && gives(coder, table, &[0, 1])
-}
-
 #[test]
 fn reversed_lists_over_a_full_cursor(rt: HostRuntime) -> Result<(), Fail> {
     let table = table_of(rt.alloc(), &[200, 55, 1])?;
     let mut buf = [0u8; 0];
     let mut coder = coder_over(&mut buf);
-    assert!(rt; lists_without_room(rt.alloc(), &mut coder, &table));
+    let acts = [
+        Act::Refused(Call::ListBack, &[2, 0, 1]),
+        Act::Holds(256, &[]),
+        Act::Refused(Call::PairsBack, &[2]),
+        Act::Refused(Call::ItemsBack, &[2]),
+        Act::Holds(256, &[]),
+        Act::Gives(&[0, 1]),
+    ];
+    assert!(rt;
+        follows(
+            rt.alloc(),
+            &mut coder,
+            &table,
+            BoundedWriteError::OutOfSpace,
+            &acts
+        )
+    );
     Ok(())
 }
 
-/// Three symbols, of which the third step is refused, by each list call on a coder of its own.
-fn lists_are_refused(
-    alloc: Global,
-    first: &mut HeapCoder<'_>,
-    second: &mut HeapCoder<'_>,
-    third: &mut HeapCoder<'_>,
-    table: &WeightTable<u8, 8>,
-) -> bool {
-    matches!(
-        put_some_back(alloc, first, table, &[2, 0, 1]),
-        Put::Refused(AllocError)
-    ) && holds(first, 256, &[])
-        && matches!(
-            try_some_back(alloc, second, table, &[2, 0, 1]),
-            Put::Refused(AllocError)
-        )
-        && holds(second, 256, &[])
-        && matches!(
-            put_list_back(third, table, &[2, 0, 1]),
-            Put::Refused(AllocError)
-        )
-        && holds(third, 256, &[])
-}
-
-/// A coder over a full heap is given three symbols from the back. The first two, 1 and 0, owe no
-/// word: heads 200 and 256. The third, 2, owes the word 0, and the growth is refused.
+/// A coder over a full heap is given three symbols from the back, by each list call in turn. The first
+/// two, 1 and 0, owe no word: heads 200 and 256. The third, 2, owes the word 0, and the growth is
+/// refused.
 #[test]
 fn a_full_heap_stops_reversed_lists(rt: HostRuntime) -> Result<(), Fail> {
     let table = table_of(rt.alloc(), &[200, 55, 1])?;
     let heap = LocalHeap::new(rt.alloc(), 512)?;
     let filler: Vec<u8, &LocalHeap> = Vec::with_capacity(&heap, 512)?;
-    let mut first = coder_in(&heap);
-    let mut second = coder_in(&heap);
-    let mut third = coder_in(&heap);
-    let are_refused = lists_are_refused(rt.alloc(), &mut first, &mut second, &mut third, &table);
+    let mut coder = coder_in(&heap);
+    let acts = [
+        Act::Refused(Call::PairsBack, &[2, 0, 1]),
+        Act::Holds(256, &[]),
+        Act::Gives(&[0, 1]),
+        Act::Empty,
+        Act::Refused(Call::ItemsBack, &[2, 0, 1]),
+        Act::Holds(256, &[]),
+        Act::Gives(&[0, 1]),
+        Act::Empty,
+        Act::Refused(Call::ListBack, &[2, 0, 1]),
+        Act::Holds(256, &[]),
+    ];
+    let are_refused = follows(rt.alloc(), &mut coder, &table, AllocError, &acts);
     drop(filler);
-    assert!(rt;
-        are_refused
-            && matches!(put_list_back(&mut third, &table, &[2]), Put::Done)
-            && holds(&third, 511, &[0])
-    );
+    let acts = [Act::Done(Call::ListBack, &[2]), Act::Holds(511, &[0])];
+    assert!(rt; are_refused && follows(rt.alloc(), &mut coder, &table, AllocError, &acts));
     Ok(())
 }

@@ -6,12 +6,13 @@ use crate::coders::{coder_with, new_coder, table_of};
 use crate::decoders::through_reference;
 use crate::expect::{gives, gives_all, has_head, holds};
 use crate::put::puts;
-use constriction_base::backends::{Holds, Pos, PosSeek, ReadWords, Seek, Stack};
+use constriction_base::backends::{Holds, IntoReversed, Pos, PosSeek, ReadWords, Seek, Stack};
 use constriction_base::cursor::Cursor;
 use constriction_base::reverse::Reverse;
 use constriction_base::weights::WeightTable;
 use constriction_stack::AnsCoder;
 use constriction_words::{BitArray, WordOf};
+use std::alloc::AllocError;
 use std::test::Fail;
 
 /// Goes to a place.
@@ -84,7 +85,31 @@ where
     }
 }
 
-/// The same over words in reverse, turned round, and turned round once more.
+/// A coder turned round.
+fn turned<Word, State, Backend>(
+    coder: AnsCoder<Word, State, Backend>,
+) -> AnsCoder<Word, State, Backend::IntoReversed>
+where
+    Word: WordOf<State>,
+    State: BitArray,
+    Backend: IntoReversed<Word>,
+{
+    coder.into_reversed()
+}
+
+/// The same of a clone.
+fn turned_clone<Word, State, Backend>(
+    coder: &AnsCoder<Word, State, Backend>,
+) -> Result<AnsCoder<Word, State, Backend::IntoReversed>, AllocError>
+where
+    Word: WordOf<State>,
+    State: BitArray,
+    Backend: IntoReversed<Word> + Clone,
+{
+    Ok(coder.clone()?.into_reversed())
+}
+
+/// The same over words in reverse, turned round.
 fn twice_turned<State>(
     words: Vec<u8>,
     table: &WeightTable<u8, 8>,
@@ -96,20 +121,32 @@ where
     State: BitArray + PartialEq,
     requires { IsSizes 8 State.BITS }
 {
-    let Ok(second) = AnsCoder::<u8, State, Reverse<Cursor<u8, Vec<u8>>>>::from_reversed_compressed(
-        words,
-    ) else {
-        return false;
-    };
-    if !stands_at(&second, back.place, back.head) {
-        return false;
+    match AnsCoder::<u8, State, Reverse<Cursor<u8, Vec<u8>>>>::from_reversed_compressed(words) {
+        Ok(second) => {
+            if !stands_at(&second, back.place, back.head) {
+                return false;
+            }
+            let mut third = turned(second);
+            twice_turned_again(&third, table, back) && twice(&mut third, table, run)
+        }
+        Err(_) => false,
     }
-    let mut third: AnsCoder<u8, State, Cursor<u8, Vec<u8>>> = second.into_reversed();
-    let Ok(clone) = third.clone() else {
-        return false;
-    };
-    let mut fourth: AnsCoder<u8, State, Reverse<Cursor<u8, Vec<u8>>>> = clone.into_reversed();
-    twice(&mut third, table, run) && twice(&mut fourth, table, back)
+}
+
+/// The same of a clone that is turned round once more.
+fn twice_turned_again<State>(
+    third: &AnsCoder<u8, State, Cursor<u8, Vec<u8>>>,
+    table: &WeightTable<u8, 8>,
+    back: &Run<'_, State>,
+) -> bool
+where
+    u8: WordOf<State>,
+    State: BitArray + PartialEq,
+{
+    match turned_clone(third) {
+        Ok(mut fourth) => twice(&mut fourth, table, back),
+        Err(AllocError) => false,
+    }
 }
 
 #[test]

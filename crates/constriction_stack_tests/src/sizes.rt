@@ -3,7 +3,8 @@
 use crate::binary::from_binary;
 use crate::coders::{coder_over, coder_with, new_coder, table_of};
 use crate::put::puts;
-use constriction_base::backends::{BoundedReadWords, Stack};
+use constriction_base::backends::{BoundedReadWords, Stack, WriteWords};
+use constriction_base::weights::WeightTable;
 use constriction_stack::{AnsCoder, DefaultAnsCoder};
 use constriction_words::{BitArray, WordOf};
 use std::test::Fail;
@@ -24,25 +25,28 @@ where
         && coder.num_valid_bits() == sizes.2
 }
 
+/// Compares the sizes of an empty coder, and after three steps.
+fn grows<Backend>(coder: &mut AnsCoder<u8, u16, Backend>, table: &WeightTable<u8, 8>) -> bool
+where
+    Backend: WriteWords<u8> + BoundedReadWords<u8, Stack>,
+    Backend::WriteError: Drop,
+{
+    has_sizes(coder, (0, 0, 0))
+        && puts(coder, table, &[(1, 255), (1, 65535), (1, 65535)])
+        && has_sizes(coder, (3, 24, 23))
+}
+
 #[test]
 fn ans_sizes(rt: HostRuntime) -> Result<(), Fail> {
     let table = table_of(rt.alloc(), &[255, 1])?;
     let mut coder: AnsCoder<u8, u16> = new_coder(rt.alloc());
     let wide: DefaultAnsCoder = from_binary([5u32, 0].to_vec(rt.alloc())?)?;
-    assert!(rt;
-        has_sizes(&coder, (0, 0, 0))
-            && puts(&mut coder, &table, &[(1, 255), (1, 65535), (1, 65535)])
-            && has_sizes(&coder, (3, 24, 23))
-            && has_sizes(&wide, (3, 96, 64))
-    );
+    assert!(rt; grows(&mut coder, &table) && has_sizes(&wide, (3, 96, 64)));
     Ok(())
 }
 
-/// Heads of four words, above one word.
-#[test]
-fn sizes_of_a_head_of_four_words(rt: HostRuntime) -> Result<(), Fail> {
-    let table = table_of(rt.alloc(), &[200, 55, 1])?;
-    let mut coder: AnsCoder<u8, u32> = new_coder(rt.alloc());
+/// Steps to a head of four words above one word.
+fn grows_to_four_words(coder: &mut AnsCoder<u8, u32>, table: &WeightTable<u8, 8>) -> bool {
     let steps = [
         (2, 255u32),
         (1, 1259),
@@ -52,12 +56,16 @@ fn sizes_of_a_head_of_four_words(rt: HostRuntime) -> Result<(), Fail> {
         (1, 491968968),
         (2, 491969023),
     ];
+    puts(coder, table, &steps) && has_sizes(coder, (5, 40, 36))
+}
+
+/// Heads of four words, above one word.
+#[test]
+fn sizes_of_a_head_of_four_words(rt: HostRuntime) -> Result<(), Fail> {
+    let table = table_of(rt.alloc(), &[200, 55, 1])?;
+    let mut coder = new_coder(rt.alloc());
     let other: AnsCoder<u8, u32> = coder_with([9u8].to_vec(rt.alloc())?, 16909060);
-    assert!(rt;
-        puts(&mut coder, &table, &steps)
-            && has_sizes(&coder, (5, 40, 36))
-            && has_sizes(&other, (5, 40, 32))
-    );
+    assert!(rt; grows_to_four_words(&mut coder, &table) && has_sizes(&other, (5, 40, 32)));
     Ok(())
 }
 
@@ -67,10 +75,6 @@ fn sizes_over_a_cursor(rt: HostRuntime) -> Result<(), Fail> {
     let table = table_of(rt.alloc(), &[255, 1])?;
     let mut buf = [0u8; 3];
     let mut coder = coder_over(&mut buf);
-    assert!(rt;
-        has_sizes(&coder, (0, 0, 0))
-            && puts(&mut coder, &table, &[(1, 255), (1, 65535), (1, 65535)])
-            && has_sizes(&coder, (3, 24, 23))
-    );
+    assert!(rt; grows(&mut coder, &table));
     Ok(())
 }

@@ -1,28 +1,26 @@
 //! Worked steps, one by one. Heads and words by hand.
 
 use crate::coders::{coder_with, new_coder, table_of};
-use crate::expect::{coder_of, exports, gives, gives_all, holds, imports};
-use crate::put::puts;
+use crate::expect::{coder_of, exports, holds, imports};
+use crate::script::{Act, follows};
 use constriction_base::weights::WeightTable;
 use constriction_stack::coder::words::CompressedDataEndsWithZeroWord;
 use constriction_stack::{AnsCoder, DefaultAnsCoder, SmallAnsCoder};
-use std::alloc::Global;
+use std::alloc::{AllocError, Global};
 use std::test::Fail;
-
-/// Symbol 1 of weight 1, three times.
-fn three_ones(coder: &mut AnsCoder<u8, u16>, table: &WeightTable<u8, 8>) -> bool {
-    puts(coder, table, &[(1, 255), (1, 65535)])
-        && holds(coder, 65535, &[])
-        && puts(coder, table, &[(1, 65535)])
-        && holds(coder, 65535, &[255])
-}
 
 #[test]
 fn ans_word_moves_out(rt: HostRuntime) -> Result<(), Fail> {
     let table = table_of(rt.alloc(), &[255, 1])?;
     let mut coder: AnsCoder<u8, u16> = new_coder(rt.alloc());
     let words = [255u8, 255, 255].to_vec(rt.alloc())?;
-    let stepped = three_ones(&mut coder, &table);
+    let acts = [
+        Act::Steps(&[(1, 255), (1, 65535)]),
+        Act::Holds(65535, &[]),
+        Act::Steps(&[(1, 65535)]),
+        Act::Holds(65535, &[255]),
+    ];
+    let stepped = follows(rt.alloc(), &mut coder, &table, AllocError, &acts);
     let exported = exports(coder, &[255, 255, 255]);
     let imported = imports::<u8, u16, _, _, 8>(words, &table, &[1, 1, 1]);
     assert!(rt; stepped && exported && imported);
@@ -33,7 +31,8 @@ fn ans_word_moves_out(rt: HostRuntime) -> Result<(), Fail> {
 fn ans_left_zero(rt: HostRuntime) -> Result<(), Fail> {
     let table = table_of(rt.alloc(), &[255, 1])?;
     let mut coder: AnsCoder<u8, u16> = new_coder(rt.alloc());
-    let stepped = puts(&mut coder, &table, &[(0, 0)]) && coder.is_empty();
+    let acts = [Act::Steps(&[(0, 0)]), Act::Empty];
+    let stepped = follows(rt.alloc(), &mut coder, &table, AllocError, &acts);
     let exported = exports(coder, &[]);
     let imported = imports::<u8, u16, _, _, 8>(Vec::new(rt.alloc()), &table, &[0]);
     assert!(rt; stepped && exported && imported);
@@ -51,42 +50,44 @@ fn ans_zero_last_word(rt: HostRuntime) -> Result<(), Fail> {
     Ok(())
 }
 
-/// A head below 256 above a word.
-fn from_an_invalid_state(coder: &mut AnsCoder<u8, u16>, table: &WeightTable<u8, 8>) -> bool {
-    gives(coder, table, &[0]) && holds(coder, 1289, &[]) && puts(coder, table, &[(0, 1294)])
-}
-
 #[test]
 fn ans_invalid_state(rt: HostRuntime) -> Result<(), Fail> {
     let table = table_of(rt.alloc(), &[255, 1])?;
     let mut coder = coder_with([9u8].to_vec(rt.alloc())?, 5u16);
-    assert!(rt; from_an_invalid_state(&mut coder, &table));
+    let acts = [
+        Act::Gives(&[0]),
+        Act::Holds(1289, &[]),
+        Act::Steps(&[(0, 1294)]),
+    ];
+    assert!(rt; follows(rt.alloc(), &mut coder, &table, AllocError, &acts));
     Ok(())
 }
 
-/// A symbol of weight 255, onto the least head that has no room for it.
-fn without_room(coder: &mut AnsCoder<u8, u16>, table: &WeightTable<u8, 8>) -> bool {
-    puts(coder, table, &[(0, 256)])
-        && holds(coder, 256, &[0])
-        && gives(coder, table, &[0])
-        && holds(coder, 65280, &[])
-}
-
+/// The least head that has no room for a symbol of weight 255.
 #[test]
 fn the_least_head_without_room(rt: HostRuntime) -> Result<(), Fail> {
     let table = table_of(rt.alloc(), &[255, 1])?;
     let mut coder = coder_with(Vec::<u8>::new(rt.alloc()), 65280u16);
-    assert!(rt; without_room(&mut coder, &table));
+    let acts = [
+        Act::Steps(&[(0, 256)]),
+        Act::Holds(256, &[0]),
+        Act::Gives(&[0]),
+        Act::Holds(65280, &[]),
+    ];
+    assert!(rt; follows(rt.alloc(), &mut coder, &table, AllocError, &acts));
     Ok(())
 }
 
 /// The one symbol of a table leaves each head.
 fn leaves(alloc: Global, head: u32, table: &WeightTable<u16, 8>) -> bool {
     let mut coder: SmallAnsCoder = coder_with(Vec::new(alloc), head);
-    puts(&mut coder, table, &[(0, head)])
-        && holds(&coder, head, &[])
-        && gives(&mut coder, table, &[0])
-        && holds(&coder, head, &[])
+    let acts = [
+        Act::Steps(&[(0, head)]),
+        Act::Holds(head, &[]),
+        Act::Gives(&[0]),
+        Act::Holds(head, &[]),
+    ];
+    follows(alloc, &mut coder, table, AllocError, &acts)
 }
 
 /// A weight of 2 to the precision needs a bit more.
