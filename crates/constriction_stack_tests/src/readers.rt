@@ -10,7 +10,7 @@ use constriction_base::cursor::Cursor;
 use constriction_base::iterators::FallibleIteratorReadWords;
 use constriction_base::reverse::Reverse;
 use constriction_base::weights::WeightTable;
-use constriction_stack::coder::compressed::CompressedDataEndsWithZeroWord;
+use constriction_stack::coder::words::CompressedDataEndsWithZeroWord;
 use constriction_stack::{AnsCoder, DefaultAnsCoder};
 use constriction_words::{BitArray, WordOf};
 use std::test::Fail;
