@@ -17,8 +17,6 @@ mod backends;
 #[cfg(test)]
 mod binary;
 #[cfg(test)]
-mod callers;
-#[cfg(test)]
 mod coders;
 #[cfg(test)]
 mod decoders;

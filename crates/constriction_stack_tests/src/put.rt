@@ -10,7 +10,7 @@ use constriction_base::model::{EncoderModel, EntropyModel};
 use constriction_base::weights::WeightTable;
 use constriction_stack::AnsCoder;
 use constriction_stream::coder::Code;
-use constriction_stream::encoding::{Encode, Lent};
+use constriction_stream::encoding::{Encode, EncodeReverse, Lent};
 use constriction_stream::errors::TryCodingError;
 use constriction_words::{BitArray, WordOf};
 use std::alloc::{AllocError, Global};
