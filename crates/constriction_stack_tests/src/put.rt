@@ -1,8 +1,6 @@
 //! Steps and lists that put symbols on a coder, and what they answer.
 
-ghost use Rattle.std.specs.Prelude.{◌≤◌};
 ghost use Rattle.constriction_stream.specs.Lists.{GivesAtMost};
-ghost use Rattle.constriction_stack.specs.Lists.{EndsFromBack};
 
 use constriction_base::backends::WriteWords;
 use constriction_base::errors::{CoderError, DefaultEncoderError, DefaultEncoderFrontendError};
@@ -149,7 +147,7 @@ where
     S: Lent<M::Symbol> + Drop,
     I: IntoIterator<Item = (S, M)>,
     I::IntoIter: Drop,
-    requires { GivesAtMost (I.into_iter_gives pairs) I.IntoIter.can_next I.IntoIter.remaining 0xffff_ffff_ffff_ffff }
+    requires { GivesAtMost (I.into_iter_gives pairs) I.IntoIter.can_next I.IntoIter.remaining ⊥ 0 }
 {
     answer_of(coder.encode_symbols(pairs))
 }
@@ -168,7 +166,7 @@ where
     S: Lent<M::Symbol> + Drop,
     I: IntoIterator<Item = Result<(S, M), u8>>,
     I::IntoIter: Drop,
-    requires { GivesAtMost (I.into_iter_gives items) I.IntoIter.can_next I.IntoIter.remaining 0xffff_ffff_ffff_ffff }
+    requires { GivesAtMost (I.into_iter_gives items) I.IntoIter.can_next I.IntoIter.remaining ⊥ 0 }
 {
     tried_answer_of(coder.try_encode_symbols(items))
 }
@@ -187,7 +185,7 @@ where
     S: Lent<M::Symbol> + Drop,
     I: IntoIterator<Item = (S, M)>,
     I::IntoIter: DoubleEndedIterator + Drop,
-    requires { EndsFromBack (I.into_iter_gives pairs) I.IntoIter.can_next_back I.IntoIter.remaining }
+    requires { GivesAtMost (I.into_iter_gives pairs) I.IntoIter.can_next_back I.IntoIter.remaining ⊥ 0 }
 {
     answer_of(coder.encode_symbols_reverse(pairs))
 }
@@ -206,7 +204,7 @@ where
     S: Lent<M::Symbol> + Drop,
     I: IntoIterator<Item = Result<(S, M), u8>>,
     I::IntoIter: DoubleEndedIterator + Drop,
-    requires { EndsFromBack (I.into_iter_gives items) I.IntoIter.can_next_back I.IntoIter.remaining }
+    requires { GivesAtMost (I.into_iter_gives items) I.IntoIter.can_next_back I.IntoIter.remaining ⊥ 0 }
 {
     tried_answer_of(coder.try_encode_symbols_reverse(items))
 }
