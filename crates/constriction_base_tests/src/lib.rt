@@ -21,6 +21,8 @@ mod errors;
 #[cfg(test)]
 mod iterators;
 #[cfg(test)]
+mod laws;
+#[cfg(test)]
 mod models;
 #[cfg(test)]
 mod tables;
