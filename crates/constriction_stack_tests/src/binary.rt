@@ -3,7 +3,7 @@
 ghost use Rattle.constriction_base.specs.Steps.{IsSizes};
 
 use crate::coders::{HeapCoder, coder_over_with, coder_with, new_coder};
-use crate::expect::{binary_is_done, binary_is_refused, binary_of, holds};
+use crate::expect::{WordsRefused, binary_is_done, binary_is_refused, binary_of, holds};
 use crate::script::{Act, follows};
 use constriction_base::backends::{ReadWords, Stack};
 use constriction_base::weights::WeightTable;
@@ -39,21 +39,45 @@ where
 /// A coder of the words of a binary form.
 pub fn from_binary<Word: WordOf<State>, State: BitArray, Backend>(
     words: Backend,
-) -> Result<AnsCoder<Word, State, Backend>, Backend::ReadError>
+) -> Result<AnsCoder<Word, State, Backend>, WordsRefused>
 where
     Backend: ReadWords<Word, Stack> + Drop,
+    Backend::ReadError: Drop,
     requires { IsSizes Word.BITS State.BITS }
 {
-    AnsCoder::from_binary(words)
+    match AnsCoder::from_binary(words) {
+        Ok(coder) => Ok(coder),
+        Err(_) => Err(WordsRefused),
+    }
+}
+
+/// Compares what a binary form is read into, and writes it again.
+fn binary_goes<Word, State>(words: Vec<Word>, head: State, below: &[Word], all: &[Word]) -> bool
+where
+    Word: WordOf<State> + PartialEq,
+    State: BitArray + PartialEq,
+    requires { IsSizes Word.BITS State.BITS }
+{
+    match from_binary::<Word, State, Vec<Word>>(words) {
+        Ok(coder) => {
+            let is_read = holds(&coder, head, below);
+            exports_in_binary(coder, all) == Some(true) && is_read
+        }
+        Err(WordsRefused) => false,
+    }
+}
+
+/// Of a new coder there is no binary form.
+fn none_of_new(alloc: Global) -> bool {
+    exports_in_binary::<u32, u64>(new_coder(alloc), &[]).is_none()
 }
 
 #[test]
 fn ans_binary_zero_words(rt: HostRuntime) -> Result<(), Fail> {
-    let coder: DefaultAnsCoder = from_binary([5u32, 0].to_vec(rt.alloc())?)?;
-    let is_read = holds(&coder, 4294967296, &[5]);
-    let is_written = exports_in_binary(coder, &[5, 0]) == Some(true);
-    let none: DefaultAnsCoder = new_coder(rt.alloc());
-    assert!(rt; is_read && is_written && exports_in_binary(none, &[]).is_none());
+    let words = [5u32, 0].to_vec(rt.alloc())?;
+    assert!(rt;
+        binary_goes::<u32, u64>(words, 4294967296, &[5], &[5, 0]) && none_of_new(rt.alloc())
+    );
     Ok(())
 }
 
@@ -65,13 +89,19 @@ fn heads_of_whole_words(rt: HostRuntime) -> Result<(), Fail> {
     }
     // three words below a leading 1, the lowest first
     let head = 16777216 + 2 * 65536 + 1;
-    let coder: AnsCoder<u8, u32> = from_binary([1u8, 0, 2].to_vec(rt.alloc())?)?;
+    let words = [1u8, 0, 2].to_vec(rt.alloc())?;
     assert!(rt;
         head_in_binary::<u16, u32>(rt.alloc(), 65543, &[7]) == Some(true)
             && head_in_binary::<u8, u32>(rt.alloc(), head, &[1, 0, 2]) == Some(true)
-            && holds(&coder, head, &[])
+            && binary_goes::<u8, u32>(words, head, &[], &[1, 0, 2])
     );
     Ok(())
+}
+
+/// The binary form through a guard.
+fn shows_binary(coder: &mut DefaultAnsCoder, table: &WeightTable<u32, 24>, alloc: Global) -> bool {
+    let acts = [Act::ShowsBinary(&[5, 0]), Act::Holds(4294967296, &[5])];
+    follows(alloc, coder, table, AllocError, &acts)
 }
 
 /// The binary form through a guard and without one, and heads with no words below their leading 1.
@@ -80,15 +110,11 @@ fn ans_binary_forms(rt: HostRuntime) -> Result<(), Fail> {
     let table = WeightTable::<u32, 24>::new(rt.alloc(), &[3, 2, 16777211])?;
     let mut coder: DefaultAnsCoder = from_binary([5u32, 0].to_vec(rt.alloc())?)?;
     let mut new: DefaultAnsCoder = new_coder(rt.alloc());
-    let one: DefaultAnsCoder = from_binary(Vec::new(rt.alloc()))?;
-    let acts = [Act::ShowsBinary(&[5, 0]), Act::Holds(4294967296, &[5])];
-    let are_shown = follows(rt.alloc(), &mut coder, &table, AllocError, &acts)
-        && follows(rt.alloc(), &mut new, &table, AllocError, &[Act::NoBinary])
-        && holds(&one, 1, &[]);
     assert!(rt;
-        are_shown
+        shows_binary(&mut coder, &table, rt.alloc())
+            && follows(rt.alloc(), &mut new, &table, AllocError, &[Act::NoBinary])
             && head_in_binary::<u32, u64>(rt.alloc(), 3, &[]).is_none()
-            && exports_in_binary(one, &[]) == Some(true)
+            && binary_goes::<u32, u64>(Vec::new(rt.alloc()), 1, &[], &[])
     );
     Ok(())
 }

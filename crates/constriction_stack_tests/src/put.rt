@@ -209,13 +209,11 @@ where
     tried_answer_of(coder.try_encode_symbols_reverse(items))
 }
 
-/// Puts symbols on by a call that takes pairs.
-fn put_pairs_by<Word, State, Backend, Probability, const PRECISION: usize>(
-    alloc: Global,
+/// Puts a list on by one table.
+fn put_list<Word, State, Backend, Probability, const PRECISION: usize>(
     coder: &mut AnsCoder<Word, State, Backend>,
     table: &WeightTable<Probability, PRECISION>,
     symbols: &[usize],
-    is_back: bool,
 ) -> Put<Backend::WriteError>
 where
     Word: WordOf<State>,
@@ -223,23 +221,49 @@ where
     Backend: WriteWords<Word>,
     Probability: WordOf<Word>,
 {
-    let Ok(pairs) = pairs_of(alloc, table, symbols) else {
-        return Put::NoMemory;
-    };
-    if is_back {
-        put_pairs_back(coder, pairs)
-    } else {
-        put_pairs(coder, pairs)
+    answer_of(coder.encode_iid_symbols(symbols, table))
+}
+
+/// Puts a list on by one table, the last symbol first.
+fn put_list_back<Word, State, Backend, Probability, const PRECISION: usize>(
+    coder: &mut AnsCoder<Word, State, Backend>,
+    table: &WeightTable<Probability, PRECISION>,
+    symbols: &[usize],
+) -> Put<Backend::WriteError>
+where
+    Word: WordOf<State>,
+    State: BitArray,
+    Backend: WriteWords<Word>,
+    Probability: WordOf<Word>,
+{
+    answer_of(coder.encode_iid_symbols_reverse(symbols, table))
+}
+
+/// Puts a vector of pairs on.
+fn put_some<Word, State, Backend, Probability, const PRECISION: usize>(
+    alloc: Global,
+    coder: &mut AnsCoder<Word, State, Backend>,
+    table: &WeightTable<Probability, PRECISION>,
+    symbols: &[usize],
+) -> Put<Backend::WriteError>
+where
+    Word: WordOf<State>,
+    State: BitArray,
+    Backend: WriteWords<Word>,
+    Probability: WordOf<Word>,
+{
+    match pairs_of(alloc, table, symbols) {
+        Ok(list) => put_pairs(coder, list),
+        Err(AllocError) => Put::NoMemory,
     }
 }
 
-/// Puts symbols on by a call that takes items.
-fn put_items_by<Word, State, Backend, Probability, const PRECISION: usize>(
+/// Puts a vector of pairs on, the last one first.
+fn put_some_back<Word, State, Backend, Probability, const PRECISION: usize>(
     alloc: Global,
     coder: &mut AnsCoder<Word, State, Backend>,
     table: &WeightTable<Probability, PRECISION>,
     symbols: &[usize],
-    is_back: bool,
 ) -> Put<Backend::WriteError>
 where
     Word: WordOf<State>,
@@ -247,13 +271,47 @@ where
     Backend: WriteWords<Word>,
     Probability: WordOf<Word>,
 {
-    let Ok(items) = items_of(alloc, table, symbols) else {
-        return Put::NoMemory;
-    };
-    if is_back {
-        try_pairs_back(coder, items)
-    } else {
-        try_pairs(coder, items)
+    match pairs_of(alloc, table, symbols) {
+        Ok(list) => put_pairs_back(coder, list),
+        Err(AllocError) => Put::NoMemory,
+    }
+}
+
+/// Puts a vector of items on.
+fn try_some<Word, State, Backend, Probability, const PRECISION: usize>(
+    alloc: Global,
+    coder: &mut AnsCoder<Word, State, Backend>,
+    table: &WeightTable<Probability, PRECISION>,
+    symbols: &[usize],
+) -> Put<Backend::WriteError>
+where
+    Word: WordOf<State>,
+    State: BitArray,
+    Backend: WriteWords<Word>,
+    Probability: WordOf<Word>,
+{
+    match items_of(alloc, table, symbols) {
+        Ok(list) => try_pairs(coder, list),
+        Err(AllocError) => Put::NoMemory,
+    }
+}
+
+/// Puts a vector of items on, the last one first.
+fn try_some_back<Word, State, Backend, Probability, const PRECISION: usize>(
+    alloc: Global,
+    coder: &mut AnsCoder<Word, State, Backend>,
+    table: &WeightTable<Probability, PRECISION>,
+    symbols: &[usize],
+) -> Put<Backend::WriteError>
+where
+    Word: WordOf<State>,
+    State: BitArray,
+    Backend: WriteWords<Word>,
+    Probability: WordOf<Word>,
+{
+    match items_of(alloc, table, symbols) {
+        Ok(list) => try_pairs_back(coder, list),
+        Err(AllocError) => Put::NoMemory,
     }
 }
 
@@ -273,11 +331,11 @@ where
 {
     match call {
         Call::Each => put_each(coder, table, symbols),
-        Call::List => answer_of(coder.encode_iid_symbols(symbols, table)),
-        Call::ListBack => answer_of(coder.encode_iid_symbols_reverse(symbols, table)),
-        Call::Pairs => put_pairs_by(alloc, coder, table, symbols, false),
-        Call::PairsBack => put_pairs_by(alloc, coder, table, symbols, true),
-        Call::Items => put_items_by(alloc, coder, table, symbols, false),
-        Call::ItemsBack => put_items_by(alloc, coder, table, symbols, true),
+        Call::List => put_list(coder, table, symbols),
+        Call::ListBack => put_list_back(coder, table, symbols),
+        Call::Pairs => put_some(alloc, coder, table, symbols),
+        Call::PairsBack => put_some_back(alloc, coder, table, symbols),
+        Call::Items => try_some(alloc, coder, table, symbols),
+        Call::ItemsBack => try_some_back(alloc, coder, table, symbols),
     }
 }
