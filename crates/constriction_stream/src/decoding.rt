@@ -91,6 +91,12 @@ pub trait Decode<const PRECISION: usize>: Code {
     }
 
     /// Decodes `amt` symbols, all by one model, as the iterator is asked for them. It doesn't end at an error.
+    ///
+    /// ```
+    /// for symbol in decoder.decode_iid_symbols(1000, &table) {
+    ///     symbols.push(symbol?)?;
+    /// }
+    /// ```
     final fn decode_iid_symbols<M>(
         &mut self,
         amt: usize,

@@ -100,6 +100,10 @@ pub trait Encode<const PRECISION: usize>: Code {
     ///
     /// Errors: that of the first step that is refused. Exactly the symbols before it are encoded, and the
     /// items behind it aren't asked for.
+    ///
+    /// ```
+    /// coder.encode_symbols([(&3usize, &table), (&0, &other)])?;
+    /// ```
     fn encode_symbols<S, M, I>(
         &mut self,
         symbols_and_models: I,

@@ -90,6 +90,11 @@ impl<Word: WordOf<State>, State: BitArray, Backend: Holds<Word, Stack>> AnsCoder
     Backend,
 > {
     /// The same state over borrowed words, for reading.
+    ///
+    /// ```
+    /// let mut decoder = coder.as_decoder();
+    /// decoder.decode_symbol(&table)?; // what was encoded last; `coder` still holds it
+    /// ```
     pub fn as_decoder<'a>(&'a self) -> AnsCoder<Word, State, Backend::AsReadWords>
     where
         Backend: AsReadWords<'a, Word, Stack>,
@@ -148,6 +153,11 @@ impl<Word: WordOf<State>, State: BitArray, Buf: Words<Word> + Drop> AnsCoder<
     /// [`AnsCoder::into_compressed`] gives them. Of no words it is an empty coder.
     ///
     /// The error is the buffer as it came. It comes exactly where the first word is zero.
+    ///
+    /// ```
+    /// // words that a coder gave as [1, 2, 3, 4, 5], as a file holds them that is written from its end
+    /// let coder = AnsCoder::<u8, u16, _>::from_reversed_compressed([5u8, 4, 3, 2, 1].as_slice());
+    /// ```
     pub fn from_reversed_compressed(compressed: Buf) -> Result<Self, Buf>
         requires { IsSizes Word.BITS State.BITS }
         ensures ok { IfOk result (λ new.
@@ -325,6 +335,15 @@ impl<Word: WordOf<State>, State: BitArray, Backend: Holds<Word, Stack> + Seek> S
     ///
     /// Errors: `Err(())` where the backend refuses to go to its position. The head stays, and the coder is
     /// as before where the backend is.
+    ///
+    /// ```
+    /// coder.encode_symbol(&1, &table)?;
+    /// let position = coder.pos(); // (words below the head, head)
+    /// coder.encode_symbol(&2, &table)?;
+    /// let mut decoder = coder.as_seekable_decoder();
+    /// decoder.seek(position); // Ok(())
+    /// decoder.decode_symbol(&table)?; // 1
+    /// ```
     fn seek(&mut self, position: (Backend::Position, State)) -> Result<(), ()> {
         let (place, state) = position;
         self.bulk.seek(place)?;

@@ -162,6 +162,14 @@ where
     /// Errors: what the backend answers where it has no room for all the head's words, or refuses
     /// to write one of them. The words that were written before are taken off again, as far as reads
     /// are not refused.
+    ///
+    /// ```
+    /// {
+    ///     let guard = coder.get_compressed()?;
+    ///     send(guard.backend().words());
+    /// }
+    /// coder.encode_symbol(&2, &table)?; // the coder goes on as if its words had not been looked at
+    /// ```
     pub fn get_compressed(
         &mut self,
     ) -> Result<CoderGuard<'_, Word, State, Backend, 0>, Backend::WriteError>

@@ -132,6 +132,13 @@ impl<Word: WordOf<State>, State: BitArray, Backend: ReadWords<Word, Stack>> AnsC
     /// has the bits of two) or none is left.
     ///
     /// Errors: that of a read. The backend is gone then.
+    ///
+    /// ```
+    /// let mut coder = DefaultAnsCoder::from_binary([5u32, 0].to_vec(alloc)?)?; // head 2^32, word 5 below
+    /// let symbol = coder.decode_symbol(&table)?;
+    /// coder.encode_symbol(&symbol, &table)?; // as before
+    /// coder.into_binary(); // Ok([5, 0])
+    /// ```
     pub fn from_binary(mut bulk: Backend) -> Result<Self, Backend::ReadError>
     where
         Backend: Drop,
