@@ -2,7 +2,6 @@ pub mod Ans
 pub mod Binary
 pub mod Guarded
 pub mod Guards
-pub mod Lists
 pub mod Positions
 pub mod Sizes
 pub mod Steps
