@@ -222,6 +222,7 @@ where
     Word: WordOf<State>,
     State: BitArray,
     Backend: Holds<Word, Stack> + Pos + PosSeek<Position = usize>,
+    requires { Backend.can_tell coder.now.backend }
 {
     coder.bulk().pos() == place
 }

@@ -39,6 +39,7 @@ where
     Word: WordOf<State>,
     State: BitArray + PartialEq,
     Backend: Holds<Word, Stack> + Pos + PosSeek<Position = usize>,
+    requires { Backend.can_tell coder.now.backend }
 {
     coder.pos() == (place, head)
 }
@@ -63,6 +64,7 @@ where
     State: BitArray + PartialEq,
     Backend: ReadWords<u8, Stack> + Pos + Seek + PosSeek<Position = usize>,
     Backend::ReadError: Drop,
+    requires { Backend.can_tell coder.old.backend }
 {
     stands_at(coder, run.place, run.head)
         && gives(coder, table, run.symbols)
