@@ -1,5 +1,5 @@
 use Rattle.std.proofs.Common.{◌≡◌, ◌+◌, ◌-◌, ◌<◌, length, arith}
-use Rattle.constriction.specs.Ans.{Encodes}
+use Rattle.constriction.specs.Ans.{EncodeCall}
 use Rattle.constriction_cli.proofs.Outcomes.{put, refused}
 use Rattle.constriction_cli.proofs.Symbols.{empty_valid, pushed-none, pushed-more, unknown_at}
 use Rattle.constriction_cli.proofs.commands.ans_encode.encode.Goals as goal
@@ -7,13 +7,13 @@ use Rattle.constriction_cli.proofs.commands.ans_encode.encode.Goals as goal
 pub symbols-init : goal.symbols-init
 symbols-init g c = record {
   within = omega arith;
-  valid = rw c.new-coder.ensures empty_valid;
-  pushed = pushed-none _ c.args.symbols.now (length c.args.symbols.now) _ (omega arith) c.new-coder.ensures;
+  valid = rw c.new-coder.ensures.state empty_valid;
+  pushed = pushed-none _ c.args.symbols.now (length c.args.symbols.now) _ (omega arith) c.new-coder.ensures.state;
 }
 
 pub symbols-preserved : goal.symbols-preserved
 symbols-preserved g c =
-    let pushed = put (Encodes 32 64 _ _ _) _ _ _ _ _ _ c.in-Ok.ensures.step in
+    let pushed = put (EncodeCall _ _ 32 64 _ _ _ _) _ _ _ _ _ _ c.in-Ok.ensures.step in
     let push = pushed.3.pushed c.symbols.invariant.valid in
     let inside : c.symbols.left - 1 < length c.args.symbols.now = omega (arith, c.symbols-test.true, c.symbols.invariant.within) in
     let next : c.symbols.left ≡ (c.symbols.left - 1) + 1 = omega (arith, c.symbols-test.true) in
@@ -31,4 +31,4 @@ returns-clause-ok g c =
 pub returns-in-Err-Frontend-clause-err : goal.returns-in-Err-Frontend-clause-err
 returns-in-Err-Frontend-clause-err g c =
     let inside : c.symbols.left - 1 < length c.args.symbols.now = omega (arith, c.symbols-test.true, c.symbols.invariant.within) in
-    unknown_at _ c.args.symbols.now (c.symbols.left - 1) inside (refused (Encodes 32 64 _ _ _) _ _ _ _ _ _ _ _ c.in-Err-Frontend.field-0-is c.in-Err-Frontend.ensures.step)
+    unknown_at _ c.args.symbols.now (c.symbols.left - 1) inside (refused (EncodeCall _ _ 32 64 _ _ _ _) _ _ _ _ _ _ _ _ c.in-Err-Frontend.field-0-is c.in-Err-Frontend.ensures.step)
