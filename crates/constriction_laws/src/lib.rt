@@ -16,4 +16,5 @@
 #[cfg(test)]
 mod callers;
 pub mod lists;
+pub mod round_trips;
 pub mod stack;

@@ -14,6 +14,7 @@ pub mod guards;
 pub mod lists;
 pub mod positions;
 pub mod readings;
+pub mod round_trips;
 pub mod sizes;
 pub mod steps;
 pub mod words;
