@@ -9,7 +9,7 @@ use Rattle.constriction_base.specs.declared.errors.CoderError.{CoderError}
 use Rattle.constriction_base.specs.declared.errors.CoderError.TheVariants.{Frontend, Backend}
 use Rattle.constriction_base.specs.Steps.{Step, AreWords}
 use Rattle.constriction_stream.specs.Lists.{StepsAll}
-use Rattle.constriction_stream.specs.Symbols.{EncodesSymbol, DecodesSymbol, as_backend}
+use Rattle.constriction_stream.specs.Symbols.{EncodesSymbol, DecodesSymbol, ByBackend}
 use Rattle.constriction_stream.proofs.Lists.{StepsAll-more}
 use Rattle.constriction_stack.specs.Ans.{AnsState, AnsValue, IsValid}
 use Rattle.constriction_stack.specs.Steps as calls
@@ -21,15 +21,11 @@ use Rattle.constriction_laws.proofs.Undoing.{all_undone, all_free}
 use Rattle.constriction_laws.proofs.ComingBack.{decodes_only}
 use Rattle.constriction_laws.proofs.SameModel.{are_models, models_turned, symbols_turned}
 
--- what a call that answers a backend's result says of the coder's answer
-abbrev Answered : {C B F : Type 0} → (C → Step → Result (Unit {0}) B → C → Type 0) → C → Step → Result (Unit {0}) (CoderError F B) → C → Type 0
-Answered {B = B} does old step answer new = (result : Result (Unit {0}) B) × does old step result new × (answer ≡ as_backend result)
-
 -- ---- encodes
-module _ {S B E F : Type 0} (w s : ℕ) (room : B → ℕ) (prepare_fails : B → ℕ → E → Type 0) (write_fails : B → E → Type 0) (is_unknown : F → Type 0) where
+module _ {S W B E F : Type 0} (number : W → ℕ) (held : B → List W) (w s : ℕ) (room : B → ℕ) (makes_room : Type 0) (prepare_fails : B → ℕ → E → Type 0) (write_fails : B → E → Type 0) (is_unknown : F → Type 0) where
   -- a step of the coder that went well is an encode of the symbol
-  encode_of : (model : Model S) (symbol : S) (old new : AnsValue B) → IsValid w s old.state
-      → EncodesSymbol {F = F} (Answered (calls.Encodes w s room prepare_fails write_fails)) is_unknown model.precision model.table symbol old (Ok tt) new
+  pub encode_of : (model : Model S) (symbol : S) (old new : AnsValue B) → IsValid w s old.state
+      → EncodesSymbol {F = F} (ByBackend (calls.EncodeCall number held w s room makes_room prepare_fails write_fails)) is_unknown model.precision model.table symbol old (Ok tt) new
       → Encodes w s model symbol old.state new.state
   encode_of model symbol old new v (inl (left, p, has, (Ok u, e, is))) = (left, p, has, e.pushed v)
   encode_of model symbol old new v (inl (left, p, has, (Err x, e, is))) = absurd cc
@@ -37,7 +33,7 @@ module _ {S B E F : Type 0} (w s : ℕ) (room : B → ℕ) (prepare_fails : B �
 
   -- so is a list of them: what was given lends a symbol, or a pair, that stands for an item
   pub encodes_of : {A T : Type 0} (lent : A → T) (item : T → Item S) (xs : List A) (old new : AnsValue B) → IsValid w s old.state
-      → StepsAll {E = CoderError F E} (λ old x answer new. EncodesSymbol (Answered (calls.Encodes w s room prepare_fails write_fails)) is_unknown
+      → StepsAll {E = CoderError F E} (λ old x answer new. EncodesSymbol (ByBackend (calls.EncodeCall number held w s room makes_room prepare_fails write_fails)) is_unknown
       (item (lent x)).model.precision (item (lent x)).model.table (item (lent x)).symbol old answer new) old xs new
       → EncodesAll w s (map item (map lent xs)) old.state new.state
   encodes_of lent item [] old new v all = ap (λ (c : AnsValue B). c.state) (sym all)
@@ -46,16 +42,16 @@ module _ {S B E F : Type 0} (w s : ℕ) (room : B → ℕ) (prepare_fails : B �
       (all.0.state, first, encodes_of lent item xs all.0 new first.3.valid all.2)
 
 -- ---- decodes
-module _ {S W B E : Type 0} (F : Type 0) (number : W → ℕ) (is_list : Type 0) (reads : B → Result (Option W) E → B → Type 0) (w s : ℕ) where
-  decode_of : (model : Model S) (symbol : S) (old new : AnsValue B)
-      → GivesSymbol {E = CoderError F E} (Answered (calls.Decodes number is_list reads w s)) model.precision model.table old symbol (Ok tt) new
+module _ {S W B E : Type 0} (F : Type 0) (number : W → ℕ) (held : B → List W) (is_list : Type 0) (reads : B → Result (Option W) E → B → Type 0) (w s : ℕ) where
+  pub decode_of : (model : Model S) (symbol : S) (old new : AnsValue B)
+      → GivesSymbol {E = CoderError F E} (ByBackend (calls.DecodeCall number held is_list reads w s)) model.precision model.table old symbol (Ok tt) new
       → (is_list → Decodes w s model symbol old.state new.state) × DecodesBy number reads w s model symbol old new
   decode_of model symbol old new (left, p, has, (Ok u, d, is)) = ((λ known. (left, p, has, d.holds, d.popped known)), (left, p, has, d.holds, d.refilled))
   decode_of model symbol old new (left, p, has, (Err e, d, is)) = absurd cc
 
   -- so is a list of them, each at the item that stands for what was given
   pub decodes_of : {T : Type 0} (item : T → Item S) (xs : List T) (old new : AnsValue B)
-      → StepsAll (λ old x answer new. GivesSymbol {E = CoderError F E} (Answered (calls.Decodes number is_list reads w s)) (item x).model.precision (item x).model.table old (item x).symbol answer new) old xs new
+      → StepsAll (λ old x answer new. GivesSymbol {E = CoderError F E} (ByBackend (calls.DecodeCall number held is_list reads w s)) (item x).model.precision (item x).model.table old (item x).symbol answer new) old xs new
       → (is_list → DecodesAll w s (map item xs) old.state new.state) × DecodesAllBy number reads w s (map item xs) old new
   decodes_of item [] old new all = ((λ known. ap (λ (c : AnsValue B). c.state) (sym all)), sym all)
   decodes_of item (x ∷ xs) old new all =

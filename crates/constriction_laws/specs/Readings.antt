@@ -1,7 +1,7 @@
 -- Coders over backends of which reads tell the words, as iterators.
 use Rattle.std.specs.Prelude.{◌≡◌, ℕ, List, [], ◌∷◌, Bool, Option, None, Some, Result, Ok, Err, map, cond}
 use Rattle.constriction_base.specs.Backends.{Reads}
-use Rattle.constriction_stack.specs.Ans.{AnsState, AnsValue, Holds, RefillsBy, left_of_head}
+use Rattle.constriction_stack.specs.Ans.{AnsState, AnsValue, IsNext, RefillsBy, popped_head}
 use Rattle.constriction_base.specs.Tables.{Has}
 use Rattle.constriction_laws.specs.Lists.{StepsLead}
 use Rattle.constriction_laws.specs.Symbols.{Model, Item}
@@ -32,8 +32,8 @@ told number words coder = record { head = coder.state.head; words = map number (
 abbrev pub DecodesBy : {S W E B : Type 0} → (W → ℕ) → (B → Result (Option W) E → B → Type 0) → ℕ → ℕ → Model S → S → AnsValue B → AnsValue B → Type 0
 DecodesBy number reads w s model symbol old new =
     (left p : ℕ) × Has model.table symbol left p
-    × Holds record { precision = model.precision; left = left; p = p } old.state
-    × RefillsBy number reads w s (left_of_head record { precision = model.precision; left = left; p = p } old.state) old.backend new.state.head new.backend
+    × IsNext record { precision = model.precision; left = left; p = p } old.state
+    × RefillsBy number reads w s (popped_head record { precision = model.precision; left = left; p = p } old.state) old.backend new.state.head new.backend
 
 -- decodes of the items by reads, one after the other
 abbrev pub DecodesAllBy : {S W E B : Type 0} → (W → ℕ) → (B → Result (Option W) E → B → Type 0) → ℕ → ℕ → List (Item S) → AnsValue B → AnsValue B → Type 0

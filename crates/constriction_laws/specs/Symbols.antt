@@ -2,7 +2,7 @@
 use Rattle.std.specs.Prelude.{◌≡◌, ℕ, ◌≤◌, List, [], map}
 use Rattle.std.specs.List.{AllByRecursion, zip}
 use Rattle.constriction_base.specs.Tables.{Has, IsTable}
-use Rattle.constriction_stack.specs.Ans.{AnsState, Holds, pop, IsPush}
+use Rattle.constriction_stack.specs.Ans.{AnsState, IsNext, pop, IsPush}
 use Rattle.constriction_laws.specs.Lists.{StepsLead}
 
 -- what coding knows of a model: its precision and its table
@@ -30,14 +30,10 @@ Encodes w s model symbol old new =
 abbrev pub Decodes : {S : Type 0} → ℕ → ℕ → Model S → S → AnsState → AnsState → Type 0
 Decodes w s model symbol old new =
     (left p : ℕ) × Has model.table symbol left p
-    × Holds record { precision = model.precision; left = left; p = p } old
+    × IsNext record { precision = model.precision; left = left; p = p } old
     × (new ≡ pop w s record { precision = model.precision; left = left; p = p } old)
 
 -- ---- lists
-
--- the state of a new coder
-abbrev pub empty : AnsState
-empty = record { head = 0; words = [] }
 
 -- a symbol, and the model under which it is coded
 pub record Item (S : Type 0) : Type 0 where

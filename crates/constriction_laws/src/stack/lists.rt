@@ -5,8 +5,8 @@
 
 ghost use Rattle.std.specs.Prelude.{◌≡◌, ℕ, List, reverse, ⊤};
 ghost use Rattle.constriction_base.specs.Steps.{Step, IsSizes, AreSteps, AreWords};
-ghost use Rattle.constriction_stack.specs.Ans.{AnsState, IsValid, filled, exported, BeginsHigh, pop_all, HoldsAll, IsPushAll};
-ghost use Rattle.constriction_laws.specs.Symbols.{Model, Item, Encodes, Decodes, IsModel, models, AreModels, AreKnown, EncodesAll, DecodesAll, empty};
+ghost use Rattle.constriction_stack.specs.Ans.{AnsState, IsValid, filled, exported, BeginsHigh, pop_all, AreNext, IsPushAll, empty};
+ghost use Rattle.constriction_laws.specs.Symbols.{Model, Item, Encodes, Decodes, IsModel, models, AreModels, AreKnown, EncodesAll, DecodesAll};
 ghost use Rattle.constriction_laws.specs.Undone.{Sizes, decode_back, encode_back, decoded_valid};
 
 use crate::lists::{StepsUndo, lists_undo};
@@ -148,9 +148,9 @@ pub fn lists_of_entries_undo()
         IsValid w s state → (new : AnsState) × IsPushAll w s steps state new × IsValid w s new }
     ensures pops_undo { (w s : ℕ) (steps : List Step) (state new : AnsState) →
         IsPushAll w s steps state new →
-        HoldsAll w s steps new × (pop_all w s steps new ≡ state) }
+        AreNext w s steps new × (pop_all w s steps new ≡ state) }
     ensures pushes_undo { (w s : ℕ) (steps : List Step) (state new : AnsState) → IsSizes w s →
         AreSteps w steps →
-        IsValid w s state → HoldsAll w s steps state →
+        IsValid w s state → AreNext w s steps state →
         IsPushAll w s steps (pop_all w s steps state) new → new ≡ state }
 {}

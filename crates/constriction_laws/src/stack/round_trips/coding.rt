@@ -11,7 +11,7 @@ use constriction_base::errors::DefaultEncoderError;
 use constriction_base::model::{DecoderModel, EncoderModel, EntropyModel};
 use constriction_stack::coder::AnsCoder;
 use constriction_stream::decoding::Decode;
-use constriction_stream::encoding::Encode;
+use constriction_stream::encoding::{Encode, EncodeReverse};
 use constriction_words::{BitArray, WordOf};
 use std::alloc::Global;
 

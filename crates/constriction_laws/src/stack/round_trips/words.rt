@@ -2,9 +2,9 @@
 
 ghost use Rattle.std.specs.Prelude.{◌≡◌, List, length, map, reverse, IfSome};
 ghost use Rattle.constriction_base.specs.Steps.{IsSizes};
-ghost use Rattle.constriction_stack.specs.Ans.{AnsState, IsValid, exported};
+ghost use Rattle.constriction_stack.specs.Ans.{AnsState, IsValid, exported, empty};
 ghost use Rattle.constriction_laws.specs.Readings.{TellsItems};
-ghost use Rattle.constriction_laws.specs.Symbols.{EncodesAll, items_of, empty};
+ghost use Rattle.constriction_laws.specs.Symbols.{EncodesAll, items_of};
 
 use crate::stack::readings::{items_are_words, symbols_come_back_by_reads};
 use crate::stack::round_trips::coding::{decode_list, encode_list_reverse};

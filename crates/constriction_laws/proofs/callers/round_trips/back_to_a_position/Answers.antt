@@ -2,10 +2,10 @@ use Rattle.std.proofs.Common.{◌≡◌, ℕ, ◌-◌, ◌%◌, ◌^◌, ◌≤�
 use Rattle.std.specs.Prelude.{reverse, map}
 use Rattle.std.proofs.lemmas.List.{take-append-drop, reverse-append, length-reverse, length-map, length-drop, drop-map}
 use Rattle.constriction_base.specs.Steps.{IsSizes}
-use Rattle.constriction_stack.specs.Ans.{AnsState, IsValid}
+use Rattle.constriction_stack.specs.Ans.{AnsState, IsValid, empty}
 use Rattle.constriction_stack.specs.Positions.{position_of, sought}
 use Rattle.constriction_stack.proofs.PositionsKept.{drop_front, held_less}
-use Rattle.constriction_laws.specs.Symbols.{Model, IsModel, Item, item_of, Encodes, Decodes, empty}
+use Rattle.constriction_laws.specs.Symbols.{Model, IsModel, Item, item_of, Encodes, Decodes}
 use Rattle.constriction_laws.proofs.ComingBack.{empty_valid}
 use Rattle.constriction_laws.proofs.Seeking.{encodes_grow, cut_is_sought}
 use Rattle.constriction_laws.proofs.callers.round_trips.back_to_a_position.Goals as goal
@@ -22,9 +22,9 @@ returns g c =
     let a = c.in-Ok.ensures.ok in
     let b = c.in-Ok-encode_symbol.ensures.ok in
     let d = c.in-Ok-decode_symbol.ensures.ok in
-    let valid : IsValid 8 16 c.new-coder.result.state = subst (λ (x : AnsState). IsValid 8 16 x) (sym c.new-coder.ensures) (empty_valid 8 16) in
+    let valid : IsValid 8 16 c.new-coder.result.state = subst (λ (x : AnsState). IsValid 8 16 x) (sym c.new-coder.ensures.state) (empty_valid 8 16) in
     let here : Encodes 8 16 model c.args.before c.new-coder.result.state one = (a.0, a.1, a.2, a.3.pushed valid) in
-    let first : Encodes 8 16 model c.args.before empty one = subst (λ (x : AnsState). Encodes 8 16 model c.args.before x one) c.new-coder.ensures here in
+    let first : Encodes 8 16 model c.args.before empty one = subst (λ (x : AnsState). Encodes 8 16 model c.args.before x one) c.new-coder.ensures.state here in
     let second : Encodes 8 16 model c.args.since one two = (b.0, b.1, b.2, b.3.pushed first.3.valid) in
     let third : Decodes 8 16 model c.in-Ok-decode_symbol.again c.from_raw_parts-decoder.result.state last = (d.0, d.1, d.2, d.3.holds, d.3.popped tt) in
     let held : c.len-held.result ≡ length one.words =

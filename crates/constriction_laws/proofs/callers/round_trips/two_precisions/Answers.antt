@@ -1,8 +1,8 @@
 use Rattle.std.proofs.Common.{◌≡◌, ℕ, List, [], ◌∷◌, refl, sym, ap, subst, lit≤}
 use Rattle.std.specs.Prelude.{reverse, map}
 use Rattle.constriction_base.specs.Steps.{IsSizes}
-use Rattle.constriction_stack.specs.Ans.{AnsState, IsValid, filled, exported}
-use Rattle.constriction_laws.specs.Symbols.{Model, IsModel, Item, Encodes, Decodes, EncodesAll, DecodesAll, AreModels, models, empty}
+use Rattle.constriction_stack.specs.Ans.{AnsState, IsValid, filled, exported, empty}
+use Rattle.constriction_laws.specs.Symbols.{Model, IsModel, Item, Encodes, Decodes, EncodesAll, DecodesAll, AreModels, models}
 use Rattle.constriction_laws.proofs.ComingBack.{empty_valid}
 use Rattle.constriction_laws.proofs.callers.round_trips.two_precisions.Goals as goal
 
@@ -28,12 +28,12 @@ pub returns : goal.returns
 returns g c =
     let first : Model ℕ = record { precision = 8; table = g.First.EntropyModel.table c.args.first.now } in
     let second : Model ℕ = record { precision = 5; table = g.Second.EntropyModel.table c.args.second.now } in
-    let valid : IsValid 8 16 c.new-coder.result.state = subst (λ (x : AnsState). IsValid 8 16 x) (sym c.new-coder.ensures) (empty_valid 8 16) in
+    let valid : IsValid 8 16 c.new-coder.result.state = subst (λ (x : AnsState). IsValid 8 16 x) (sym c.new-coder.ensures.state) (empty_valid 8 16) in
     let a = c.in-Ok.ensures.ok in
     let b = c.in-Ok-encode_symbol.ensures.ok in
     let one : Encodes 8 16 first c.args.a empty c.encode_symbol.new.self.state =
     (let here : Encodes 8 16 first c.args.a c.new-coder.result.state c.encode_symbol.new.self.state = (a.0, a.1, a.2, a.3.pushed valid) in
-    subst (λ (x : AnsState). Encodes 8 16 first c.args.a x c.encode_symbol.new.self.state) c.new-coder.ensures here) in
+    subst (λ (x : AnsState). Encodes 8 16 first c.args.a x c.encode_symbol.new.self.state) c.new-coder.ensures.state here) in
     let two : Encodes 8 16 second c.args.b c.encode_symbol.new.self.state c.encode_symbol-2.new.self.state = (b.0, b.1, b.2, b.3.pushed one.3.valid) in
     let imported = c.in-Ok-from_compressed.ensures.ok tt in
     let words = c.in-Ok-into_compressed.ensures.ok in

@@ -13,6 +13,6 @@ returns g c = λ valid.
     let before = c.args.coder.now.state in
     let coded = c.in-Ok.ensures valid in
     let lent = c.in_ok-lent.ensures.back tt (reverse symbols) before
-    (subst (λ x. EncodesAll w s (items_of model (reverse symbols)) before x) (sym c.as_decoder-decoder.ensures) coded) (length-reverse symbols) in
+    (subst (λ x. EncodesAll w s (items_of model (reverse symbols)) before x) (sym c.as_decoder-decoder.ensures.0) coded) (length-reverse symbols) in
     let own = c.in_ok-own.ensures.back tt (reverse symbols) before coded (length-reverse symbols) in
     (lent.0 ∙ reverse-reverse symbols, own.0 ∙ reverse-reverse symbols, own.1)

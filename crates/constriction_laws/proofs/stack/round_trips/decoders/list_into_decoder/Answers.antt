@@ -13,5 +13,5 @@ returns g c = λ valid.
     let before = c.args.coder.state in
     let coded = c.in-Ok.ensures valid in
     let back = c.in_ok-again.ensures.back g.met.Backend.IntoReadWords.BoundedReadWords.knows_words (reverse symbols) before
-    (subst (λ x. EncodesAll w s (items_of model (reverse symbols)) before x) (sym c.in-Ok-into_decoder.ensures.ok) coded) (length-reverse symbols) in
+    (subst (λ x. EncodesAll w s (items_of model (reverse symbols)) before x) (sym c.in-Ok-into_decoder.ensures.ok.0) coded) (length-reverse symbols) in
     (back.0 ∙ reverse-reverse symbols, back.1)

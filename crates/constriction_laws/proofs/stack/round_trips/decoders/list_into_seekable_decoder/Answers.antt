@@ -13,5 +13,5 @@ returns g c = λ valid.
     let before = c.args.coder.state in
     let coded = c.in-Ok.ensures valid in
     let back = c.in_ok-again.ensures.back g.met.Backend.IntoSeekReadWords.BoundedReadWords.knows_words (reverse symbols) before
-    (subst (λ x. EncodesAll w s (items_of model (reverse symbols)) before x) (sym c.into_seekable_decoder-decoder.ensures) coded) (length-reverse symbols) in
+    (subst (λ x. EncodesAll w s (items_of model (reverse symbols)) before x) (sym c.into_seekable_decoder-decoder.ensures.state) coded) (length-reverse symbols) in
     (back.0 ∙ reverse-reverse symbols, back.1)

@@ -33,9 +33,9 @@ returns g c = λ valid.
     let second : EncodesAll w s (items_of model since) one two = c.in-Ok-encode_list_reverse.ensures full in
     let stands = c.pos-position.ensures in
     let count : held ≡ length one.words =
-    omega (arith, stands.0, ap vec_len c.bulk-below.ensures.backend, ap length c.bulk-below.ensures.words, length-map (reverse c.bulk-below.result.now.items) f, length-reverse c.bulk-below.result.now.items) in
+    omega (arith, stands.0, ap vec_len c.bulk-below.ensures.backend, ap length (ap (λ b. map f (reverse b.items)) c.bulk-below.ensures.backend ∙ sym c.bulk-below.ensures.coder.words_are), length-map (reverse c.bulk-below.result.now.items) f, length-reverse c.bulk-below.result.now.items) in
     let words : two.words ≡ map f (reverse (take place buf)) =
-    ap (λ (x : AnsState). x.words) (sym c.as_seekable_decoder-decoder.ensures) ∙ sym c.bulk-all.ensures.words in
+    ap (λ (x : AnsState). x.words) (sym c.as_seekable_decoder-decoder.ensures.state) ∙ c.bulk-all.ensures.coder.words_are ∙ ap (λ b. map f (reverse (take b.pos b.buf.now))) (sym c.bulk-all.ensures.backend) in
     let more : length one.words ≤ length two.words =
     held_less one two (encodes_grow w s c.requires (items_of model since) one two (are_models w model since lawful) second) in
     let within : held ≤ place = omega (arith, count, more, ap length words, length-map (reverse (take place buf)) f, length-reverse (take place buf), length-take place buf) in
