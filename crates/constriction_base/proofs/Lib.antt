@@ -5,4 +5,9 @@ pub mod Runs
 pub mod HintLemmas
 pub mod Worked
 pub mod WindowLemmas
-pub mod Taken
+pub mod Entering
+pub mod Heads
+pub mod Sizes
+pub mod Exporting
+pub mod Guards
+mod Results

@@ -9,3 +9,4 @@ pub mod Hints
 pub mod Windows
 pub mod WeightTables
 pub mod Digits
+pub mod Readings

@@ -10,6 +10,7 @@
 //! - `seeking`: positions, and going to them.
 //! - `lending`: buffers that lend their words as a slice.
 //! - `conversions`: what turns into a backend for reading, or lends one.
+//! - `taking`: words that are taken off again.
 //! - `both_ways`: the same words as a stack and as a queue.
 
 pub mod both_ways;
@@ -18,10 +19,7 @@ pub mod lending;
 pub mod reading;
 pub mod seeking;
 pub mod semantics;
-#[cfg(test)]
-mod tests;
-#[cfg(test)]
-mod two_for_one;
+pub mod taking;
 pub mod writing;
 
 pub use both_ways::{BothWays, written_to_queue};
@@ -32,4 +30,5 @@ pub use lending::{Words, WordsMut};
 pub use reading::{BoundedReadWords, Holds, ReadWords};
 pub use seeking::{CountsWords, Pos, PosSeek, Seek, SeeksBack};
 pub use semantics::{Queue, Semantics, Stack};
+pub use taking::take_back;
 pub use writing::WriteWords;

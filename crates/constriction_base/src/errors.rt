@@ -1,8 +1,5 @@
 //! Errors of coders and of backends.
 
-#[cfg(test)]
-mod tests;
-
 ghost use Rattle.std.specs.Prelude.{◌≡◌};
 ghost use Rattle.constriction_base.specs.declared.errors.BoundedWriteError.TheVariants as bounded;
 ghost use Rattle.constriction_base.specs.declared.errors.CoderError.TheVariants as coder;

@@ -14,11 +14,13 @@
 //! - [`model`]: the traits of models, with the law that a model is a table.
 //! - [`weights`]: `WeightTable`, a model by the weights of its symbols, with a fast search.
 //! - [`errors`]: what coders and backends answer where they refuse.
+//! - [`head_words`]: the words of the number that a coder holds above its words.
 #![tactic(auto)]
 
 pub mod backends;
 pub mod cursor;
 pub mod errors;
+pub mod head_words;
 pub mod iterators;
 pub mod model;
 pub mod reverse;

@@ -5,9 +5,6 @@
 //! interval, [`DecoderModel`] the interval that holds a quantile; both stand on [`EntropyModel`],
 //! whose laws say that the intervals are a table. A `&M` is a model wherever `M` is.
 
-#[cfg(test)]
-mod tests;
-
 ghost use Rattle.std.specs.Prelude.{◌≡◌, ℕ, ◌+◌, ◌^◌, ◌<◌, ◌≤◌, List, length, IfSome, IfNone};
 ghost use Rattle.constriction_base.specs.Tables.{Has, IsTable, Covers};
 

@@ -2,8 +2,6 @@
 
 mod hints;
 mod starts;
-#[cfg(test)]
-mod tests;
 
 ghost use Rattle.std.specs.Prelude.{◌≡◌, ◌≢◌, ◌+◌, ◌-◌, ◌*◌, ◌^◌, ◌<◌, ◌≤◌, ◌↔◌, [], length, map, sum_by, slice_index, OnOk, IfOk, IsErrOf};
 ghost use Rattle.constriction_base.specs.Tables.{IsRising, table_of, weights_between};
@@ -59,7 +57,7 @@ pub struct WeightTable<Probability: BitArray, const PRECISION: usize> {
     ghost has_symbols: { 0 < length starts.items },
     ghost rising: { IsRising (map Probability.number starts.items) (2 ^ PRECISION) },
     ghost last: { 2 ^ PRECISION - slice_index (map Probability.number starts.items) (length starts.items - 1) < 2 ^ Probability.BITS },
-    ghost cut: { (shift < PRECISION) × (PRECISION - shift ≤ 32) },
+    ghost cut: { (shift < PRECISION) × (PRECISION - shift ≤ 63) },
     ghost buckets: { length hints.items ≡ 2 ^ (PRECISION - shift) + 1 },
     ghost hinted: { AreHints (map Probability.number starts.items) (2 ^ PRECISION) (2 ^ shift) hints.items },
 }
@@ -73,7 +71,8 @@ impl<Probability: BitArray, const PRECISION: usize> WeightTable<Probability, PRE
     /// (the sum is exact, whatever the width of `Probability`), and want of memory. With all bits of
     /// `Probability` as precision the total does not fit one weight, so that at least two are above 0.
     ///
-    /// It keeps a start for each symbol, and from two to four hints, in `alloc`.
+    /// It keeps a start for each symbol up to the last of a weight above 0, and more than two hints for each of
+    /// these, at most four, in `alloc`.
     ///
     /// ```
     /// let table = WeightTable::<u8, 8>::new(rt.alloc(), &[255, 1])?;

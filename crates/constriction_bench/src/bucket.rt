@@ -47,6 +47,29 @@ impl BucketTable {
     }
 }
 
+/// The symbol whose interval holds the first quantile of a part, if it is one of the first 256 and begins where
+/// `starts` says.
+fn first_of(
+    table: &WeightTable<u32, 24>,
+    starts: &[u32],
+    count: usize,
+    part: u32,
+) -> Option<u8>
+    requires starts { length starts.now ≡ count + 1 }
+    requires part { part < 4096 }
+    ensures { IfSome result (λ symbol. Begins starts.now count symbol part) }
+{
+    let quantile = part * 4096;
+    let (symbol, _, _) = table.quantile_function(quantile);
+    if symbol >= count || symbol > 255 {
+        return None;
+    }
+    if starts[symbol] > quantile {
+        return None;
+    }
+    Some(symbol as u8)
+}
+
 /// The symbol of the first quantile of each part.
 fn firsts_of(
     alloc: Global,
@@ -60,15 +83,10 @@ fn firsts_of(
 {
     let mut firsts = Vec::new(alloc);
     for part in 0..4096u32 {
-        let quantile = part * 4096;
-        let (symbol, _, _) = table.quantile_function(quantile);
-        if symbol >= count || symbol > 255 {
+        let symbol = first_of(table, starts, count, part)?;
+        if firsts.push(symbol).is_err() {
             return None;
         }
-        if starts[symbol] > quantile {
-            return None;
-        }
-        firsts.push(symbol as u8).ok()?;
     }
     Some(firsts)
 }

@@ -4,7 +4,7 @@ ghost use Rattle.std.specs.Prelude.{◌≡◌, ◌≤◌, length};
 
 use crate::bucket::BucketTable;
 use crate::flat::Flat;
-use crate::runs::{copy_out, decode_all, encode_all, reload_all};
+use crate::runs::{copy_out, decode_in, encode_out, reload_out};
 use constriction_base::weights::WeightTable;
 use std::alloc::Global;
 
@@ -19,10 +19,7 @@ pub extern "C" fn constriction_bench_ans_encode_u32u64p24_table(
     let Ok(table) = WeightTable::<u32, 24>::new(alloc, weights) else {
         return 0;
     };
-    match encode_all::<u32, u64, _, 24>(alloc, symbols, &table) {
-        Some(words) => copy_out(&words, out),
-        None => 0,
-    }
+    encode_out::<u32, u64, _, 24>(alloc, symbols, &table, out)
 }
 
 /// Decodes as many symbols as there is room for, by a table of weights.
@@ -36,10 +33,7 @@ pub extern "C" fn constriction_bench_ans_decode_u32u64p24_table(
     let Ok(table) = WeightTable::<u32, 24>::new(alloc, weights) else {
         return false;
     };
-    match words.to_vec(alloc) {
-        Ok(words) => decode_all::<u32, u64, _, 24>(words, symbols, &table),
-        Err(_) => false,
-    }
+    decode_in::<u32, u64, _, 24>(alloc, words, symbols, &table)
 }
 
 /// Encodes symbols below `2^bits` by equal weights.
@@ -53,10 +47,7 @@ pub extern "C" fn constriction_bench_ans_encode_u32u64p24_flat(
     let Some(flat) = Flat::<u32, 24>::new(bits) else {
         return 0;
     };
-    match encode_all::<u32, u64, _, 24>(alloc, symbols, &flat) {
-        Some(words) => copy_out(&words, out),
-        None => 0,
-    }
+    encode_out::<u32, u64, _, 24>(alloc, symbols, &flat, out)
 }
 
 /// Decodes as many symbols below `2^bits` as there is room for, by equal weights.
@@ -70,10 +61,7 @@ pub extern "C" fn constriction_bench_ans_decode_u32u64p24_flat(
     let Some(flat) = Flat::<u32, 24>::new(bits) else {
         return false;
     };
-    match words.to_vec(alloc) {
-        Ok(words) => decode_all::<u32, u64, _, 24>(words, symbols, &flat),
-        Err(_) => false,
-    }
+    decode_in::<u32, u64, _, 24>(alloc, words, symbols, &flat)
 }
 
 /// Decodes as many symbols as there is room for, by a table with a symbol for each part of the quantiles.
@@ -87,10 +75,7 @@ pub extern "C" fn constriction_bench_ans_decode_u32u64p24_bucket(
     let Some(table) = BucketTable::new(alloc, weights) else {
         return false;
     };
-    match words.to_vec(alloc) {
-        Ok(words) => decode_all::<u32, u64, _, 24>(words, symbols, &table),
-        Err(_) => false,
-    }
+    decode_in::<u32, u64, _, 24>(alloc, words, symbols, &table)
 }
 
 /// Puts words into a coder and takes them out again.
@@ -100,13 +85,7 @@ pub extern "C" fn constriction_bench_ans_reload_u32u64p24(
     words: &[u32],
     out: &mut [u32],
 ) -> usize {
-    let Ok(words) = words.to_vec(alloc) else {
-        return 0;
-    };
-    match reload_all::<u32, u64>(words) {
-        Some(words) => copy_out(&words, out),
-        None => 0,
-    }
+    reload_out::<u32, u64>(alloc, words, out)
 }
 
 /// Copies words as the call that puts them into a coder does, with no coder.

@@ -43,6 +43,27 @@ impl LookupTable {
     }
 }
 
+/// The symbol whose interval holds a quantile, if it is one of the first 256 and lies where `starts` says.
+fn symbol_at(
+    table: &WeightTable<u16, 12>,
+    starts: &[u32],
+    count: usize,
+    quantile: u16,
+) -> Option<u8>
+    requires starts { length starts.now ≡ count + 1 }
+    requires quantile { quantile < 4096 }
+    ensures { IfSome result (λ symbol. Finds starts.now count symbol quantile) }
+{
+    let (symbol, _, _) = table.quantile_function(quantile);
+    if symbol >= count || symbol > 255 {
+        return None;
+    }
+    if starts[symbol] > quantile as u32 || starts[symbol + 1] <= quantile as u32 {
+        return None;
+    }
+    Some(symbol as u8)
+}
+
 /// The symbol of each quantile.
 fn symbols_of(
     alloc: Global,
@@ -56,14 +77,10 @@ fn symbols_of(
 {
     let mut symbols = Vec::new(alloc);
     for quantile in 0..4096u16 {
-        let (symbol, _, _) = table.quantile_function(quantile);
-        if symbol >= count || symbol > 255 {
+        let symbol = symbol_at(table, starts, count, quantile)?;
+        if symbols.push(symbol).is_err() {
             return None;
         }
-        if starts[symbol] > quantile as u32 || starts[symbol + 1] <= quantile as u32 {
-            return None;
-        }
-        symbols.push(symbol as u8).ok()?;
     }
     Some(symbols)
 }

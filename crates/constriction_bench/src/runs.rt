@@ -25,8 +25,8 @@ where
     requires { IsSizes Word.BITS State.BITS }
 {
     let mut coder: AnsCoder<Word, State, Vec<Word>> = AnsCoder::new(alloc);
-    for symbol in symbols.iter().rev() {
-        if coder.encode_symbol(symbol, model).is_err() {
+    for place in 0..symbols.len() {
+        if coder.encode_symbol(&symbols[symbols.len() - 1 - place], model).is_err() {
             return None;
         }
     }
@@ -67,6 +67,60 @@ pub fn reload_all<Word: WordOf<State>, State: BitArray>(words: Vec<Word>) -> Opt
     match AnsCoder::<Word, State, Vec<Word>>::from_compressed(words) {
         Ok(coder) => coder.into_compressed().ok(),
         Err(_) => None,
+    }
+}
+
+/// Encodes symbols, and writes as many of the words as there is room for. It answers how many there are,
+/// 0 where there are none.
+pub fn encode_out<
+    Word: WordOf<State>,
+    State: BitArray,
+    M: EncoderModel<PRECISION, Symbol = usize>,
+    const PRECISION: usize,
+>(alloc: Global, symbols: &[usize], model: &M, out: &mut [Word]) -> usize
+where
+    M::Probability: WordOf<Word>,
+    requires { IsSizes Word.BITS State.BITS }
+{
+    match encode_all::<Word, State, M, PRECISION>(alloc, symbols, model) {
+        Some(words) => copy_out(&words, out),
+        None => 0,
+    }
+}
+
+/// Decodes a symbol for each place of `symbols` from a copy of the words. It answers false where they are
+/// not a coder's, or memory is missing.
+pub fn decode_in<
+    Word: WordOf<State>,
+    State: BitArray,
+    M: DecoderModel<PRECISION, Symbol = usize>,
+    const PRECISION: usize,
+>(alloc: Global, words: &[Word], symbols: &mut [usize], model: &M) -> bool
+where
+    M::Probability: WordOf<Word>,
+    requires { IsSizes Word.BITS State.BITS }
+{
+    match words.to_vec(alloc) {
+        Ok(words) => decode_all::<Word, State, M, PRECISION>(words, symbols, model),
+        Err(_) => false,
+    }
+}
+
+/// Puts a copy of the words into a coder and takes them out again. It answers how many there are, 0 where
+/// they are not a coder's, or memory is missing.
+pub fn reload_out<Word: WordOf<State>, State: BitArray>(
+    alloc: Global,
+    words: &[Word],
+    out: &mut [Word],
+) -> usize
+    requires { IsSizes Word.BITS State.BITS }
+{
+    let Ok(words) = words.to_vec(alloc) else {
+        return 0;
+    };
+    match reload_all::<Word, State>(words) {
+        Some(words) => copy_out(&words, out),
+        None => 0,
     }
 }
 

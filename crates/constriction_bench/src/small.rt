@@ -4,7 +4,7 @@ ghost use Rattle.std.specs.Prelude.{◌≡◌, ◌≤◌, length};
 
 use crate::flat::Flat;
 use crate::lookup::LookupTable;
-use crate::runs::{copy_out, decode_all, encode_all, reload_all};
+use crate::runs::{copy_out, decode_in, encode_out, reload_out};
 use constriction_base::weights::WeightTable;
 use std::alloc::Global;
 
@@ -19,10 +19,7 @@ pub extern "C" fn constriction_bench_ans_encode_u16u32p12_table(
     let Ok(table) = WeightTable::<u16, 12>::new(alloc, weights) else {
         return 0;
     };
-    match encode_all::<u16, u32, _, 12>(alloc, symbols, &table) {
-        Some(words) => copy_out(&words, out),
-        None => 0,
-    }
+    encode_out::<u16, u32, _, 12>(alloc, symbols, &table, out)
 }
 
 /// Decodes as many symbols as there is room for, by a table of weights.
@@ -36,10 +33,7 @@ pub extern "C" fn constriction_bench_ans_decode_u16u32p12_table(
     let Ok(table) = WeightTable::<u16, 12>::new(alloc, weights) else {
         return false;
     };
-    match words.to_vec(alloc) {
-        Ok(words) => decode_all::<u16, u32, _, 12>(words, symbols, &table),
-        Err(_) => false,
-    }
+    decode_in::<u16, u32, _, 12>(alloc, words, symbols, &table)
 }
 
 /// Encodes symbols below `2^bits` by equal weights.
@@ -53,10 +47,7 @@ pub extern "C" fn constriction_bench_ans_encode_u16u32p12_flat(
     let Some(flat) = Flat::<u16, 12>::new(bits) else {
         return 0;
     };
-    match encode_all::<u16, u32, _, 12>(alloc, symbols, &flat) {
-        Some(words) => copy_out(&words, out),
-        None => 0,
-    }
+    encode_out::<u16, u32, _, 12>(alloc, symbols, &flat, out)
 }
 
 /// Decodes as many symbols below `2^bits` as there is room for, by equal weights.
@@ -70,10 +61,7 @@ pub extern "C" fn constriction_bench_ans_decode_u16u32p12_flat(
     let Some(flat) = Flat::<u16, 12>::new(bits) else {
         return false;
     };
-    match words.to_vec(alloc) {
-        Ok(words) => decode_all::<u16, u32, _, 12>(words, symbols, &flat),
-        Err(_) => false,
-    }
+    decode_in::<u16, u32, _, 12>(alloc, words, symbols, &flat)
 }
 
 /// Decodes as many symbols as there is room for, by a table with the symbol of each quantile.
@@ -87,10 +75,7 @@ pub extern "C" fn constriction_bench_ans_decode_u16u32p12_lookup(
     let Some(table) = LookupTable::new(alloc, weights) else {
         return false;
     };
-    match words.to_vec(alloc) {
-        Ok(words) => decode_all::<u16, u32, _, 12>(words, symbols, &table),
-        Err(_) => false,
-    }
+    decode_in::<u16, u32, _, 12>(alloc, words, symbols, &table)
 }
 
 /// Puts words into a coder and takes them out again.
@@ -100,13 +85,7 @@ pub extern "C" fn constriction_bench_ans_reload_u16u32p12(
     words: &[u16],
     out: &mut [u16],
 ) -> usize {
-    let Ok(words) = words.to_vec(alloc) else {
-        return 0;
-    };
-    match reload_all::<u16, u32>(words) {
-        Some(words) => copy_out(&words, out),
-        None => 0,
-    }
+    reload_out::<u16, u32>(alloc, words, out)
 }
 
 /// Copies words as the call that puts them into a coder does, with no coder.

@@ -1,4 +1,6 @@
+pub mod Outcomes
 pub mod OwnNumbers
 pub mod Reading
 pub mod Symbols
+pub mod Taken
 pub mod Writing

@@ -2,7 +2,7 @@
 use Rattle.std.proofs.Common.{◌≡◌, ℕ, ◌+◌, ◌<◌, ◌≤◌, inr, List, [], ◌∷◌, ◌++◌, length, get_or, drop, drop-cons, add-one, refl, ◌∙◌, ap, arith, zero, suc, inl}
 use Rattle.std.proofs.lemmas.List.{drop_all}
 use Rattle.constriction.specs.Tables.{Has}
-use Rattle.constriction.specs.Ans.{AnsState, IsValid, IsPush, Holds, pop}
+use Rattle.constriction.specs.Ans.{AnsState, IsValid, IsPush, IsNext, pop}
 use Rattle.constriction_cli.specs.Coding.{empty_state, step_of, PushesSymbols, PopsSymbols, IsUnknown, HasUnknown}
 
 -- a coder that holds nothing is valid
@@ -20,7 +20,7 @@ pushed-more table symbols place behind left p old new inside next pushed has pus
     rw cut (old, left, p, rw next at pushed, has, push)
 
 -- the symbol behind those that were popped
-pub popped-more : (table : List (ℕ × ℕ × ℕ)) (symbols : List ℕ) (symbol left p : ℕ) (old between new : AnsState) → PopsSymbols table symbols old between → Has table symbol left p → Holds (step_of left p) between → new ≡ pop 32 64 (step_of left p) between → PopsSymbols table (symbols ++ symbol ∷ []) old new
+pub popped-more : (table : List (ℕ × ℕ × ℕ)) (symbols : List ℕ) (symbol left p : ℕ) (old between new : AnsState) → PopsSymbols table symbols old between → Has table symbol left p → IsNext (step_of left p) between → new ≡ pop 32 64 (step_of left p) between → PopsSymbols table (symbols ++ symbol ∷ []) old new
 popped-more table [] symbol left p old between new same has holds is =
     let start : between ≡ old = same in
     (left, p, has, rw start at holds, is ∙ ap (pop 32 64 (step_of left p)) start)

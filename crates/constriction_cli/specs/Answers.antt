@@ -1,5 +1,5 @@
 -- What each command answers a text, and when it gives which fault.
-use Rattle.std.specs.Prelude.{Option, None, ◌≡◌, ℕ, ◌-◌, ◌≤◌, ◌^◌, Some, List, [], ◌∷◌, length, sum, reverse, codes, ◌≢◌, ◌⊎◌, ◌<◌, ⊤}
+use Rattle.std.specs.Prelude.{Option, None, ◌≡◌, ℕ, ◌-◌, ◌≤◌, ◌^◌, Some, List, [], ◌∷◌, length, sum, reverse, codes, ◌≢◌, ◌⊎◌, ◌<◌, ⊤, IfSome}
 use Rattle.constriction.specs.Tables.{table_of}
 use Rattle.constriction.specs.Ans.{AnsState, exported, filled, BeginsHigh}
 use Rattle.constriction_cli.specs.Lines.{first_line, second_line, numbers_of, line_of}
@@ -112,6 +112,11 @@ DecodeFails text Unwritable = ⊥
 abbrev pub Fails : Command → List ℕ → Fault → Type 0
 Fails AnsEncode text fault = EncodeFails text fault
 Fails AnsDecode text fault = DecodeFails text fault
+
+-- why a run stops: reading, writing or memory failed, or the command that the arguments name fails for the text
+abbrev pub Stops : List (List ℕ) → Option (List ℕ) → Fault → Type 0
+Stops arguments known fault = (fault ≡ Unreadable) ⊎ (fault ≡ Unwritable) ⊎ (fault ≡ OutOfMemory)
+    ⊎ IfSome known (λ text. (command : Command) × Names arguments command × Fails command text fault)
 
 -- what a command answers a text
 abbrev pub Answers : Command → List ℕ → List ℕ → Type 0

@@ -2,7 +2,7 @@
 use Rattle.std.specs.Prelude.{◌≡◌, ◌⊎◌, ℕ, List, [], ◌∷◌, ◌++◌}
 use Rattle.constriction.specs.Steps.{Step}
 use Rattle.constriction.specs.Tables.{Has}
-use Rattle.constriction.specs.Ans.{AnsState, IsPush, Holds, pop}
+use Rattle.constriction.specs.Ans.{AnsState, IsPush, IsNext, pop}
 
 -- a coder that holds nothing
 abbrev pub empty_state : AnsState
@@ -20,7 +20,7 @@ PushesSymbols table (symbol ∷ symbols) old new = (between : AnsState) × (left
 -- the symbols are popped in their order, each by the entry in the table that holds the state's quantile
 abbrev pub PopsSymbols : List (ℕ × ℕ × ℕ) → List ℕ → AnsState → AnsState → Type 0
 PopsSymbols table [] old new = new ≡ old
-PopsSymbols table (symbol ∷ symbols) old new = (left p : ℕ) × Has table symbol left p × Holds (step_of left p) old × PopsSymbols table symbols (pop 32 64 (step_of left p) old) new
+PopsSymbols table (symbol ∷ symbols) old new = (left p : ℕ) × Has table symbol left p × IsNext (step_of left p) old × PopsSymbols table symbols (pop 32 64 (step_of left p) old) new
 
 -- the last of the words is zero
 abbrev pub EndsWithZero : List ℕ → Type 0

@@ -1,3 +1,4 @@
 pub mod Lines
 pub mod Coding
 pub mod Answers
+pub mod Written

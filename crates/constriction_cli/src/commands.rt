@@ -36,7 +36,7 @@ impl Command {
     /// What the command writes for an input.
     pub fn answer(self, alloc: Global, text: &[u8]) -> Result<Vec<u8>, Fault>
         ensures ok { IfOk result (λ answer. Answers self text.now answer.items) }
-        ensures fault { IfErr result (Fails self text.now) }
+        ensures err { IfErr result (Fails self text.now) }
     {
         match self {
             Command::AnsEncode => ans_encode::answer(alloc, text),

@@ -1,37 +1,48 @@
 //! What stops a run.
 
 ghost use Rattle.std.specs.Prelude.{◌≡◌};
+ghost use Rattle.constriction_cli.specs.Written.{fault_line};
 ghost use Rattle.constriction_cli.specs.declared.fault.Fault.TheVariants.{OutOfMemory};
 
 use constriction::DefaultEncoderFrontendError;
 use constriction::stream::stack::CompressedDataEndsWithZeroWord;
 use std::alloc::{AllocError, AllocFailed};
-use thiserror::Error;
 
-/// What stops a run of the program. Its text is the line on standard error.
-#[derive(Debug, Drop, Clone, PartialEq, Eq, Error)]
+/// What stops a run of the program.
+#[derive(Debug, Drop, Clone, PartialEq, Eq)]
 pub enum Fault {
-    #[error("cannot read input")]
     Unreadable,
-    #[error("cannot write output")]
     Unwritable,
     /// A byte that is neither a digit nor a blank, or a number past its type.
-    #[error("bad number")]
     BadNumber,
     /// The second line of a command that decodes is blank.
-    #[error("no count")]
     NoCount,
-    #[error("no weights")]
     NoWeights,
-    #[error("weights do not sum to 16777216")]
     WrongTotal,
-    #[error("{0}")]
     Encoder(DefaultEncoderFrontendError),
     /// The last of the compressed words is zero.
-    #[error("{0}")]
     ZeroWord(CompressedDataEndsWithZeroWord),
-    #[error("out of memory")]
     OutOfMemory,
+}
+
+impl Fault {
+    /// The line on standard error, with its line feed.
+    pub fn line(&self) -> &'static [u8]
+        ensures { result.now ≡ fault_line self.now }
+    {
+        match self {
+            Fault::Unreadable => b"cannot read input\n",
+            Fault::Unwritable => b"cannot write output\n",
+            Fault::BadNumber => b"bad number\n",
+            Fault::NoCount => b"no count\n",
+            Fault::NoWeights => b"no weights\n",
+            Fault::WrongTotal => b"weights do not sum to 16777216\n",
+            Fault::Encoder(_) => b"Impossible symbol.\n",
+            Fault::ZeroWord(_) =>
+                b"Tried to decode from compressed data that ends with a zero word, which is invalid for an ANS coder.\n",
+            Fault::OutOfMemory => b"out of memory\n",
+        }
+    }
 }
 
 impl From<AllocError> for Fault {

@@ -4,12 +4,13 @@ ghost use Rattle.std.specs.Prelude.{◌≡◌, ◌%◌, ◌^◌, ◌++◌, ◌�
 ghost use Rattle.std.specs.List.{join_with_byte};
 ghost use Rattle.std.specs.Io.KnownBytes.{Appends};
 ghost use Rattle.constriction_cli.specs.Lines.{line_of};
+ghost use Rattle.constriction_cli.specs.Written.{Begins};
 ghost use Rattle.constriction_cli.specs.declared.fault.Fault.TheVariants.{Unwritable};
 
 use crate::fault::Fault;
 use itoa::{Buffer, Integer};
 use std::alloc::{AllocError, Global};
-use std::io::Write;
+use std::io::{ErrorKind, Write};
 
 /// Adds the numbers as a line.
 pub fn push_numbers<I: Integer>(out: &mut Vec<u8>, numbers: &[I]) -> Result<(), AllocError>
@@ -42,12 +43,35 @@ pub fn line_of_words(alloc: Global, words: &[u32]) -> Result<Vec<u8>, AllocError
     line_of_numbers(alloc, words)
 }
 
-/// Writes all of the answer, and hands on what the writer holds back.
-pub fn write_out<O: Write>(output: &mut O, answer: &[u8]) -> Result<(), Fault>
-    ensures ok { OnOk result (Appends (O.contents output.old) (O.contents output.new) answer.now) }
+/// Writes bytes until the writer has taken all of them, or fails.
+fn write_bytes<O: Write>(output: &mut O, bytes: &[u8]) -> Result<(), Fault>
+    ensures ok { OnOk result (Appends (O.contents output.old) (O.contents output.new) bytes.now) }
+    ensures begun { Begins (O.contents output.old) (O.contents output.new) bytes.now }
     ensures err { IfErr result (λ fault. fault ≡ Unwritable) }
 {
-    if output.write_all(answer).is_err() || output.flush().is_err() {
+    let mut count = 0;
+    'turns: for _ in 0..u64::MAX {
+        if count >= bytes.len() {
+            return Ok(());
+        }
+        match output.write(&bytes[count..]) {
+            Ok(0) => return Err(Fault::Unwritable),
+            Ok(more) => count += more,
+            Err(error) if error.kind() == ErrorKind::Interrupted => {}
+            Err(_) => return Err(Fault::Unwritable),
+        }
+    }
+    Err(Fault::Unwritable)
+}
+
+/// Writes all of the bytes, and hands on what the writer holds back.
+pub fn write_out<O: Write>(output: &mut O, bytes: &[u8]) -> Result<(), Fault>
+    ensures ok { OnOk result (Appends (O.contents output.old) (O.contents output.new) bytes.now) }
+    ensures begun { Begins (O.contents output.old) (O.contents output.new) bytes.now }
+    ensures err { IfErr result (λ fault. fault ≡ Unwritable) }
+{
+    write_bytes(output, bytes)?;
+    if output.flush().is_err() {
         return Err(Fault::Unwritable);
     }
     Ok(())

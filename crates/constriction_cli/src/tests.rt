@@ -3,6 +3,7 @@
 mod answers;
 mod failures;
 mod faults;
+mod writers;
 
 use crate::cli::run;
 use std::alloc::{AllocError, Global};

@@ -11,6 +11,10 @@ pub record AnsState : Type 0 where
   pub head : ℕ
   pub words : List ℕ
 
+-- nothing: head 0, and no words
+abbrev pub empty : AnsState
+empty = record { head = 0; words = [] }
+
 -- the head has s bits at most, and each word w
 pub record IsState (w s : ℕ) (x : AnsState) : Type 0 where
   pub fits : x.head < 2 ^ s
@@ -31,23 +35,23 @@ refilled w s head (word ∷ words) =
     else record { head = head; words = word ∷ words }
 
 -- the head's quantile, which is its remainder by 2 ^ P, lies in the interval of the step
-pub record Holds (e : Step) (x : AnsState) : Type 0 where
+pub record IsNext (e : Step) (x : AnsState) : Type 0 where
   pub from : e.left ≤ x.head % 2 ^ e.precision
   pub below : x.head % 2 ^ e.precision < e.left + e.p
 
 -- what a pop leaves of the head a * 2 ^ P + left + t before a word moves in: a * p + t
-abbrev pub left_of_head : Step → AnsState → ℕ
-left_of_head e x = x.head / 2 ^ e.precision * e.p + (x.head % 2 ^ e.precision - e.left)
+abbrev pub popped_head : Step → AnsState → ℕ
+popped_head e x = x.head / 2 ^ e.precision * e.p + (x.head % 2 ^ e.precision - e.left)
 
 -- a step is taken off (Duda's decoding step of the range variant)
 abbrev pub pop : ℕ → ℕ → Step → AnsState → AnsState
-pop w s e x = refilled w s (left_of_head e x) x.words
+pop w s e x = refilled w s (popped_head e x) x.words
 
 -- a step is put on: the new state is the valid one whose pop gives that step and the old state. So a
 -- push is no list of instructions, but what a pop undoes; `one_push` of the laws says that there is one
 pub record IsPush (w s : ℕ) (e : Step) (old new : AnsState) : Type 0 where
   pub valid : IsValid w s new
-  pub holds : Holds e new
+  pub holds : IsNext e new
   pub back : pop w s e new ≡ old
 
 -- ---- lists of steps
@@ -58,9 +62,9 @@ pop_all w s [] x = x
 pop_all w s (e ∷ es) x = pop_all w s es (pop w s e x)
 
 -- the quantiles on the way lie in the intervals of the steps
-abbrev pub HoldsAll : ℕ → ℕ → List Step → AnsState → Type 0
-HoldsAll w s [] x = ⊤
-HoldsAll w s (e ∷ es) x = Holds e x × HoldsAll w s es (pop w s e x)
+abbrev pub AreNext : ℕ → ℕ → List Step → AnsState → Type 0
+AreNext w s [] x = ⊤
+AreNext w s (e ∷ es) x = IsNext e x × AreNext w s es (pop w s e x)
 
 -- the steps are put on, from the last to the first
 abbrev pub IsPushAll : ℕ → ℕ → List Step → AnsState → AnsState → Type 0
@@ -127,7 +131,7 @@ words_after w s e x = if nat_lt (x.head / 2 ^ (s - e.precision)) e.p then x.word
 
 -- a pop has to read a word, if one is left
 abbrev pub OwesRead : ℕ → ℕ → Step → AnsState → Type 0
-OwesRead w s e x = left_of_head e x < 2 ^ (s - w)
+OwesRead w s e x = popped_head e x < 2 ^ (s - w)
 
 -- ---- coders over backends of which reads tell the words, as iterators
 

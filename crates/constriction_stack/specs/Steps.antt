@@ -2,10 +2,10 @@
 -- holds, what a read may answer, and which errors a write and a `prepare` may answer.
 use Rattle.std.specs.Prelude.{◌≡◌, ℕ, ◌+◌, ◌-◌, ◌<◌, ◌≤◌, ◌^◌, ◌⊎◌, List, ◌∷◌, ◌++◌, Option, None, Some, Result, Ok, Err, length, OnOk, OnErr, IfErr}
 use Rattle.constriction_base.specs.Steps.{Step}
-use Rattle.constriction_stack.specs.Ans.{AnsValue, IsCoder, IsValid, IsPush, Holds, OwesWord, OwesRead, RefillsBy, Imports, pop, left_of_head, words_after}
+use Rattle.constriction_stack.specs.Ans.{AnsValue, IsCoder, IsValid, IsPush, IsNext, OwesWord, OwesRead, RefillsBy, Imports, pop, popped_head, words_after}
 
 -- an encode of a step
-pub record Encodes {W B E : Type 0} (number : W → ℕ) (held : B → List W) (w s : ℕ) (room : B → ℕ) (makes_room : Type 0) (prepare_fails : B → ℕ → E → Type 0) (write_fails : B → E → Type 0) (old : AnsValue B) (step : Step) (answer : Result (Unit {0}) E) (new : AnsValue B) : Type 0 where
+pub record EncodeCall {W B E : Type 0} (number : W → ℕ) (held : B → List W) (w s : ℕ) (room : B → ℕ) (makes_room : Type 0) (prepare_fails : B → ℕ → E → Type 0) (write_fails : B → E → Type 0) (old : AnsValue B) (step : Step) (answer : Result (Unit {0}) E) (new : AnsValue B) : Type 0 where
   -- before and after it is a coder, whatever the answer
   pub before : IsCoder number held w s old
   pub after : IsCoder number held w s new
@@ -16,7 +16,7 @@ pub record Encodes {W B E : Type 0} (number : W → ℕ) (held : B → List W) (
   -- no more room is used than words are written
   pub room_used : OnOk answer (room old.backend + length old.state.words ≤ room new.backend + length new.state.words)
   -- where no word is owed, the backend isn't touched
-  pub untouched : (OwesWord s step old.state → ⊥) → new.backend ≡ old.backend
+  pub owes : (OwesWord s step old.state → ⊥) → new.backend ≡ old.backend
   -- an error leaves the head and the words
   pub kept : OnErr answer (new.state ≡ old.state)
   -- and comes only where one word is owed: the backend had no room for one; or, where asking for room makes
@@ -24,16 +24,16 @@ pub record Encodes {W B E : Type 0} (number : W → ℕ) (held : B → List W) (
   pub error : IfErr answer (λ e. OwesWord s step old.state × (prepare_fails old.backend 1 e ⊎ ((makes_room → ⊥) × write_fails old.backend e)))
 
 -- a decode at a step, of a coder over a backend that knows its words (is_list) or whose reads tell them
-pub record Decodes {W B E : Type 0} (number : W → ℕ) (held : B → List W) (is_list : Type 0) (reads : B → Result (Option W) E → B → Type 0) (w s : ℕ) (old : AnsValue B) (step : Step) (answer : Result (Unit {0}) E) (new : AnsValue B) : Type 0 where
+pub record DecodeCall {W B E : Type 0} (number : W → ℕ) (held : B → List W) (is_list : Type 0) (reads : B → Result (Option W) E → B → Type 0) (w s : ℕ) (old : AnsValue B) (step : Step) (answer : Result (Unit {0}) E) (new : AnsValue B) : Type 0 where
   -- before and after it is a coder, whatever the answer
   pub before : IsCoder number held w s old
   pub after : IsCoder number held w s new
   -- the head's quantile is one of the step's
-  pub holds : Holds step old.state
+  pub holds : IsNext step old.state
   -- of every state, valid or not, it is the pop
   pub popped : OnOk answer (is_list → new.state ≡ pop w s step old.state)
   -- and by the reads: one at most, and none where none is owed
-  pub refilled : OnOk answer (RefillsBy number reads w s (left_of_head step old.state) old.backend new.state.head new.backend)
+  pub refilled : OnOk answer (RefillsBy number reads w s (popped_head step old.state) old.backend new.state.head new.backend)
   -- an error leaves the head, and the words
   pub head : OnErr answer (new.state.head ≡ old.state.head)
   pub kept : OnErr answer (is_list → new.state ≡ old.state)

@@ -12,7 +12,7 @@ pub mod symbols;
 pub mod words;
 
 ghost use Rattle.constriction_base.specs.Steps.{IsSizes};
-ghost use Rattle.constriction_stack.specs.Ans.{AnsState, AnsValue, IsCoder, value_of};
+ghost use Rattle.constriction_stack.specs.Ans.{AnsState, AnsValue, IsCoder, empty, value_of};
 ghost use Rattle.std.specs.Prelude.{IsTrue, [], map, ◌↔◌, ◌≡◌};
 
 use constriction_base::backends::{Holds, Stack, WriteWords};
@@ -53,7 +53,7 @@ impl<Word: WordOf<State>, State: BitArray> AnsCoder<Word, State, Vec<Word>> {
     #[inline]
     pub fn new(alloc: Global) -> Self
         requires { IsSizes Word.BITS State.BITS }
-        ensures state { result.state ≡ record { head = 0; words = [] } }
+        ensures state { result.state ≡ empty }
         ensures coder { IsCoder Word.number (⟦<Vec<Word> as Holds<Word, Stack>>⟧.words) Word.BITS State.BITS result }
     {
         AnsCoder {
@@ -67,7 +67,7 @@ impl<Word: WordOf<State>, State: BitArray> AnsCoder<Word, State, Vec<Word>> {
 impl<Word: WordOf<State>, State: BitArray, A: Allocator> AnsCoder<Word, State, Vec<Word, A>> {
     /// Takes everything off: the coder is as a new one, but keeps its memory.
     pub fn clear(&mut self)
-        ensures { self.new.state ≡ record { head = 0; words = [] } }
+        ensures { self.new.state ≡ empty }
     {
         self.bulk.clear();
         self.state = State::nothing();
@@ -148,7 +148,7 @@ impl<Word: WordOf<State>, State: BitArray, Backend: WriteWords<Word>> AnsCoder<
     pub fn with_write_backend(bulk: Backend) -> Self
         requires sizes { IsSizes Word.BITS State.BITS }
         requires empty { Backend.words bulk ≡ [] }
-        ensures state { result.state ≡ record { head = 0; words = [] } }
+        ensures state { result.state ≡ empty }
         ensures backend { result.backend ≡ bulk }
         ensures coder { IsCoder Word.number Backend.words Word.BITS State.BITS result }
     {

@@ -3,14 +3,14 @@
 ghost use Rattle.std.specs.Prelude.{◌≡◌, ◌+◌, ◌-◌, ◌*◌, ◌/◌, ◌%◌, ◌^◌, ◌<◌, ◌≤◌, map, MatchResult, Ok, Err};
 ghost use Rattle.constriction_base.specs.Steps.{Step, IsStep, IsSizes};
 ghost use Rattle.constriction_stack.specs.Ans.{AnsState, AnsValue, RefillsBy, refilled, value_of};
-ghost use Rattle.constriction_stack.specs.Steps.{Encodes};
+ghost use Rattle.constriction_stack.specs.Steps.{EncodeCall};
 
 use constriction_base::backends::{Holds, ReadWords, Stack, WriteWords};
 use constriction_words::{BitArray, WordOf};
 
 /// What a pop leaves of a head, before a word moves in.
 #[inline]
-pub fn popped<State: BitArray>(head: State, left: State, p: State, precision: u32) -> State
+pub fn popped_head<State: BitArray>(head: State, left: State, p: State, precision: u32) -> State
     requires within { precision < State.BITS }
     requires low { State.number left ≤ State.number head % 2 ^ precision }
     requires total { State.number left + State.number p ≤ 2 ^ precision }
@@ -40,10 +40,12 @@ pub fn refilled<Word: WordOf<State>, State: BitArray, Backend: ReadWords<Word, S
     if !head.shifted_right(State::BITS - Word::BITS).is_nothing() {
         return Ok(head);
     }
-    match bulk.read()? {
-        None => Ok(head),
-        Some(word) => Ok(head.shifted_left(Word::BITS).plus(word.widen())),
-    }
+    let word = match bulk.read() {
+        Err(error) => return Err(error),
+        Ok(None) => return Ok(head),
+        Ok(Some(word)) => word,
+    };
+    Ok(head.shifted_left(Word::BITS).plus(word.widen()))
 }
 
 /// A head after a push, whose low word is written where there is no room for it.
@@ -58,11 +60,11 @@ pub fn pushed_onto<Word: WordOf<State>, State: BitArray, Backend: WriteWords<Wor
     requires sizes { IsSizes Word.BITS State.BITS }
     requires step { IsStep Word.BITS record { precision = precision; left = State.number left; p = State.number p } }
     ensures { MatchResult result
-        (λ new. Encodes Word.number Backend.words Word.BITS State.BITS Backend.room Backend.makes_room Backend.prepare_fails Backend.write_fails
+        (λ new. EncodeCall Word.number Backend.words Word.BITS State.BITS Backend.room Backend.makes_room Backend.prepare_fails Backend.write_fails
         (value_of Word.number Backend.words (State.number head) bulk.old)
         record { precision = precision; left = State.number left; p = State.number p } (Ok tt)
         (value_of Word.number Backend.words (State.number new) bulk.new))
-        (λ e. Encodes Word.number Backend.words Word.BITS State.BITS Backend.room Backend.makes_room Backend.prepare_fails Backend.write_fails
+        (λ e. EncodeCall Word.number Backend.words Word.BITS State.BITS Backend.room Backend.makes_room Backend.prepare_fails Backend.write_fails
         (value_of Word.number Backend.words (State.number head) bulk.old)
         record { precision = precision; left = State.number left; p = State.number p } (Err e)
         (value_of Word.number Backend.words (State.number head) bulk.new)) }

@@ -1,83 +1,175 @@
-//! Steps one after another and what they leave, compared with values that a test gives. What differs is
-//! a failure.
+//! What a coder gives and holds, compared with values that a test gives.
 
 ghost use Rattle.constriction_base.specs.Steps.{IsSizes};
 
-use constriction_base::backends::{Holds, ReadWords, Stack, WriteWords};
-use constriction_base::weights::{TableError, WeightTable};
+use constriction_base::backends::{Holds, Pos, PosSeek, ReadWords, Stack, WriteWords};
+use constriction_base::weights::WeightTable;
 use constriction_stack::AnsCoder;
 use constriction_stream::coder::Code;
 use constriction_stream::decoding::Decode;
 use constriction_stream::encoding::Encode;
+use constriction_stream::errors::TryCodingError;
 use constriction_words::{BitArray, WordOf};
-use std::alloc::{Allocator, Global};
-use std::fmt::Debug;
-use std::test::Fail;
+use std::alloc::Allocator;
 
-/// A table of 8 bits. Where memory is refused, it is asked for once more.
-pub fn table_of(alloc: Global, weights: &[u8]) -> Result<WeightTable<u8, 8>, TableError> {
-    match WeightTable::new(alloc, weights) {
-        Err(TableError::Memory) => WeightTable::new(alloc, weights),
-        answer => answer,
-    }
-}
-
-/// The coder whose words a backend holds.
-pub fn coder_of<Word: WordOf<State>, State: BitArray, Backend>(
-    words: Backend,
-) -> Result<AnsCoder<Word, State, Backend>, Fail>
-where
-    Backend: ReadWords<Word, Stack> + Drop,
-    Backend::ReadError: Drop,
-    requires { IsSizes Word.BITS State.BITS }
-{
-    match AnsCoder::from_compressed(words) {
-        Ok(coder) => Ok(coder),
-        Err(_) => Err(Fail::from("the words are refused")),
-    }
-}
-
-/// Puts symbols on, and compares the head after each.
-pub fn puts<Word, State, Backend, Probability, const PRECISION: usize>(
-    coder: &mut AnsCoder<Word, State, Backend>,
-    table: &WeightTable<Probability, PRECISION>,
-    steps: &[(usize, State)],
-) -> Result<(), Fail>
-where
-    Word: WordOf<State>,
-    State: BitArray + PartialEq,
-    Backend: WriteWords<Word>,
-    Backend::WriteError: Debug + Drop,
-    Probability: WordOf<Word>,
-{
-    for (symbol, head) in steps {
-        coder.encode_symbol(symbol, table)?;
-        if coder.state() != *head {
-            return Err(Fail::from("another head after an encode"));
-        }
-    }
-    Ok(())
-}
-
-/// Takes symbols off, and compares each.
+/// Takes symbols off one by one, and compares each.
 pub fn gives<Word, State, Backend, Probability, const PRECISION: usize>(
     coder: &mut AnsCoder<Word, State, Backend>,
     table: &WeightTable<Probability, PRECISION>,
     symbols: &[usize],
-) -> Result<(), Fail>
+) -> bool
 where
     Word: WordOf<State>,
     State: BitArray,
     Backend: ReadWords<Word, Stack>,
-    Backend::ReadError: Debug + Drop,
+    Backend::ReadError: Drop,
     Probability: WordOf<Word>,
 {
     for symbol in symbols {
-        if coder.decode_symbol(table)? != *symbol {
-            return Err(Fail::from("another symbol is decoded"));
+        match coder.decode_symbol(table) {
+            Ok(found) if found == *symbol => {}
+            _ => return false,
         }
     }
-    Ok(())
+    true
+}
+
+/// The same, and the coder is empty then.
+pub fn gives_all<Word, State, Backend, Probability, const PRECISION: usize>(
+    coder: &mut AnsCoder<Word, State, Backend>,
+    table: &WeightTable<Probability, PRECISION>,
+    symbols: &[usize],
+) -> bool
+where
+    Word: WordOf<State>,
+    State: BitArray,
+    Backend: ReadWords<Word, Stack>,
+    Backend::ReadError: Drop,
+    Probability: WordOf<Word>,
+{
+    gives(coder, table, symbols) && coder.is_empty()
+}
+
+/// Takes symbols off by a list of tables, until there is none.
+pub fn gives_by_tables<Word, State, Backend, Probability, const PRECISION: usize>(
+    coder: &mut AnsCoder<Word, State, Backend>,
+    tables: Vec<&WeightTable<Probability, PRECISION>>,
+    symbols: &[usize],
+) -> bool
+where
+    Word: WordOf<State>,
+    State: BitArray,
+    Backend: ReadWords<Word, Stack>,
+    Backend::ReadError: Drop,
+    Probability: WordOf<Word>,
+{
+    let mut given = coder.decode_symbols(tables);
+    for symbol in symbols {
+        match given.next() {
+            Some(Ok(found)) if found == *symbol => {}
+            _ => return false,
+        }
+    }
+    given.next().is_none()
+}
+
+/// The same, where a table may be an error, which is answered in the place of a symbol.
+pub fn gives_by_items<Word, State, Probability, const PRECISION: usize>(
+    coder: &mut AnsCoder<Word, State>,
+    items: Vec<Result<&WeightTable<Probability, PRECISION>, u8>>,
+    answers: &[Result<usize, u8>],
+) -> bool
+where
+    Word: WordOf<State>,
+    State: BitArray,
+    Probability: WordOf<Word>,
+{
+    let mut given = coder.try_decode_symbols(items);
+    if given.size_hint() != (answers.len(), Some(answers.len())) {
+        return false;
+    }
+    for answer in answers {
+        let found = match given.next() {
+            Some(Ok(symbol)) => Ok(symbol),
+            Some(Err(TryCodingError::InvalidEntropyModel(error))) => Err(error),
+            _ => return false,
+        };
+        if found != *answer {
+            return false;
+        }
+    }
+    given.next().is_none()
+}
+
+/// Takes symbols off by one table, which is asked for so many. Where all are taken there is no more.
+pub fn gives_of<Word, State, Backend, Probability, const PRECISION: usize>(
+    coder: &mut AnsCoder<Word, State, Backend>,
+    table: &WeightTable<Probability, PRECISION>,
+    count: usize,
+    symbols: &[usize],
+) -> bool
+where
+    Word: WordOf<State>,
+    State: BitArray,
+    Backend: ReadWords<Word, Stack>,
+    Backend::ReadError: Drop,
+    Probability: WordOf<Word>,
+{
+    let mut given = coder.decode_iid_symbols(count, table);
+    if given.size_hint() != (count, Some(count)) {
+        return false;
+    }
+    for symbol in symbols {
+        match given.next() {
+            Some(Ok(found)) if found == *symbol => {}
+            _ => return false,
+        }
+    }
+    symbols.len() < count || given.next().is_none()
+}
+
+/// Whether the next step may be refused for lack of room.
+pub fn seems_full<Word, State, Backend, const PRECISION: usize>(
+    coder: &AnsCoder<Word, State, Backend>,
+) -> bool
+where
+    Word: WordOf<State>,
+    State: BitArray,
+    Backend: WriteWords<Word>,
+{
+    Encode::<PRECISION>::maybe_full(coder)
+}
+
+/// Whether all symbols may have been taken off.
+pub fn seems_exhausted<Word, State, Backend, const PRECISION: usize>(
+    coder: &AnsCoder<Word, State, Backend>,
+) -> bool
+where
+    Word: WordOf<State>,
+    State: BitArray,
+    Backend: ReadWords<Word, Stack>,
+{
+    Decode::<PRECISION>::maybe_exhausted(coder)
+}
+
+/// Compares the place of the backend.
+pub fn bulk_at<Word, State, Backend>(coder: &AnsCoder<Word, State, Backend>, place: usize) -> bool
+where
+    Word: WordOf<State>,
+    State: BitArray,
+    Backend: Holds<Word, Stack> + Pos + PosSeek<Position = usize>,
+{
+    coder.bulk().pos() == place
+}
+
+/// Compares the head.
+pub fn has_head<Word, State, Backend>(coder: &AnsCoder<Word, State, Backend>, head: State) -> bool
+where
+    Word: WordOf<State>,
+    State: BitArray + PartialEq,
+    Backend: Holds<Word, Stack>,
+{
+    coder.state() == head
 }
 
 /// Compares the head, and the words below it.
@@ -85,17 +177,107 @@ pub fn holds<Word, State, A>(
     coder: &AnsCoder<Word, State, Vec<Word, A>>,
     head: State,
     words: &[Word],
-) -> Result<(), Fail>
+) -> bool
 where
     Word: WordOf<State> + PartialEq,
     State: BitArray + PartialEq,
     A: Allocator,
 {
-    if coder.state() != head {
-        return Err(Fail::from("another head"));
+    coder.state() == head && coder.bulk().as_slice() == words
+}
+
+/// Whether a call gave the words that a test expects.
+#[derive(Drop)]
+pub enum Shown {
+    These,
+    Others,
+    /// There is no such form of the coder.
+    Impossible,
+    /// The backend refused room.
+    Refused,
+}
+
+/// Compares words.
+pub fn compared<Word: PartialEq>(words: &[Word], expected: &[Word]) -> Shown {
+    if words == expected {
+        Shown::These
+    } else {
+        Shown::Others
     }
-    if coder.bulk().as_slice() != words {
-        return Err(Fail::from("other words below the head"));
+}
+
+/// The words that a coder exports.
+pub fn words_of<Word, State, Backend>(
+    coder: AnsCoder<Word, State, Backend>,
+) -> Result<Backend, Backend::WriteError>
+where
+    Word: WordOf<State>,
+    State: BitArray,
+    Backend: WriteWords<Word> + Drop,
+{
+    coder.into_compressed()
+}
+
+/// The words that a coder exports in the binary form.
+pub fn binary_of<Word, State, Backend>(
+    coder: AnsCoder<Word, State, Backend>,
+) -> Result<Backend, Option<Backend::WriteError>>
+where
+    Word: WordOf<State>,
+    State: BitArray,
+    Backend: WriteWords<Word> + Drop,
+{
+    coder.into_binary()
+}
+
+/// Compares the words that a coder exports.
+pub fn exports<Word, State, A>(coder: AnsCoder<Word, State, Vec<Word, A>>, words: &[Word]) -> Shown
+where
+    Word: WordOf<State> + PartialEq,
+    State: BitArray,
+    A: Allocator + Drop,
+{
+    match words_of(coder) {
+        Ok(all) => compared(&all, words),
+        Err(_) => Shown::Refused,
     }
-    Ok(())
+}
+
+/// The words are those of no coder.
+#[derive(Debug, Drop)]
+pub struct WordsRefused;
+
+/// The coder whose words a backend holds.
+pub fn coder_of<Word: WordOf<State>, State: BitArray, Backend>(
+    words: Backend,
+) -> Result<AnsCoder<Word, State, Backend>, WordsRefused>
+where
+    Backend: ReadWords<Word, Stack> + Drop,
+    Backend::ReadError: Drop,
+    requires { IsSizes Word.BITS State.BITS }
+{
+    match AnsCoder::from_compressed(words) {
+        Ok(coder) => Ok(coder),
+        Err(_) => Err(WordsRefused),
+    }
+}
+
+/// Imports words, and takes symbols off until the coder is empty.
+pub fn imports<Word, State, Backend, Probability, const PRECISION: usize>(
+    words: Backend,
+    table: &WeightTable<Probability, PRECISION>,
+    symbols: &[usize],
+) -> bool
+where
+    Word: WordOf<State>,
+    State: BitArray,
+    Backend: ReadWords<Word, Stack> + Drop,
+    Backend::ReadError: Drop,
+    Probability: WordOf<Word>,
+    requires { IsSizes Word.BITS State.BITS }
+{
+    match coder_of::<Word, State, Backend>(words) {
+        Ok(mut coder) => gives_all(&mut coder, table, symbols),
+        Err(_) => false,
+    }
 }

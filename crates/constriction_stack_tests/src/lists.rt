@@ -2,44 +2,53 @@
 
 ghost use Rattle.std.specs.Prelude.{◌≤◌};
 
-use crate::expect::{coder_of, gives, holds, table_of};
-use constriction_base::backends::{ReadWords, Stack};
-use constriction_base::cursor::Cursor;
-use constriction_base::errors::{CoderError, DefaultEncoderFrontendError};
+use crate::coders::{CursorCoder, coder_over, new_coder, table_of};
+use crate::expect::{
+    coder_of, gives, gives_all, gives_by_items, gives_by_tables, gives_of, has_head, holds,
+    seems_exhausted, seems_full,
+};
+use crate::put::{Pair, Put, put_list, put_pairs, put_some, try_pairs, try_some};
+use constriction_base::errors::BoundedWriteError;
 use constriction_base::model::{DecoderModel, EncoderModel, EntropyModel};
 use constriction_base::weights::WeightTable;
 use constriction_stack::{AnsCoder, DefaultAnsCoder};
 use constriction_stream::coder::Code;
 use constriction_stream::decoding::Decode;
 use constriction_stream::encoding::Encode;
-use constriction_stream::errors::TryCodingError;
 use constriction_words::{BitArray, WordOf};
 use std::alloc::Global;
-use std::process::Abort;
 use std::test::Fail;
+
+/// An item of a list that may be faulty, at u8 and u16.
+type Item<'a> = Result<Pair<'a, u8, 8>, u8>;
+
+/// The symbols 1, 5 and 1, of which 5 is unknown.
+fn stops_at_unknown(coder: &mut AnsCoder<u8, u16>, table: &WeightTable<u8, 8>) -> bool {
+    matches!(
+        put_pairs(coder, [(&1, table), (&5, table), (&1, table)]),
+        Put::Unknown
+    ) && holds(coder, 255, &[])
+}
 
 #[test]
 fn list_stops_at_unknown(rt: HostRuntime) -> Result<(), Fail> {
     let table = table_of(rt.alloc(), &[255, 1])?;
-    let mut coder: AnsCoder<u8, u16> = AnsCoder::new(rt.alloc());
-    let answer = coder.encode_symbols([(&1, &table), (&5, &table), (&1, &table)]);
-    assert!(rt;
-        matches!(
-            answer,
-            Err(CoderError::Frontend(DefaultEncoderFrontendError::ImpossibleSymbol))
-        )
-    );
-    holds(&coder, 255, &[])?;
+    let mut coder = new_coder(rt.alloc());
+    assert!(rt; stops_at_unknown(&mut coder, &table));
     Ok(())
+}
+
+/// An error between two symbols.
+fn stops_at_bad_model(coder: &mut AnsCoder<u8, u16>, table: &WeightTable<u8, 8>) -> bool {
+    let items: [Item<'_>; 3] = [Ok((&1, table)), Err(7), Ok((&1, table))];
+    matches!(try_pairs(coder, items), Put::BadModel(7)) && holds(coder, 255, &[])
 }
 
 #[test]
 fn list_stops_at_bad_model(rt: HostRuntime) -> Result<(), Fail> {
     let table = table_of(rt.alloc(), &[255, 1])?;
-    let mut coder: AnsCoder<u8, u16> = AnsCoder::new(rt.alloc());
-    let answer = coder.try_encode_symbols([Ok((&1, &table)), Err(7u8), Ok((&1, &table))]);
-    assert!(rt; matches!(answer, Err(TryCodingError::InvalidEntropyModel(7))));
-    holds(&coder, 255, &[])?;
+    let mut coder = new_coder(rt.alloc());
+    assert!(rt; stops_at_bad_model(&mut coder, &table));
     Ok(())
 }
 
@@ -47,21 +56,11 @@ fn list_stops_at_bad_model(rt: HostRuntime) -> Result<(), Fail> {
 fn iterator_goes_on(rt: HostRuntime) -> Result<(), Fail> {
     let table = table_of(rt.alloc(), &[255, 1])?;
     let mut coder: AnsCoder<u8, u16> = coder_of([255u8, 255, 255].to_vec(rt.alloc())?)?;
-    let models = [Ok(&table), Err(7u8), Ok(&table)].to_vec(rt.alloc())?;
-    let mut symbols = coder.try_decode_symbols(models);
-    assert_eq!(rt; symbols.size_hint(), (3, Some(3)));
-    assert!(rt; matches!(symbols.next(), Some(Ok(1))));
+    let items = [Ok(&table), Err(7u8), Ok(&table)].to_vec(rt.alloc())?;
     assert!(rt;
-        matches!(
-            symbols.next(),
-            Some(Err(TryCodingError::InvalidEntropyModel(7)))
-        )
+        gives_by_items(&mut coder, items, &[Ok(1), Err(7), Ok(1)])
+            && gives_all(&mut coder, &table, &[1])
     );
-    assert!(rt; matches!(symbols.next(), Some(Ok(1))));
-    assert!(rt; symbols.next().is_none());
-    drop(symbols);
-    gives(&mut coder, &table, &[1])?;
-    assert!(rt; coder.is_empty());
     Ok(())
 }
 
@@ -69,121 +68,92 @@ fn iterator_goes_on(rt: HostRuntime) -> Result<(), Fail> {
 fn iterator_dropped_early(rt: HostRuntime) -> Result<(), Fail> {
     let table = table_of(rt.alloc(), &[255, 1])?;
     let mut coder: AnsCoder<u8, u16> = coder_of([255u8, 255, 255].to_vec(rt.alloc())?)?;
-    {
-        let mut symbols = coder.decode_iid_symbols(3, &table);
-        assert!(rt; matches!(symbols.next(), Some(Ok(1))));
-    }
-    gives(&mut coder, &table, &[1, 1])?;
-    assert!(rt; coder.is_empty());
+    assert!(rt; gives_of(&mut coder, &table, 3, &[1]) && gives_all(&mut coder, &table, &[1, 1]));
     Ok(())
 }
 
-/// Takes two symbols off by a list of models, and compares them.
-fn two_by_models<Word, State, Backend, Probability, const PRECISION: usize>(
-    rt: &impl Abort,
-    alloc: Global,
-    coder: &mut AnsCoder<Word, State, Backend>,
-    table: &WeightTable<Probability, PRECISION>,
-    first: usize,
-    second: usize,
-) -> Result<(), Fail>
-where
-    Word: WordOf<State>,
-    State: BitArray,
-    Backend: ReadWords<Word, Stack>,
-    Backend::ReadError: Drop,
-    Probability: WordOf<Word>,
-{
-    let mut symbols = coder.decode_symbols([table, table].to_vec(alloc)?);
-    assert!(rt; matches!(symbols.next(), Some(Ok(symbol)) if symbol == first));
-    assert!(rt; matches!(symbols.next(), Some(Ok(symbol)) if symbol == second));
-    assert!(rt; symbols.next().is_none());
-    Ok(())
-}
-
-/// The same, by one model for both.
-fn two_by_one_model<Word, State, Backend, Probability, const PRECISION: usize>(
-    rt: &impl Abort,
-    coder: &mut AnsCoder<Word, State, Backend>,
-    table: &WeightTable<Probability, PRECISION>,
-    first: usize,
-    second: usize,
-)
-where
-    Word: WordOf<State>,
-    State: BitArray,
-    Backend: ReadWords<Word, Stack>,
-    Backend::ReadError: Drop,
-    Probability: WordOf<Word>,
-{
-    let mut symbols = coder.decode_iid_symbols(2, table);
-    assert_eq!(rt; symbols.size_hint(), (2, Some(2)));
-    assert!(rt; matches!(symbols.next(), Some(Ok(symbol)) if symbol == first));
-    assert!(rt; matches!(symbols.next(), Some(Ok(symbol)) if symbol == second));
-    assert!(rt; symbols.next().is_none());
+/// No symbol, and then four, by three lists.
+fn lists(alloc: Global, coder: &mut AnsCoder<u8, u16>, table: &WeightTable<u8, 8>) -> bool {
+    matches!(put_list(coder, table, &[]), Put::Done)
+        && coder.is_empty()
+        && matches!(put_list(coder, table, &[1, 0]), Put::Done)
+        && matches!(put_some(alloc, coder, table, &[1]), Put::Done)
+        && matches!(try_some(alloc, coder, table, &[1]), Put::Done)
 }
 
 #[test]
 fn lists_at_u8_and_u16(rt: HostRuntime) -> Result<(), Fail> {
     let table = table_of(rt.alloc(), &[255, 1])?;
-    let mut coder: AnsCoder<u8, u16> = AnsCoder::new(rt.alloc());
-    let none: [usize; 0] = [];
-    coder.encode_iid_symbols(none.as_slice(), &table)?;
-    assert!(rt; coder.is_empty());
-    coder.encode_iid_symbols([1usize, 0].as_slice(), &table)?;
-    coder.encode_symbols([(&1, &table)])?;
-    let one: Result<(&usize, &WeightTable<u8, 8>), u8> = Ok((&1, &table));
-    assert!(rt; coder.try_encode_symbols([one]).is_ok());
-    two_by_models(&rt, rt.alloc(), &mut coder, &table, 1, 1)?;
-    two_by_one_model(&rt, &mut coder, &table, 0, 1);
-    assert!(rt; coder.is_empty());
+    let mut coder = new_coder(rt.alloc());
+    let tables = [&table, &table].to_vec(rt.alloc())?;
+    assert!(rt;
+        lists(rt.alloc(), &mut coder, &table)
+            && gives_by_tables(&mut coder, tables, &[1, 1])
+            && gives_of(&mut coder, &table, 2, &[0, 1])
+            && coder.is_empty()
+    );
     Ok(())
 }
 
-/// The lists over a cursor with no room for a word: each stops at the step that owes one.
+/// Lists that stop at the step that owes a word.
+fn lists_without_room(
+    alloc: Global,
+    coder: &mut CursorCoder<'_, u16>,
+    table: &WeightTable<u8, 8>,
+) -> bool {
+    matches!(put_list(coder, table, &[1]), Put::Done)
+        && matches!(
+            put_some(alloc, coder, table, &[1, 1]),
+            Put::Refused(BoundedWriteError::OutOfSpace)
+        )
+        && has_head(coder, 65535)
+        && matches!(
+            try_some(alloc, coder, table, &[1]),
+            Put::Refused(BoundedWriteError::OutOfSpace)
+        )
+        && has_head(coder, 65535)
+}
+
+/// The lists over a cursor with no room for a word.
 #[test]
 fn lists_over_a_full_cursor(rt: HostRuntime) -> Result<(), Fail> {
     let table = table_of(rt.alloc(), &[255, 1])?;
+    let tables = [&table, &table].to_vec(rt.alloc())?;
     let mut buf = [0u8; 0];
-    let mut coder: AnsCoder<u8, u16, Cursor<u8, &mut [u8]>> = AnsCoder::with_write_backend(
-        Cursor::new_at_write_beginning(buf.as_mut_slice()),
-    );
+    let mut coder = coder_over(&mut buf);
     assert!(rt;
-        coder
-            .encode_iid_symbols([1usize].as_slice(), &table)
-            .is_ok()
+        lists_without_room(rt.alloc(), &mut coder, &table)
+            && gives_by_tables(&mut coder, tables, &[1, 1])
+            && gives_of(&mut coder, &table, 2, &[0, 0])
     );
-    assert!(rt; coder.encode_symbols([(&1, &table), (&1, &table)]).is_err());
-    assert_eq!(rt; coder.state(), 65535);
-    let one: Result<(&usize, &WeightTable<u8, 8>), u8> = Ok((&1, &table));
-    assert!(rt; coder.try_encode_symbols([one]).is_err());
-    assert_eq!(rt; coder.state(), 65535);
-    two_by_models(&rt, rt.alloc(), &mut coder, &table, 1, 1)?;
-    two_by_one_model(&rt, &mut coder, &table, 0, 0);
     Ok(())
 }
 
-/// The symbols 1, 0 and 2, 0 by two lists, and back: heads 3, 16777216, 16777226 and
-/// 93825036976130, which owe no word.
+/// The symbols 1, 0 and 2, 0 by two lists: heads 3, 16777216, 16777226 and 93825036976130, which
+/// owe no word.
+fn lists_of_pairs(
+    alloc: Global,
+    coder: &mut DefaultAnsCoder,
+    table: &WeightTable<u32, 24>,
+) -> bool {
+    matches!(put_some(alloc, coder, table, &[1, 0]), Put::Done)
+        && holds(coder, 16777216, &[])
+        && matches!(try_some(alloc, coder, table, &[2, 0]), Put::Done)
+        && holds(coder, 93825036976130, &[])
+}
+
 #[test]
 fn lists_of_pairs_at_u32_and_u64(rt: HostRuntime) -> Result<(), Fail> {
     let table = WeightTable::<u32, 24>::new(rt.alloc(), &[3, 2, 16777211])?;
-    let mut coder = DefaultAnsCoder::new(rt.alloc());
-    coder.encode_symbols([(&1, &table), (&0, &table)])?;
-    holds(&coder, 16777216, &[])?;
-    let pairs: [Result<(&usize, &WeightTable<u32, 24>), u8>; 2] = [
-        Ok((&2, &table)),
-        Ok((&0, &table)),
-    ];
-    assert!(rt; coder.try_encode_symbols(pairs).is_ok());
-    holds(&coder, 93825036976130, &[])?;
-    two_by_models(&rt, rt.alloc(), &mut coder, &table, 0, 2)?;
-    let models: [Result<&WeightTable<u32, 24>, u8>; 1] = [Ok(&table)];
-    let mut symbols = coder.try_decode_symbols(models.to_vec(rt.alloc())?);
-    assert!(rt; matches!(symbols.next(), Some(Ok(0))));
-    assert!(rt; symbols.next().is_none());
-    drop(symbols);
-    holds(&coder, 3, &[])?;
+    let mut coder = new_coder(rt.alloc());
+    let tables = [&table, &table].to_vec(rt.alloc())?;
+    let items = [Ok(&table)].to_vec(rt.alloc())?;
+    assert!(rt;
+        lists_of_pairs(rt.alloc(), &mut coder, &table)
+            && gives_by_tables(&mut coder, tables, &[0, 2])
+            && gives_by_items(&mut coder, items, &[Ok(0)])
+            && holds(&coder, 3, &[])
+    );
     Ok(())
 }
 
@@ -206,32 +176,36 @@ where
     matches!(answers.next(), Some(Ok(_))) && matches!(answers.next(), Some(Ok(_)))
 }
 
+/// The symbols 1 and 1, by a filter, which doesn't know how many symbols it keeps.
+fn two_by_a_filter(coder: &mut DefaultAnsCoder, table: &WeightTable<u32, 24>) -> bool {
+    let odd = [1usize, 2, 1, 4];
+    coder
+        .encode_iid_symbols(odd.iter().filter(|symbol| **symbol == 1), table)
+        .is_ok()
+}
+
+/// What the traits say of an empty coder.
+fn knows_no_limit(coder: &DefaultAnsCoder) -> bool {
+    !seems_full::<_, _, _, 24>(coder)
+        && seems_exhausted::<_, _, _, 24>(coder)
+        && Encode::<24>::symbols_left(coder) == usize::MAX
+}
+
 #[test]
 fn lists_at_u32_and_u64(rt: HostRuntime) -> Result<(), Fail> {
     let table = WeightTable::<u32, 24>::new(rt.alloc(), &[3, 2, 16777211])?;
-    let mut coder = DefaultAnsCoder::new(rt.alloc());
-    // The filter doesn't know how many symbols it keeps.
-    let odd = [1usize, 2, 1, 4];
-    coder.encode_iid_symbols(odd.iter().filter(|symbol| **symbol == 1), &table)?;
-    assert_eq!(rt; coder.state(), 16777220);
-    let mut symbols = coder.decode_symbols([&table].to_vec(rt.alloc())?);
-    assert!(rt; matches!(symbols.next(), Some(Ok(1))));
-    drop(symbols);
-    let models = [Ok(&table), Err(7u8)].to_vec(rt.alloc())?;
-    let mut symbols = coder.try_decode_symbols(models);
-    assert!(rt; matches!(symbols.next(), Some(Ok(1))));
+    let mut coder = new_coder(rt.alloc());
+    let tables = [&table].to_vec(rt.alloc())?;
+    let items = [Ok(&table), Err(7u8)].to_vec(rt.alloc())?;
     assert!(rt;
-        matches!(
-            symbols.next(),
-            Some(Err(TryCodingError::InvalidEntropyModel(7)))
-        )
+        two_by_a_filter(&mut coder, &table)
+            && has_head(&coder, 16777220)
+            && gives_by_tables(&mut coder, tables, &[1])
+            && gives_by_items(&mut coder, items, &[Ok(1), Err(7)])
+            && coder.is_empty()
+            && two_through_the_bounds(&mut coder, &[0, 2], &table)
+            && coder.is_empty()
+            && knows_no_limit(&coder)
     );
-    drop(symbols);
-    assert!(rt; coder.is_empty());
-    assert!(rt; two_through_the_bounds(&mut coder, &[0, 2], &table));
-    assert!(rt; coder.is_empty());
-    assert!(rt; !Encode::<24>::maybe_full(&coder));
-    assert!(rt; Decode::<24>::maybe_exhausted(&coder));
-    assert_eq!(rt; Encode::<24>::symbols_left(&coder), usize::MAX);
     Ok(())
 }

@@ -1,113 +1,103 @@
 //! What is refused, and what it leaves.
 
-use crate::expect::{gives, holds, puts, table_of};
+use crate::coders::{CursorCoder, coder_over_with, coder_with, table_of};
+use crate::expect::{
+    Shown, coder_of, exports, gives, has_head, holds, seems_exhausted, seems_full, words_of,
+};
+use crate::put::{Put, put_one, puts};
+use constriction_base::backends::{ReadWords, Stack};
 use constriction_base::cursor::Cursor;
-use constriction_base::errors::{CoderError, DefaultEncoderFrontendError};
+use constriction_base::errors::CoderError;
 use constriction_base::iterators::FallibleIteratorReadWords;
+use constriction_base::weights::WeightTable;
 use constriction_stack::AnsCoder;
-use constriction_stream::coder::Code;
 use constriction_stream::decoding::Decode;
-use constriction_stream::encoding::Encode;
+use std::alloc::Global;
 use std::test::Fail;
 
 #[test]
 fn an_unknown_symbol_changes_nothing(rt: HostRuntime) -> Result<(), Fail> {
     let table = table_of(rt.alloc(), &[255, 1])?;
-    let mut coder: AnsCoder<u8, u16> = AnsCoder::from_raw_parts([7].to_vec(rt.alloc())?, 65535);
+    let mut coder = coder_with([7u8].to_vec(rt.alloc())?, 65535u16);
     assert!(rt;
-        matches!(
-            coder.encode_symbol(&2, &table),
-            Err(CoderError::Frontend(DefaultEncoderFrontendError::ImpossibleSymbol))
-        )
+        matches!(put_one(&mut coder, &table, 2), Put::Unknown) && holds(&coder, 65535, &[7])
     );
-    holds(&coder, 65535, &[7])?;
     Ok(())
+}
+
+/// A buffer of one word takes one, and no other.
+fn full_after_a_word(coder: &mut CursorCoder<'_, u16>, table: &WeightTable<u8, 8>) -> bool {
+    puts(coder, table, &[(1, 255), (1, 65535), (1, 65535)])
+        && seems_full::<_, _, _, 8>(coder)
+        && matches!(put_one(coder, table, 1), Put::Refused(_))
+        && has_head(coder, 65535)
+        && gives(coder, table, &[1, 1, 1])
+        && seems_exhausted::<_, _, _, 8>(coder)
 }
 
 #[test]
 fn a_full_cursor_keeps_the_head(rt: HostRuntime) -> Result<(), Fail> {
     let table = table_of(rt.alloc(), &[255, 1])?;
     let mut buf = [0u8; 1];
-    let mut coder: AnsCoder<u8, u16, Cursor<u8, &mut [u8]>> = AnsCoder::from_raw_parts(
-        Cursor::new_at_write_beginning(buf.as_mut_slice()),
-        0,
-    );
-    puts(&mut coder, &table, &[(1, 255), (1, 65535), (1, 65535)])?;
-    assert!(rt; Encode::<8>::maybe_full(&coder));
-    assert!(rt; matches!(coder.encode_symbol(&1, &table), Err(CoderError::Backend(_))));
-    assert_eq!(rt; coder.state(), 65535);
-    gives(&mut coder, &table, &[1, 1, 1])?;
-    assert!(rt; Decode::<8>::maybe_exhausted(&coder));
+    let mut coder = coder_over_with(&mut buf, 0u16);
+    assert!(rt; full_after_a_word(&mut coder, &table));
     Ok(())
+}
+
+/// A decode whose read answers the error 3.
+fn read_is_refused<Backend: ReadWords<u8, Stack, ReadError = u8>>(
+    coder: &mut AnsCoder<u8, u16, Backend>,
+    table: &WeightTable<u8, 8>,
+) -> bool {
+    matches!(coder.decode_symbol(table), Err(CoderError::Backend(3)))
 }
 
 #[test]
 fn a_read_error_keeps_the_head(rt: HostRuntime) -> Result<(), Fail> {
     let table = table_of(rt.alloc(), &[255, 1])?;
     let answers = [Err(3u8), Ok(255u8)];
-    let mut coder: AnsCoder<u8, u16, FallibleIteratorReadWords<_>> = AnsCoder::from_raw_parts(
+    let mut coder: AnsCoder<u8, u16, FallibleIteratorReadWords<_>> = coder_with(
         FallibleIteratorReadWords::new(answers.into_iter()),
         65535,
     );
-    assert!(rt; matches!(coder.decode_symbol(&table), Err(CoderError::Backend(3))));
-    assert_eq!(rt; coder.state(), 65535);
-    gives(&mut coder, &table, &[1])?;
-    assert_eq!(rt; coder.state(), 65535);
+    assert!(rt;
+        read_is_refused(&mut coder, &table)
+            && has_head(&coder, 65535)
+            && gives(&mut coder, &table, &[1])
+            && has_head(&coder, 65535)
+    );
     Ok(())
 }
 
 #[test]
-fn a_read_error_ends_an_import(rt: HostRuntime) -> Result<(), Fail> {
+fn a_read_error_ends_an_import(rt: HostRuntime) {
     for answers in [[Err(3u8), Ok(1u8)], [Ok(1), Err(3)]] {
-        let import = AnsCoder::<u8, u32, FallibleIteratorReadWords<_>>::from_compressed(
-            FallibleIteratorReadWords::new(answers.into_iter()),
-        );
-        assert!(rt; import.is_err());
+        let words = FallibleIteratorReadWords::new(answers.into_iter());
+        assert!(rt; coder_of::<u8, u32, FallibleIteratorReadWords<_>>(words).is_err());
     }
-    Ok(())
 }
 
-/// A refused growth leaves the head and the words, and the step succeeds where there is memory
-/// again. A call is made once more, so that this passes whichever allocation fails.
-#[test]
-fn a_refused_growth_changes_nothing(rt: HostRuntime) -> Result<(), Fail> {
-    let table = table_of(rt.alloc(), &[255, 1])?;
-    let mut coder: AnsCoder<u8, u16> = AnsCoder::new(rt.alloc());
-    for (head, count) in [(255, 0), (65535, 0), (65535, 1)] {
-        let (before, len) = (coder.state(), coder.bulk().len());
-        if coder.encode_symbol(&1, &table).is_err() {
-            assert_eq!(rt; coder.state(), before);
-            assert_eq!(rt; coder.bulk().len(), len);
-            coder.encode_symbol(&1, &table)?;
-        }
-        assert_eq!(rt; coder.state(), head);
-        assert_eq!(rt; coder.bulk().len(), count);
-    }
-    Ok(())
+/// An export of the head 515, which asks for memory.
+fn exports_two_words(alloc: Global) -> bool {
+    matches!(
+        exports(coder_with(Vec::<u8>::new(alloc), 515u16), &[3, 2]),
+        Shown::These
+    )
 }
 
-/// The words of an export have room, or it answers an error.
+/// Where memory is refused, it is asked for once more, so that this passes whichever allocation
+/// fails.
 #[test]
-fn a_refused_export(rt: HostRuntime) -> Result<(), Fail> {
-    for _ in 0..2 {
-        let coder: AnsCoder<u8, u16> = AnsCoder::from_raw_parts(Vec::new(rt.alloc()), 515);
-        if let Ok(words) = coder.into_compressed() {
-            assert_eq!(rt; words.as_slice(), [3u8, 2].as_slice());
-        }
-    }
+fn an_export_finds_memory(rt: HostRuntime) {
+    assert!(rt; exports_two_words(rt.alloc()) || exports_two_words(rt.alloc()));
+}
+
+/// The words of an export have room, or it answers an error after those that had.
+#[test]
+fn a_refused_export(rt: HostRuntime) {
     let mut one = [0u8; 1];
-    let coder: AnsCoder<u8, u16, Cursor<u8, &mut [u8]>> = AnsCoder::from_raw_parts(
-        Cursor::new_at_write_beginning(one.as_mut_slice()),
-        515,
-    );
-    assert!(rt; coder.into_compressed().is_err());
-    assert_eq!(rt; one, [3u8]);
+    let is_refused = words_of(coder_over_with(&mut one, 515u16)).is_err();
     let mut two = [0u8; 2];
-    let coder: AnsCoder<u8, u16, Cursor<u8, &mut [u8]>> = AnsCoder::from_raw_parts(
-        Cursor::new_at_write_beginning(two.as_mut_slice()),
-        515,
-    );
-    assert!(rt; coder.into_compressed().is_ok());
-    assert_eq!(rt; two, [3u8, 2]);
-    Ok(())
+    let is_done = words_of(coder_over_with(&mut two, 515u16)).is_ok();
+    assert!(rt; is_refused && one == [3u8] && is_done && two == [3u8, 2]);
 }

@@ -1,2 +1,3 @@
 mod Models
+mod Outcomes
 mod Runs

@@ -8,8 +8,11 @@
 
 ghost use Rattle.std.specs.Prelude.{◌≡◌, ℕ, List, length, reverse, IfOk, OnOk};
 ghost use Rattle.constriction.specs.Ans.{AnsState, IsValid};
+ghost use Rattle.constriction_laws.specs.Symbols.{Encodes, Decodes};
+ghost use Rattle.example_bits_back.specs.Hiding.{model};
 
 use anyhow::{Context, Result, bail};
+use constriction::CoderError;
 use constriction::stream::model::WeightTable;
 use constriction::stream::stack::DefaultAnsCoder as Coder;
 use constriction::stream::{Decode, Encode};
@@ -32,6 +35,25 @@ const WORDS: [u32; 4] = [0x0123_4567, 0x89ab_cdef, 0x0bad_cafe, 0x5eed_5eed];
 /// logarithm of 8192 over the sum of its two weights, as both latents are equally likely: 1608 for
 /// the symbols 0 and 3, of which there are eight, and 2541 for the four others.
 const MILLIBITS: u64 = 8 * 1608 + 4 * 2541;
+
+/// Takes a symbol off a coder under a table.
+fn take_off(coder: &mut Coder, table: &Table) -> usize
+    ensures { Decodes 32 64 (model table.now) result coder.old.state coder.new.state }
+{
+    match coder.decode_symbol(table) {
+        Ok(symbol) => symbol,
+        Err(CoderError::Frontend(never)) => match never {},
+        Err(CoderError::Backend(never)) => match never {},
+    }
+}
+
+/// Puts a symbol on a coder under a table.
+fn put_on(coder: &mut Coder, symbol: usize, table: &Table) -> Result<()>
+    ensures { IsValid 32 64 coder.old.state → OnOk result (Encodes 32 64 (model table.now) symbol coder.old.state coder.new.state) }
+{
+    coder.encode_symbol(&symbol, table)?;
+    Ok(())
+}
 
 /// Two models of four symbols, one for each latent.
 #[derive(Drop)]
@@ -69,10 +91,10 @@ impl Mixture {
         ensures valid { IsValid 32 64 coder.old.state → OnOk result (IsValid 32 64 coder.new.state) }
     {
         let posterior = self.posteriors.get(symbol).context("no such symbol")?;
-        let latent = coder.decode_symbol(posterior)?;
+        let latent = take_off(coder, posterior);
         let symbols = self.symbols.get(latent).context("no such latent")?;
-        coder.encode_symbol(&symbol, symbols)?;
-        coder.encode_symbol(&latent, &self.prior)?;
+        put_on(coder, symbol, symbols)?;
+        put_on(coder, latent, &self.prior)?;
         steps::encode_undoes_decode::<usize>();
         Ok(())
     }
@@ -82,11 +104,11 @@ impl Mixture {
         ensures reveals { (hidden : ℕ) (before : AnsState) → IsValid 32 64 before → Hides self.now hidden before coder.old.state
             → IfOk result (λ symbol. (symbol ≡ hidden) × (coder.new.state ≡ before)) }
     {
-        let latent = coder.decode_symbol(&self.prior)?;
+        let latent = take_off(coder, &self.prior);
         let symbols = self.symbols.get(latent).context("no such latent")?;
-        let symbol = coder.decode_symbol(symbols)?;
+        let symbol = take_off(coder, symbols);
         let posterior = self.posteriors.get(symbol).context("no such symbol")?;
-        coder.encode_symbol(&latent, posterior)?;
+        put_on(coder, latent, posterior)?;
         steps::decode_undoes_encode::<usize>();
         steps::encode_undoes_decode::<usize>();
         Ok(symbol)
@@ -123,28 +145,59 @@ fn bits_of(coder: &Coder) -> Result<usize> {
     Ok(coder.num_valid_bits())
 }
 
-fn main(rt: HostRuntime) -> Result<()> {
-    let alloc = rt.alloc();
-    let mixture = Mixture::new(alloc)?;
-    let mut coder = Coder::from_binary(WORDS.to_vec(alloc)?)?;
-    let before = bits_of(&coder)?;
-    println!(rt; "bits before: {before}")?;
+/// What the symbols cost, and what came back.
+#[derive(Drop)]
+struct Sent {
+    before: usize,
+    after: usize,
+    cost: usize,
+    symbols: Vec<usize>,
+}
 
-    mixture.hide_all(&mut coder, SYMBOLS.as_slice())?;
-    let after = bits_of(&coder)?;
+/// Hides the symbols on a coder, and reveals them.
+fn send(alloc: Global, mixture: &Mixture, coder: &mut Coder) -> Result<Sent>
+    requires { IsValid 32 64 coder.old.state }
+{
+    let before = bits_of(coder)?;
+    mixture.hide_all(coder, SYMBOLS.as_slice())?;
+    let after = bits_of(coder)?;
     let cost = after.checked_sub(before).context("a cost below zero")?;
-    println!(rt; "bits with {} symbols: {after}", SYMBOLS.len())?;
-    println!(rt; "bits that they cost: {cost}")?;
+    // What went on last comes off first.
+    let mut symbols = mixture.reveal_all(alloc, coder, SYMBOLS.len())?;
+    symbols.reverse();
+    prove!(symbols.as_slice() == SYMBOLS.as_slice());
+    Ok(Sent {
+        before,
+        after,
+        cost,
+        symbols,
+    })
+}
+
+/// Prints what was sent.
+fn show(rt: &impl Print, sent: &Sent) -> Result<()> {
+    println!(rt; "bits before: {}", sent.before)?;
+    println!(rt; "bits with {} symbols: {}", SYMBOLS.len(), sent.after)?;
+    println!(rt; "bits that they cost: {}", sent.cost)?;
     let (bits, thousandths) = (MILLIBITS / 1000, MILLIBITS % 1000);
     println!(rt; "bits of information: {bits}.{thousandths:03}")?;
+    println!(rt; "symbols: {:?}", sent.symbols)?;
+    Ok(())
+}
 
-    // What went on last comes off first.
-    let mut symbols = mixture.reveal_all(alloc, &mut coder, SYMBOLS.len())?;
-    symbols.reverse();
+/// Sends the symbols over a new coder, and prints it.
+fn run(rt: &impl Print, alloc: Global, mixture: &Mixture) -> Result<()> {
+    let mut coder = Coder::from_binary(WORDS.to_vec(alloc)?)?;
     binary::binary_export_of_import();
-    prove!(symbols.as_slice() == SYMBOLS.as_slice());
-    println!(rt; "symbols: {symbols:?}")?;
+    let sent = send(alloc, mixture, &mut coder)?;
+    show(rt, &sent)?;
     let words = coder.into_binary().ok().context("no whole words")?;
     println!(rt; "words: {words:?}")?;
     Ok(())
+}
+
+fn main(rt: HostRuntime) -> Result<()> {
+    let alloc = rt.alloc();
+    let mixture = Mixture::new(alloc)?;
+    run(&rt, alloc, &mixture)
 }

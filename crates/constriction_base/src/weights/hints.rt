@@ -1,22 +1,26 @@
 //! Where a search for a quantile's symbol begins and ends: hints by the quantile's high bits.
 
-ghost use Rattle.std.specs.Prelude.{◌≡◌, ◌+◌, ◌-◌, ◌^◌, ◌<◌, ◌≤◌, length, map, slice_index, OnOk, IfOk};
+ghost use Rattle.std.specs.Prelude.{◌≡◌, ◌+◌, ◌-◌, ◌*◌, ◌^◌, ◌<◌, ◌≤◌, ◌⊎◌, length, map, slice_index, OnOk, IfOk};
 ghost use Rattle.constriction_base.specs.Tables.{IsRising, end_of};
 ghost use Rattle.constriction_base.specs.Hints.{AreHints};
 
 use constriction_words::BitArray;
 use std::alloc::{AllocError, Global};
 
-/// How many low bits of a quantile its bucket leaves out, where there are so many symbols: so many
-/// that there are from two to four buckets for each symbol, if the precision has as many.
+/// How many low bits of a quantile its bucket leaves out, where there are so many symbols.
+///
+/// There are more than two buckets for each symbol, and at most four, unless the precision has no more bits, or
+/// the buckets would be more than 2^63.
 pub fn shift_for(symbols: usize, precision: usize) -> u32
     requires some { 0 < symbols }
     requires within { (1 ≤ precision) × (precision ≤ 128) }
     ensures within { result < precision }
-    ensures fits { precision - result ≤ 32 }
+    ensures fits { precision - result ≤ 63 }
+    ensures most { 2 ^ (precision - result) ≤ 4 * symbols }
+    ensures least { (2 * symbols < 2 ^ (precision - result)) ⊎ (result ≡ 0) ⊎ (precision - result ≡ 63) }
 {
     let precision = precision as u32;
-    precision - precision.min(symbols.ilog2() + 2).min(32)
+    precision - precision.min(symbols.ilog2() + 2).min(63)
 }
 
 /// The last symbol, from this one on, whose interval begins at or below the quantile.
@@ -48,19 +52,20 @@ pub fn hints_of<Probability: BitArray, const PRECISION: usize>(
     requires sized { (1 ≤ PRECISION) × (PRECISION ≤ Probability.BITS) }
     requires some { 0 < length starts.now }
     requires rising { IsRising (map Probability.number starts.now) (2 ^ PRECISION) }
-    requires within { (shift < PRECISION) × (PRECISION - shift ≤ 32) }
+    requires within { (shift < PRECISION) × (PRECISION - shift ≤ 63) }
     ensures len { IfOk result (λ hints. length hints.items ≡ 2 ^ (PRECISION - shift) + 1) }
     ensures hinted { IfOk result (λ hints. AreHints (map Probability.number starts.now) (2 ^ PRECISION) (2 ^ shift) hints.items) }
 {
+    let count = 1usize << (PRECISION as u32 - shift);
     let width = Probability::unit().shifted_left(shift);
     let mut first = Probability::nothing();
     let mut symbol = 0;
-    let mut hints = Vec::new(alloc);
-    for bucket in 0..1usize << (PRECISION as u32 - shift) {
+    let mut hints = Vec::with_capacity(alloc, count + 1)?;
+    for bucket in 0..count {
         symbol = symbol_from(starts, symbol, first);
-        hints.push(symbol)?;
+        hints.push_reserved(symbol);
         first = first.wrapping_plus(width);
     }
-    hints.push(starts.len() - 1)?;
+    hints.push_reserved(starts.len() - 1);
     Ok(hints)
 }

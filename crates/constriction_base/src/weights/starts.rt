@@ -51,15 +51,16 @@ pub fn starts_of<Probability: BitArray>(
     alloc: Global,
     weights: &[Probability],
 ) -> Result<Vec<Probability>, AllocError>
-    requires { sum_by Probability.number weights.now < 2 ^ Probability.BITS }
+    requires total { sum_by Probability.number weights.now < 2 ^ Probability.BITS }
+    requires count { length weights.now + 1 < 2 ^ 64 }
     ensures { IfOk result (λ starts. Sums Probability.number weights.now (map Probability.number starts.items) (length weights.now + 1)) }
 {
     let mut left = Probability::nothing();
-    let mut starts = Vec::new(alloc);
-    starts.push(left)?;
+    let mut starts = Vec::with_capacity(alloc, weights.len() + 1)?;
+    starts.push_reserved(left);
     for weight in weights {
         left = left.plus(*weight);
-        starts.push(left)?;
+        starts.push_reserved(left);
     }
     Ok(starts)
 }

@@ -60,7 +60,7 @@ fn decode<M: DecoderModel<PRECISION, Symbol = usize, Probability = u32>>(
 /// The line of symbols for a line of weights and a line of a count and words.
 pub fn answer(alloc: Global, text: &[u8]) -> Result<Vec<u8>, Fault>
     ensures ok { IfOk result (λ answer. IsDecoded text.now answer.items) }
-    ensures fault { IfErr result (DecodeFails text.now) }
+    ensures err { IfErr result (DecodeFails text.now) }
 {
     let (first, rest) = split_line(text);
     let (second, _) = split_line(rest);

@@ -24,7 +24,7 @@ fn encode<M: EncoderModel<PRECISION, Symbol = usize, Probability = u32>>(
     ensures ok { IfOk result (λ words. (state : AnsState)
         × PushesSymbols (M.table model.now) symbols.now empty_state state
         × (map (λ word. word % 2 ^ 32) (reverse words.items) ≡ exported 32 state)) }
-    ensures fault { IfErr result (PushFails (M.table model.now) symbols.now) }
+    ensures err { IfErr result (PushFails (M.table model.now) symbols.now) }
 {
     let mut coder = DefaultAnsCoder::new(alloc);
     let mut left = symbols.len();
@@ -42,7 +42,7 @@ fn encode<M: EncoderModel<PRECISION, Symbol = usize, Probability = u32>>(
 /// The line of words for a line of weights and a line of symbols.
 pub fn answer(alloc: Global, text: &[u8]) -> Result<Vec<u8>, Fault>
     ensures ok { IfOk result (λ answer. IsEncoded text.now answer.items) }
-    ensures fault { IfErr result (EncodeFails text.now) }
+    ensures err { IfErr result (EncodeFails text.now) }
 {
     let (first, rest) = split_line(text);
     let (second, _) = split_line(rest);

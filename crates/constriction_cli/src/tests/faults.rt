@@ -23,26 +23,25 @@ fn program_fault_texts(rt: HostRuntime) -> Result<(), Fail> {
 
 #[test]
 fn fault_texts(rt: HostRuntime) -> Result<(), Fail> {
-    let cases = [
-        (Fault::Unreadable, "cannot read input"),
-        (Fault::Unwritable, "cannot write output"),
-        (Fault::BadNumber, "bad number"),
-        (Fault::NoCount, "no count"),
-        (Fault::NoWeights, "no weights"),
-        (Fault::WrongTotal, "weights do not sum to 16777216"),
+    let cases: [(Fault, &[u8]); 9] = [
+        (Fault::Unreadable, b"cannot read input\n"),
+        (Fault::Unwritable, b"cannot write output\n"),
+        (Fault::BadNumber, b"bad number\n"),
+        (Fault::NoCount, b"no count\n"),
+        (Fault::NoWeights, b"no weights\n"),
+        (Fault::WrongTotal, b"weights do not sum to 16777216\n"),
         (
             Fault::Encoder(DefaultEncoderFrontendError::ImpossibleSymbol),
-            "Impossible symbol.",
+            b"Impossible symbol.\n",
         ),
         (
             Fault::ZeroWord(CompressedDataEndsWithZeroWord),
-            "Tried to decode from compressed data that ends with a zero word, which is invalid for an ANS coder.",
+            b"Tried to decode from compressed data that ends with a zero word, which is invalid for an ANS coder.\n",
         ),
-        (Fault::OutOfMemory, "out of memory"),
+        (Fault::OutOfMemory, b"out of memory\n"),
     ];
-    for (fault, text) in cases.iter() {
-        let printed = format!(in rt.alloc(); "{fault}")?;
-        assert_eq!(rt; printed.as_str(), *text);
+    for (fault, line) in cases.iter() {
+        assert_eq!(rt; fault.line(), *line);
     }
     Ok(())
 }

@@ -9,14 +9,17 @@ ghost use Rattle.constriction_stack.specs.Steps.{FilledBy, ImportRefused};
 ghost use Rattle.std.specs.Iterator.Adapters.{fuse_done, fuse_source};
 ghost use Rattle.std.specs.Prelude.{IfErr, IfOk, IsOk, false, length, map, reverse, ◌-◌, ◌↔◌, ◌≡◌};
 
-use constriction_base::backends::{AsReadWords, AsSeekReadWords, Holds, IntoReadWords, IntoReversed, IntoSeekReadWords, Pos, PosSeek, Seek, SeeksBack, Stack, Words, WriteWords};
+use crate::coder::AnsCoder;
+use crate::coder::words::CompressedDataEndsWithZeroWord;
+use constriction_base::backends::{
+    AsReadWords, AsSeekReadWords, Holds, IntoReadWords, IntoReversed, IntoSeekReadWords, Pos,
+    PosSeek, Seek, SeeksBack, Stack, Words, WriteWords,
+};
 use constriction_base::cursor::Cursor;
 use constriction_base::iterators::FallibleIteratorReadWords;
 use constriction_base::reverse::Reverse;
 use constriction_stream::conversions::{AsDecoder, IntoDecoder};
 use constriction_words::{BitArray, WordOf};
-use crate::coder::AnsCoder;
-use crate::coder::words::CompressedDataEndsWithZeroWord;
 use std::alloc::Allocator;
 use std::convert::Infallible;
 use std::iter::Fuse;
@@ -194,7 +197,7 @@ impl<
         ensures reads { IfOk result (λ new.
             FilledBy Word.number (FusedRead Iter.next_gives) Word.BITS State.BITS (compressed, false)
             new.state.head new.backend) }
-        ensures refused { IfErr result (λ rest.
+        ensures err { IfErr result (λ rest.
             ImportRefused Word.number (FusedRead Iter.next_gives) Word.BITS State.BITS (compressed, false)
             (fuse_source rest, fuse_done rest)) }
     {

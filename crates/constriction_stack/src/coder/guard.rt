@@ -121,7 +121,7 @@ where
         ensures back { IfOk result (λ count. without count self.new.state ≡ self.old.state) }
         ensures frontend { (result ≡ Err (coder_error.Frontend tt))
             ↔ ((m : ℕ) → IsBinary Word.BITS m self.old.state → ⊥) }
-        ensures untouched { result ≡ Err (coder_error.Frontend tt) → self.new ≡ self.old }
+        ensures kept { result ≡ Err (coder_error.Frontend tt) → self.new ≡ self.old }
         ensures left { (e : Backend.WriteError) → result ≡ Err (coder_error.Backend e) →
             LeftByRefusal (NeverRefused Backend.reads)
             ((Backend.makes_room → ⊥) × ((m : ℕ) × (last : Backend) × Backend.write_fails last e

@@ -3,11 +3,13 @@
 
 ghost use Rattle.constriction_base.specs.Steps.{Step};
 ghost use Rattle.constriction_base.specs.declared.errors.DefaultEncoderFrontendError.TheVariants.{ImpossibleSymbol};
-ghost use Rattle.constriction_stack.specs.Steps.{Decodes, Encodes};
+ghost use Rattle.constriction_stack.specs.Steps.{DecodeCall, EncodeCall};
 ghost use Rattle.constriction_stream.specs.Symbols.{ByBackend, DecodesSymbol, EncodesSymbol, GoesOn, HasRoom, IsBackendError, never_frontend};
 ghost use Rattle.std.specs.Bool.{OnFalse};
 ghost use Rattle.std.specs.Prelude.{IsTrue, ⊤, ◌+◌, ◌↔◌, ◌≡◌, ◌≤◌};
 
+use crate::coder::AnsCoder;
+use crate::steps::{popped_head, pushed_onto, refilled};
 use constriction_base::backends::{Holds, ReadWords, Stack, WriteWords};
 use constriction_base::errors::{CoderError, DefaultEncoderError, DefaultEncoderFrontendError};
 use constriction_base::model::{DecoderModel, EncoderModel, EntropyModel};
@@ -15,8 +17,6 @@ use constriction_stream::coder::Code;
 use constriction_stream::decoding::Decode;
 use constriction_stream::encoding::{Encode, EncodeReverse};
 use constriction_words::{BitArray, WordOf};
-use crate::coder::AnsCoder;
-use crate::steps::{popped, pushed_onto, refilled};
 use std::convert::Infallible;
 
 impl<Word: WordOf<State>, State: BitArray, Backend: Holds<Word, Stack>> Code
@@ -44,7 +44,7 @@ impl<
 
     type BackendError = Backend::WriteError;
 
-    ghost encodes = { ByBackend (Encodes Word.number Backend.words Word.BITS State.BITS
+    ghost encodes = { ByBackend (EncodeCall Word.number Backend.words Word.BITS State.BITS
         Backend.room Backend.makes_room Backend.prepare_fails Backend.write_fails) };
 
     ghost is_impossible_symbol = { λ error. error ≡ ImpossibleSymbol };
@@ -127,7 +127,7 @@ impl<
 
     type BackendError = Backend::ReadError;
 
-    ghost decodes = { ByBackend (Decodes Word.number Backend.words Backend.is_list Backend.reads Word.BITS State.BITS) };
+    ghost decodes = { ByBackend (DecodeCall Word.number Backend.words Backend.is_list Backend.reads Word.BITS State.BITS) };
 
     ghost halts = { λ _ _ _. ⊥ };
 
@@ -155,7 +155,7 @@ impl<
         let quantile = M::Probability::narrow(Word::narrow(self.state.low_bits(precision)));
         let (symbol, left, p) = model.quantile_function(quantile);
         let p = M::Probability::from_nonzero(p);
-        let head = popped(
+        let head = popped_head(
             self.state,
             left.widen().widen(),
             p.widen().widen(),

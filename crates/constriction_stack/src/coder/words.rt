@@ -11,10 +11,10 @@ ghost use Rattle.constriction_stack.specs.Steps.{FilledBy, ImportRefused, ListRe
 ghost use Rattle.std.specs.Int.Digits.{digits_of};
 ghost use Rattle.std.specs.Prelude.{Err, IfErr, IfOk, IsTrue, None, Ok, OnErr, OnOk, Some, [], length, map, reverse, ℕ, ◌*◌, ◌++◌, ◌<◌, ◌^◌, ◌↔◌, ◌≡◌, ◌⊎◌};
 
-use constriction_base::backends::{BoundedReadWords, Holds, ReadWords, Stack, Words, WriteWords};
-use constriction_words::{BitArray, WordOf};
 use crate::coder::AnsCoder;
 use crate::moves::{append_words, count_of_words, filled, words_below_one};
+use constriction_base::backends::{BoundedReadWords, Holds, ReadWords, Stack, Words, WriteWords};
+use constriction_words::{BitArray, WordOf};
 use std::fmt;
 use std::marker::{Model, PhantomData};
 use thiserror::Error;
@@ -48,7 +48,7 @@ impl<Word: WordOf<State>, State: BitArray, Backend: ReadWords<Word, Stack>> AnsC
         ensures coder { IfOk result (λ new. IsCoder Word.number Backend.words Word.BITS State.BITS new) }
         ensures reads { IfOk result (λ new.
             FilledBy Word.number Backend.reads Word.BITS State.BITS bulk new.state.head new.backend) }
-        ensures refused { IfErr result (λ rest.
+        ensures err { IfErr result (λ rest.
             ImportRefused Word.number Backend.reads Word.BITS State.BITS bulk rest) }
         ensures taken { Backend.is_list → IfErr result (λ rest.
             ListRefused Backend.ReadError Word.number (Backend.words bulk) (Backend.words rest)) }
@@ -174,7 +174,7 @@ impl<Word: WordOf<State>, State: BitArray, Backend: WriteWords<Word>> AnsCoder<
         ensures ok { IfOk result (λ all. (m : ℕ) × IsBinary Word.BITS m self.state
             × (map Word.number (Backend.words all) ≡ binary_words Word.BITS m self.state)) }
         ensures empty { self.state.head ≡ 1 → result ≡ Ok self.backend }
-        ensures refused { (result ≡ Err None) ↔ ((m : ℕ) → IsBinary Word.BITS m self.state → ⊥) }
+        ensures variant { (result ≡ Err None) ↔ ((m : ℕ) → IsBinary Word.BITS m self.state → ⊥) }
         // No room for them all; or, where asking for room makes none, a write after a beginning of them.
         ensures err { (e : Backend.WriteError) → result ≡ Err (Some e) →
             (m : ℕ) × IsBinary Word.BITS m self.state × (Backend.room self.backend < m)
@@ -209,10 +209,10 @@ impl<Word: WordOf<State>, State: BitArray, Backend: BoundedReadWords<Word, Stack
         ensures { IsTrue result ↔ SizesFit Word.BITS self.now.state }
     {
         let head = count_of_words::<Word, State>(self.state);
-        match self.bulk.remaining().checked_add(head) {
-            Some(words) => words <= usize::MAX / Word::BITS as usize,
-            None => false,
-        }
+        let Some(words) = self.bulk.remaining().checked_add(head) else {
+            return false;
+        };
+        words <= usize::MAX / Word::BITS as usize
     }
 
     /// The number of words that [`AnsCoder::into_compressed`] gives: those below the head, and the

@@ -34,7 +34,7 @@ pub returns-in-Err-write-clause-err : goal.returns-in-Err-write-clause-err
 returns-in-Err-write-clause-err g c =
     inr (
       λ makes.
-      g.met.Backend.WriteWords.room_law c.words.bulk c.in-Err-write.refusal (omega (arith, c.in-Ok.ensures.made makes, c.words.invariant.room, c.words.invariant.within)) c.in-Err-write.ensures.err,
+          g.met.Backend.WriteWords.room_law c.words.bulk c.in-Err-write.refusal (omega (arith, c.in-Ok.ensures.made makes, c.words.invariant.room, c.words.invariant.within)) c.in-Err-write.ensures.err,
       (
         c.words.bulk,
         c.in-Err-write.ensures.err,

@@ -9,22 +9,19 @@ pub returns : goal.returns
 returns c = record {
   reveals = λ hidden before valid hides.
       let m = c.args.self.now in
-      let latent = c.in_ok-latent.latent in
-      let symbol = c.in_ok-symbol.symbol in
-      let without = c.decode_symbol-2.new.self.state in
-      let new = c.encode_symbol.new.self.state in
-      let off = c.in_ok-latent.ensures.ok in
-      let read = c.in_ok-symbol.ensures.ok in
-      let on = c.in_ok-encode_symbol.ensures.ok in
+      let latent = c.take_off-latent.result in
+      let symbol = c.take_off-symbol.result in
+      let without = c.take_off-symbol.new.coder.state in
+      let new = c.put_on.new.coder.state in
       -- the latent comes off again
       let latent_back = c.decode_undoes_encode.ensures.only 32 64 (model m.prior) hides.latent latent hides.between _ _
-      (is_model m.prior).lawful hides.latent_on (off.0, off.1, off.2, off.3.holds, off.3.popped tt) in
+      (is_model m.prior).lawful hides.latent_on c.take_off-latent.ensures in
       -- then the symbol, under the table of that latent
       let table : model c.in_ok-symbols.symbols.now ≡ hides.symbols =
       one_at (map model m.symbols) latent hides.latent _ _ latent_back.0 (looked_up _ model _ _ _ _ c.get.ensures.lookup c.in_ok-symbols.ensures) hides.of_latent in
       let symbol_off : Decodes 32 64 hides.symbols symbol hides.between without =
       subst (λ (x : Model ℕ). Decodes 32 64 x symbol hides.between without) table
-      (subst (λ (x : AnsState). Decodes 32 64 (model c.in_ok-symbols.symbols.now) symbol x without) latent_back.1 (read.0, read.1, read.2, read.3.holds, read.3.popped tt)) in
+      (subst (λ (x : AnsState). Decodes 32 64 (model c.in_ok-symbols.symbols.now) symbol x without) latent_back.1 c.take_off-symbol.ensures) in
       let symbols_model : IsModel 32 hides.symbols = subst (IsModel 32) table (is_model c.in_ok-symbols.symbols.now) in
       let symbol_back = c.decode_undoes_encode.ensures.only 32 64 hides.symbols hidden symbol hides.without hides.between without
       symbols_model.lawful hides.symbol_on symbol_off in
@@ -34,7 +31,7 @@ returns c = record {
       let posterior_model : IsModel 32 hides.posterior = subst (IsModel 32) posterior (is_model c.in_ok-posterior.posterior.now) in
       let valid_hidden : IsValid 32 64 hides.without = c.encode_undoes_decode.ensures.valid 32 64 hides.posterior hides.latent before hides.without sizes posterior_model valid hides.latent_off in
       let valid_without : IsValid 32 64 without = subst (IsValid 32 64) (sym symbol_back.1) valid_hidden in
-      let put : Encodes 32 64 (model c.in_ok-posterior.posterior.now) latent without new = (on.0, on.1, on.2, on.3.pushed valid_without) in
+      let put : Encodes 32 64 (model c.in_ok-posterior.posterior.now) latent without new = c.in_ok-put_on.ensures valid_without in
       let put_latent : Encodes 32 64 (model c.in_ok-posterior.posterior.now) hides.latent without new =
       subst (λ (x : ℕ). Encodes 32 64 (model c.in_ok-posterior.posterior.now) x without new) latent_back.0 put in
       let latent_on : Encodes 32 64 hides.posterior hides.latent hides.without new =

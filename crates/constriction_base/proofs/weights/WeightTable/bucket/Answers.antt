@@ -1,6 +1,7 @@
 use Rattle.std.proofs.Common.{◌≡◌, ℕ, ◌+◌, ◌-◌, ◌*◌, ◌/◌, ◌^◌, ◌<◌, ◌≤◌, ◌∙◌, ap, arith, pow_pos, pow-add}
 use Rattle.std.proofs.Math.Nat.{div-lt_iff_lt-mul, lt-div-mul-add}
 use Rattle.std.proofs.Math.Pow.{pow_mono}
+use Rattle.std.proofs.Common.{div-mul-le_self}
 use Rattle.constriction_base.proofs.weights.WeightTable.bucket.Goals as goal
 
 -- so many bits are left of a quantile
@@ -27,3 +28,13 @@ below_next q width k some is =
 
 pub returns-clause-below : goal.returns-clause-below
 returns-clause-below g c = below_next _ _ _ (pow_pos c.args.self.now.shift) (c.to_index.ensures ∙ c.shifted_right.ensures)
+
+pub shifted_right-requires : goal.shifted_right-requires
+shifted_right-requires g c = omega (arith, c.args.self.now.cut.0, c.args.self.now.fits)
+
+-- or at its beginning
+from_first : (q width k : ℕ) → k ≡ q / width → k * width ≤ q
+from_first q width k is = omega (arith, ap (λ n. n * width) is, div-mul-le_self q width)
+
+pub returns-clause-from : goal.returns-clause-from
+returns-clause-from g c = from_first _ _ _ (c.to_index.ensures ∙ c.shifted_right.ensures)

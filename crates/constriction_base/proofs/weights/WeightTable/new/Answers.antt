@@ -4,10 +4,12 @@ use Rattle.std.proofs.Math.Pow.{pow_mono}
 use Rattle.std.proofs.lemmas.List.{length-take-le, length-map, take-take}
 use Rattle.constriction_base.specs.Tables.{Sums, IsLastSymbol}
 use Rattle.constriction_base.proofs.Sums.{sums_of_numbers, last_of_numbers, sums_rise, same_table}
+use Rattle.std.proofs.Common.{◌≤◌, ◌<◌}
+use Rattle.constriction_base.proofs.Results.{none_made, either_way}
 use Rattle.constriction_base.proofs.weights.WeightTable.new.Goals as goal
 
-pub starts_of-requires : goal.starts_of-requires
-starts_of-requires g c = omega (arith, c.in-Some.ensures.some.less, pow_mono c.requires.1)
+pub starts_of-requires-clause-total : goal.starts_of-requires-clause-total
+starts_of-requires-clause-total g c = omega (arith, c.in-Some.ensures.some.less, pow_mono c.requires.1)
 
 -- the sums of the weights but the last are those of all the weights
 all_sums : {W : Type 0} (number : W → ℕ) (ws : List W) (sums : List ℕ) (n total limit : ℕ) → IsLastSymbol number ws n total limit → Sums number (take (n - 1) ws) sums (length (take (n - 1) ws) + 1) → Sums number ws sums n
@@ -50,3 +52,68 @@ hints_of-requires-clause-rising g c =
     let number = g.Probability.BitArray.number in
     let l = c.in-Some.ensures.some in
     rw c.deref.ensures.value (sums_rise _ _ _ _ _ (number_sums number _ _ _ _ _ l c.in_ok-starts.ensures) (last_of_numbers number _ _ _ _ l))
+
+-- ---- refusals, and sizes
+
+pub returns-then-is_empty-clause-ok : goal.returns-then-is_empty-clause-ok
+returns-then-is_empty-clause-ok g c = tt
+
+pub returns-then-is_empty-clause-total : goal.returns-then-is_empty-clause-total
+returns-then-is_empty-clause-total g c = tt
+
+pub known_symbols-requires : goal.known_symbols-requires
+known_symbols-requires g c = c.requires
+
+pub returns-in_default-clause-ok : goal.returns-in_default-clause-ok
+returns-in_default-clause-ok g c = tt
+
+pub returns-in_default-clause-total : goal.returns-in_default-clause-total
+returns-in_default-clause-total g c = tt
+
+pub slice_bounds-starts_of-count : goal.slice_bounds-starts_of-count
+slice_bounds-starts_of-count g c = omega (arith, c.in-Some.ensures.some.some)
+
+pub returns-in_err-starts-clause-ok : goal.returns-in_err-starts-clause-ok
+returns-in_err-starts-clause-ok g c = none_made _ _ c.from_residual.ensures.0
+
+pub returns-in_err-starts-clause-total : goal.returns-in_err-starts-clause-total
+returns-in_err-starts-clause-total g c = either_way _ c.in-Some.ensures.some.total_of
+
+pub returns-in_err-starts-clause-memory : goal.returns-in_err-starts-clause-memory
+returns-in_err-starts-clause-memory g c = λ _. c.in-Some.ensures.some.total_of
+
+pub shift_for-shift-requires-clause-some : goal.shift_for-shift-requires-clause-some
+shift_for-shift-requires-clause-some g c = c.in-Some.ensures.some.some
+
+pub shift_for-shift-requires-clause-within : goal.shift_for-shift-requires-clause-within
+shift_for-shift-requires-clause-within g c = (c.requires.0, omega (arith, c.requires.1, g.met.Probability.BitArray.bits_law.1))
+
+pub hints_of-requires-clause-sized : goal.hints_of-requires-clause-sized
+hints_of-requires-clause-sized g c = c.requires
+
+pub hints_of-requires-clause-within : goal.hints_of-requires-clause-within
+hints_of-requires-clause-within g c = (c.shift_for-shift.ensures.within, c.shift_for-shift.ensures.fits)
+
+pub returns-in_err-hints-clause-ok : goal.returns-in_err-hints-clause-ok
+returns-in_err-hints-clause-ok g c = none_made _ _ c.from_residual-in_err-hints.ensures.0
+
+pub returns-in_err-hints-clause-total : goal.returns-in_err-hints-clause-total
+returns-in_err-hints-clause-total g c = either_way _ c.in-Some.ensures.some.total_of
+
+pub returns-in_err-hints-clause-memory : goal.returns-in_err-hints-clause-memory
+returns-in_err-hints-clause-memory g c = λ _. c.in-Some.ensures.some.total_of
+
+pub invariant_of-result-clause-positive : goal.invariant_of-result-clause-positive
+invariant_of-result-clause-positive g c = c.requires.0
+
+pub invariant_of-result-clause-fits : goal.invariant_of-result-clause-fits
+invariant_of-result-clause-fits g c = c.requires.1
+
+pub invariant_of-result-clause-cut : goal.invariant_of-result-clause-cut
+invariant_of-result-clause-cut g c = (c.shift_for-shift.ensures.within, c.shift_for-shift.ensures.fits)
+
+pub returns-clause-total : goal.returns-clause-total
+returns-clause-total g c = c.in-Some.ensures.some.total_of
+
+pub returns-clause-memory : goal.returns-clause-memory
+returns-clause-memory g c = λ _. c.in-Some.ensures.some.total_of

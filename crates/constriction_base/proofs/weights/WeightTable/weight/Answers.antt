@@ -1,6 +1,7 @@
 use Rattle.std.proofs.Common.{◌≡◌, ℕ, ◌+◌, ◌-◌, ◌^◌, map, length, get_or, refl, ap, arith}
 use Rattle.std.proofs.lemmas.List.{length-map}
 use Rattle.constriction_base.specs.Entries.{weight_at, ends_inside, ends_at}
+use Rattle.std.proofs.Common.{◌<◌, ◌≤◌, lit<}
 use Rattle.constriction_base.proofs.weights.WeightTable.weight.Goals as goal
 
 pub minus-requires-else-symbol-len : goal.minus-requires-else-symbol-len
@@ -34,3 +35,31 @@ returns-else-symbol-len g c =
     let len = length-map items g.Probability.BitArray.number in
     let below = c.args.self.now.rising.below c.args.symbol (omega (arith, len)) in
     omega (arith, len, below, c.plus.ensures, c.minus-else-symbol-len.ensures, c.ones.ensures, c.unit.ensures, c.start-start.ensures, weight_at starts high c.args.symbol (omega (arith, len)), ends_at starts high c.args.symbol (omega (arith, len)))
+
+pub start-start-requires : goal.start-start-requires
+start-start-requires g c = (lit< tt, c.requires)
+
+pub overflow_add-symbol : goal.overflow_add-symbol
+overflow_add-symbol g c =
+    let starts = c.args.self.now.starts in
+    omega (arith, c.requires, starts.ok.0, starts.ok.1, starts.small)
+
+pub overflow_add-symbol-then-symbol-len : goal.overflow_add-symbol-then-symbol-len
+overflow_add-symbol-then-symbol-len g c =
+    let starts = c.args.self.now.starts in
+    omega (arith, c.requires, starts.ok.0, starts.ok.1, starts.small)
+
+pub start-requires : goal.start-requires
+start-requires g c = (lit< tt, omega (arith, c.if-symbol-len.true, c.len.ensures, c.args.self.now.starts.ok.0))
+
+pub ones-requires : goal.ones-requires
+ones-requires g c = (c.args.self.now.positive, c.args.self.now.fits)
+
+pub minus-requires : goal.minus-requires
+minus-requires g c =
+    let t = c.args.self.now in
+    let starts = map g.Probability.BitArray.number t.starts.items in
+    let len = length-map t.starts.items g.Probability.BitArray.number in
+    let up = t.rising.rising c.args.symbol (omega (arith, len, c.requires)) in
+    let next = ends_inside starts (2 ^ g.row.PRECISION) c.args.symbol (c.args.symbol + 1) refl (omega (arith, len, c.if-symbol-len.true, c.len.ensures, t.starts.ok.0)) in
+    omega (arith, c.start-start.ensures, c.start.ensures, up, next)

@@ -5,6 +5,8 @@ use Rattle.std.proofs.lemmas.List.{length-map}
 use Rattle.constriction_base.specs.Entries.{ends_at}
 use Rattle.constriction_base.specs.Hints.{IsHint}
 use Rattle.constriction_base.proofs.HintLemmas.{hints_push, hint_of, none_above}
+use Rattle.std.proofs.Common.{Result, Ok, Err, true, false}
+use Rattle.constriction_base.proofs.Results.{none_made}
 use Rattle.constriction_base.proofs.weights.hints.hints_of.Goals as goal
 
 -- one, moved up to a place within the bits
@@ -65,9 +67,11 @@ loop-bucket-preserved g c =
       first = next_place (number c.loop-bucket.first) (number c.shifted_left-width.result) (number c.unit.result) c.args.shift c.loop-bucket.bucket (2 ^ g.Probability.BitArray.BITS) _ first c.unit.ensures c.shifted_left-width.ensures c.wrapping_plus-first.ensures;
       known = omega (arith, s.within, len);
       from = omega (arith, s.above, first);
-      len = rw c.in_ok-push.ensures.items (omega (arith, i.len, length-append hints (symbol ∷ [])));
-      hinted = rw c.in_ok-push.ensures.items (hints_push starts (2 ^ g.row.PRECISION) (2 ^ c.args.shift) hints symbol i.hinted lower (rw i.len hint));
-      lower = rw c.in_ok-push.ensures.items (none_above hints symbol lower);
+      len = rw c.push_reserved.ensures.items (omega (arith, i.len, length-append hints (symbol ∷ [])));
+      counted = omega (arith, c.push_reserved.ensures.len, i.counted);
+      capacity = omega (arith, c.push_reserved.ensures.capacity, i.capacity);
+      hinted = rw c.push_reserved.ensures.items (hints_push starts (2 ^ g.row.PRECISION) (2 ^ c.args.shift) hints symbol i.hinted lower (rw i.len hint));
+      lower = rw c.push_reserved.ensures.items (none_above hints symbol lower);
     }
 
 pub returns-clause-hinted : goal.returns-clause-hinted
@@ -87,4 +91,47 @@ returns-clause-hinted g c =
       from = omega (arith, c.requires.rising.below last inside);
       to = omega (arith, ends_at starts high last (omega (arith, len)));
     } in
-    rw c.in_ok-push-2.ensures.items (hints_push starts high (2 ^ c.args.shift) hints last i.hinted (λ k h. omega (arith, i.lower k h, i.known, len)) (rw place hint))
+    rw c.push_reserved-2.ensures.items (hints_push starts high (2 ^ c.args.shift) hints last i.hinted (λ k h. omega (arith, i.lower k h, i.known, len)) (rw place hint))
+
+-- ---- sizes
+
+pub overflow_cast-count : goal.overflow_cast-count
+overflow_cast-count g c = omega (arith, c.requires.sized.1, g.met.Probability.BitArray.bits_law.1)
+
+pub overflow_sub-count : goal.overflow_sub-count
+overflow_sub-count g c = omega (arith, c.requires.within.0)
+
+pub overflow_cast-count-2 : goal.overflow_cast-count-2
+overflow_cast-count-2 g c = omega (arith, c.requires.within.1)
+
+pub overflow_shl-count : goal.overflow_shl-count
+overflow_shl-count g c = omega (arith, c.requires.within.1)
+
+pub shifted_left-width-requires-clause-within : goal.shifted_left-width-requires-clause-within
+shifted_left-width-requires-clause-within g c = omega (arith, c.requires.within.0, c.requires.sized.1)
+
+pub overflow_add-count : goal.overflow_add-count
+overflow_add-count g c = omega (arith, pow_mono c.requires.within.1)
+
+pub returns-in_err-hints-clause-len : goal.returns-in_err-hints-clause-len
+returns-in_err-hints-clause-len g c = none_made _ _ c.from_residual.ensures.0
+
+pub returns-in_err-hints-clause-hinted : goal.returns-in_err-hints-clause-hinted
+returns-in_err-hints-clause-hinted g c = none_made _ _ c.from_residual.ensures.0
+
+pub symbol_from-symbol-requires-clause-within : goal.symbol_from-symbol-requires-clause-within
+symbol_from-symbol-requires-clause-within g c = omega (arith, c.loop-bucket.invariant.known, length-map c.args.starts.now g.Probability.BitArray.number)
+
+pub push_reserved-requires : goal.push_reserved-requires
+push_reserved-requires g c = omega (arith, c.loop-bucket.invariant.counted, c.loop-bucket.invariant.capacity, c.loop-bucket-test.true)
+
+pub overflow_sub-starts : goal.overflow_sub-starts
+overflow_sub-starts g c = omega (arith, c.requires.some)
+
+pub push_reserved-requires-2 : goal.push_reserved-requires-2
+push_reserved-requires-2 g c = omega (arith, c.loop-bucket.invariant.counted, c.loop-bucket.invariant.capacity, c.loop-bucket.auto.bucket-end)
+
+pub returns-clause-len : goal.returns-clause-len
+returns-clause-len g c =
+    let last = length c.args.starts.now - 1 in
+    rw c.push_reserved-2.ensures.items (omega (arith, c.loop-bucket.invariant.len, length-append c.loop-bucket.hints.items (last ∷ []), c.loop-bucket-test.false, c.loop-bucket.auto.bucket-end, pow_mono c.requires.within.1))

@@ -1,4 +1,4 @@
-use Rattle.std.proofs.Common.{◌≡◌, ℕ, ◌*◌, ◌%◌, ◌^◌, ◌<◌, ◌≤◌, length, map}
+use Rattle.std.proofs.Common.{◌≡◌, ℕ, ◌*◌, ◌%◌, ◌^◌, ◌<◌, ◌≤◌, ◌+◌, length, map, vec_len, vec_capacity}
 use Rattle.std.specs.Prelude.{slice_index}
 use Rattle.constriction_base.specs.Hints.{AreHints}
 use Rattle.constriction_base.proofs.weights.hints.hints_of.Given as goal
@@ -13,6 +13,8 @@ invariant-loop-bucket g l =
       known : l.symbol < length starts;
       from : slice_index starts l.symbol ≤ l.bucket * 2 ^ l.shift;
       len : length l.hints.items ≡ l.bucket;
+      counted : vec_len l.hints ≡ l.bucket;
+      capacity : vec_capacity l.hints ≡ l.count + 1;
       hinted : AreHints starts (2 ^ g.row.PRECISION) (2 ^ l.shift) l.hints.items;
       lower : (k : ℕ) → k < length l.hints.items → slice_index l.hints.items k ≤ l.symbol;
     }

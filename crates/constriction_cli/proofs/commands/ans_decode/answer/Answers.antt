@@ -30,8 +30,8 @@ returns-clause-ok c =
       printed = rw c.as_slice-2.ensures.value at c.in_ok-line_of_numbers.ensures;
     }
 
-pub returns-in_default-clause-fault : goal.returns-in_default-clause-fault
-returns-in_default-clause-fault c =
+pub returns-in_default-clause-err : goal.returns-in_default-clause-err
+returns-in_default-clause-err c =
     let words = c.take_count.new.numbers.items in
     let line = second_line c.args.text.now in
     let listed : numbers_of (2 ^ 32 - 1) line ≡ Some (c.in_ok-count.count ∷ words) =

@@ -4,8 +4,8 @@ use Rattle.constriction_stack.proofs.BinaryForms.{imports_of}
 use Rattle.constriction_stack.proofs.Exporting.{some_of}
 use Rattle.constriction_stack.proofs.coder.AnsCoder.from_compressed.Goals as goal
 
-pub returns-in-Err-filled-clause-refused : goal.returns-in-Err-filled-clause-refused
-returns-in-Err-filled-clause-refused g c =
+pub returns-in-Err-filled-clause-err : goal.returns-in-Err-filled-clause-err
+returns-in-Err-filled-clause-err g c =
     let number = g.Word.BitArray.number in
     let word = c.in-Ok-Some.word in
     let read = rw c.in-Ok-Some.field-0-is at c.in-Ok-Some.ensures.reads in
@@ -33,8 +33,7 @@ returns-clause-reads g c =
     let word = c.in-Ok-Some.word in
     let read = rw c.in-Ok-Some.field-0-is at c.in-Ok-Some.ensures.reads in
     let some = some_of (number word) c.if-is_nothing.ensures.1 in
-    let rest = c.in-Ok.ensures.reads in
-    (
+    let rest = c.in-Ok.ensures.reads in (
       rest.0,
       imports_of number g.Backend.ReadWords.reads g.Word.BitArray.BITS (g.State.BitArray.number c.in-Ok.head) c.args.bulk c.read.new.self rest.0 word read some (rw c.widen.ensures at rest.1),
       rest.2,

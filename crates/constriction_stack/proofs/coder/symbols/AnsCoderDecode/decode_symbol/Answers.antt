@@ -5,8 +5,8 @@ use Rattle.constriction_stack.proofs.Coders.{is_coder}
 use Rattle.constriction_stack.proofs.Heads.{low_in_word}
 use Rattle.constriction_stack.proofs.coder.symbols.AnsCoderDecode.decode_symbol.Goals as goal
 
-pub popped-head-requires-clause-total : goal.popped-head-requires-clause-total
-popped-head-requires-clause-total g c =
+pub popped_head-head-requires-clause-total : goal.popped_head-head-requires-clause-total
+popped_head-head-requires-clause-total g c =
     let within = in_range _ _ _ _ _ _ (g.M.EntropyModel.lawful c.args.model).follow c.quantile_function-symbol.ensures.found in
     rw (c.widen-2.ensures, c.widen.ensures, c.widen-4.ensures, c.widen-3.ensures, c.from_nonzero-p.ensures) within.2
 
@@ -30,8 +30,8 @@ returns-in-Ok g c =
           before = is_coder _ _ _ _ _ _ c.self.invariant (g.met.State.BitArray.number_law _);
           after = is_coder _ _ _ _ _ _ c.self.invariant (g.met.State.BitArray.number_law _);
           holds = record { from = rw quantile at covers.0; below = rw quantile at covers.1 };
-          popped = λ list. sym (rw (c.popped-head.ensures, c.widen-2.ensures, c.widen.ensures, c.widen-4.ensures, c.widen-3.ensures, c.from_nonzero-p.ensures) at c.in-Ok.ensures.list list);
-          refilled = rw (c.popped-head.ensures, c.widen-2.ensures, c.widen.ensures, c.widen-4.ensures, c.widen-3.ensures, c.from_nonzero-p.ensures) at c.in-Ok.ensures.reads;
+          popped = λ list. sym (rw (c.popped_head-head.ensures, c.widen-2.ensures, c.widen.ensures, c.widen-4.ensures, c.widen-3.ensures, c.from_nonzero-p.ensures) at c.in-Ok.ensures.list list);
+          refilled = rw (c.popped_head-head.ensures, c.widen-2.ensures, c.widen.ensures, c.widen-4.ensures, c.widen-3.ensures, c.from_nonzero-p.ensures) at c.in-Ok.ensures.reads;
           head = tt;
           kept = tt;
           error = tt;
@@ -61,7 +61,7 @@ returns g c =
           refilled = tt;
           head = refl;
           kept = λ list. rw (c.in-Err.ensures.list list) refl;
-          error = rw (c.popped-head.ensures, c.widen-2.ensures, c.widen.ensures, c.widen-4.ensures, c.widen-3.ensures, c.from_nonzero-p.ensures) at c.in-Err.ensures.reads;
+          error = rw (c.popped_head-head.ensures, c.widen-2.ensures, c.widen.ensures, c.widen-4.ensures, c.widen-3.ensures, c.from_nonzero-p.ensures) at c.in-Err.ensures.reads;
         },
         refl,
       ),

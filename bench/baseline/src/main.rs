@@ -1,0 +1,91 @@
+//! Nanoseconds a symbol of the Rust crate's coders, over the input of `bench/driver.rs`.
+//!
+//! Prints a line `name ns_per_symbol` for each case, the least of RUNS runs over a million symbols. An argument keeps
+//! the cases whose name contains it. The names are those of `bench/driver.rs`, which says what they mean.
+
+#[path = "../../input.rs"]
+mod input;
+mod models;
+
+use constriction::stream::{stack::AnsCoder, Decode};
+use input::{drawn_symbols, weights, Random, COUNT};
+use models::{large, small};
+use std::{hint::black_box, time::Instant};
+
+const RUNS: usize = 11;
+
+struct Bench {
+    part: String,
+}
+
+impl Bench {
+    /// Prints the least time of `work` over the runs. Making its input and dropping its answer isn't counted.
+    fn case<T, R>(&self, name: &str, mut input: impl FnMut() -> T, mut work: impl FnMut(T) -> R) {
+        if !name.contains(&self.part) {
+            return;
+        }
+        let mut least = f64::INFINITY;
+        for _ in 0..RUNS {
+            let input = black_box(input());
+            let start = Instant::now();
+            let answer = black_box(work(input));
+            least = least.min(start.elapsed().as_nanos() as f64);
+            drop(answer);
+        }
+        println!("{name} {:.2}", least / COUNT as f64);
+    }
+}
+
+/// The cases of one size: an encoder under `encoding`, and decoders under each of the others.
+macro_rules! ans_cases {
+    ($bench:expr, $word:ty, $state:ty, $size:literal, $symbols:expr, encode $encode:literal: $encoding:expr,
+     $(decode $decode:literal: $decoding:expr),*) => {{
+        let symbols: &[usize] = $symbols;
+        let encoded = || {
+            let mut coder = AnsCoder::<$word, $state>::new();
+            coder.encode_iid_symbols_reverse(symbols, $encoding).ok().unwrap();
+            coder.into_compressed().ok().unwrap()
+        };
+        $bench.case(&format!("ans_encode_{}_{}", $size, $encode), || (), |()| encoded());
+        let words = encoded();
+        $(
+            let mut decoded = vec![0; COUNT];
+            $bench.case(&format!("ans_decode_{}_{}", $size, $decode), || words.clone(), |words| {
+                let mut coder = AnsCoder::<$word, $state>::from_compressed(words).ok().unwrap();
+                for (place, symbol) in decoded.iter_mut().zip(coder.decode_iid_symbols(COUNT, $decoding)) {
+                    *place = symbol.ok().unwrap();
+                }
+            });
+            assert!(!format!("ans_decode_{}_{}", $size, $decode).contains(&$bench.part) || decoded == symbols);
+        )*
+    }};
+}
+
+/// A million symbols below 256, each as likely.
+fn equal_symbols() -> Vec<usize> {
+    let mut random = Random::new(99);
+    (0..COUNT)
+        .map(|_| (random.next() >> 40) as usize & 255)
+        .collect()
+}
+
+fn main() {
+    let bench = Bench {
+        part: std::env::args().nth(1).unwrap_or_default(),
+    };
+    let (drawn, equal) = (drawn_symbols(), equal_symbols());
+
+    let weights_24 = weights(24);
+    let table = large::Table::new(&weights_24);
+    let bucket = large::Bucket::new(&weights_24);
+    let flat = black_box(large::Flat::new(8));
+    ans_cases!(bench, u32, u64, "u32u64p24", &drawn, encode "table": &table, decode "table": &table, decode "bucket": &bucket);
+    ans_cases!(bench, u32, u64, "u32u64p24", &equal, encode "flat": &flat, decode "flat": &flat);
+
+    let weights_12: Vec<u16> = weights(12).iter().map(|&weight| weight as u16).collect();
+    let table = small::Table::new(&weights_12);
+    let lookup = small::Lookup::new(&weights_12);
+    let flat = black_box(small::Flat::new(8));
+    ans_cases!(bench, u16, u32, "u16u32p12", &drawn, encode "table": &table, decode "table": &table, decode "lookup": &lookup);
+    ans_cases!(bench, u16, u32, "u16u32p12", &equal, encode "flat": &flat, decode "flat": &flat);
+}

@@ -1,0 +1,13 @@
+-- Clauses on answers that are known to be one or the other.
+use Rattle.std.proofs.Common.{Result, Ok, Err, true, false}
+use Rattle.std.specs.Prelude.{IsErr, IfOk, OnOk, is_err}
+
+-- an error has made nothing
+pub none_made : {T E : Type 0} (P : T → Type 0) (answer : Result T E) → IsErr answer → IfOk answer P
+none_made P (Ok x) h = absurd cc
+none_made P (Err e) h = tt
+
+-- what holds anyway holds after a success
+pub either_way : {T E P : Type 0} (answer : Result T E) → P → OnOk answer P
+either_way (Ok x) h = h
+either_way (Err e) h = tt

@@ -1,0 +1,203 @@
+//! A cursor as a stack and as a queue, and with its two roles changed. Cases know a backend by its
+//! bounds alone.
+
+use crate::calls::{
+    filled, pops, prepares, puts, queues, seeks, seems_full, seems_popped, seems_taken, stacks,
+    stands, takes,
+};
+use constriction_base::backends::{
+    BoundedReadWords, Pos, PosSeek, Queue, ReadWords, Seek, Stack, Words, WriteWords,
+};
+use constriction_base::cursor::Cursor;
+use constriction_base::errors::BoundedWriteError;
+use constriction_base::reverse::Reverse;
+use linked_list_allocator::LocalHeap;
+use std::convert::Infallible;
+use std::test::Fail;
+
+/// Before the words `[1, 2, 3]`, reads go to and fro.
+fn goes_to_and_fro<B>(cursor: &mut B) -> bool
+where
+    B: BoundedReadWords<u32, Stack> + BoundedReadWords<u32, Queue>,
+    B: ReadWords<u32, Stack, ReadError = Infallible>
+        + ReadWords<u32, Queue, ReadError = Infallible>,
+{
+    seems_popped(cursor)
+        && !seems_taken(cursor)
+        && pops(cursor, None)
+        && takes(cursor, Some(1))
+        && takes(cursor, Some(2))
+        && stacks(cursor, 2)
+        && queues(cursor, 1)
+        && pops(cursor, Some(2))
+        && stacks(cursor, 1)
+        && queues(cursor, 2)
+}
+
+/// The cursor's buffer has the words.
+fn lends<Buf: Words<u32> + Drop>(cursor: &Cursor<u32, Buf>, words: &[u32]) -> bool {
+    cursor.buf().words() == words
+}
+
+/// The cursor's parts are the words and the position.
+fn parts_into<Buf: Words<u32> + Drop>(
+    cursor: Cursor<u32, Buf>,
+    words: &[u32],
+    position: usize,
+) -> bool {
+    let (rest, found) = cursor.into_buf_and_pos();
+    rest.words() == words && found == position
+}
+
+/// Three words are written, and no fourth one.
+fn is_filled<B>(cursor: &mut B) -> bool
+where
+    B: WriteWords<u32, WriteError = BoundedWriteError>,
+{
+    prepares(cursor, 100)
+        && !seems_full(cursor)
+        && filled(cursor) == 3
+        && seems_full(cursor)
+        && matches!(cursor.write(9), Err(BoundedWriteError::OutOfSpace))
+}
+
+/// At the end of the words `[0, 1, 2]`, the last is taken off and another written.
+fn writes_again<B>(cursor: &mut B) -> bool
+where
+    B: WriteWords<u32, WriteError = BoundedWriteError>,
+    B: ReadWords<u32, Stack, ReadError = Infallible>
+        + ReadWords<u32, Queue, ReadError = Infallible>,
+{
+    seems_taken(cursor)
+        && takes(cursor, None)
+        && pops(cursor, Some(2))
+        && !seems_full(cursor)
+        && puts(cursor, 9)
+}
+
+/// Behind the words `[4, 5, 6]`, positions within them are gone to.
+fn seeks_within<B>(cursor: &mut B) -> bool
+where
+    B: ReadWords<u32, Stack, ReadError = Infallible>
+        + ReadWords<u32, Queue, ReadError = Infallible>,
+    B: Pos + Seek + PosSeek<Position = usize>,
+{
+    stands(cursor, 3)
+        && seeks(cursor, 1)
+        && stands(cursor, 1)
+        && takes(cursor, Some(5))
+        && !seeks(cursor, 4)
+        && stands(cursor, 2)
+        && seeks(cursor, 3)
+        && pops(cursor, Some(6))
+}
+
+/// Of two cursors behind the words `[4, 5]`, what one does is not seen by the other.
+fn stand_alone<B>(cursor: &mut B, other: &mut B) -> bool
+where
+    B: ReadWords<u32, Stack, ReadError = Infallible>,
+    B: WriteWords<u32, WriteError = BoundedWriteError> + Pos + PosSeek<Position = usize>,
+{
+    pops(cursor, Some(5)) && puts(cursor, 8) && stands(other, 2) && pops(other, Some(5))
+}
+
+/// With its roles changed, the words `[7, 8, 9]` behind the cursor are a stack.
+fn changes_roles<B>(reversed: &mut B) -> bool
+where
+    B: BoundedReadWords<u32, Stack> + BoundedReadWords<u32, Queue>,
+    B: ReadWords<u32, Stack, ReadError = Infallible>
+        + ReadWords<u32, Queue, ReadError = Infallible>,
+    B: Pos + Seek + PosSeek<Position = usize>,
+{
+    seems_taken(reversed)
+        && !seems_popped(reversed)
+        && pops(reversed, Some(7))
+        && pops(reversed, Some(8))
+        && stacks(reversed, 1)
+        && queues(reversed, 2)
+        && takes(reversed, Some(8))
+        && stands(reversed, 1)
+        && !seeks(reversed, 4)
+        && seeks(reversed, 3)
+        && pops(reversed, None)
+        && takes(reversed, Some(9))
+}
+
+/// A cursor stands at the position, and gives the word as a stack.
+fn pops_at<B>(backend: &mut B, position: usize, word: u32) -> bool
+where
+    B: ReadWords<u32, Stack, ReadError = Infallible> + Pos + PosSeek<Position = usize>,
+{
+    stands(backend, position) && pops(backend, Some(word))
+}
+
+/// Turns a cursor behind `[1, 2, 3, 4]` round, and back. Reads go on as if it had not been turned.
+fn turns_there_and_back(mut cursor: Cursor<u32, Vec<u32>>) -> bool {
+    let first = pops_at(&mut cursor, 4, 4);
+    let mut reversed = cursor.into_reversed();
+    let turned = lends(&reversed.0, &[4, 3, 2, 1]) && pops_at(&mut reversed, 1, 3);
+    let mut cursor = reversed.into_reversed();
+    first
+        && turned
+        && lends(&cursor, &[1, 2, 3, 4])
+        && pops_at(&mut cursor, 2, 2)
+        && takes(&mut cursor, Some(2))
+}
+
+#[test]
+fn a_cursor_parts_a_stack_from_a_queue(rt: HostRuntime) {
+    let mut words = [1u32, 2, 3];
+    let mut cursor = Cursor::new_at_write_beginning(words.as_mut_slice());
+    assert!(rt; goes_to_and_fro(&mut cursor) && lends(&cursor, &[1, 2, 3]));
+    assert!(rt; parts_into(cursor, &[1, 2, 3], 1));
+}
+
+#[test]
+fn a_cursor_is_full_at_its_end(rt: HostRuntime) {
+    let mut words = [0u32; 3];
+    let mut cursor = Cursor::new_at_write_beginning(words.as_mut_slice());
+    assert!(rt; is_filled(&mut cursor) && lends(&cursor, &[0, 1, 2]));
+    assert!(rt; writes_again(&mut cursor));
+    assert_eq!(rt; words, [0u32, 1, 9]);
+}
+
+#[test]
+fn a_cursor_seeks_within_its_buffer(rt: HostRuntime) {
+    let mut cursor = Cursor::new_at_write_end([4u32, 5, 6].as_slice());
+    assert!(rt; seeks_within(&mut cursor));
+}
+
+#[test]
+fn a_clone_of_a_cursor_stands_alone(rt: HostRuntime) -> Result<(), Fail> {
+    let mut cursor = Cursor::new_at_write_end([4u32, 5].to_vec(rt.alloc())?);
+    let mut other = cursor.clone()?;
+    assert!(rt; stand_alone(&mut cursor, &mut other));
+    let mut turned = Reverse(other).clone()?;
+    assert!(rt; pops(&mut turned, Some(5)));
+    Ok(())
+}
+
+#[test]
+fn a_clone_of_a_cursor_is_refused(rt: HostRuntime) -> Result<(), Fail> {
+    let heap = LocalHeap::new(rt.alloc(), 512)?;
+    let words = Vec::from_slice(&heap, [4u32; 60].as_slice())?;
+    let filler: Vec<u8, &LocalHeap> = Vec::with_capacity(&heap, 200)?;
+    let cursor: Cursor<u32, Vec<u32, &LocalHeap>> = Cursor::new_at_write_end(words);
+    assert!(rt; cursor.clone().is_err());
+    drop(filler);
+    assert!(rt; stands(&cursor.clone()?, 60));
+    Ok(())
+}
+
+#[test]
+fn a_reversed_cursor_changes_the_roles(rt: HostRuntime) {
+    let mut reversed = Reverse(Cursor::new_at_write_beginning([7u32, 8, 9].as_slice()));
+    assert!(rt; changes_roles(&mut reversed));
+}
+
+#[test]
+fn a_cursor_is_turned_round(rt: HostRuntime) -> Result<(), Fail> {
+    let cursor = Cursor::new_at_write_end([1u32, 2, 3, 4].to_vec(rt.alloc())?);
+    assert!(rt; turns_there_and_back(cursor));
+    Ok(())
+}

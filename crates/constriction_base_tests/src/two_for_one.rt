@@ -1,0 +1,103 @@
+//! What the bounds alone say of a backend: a word is read, and two are written in its place.
+
+ghost use Rattle.std.specs.Prelude.{◌≡◌, ◌+◌, ◌-◌, ◌<◌, ◌≤◌, ◌∷◌, ◌⊎◌, [], ℕ, List, Option, Result, Ok, Err, Some, None, OnOk, OnErr, IfOk, IfErr, length, reverse, take, drop, vec_len, vec_capacity, slice_get};
+ghost use Rattle.constriction_base_tests.specs.declared.two_for_one.Refusal.TheVariants as refusal;
+ghost use Rattle.constriction_base.specs.declared.errors.BoundedWriteError.TheVariants.{OutOfSpace};
+
+use constriction_base::backends::{ReadWords, Stack, WriteWords};
+use constriction_base::cursor::Cursor;
+use constriction_base::errors::BoundedWriteError;
+use constriction_words::BitArray;
+use std::alloc::{AllocError, Allocator};
+use std::convert::Infallible;
+
+/// Which call of the backend was refused. A refused `prepare` hands back the word that was read.
+#[derive(Debug, Drop)]
+pub enum Refusal<Word, ReadError, WriteError> {
+    Read(ReadError),
+    Prepare(Option<Word>, WriteError),
+    First(WriteError),
+    Second(WriteError),
+}
+
+/// Takes the next word and puts two in its place, of which `above` is then read first.
+pub fn two_for_one<Word: BitArray, Backend: ReadWords<Word, Stack> + WriteWords<Word>>(
+    backend: &mut Backend,
+    below: Word,
+    above: Word,
+) -> Result<Option<Word>, Refusal<Word, Backend::ReadError, Backend::WriteError>>
+    ensures ok { IfOk result (λ taken. (taken ≡ slice_get (Backend.words backend.old) 0)
+        × (Backend.words backend.new ≡ above ∷ below ∷ drop 1 (Backend.words backend.old))) }
+    ensures read { (e : Backend.ReadError) → result ≡ Err (refusal.Read e) → Backend.words backend.new ≡ Backend.words backend.old }
+    ensures prepare { (taken : Option Word) (e : Backend.WriteError) → result ≡ Err (refusal.Prepare taken e) →
+        (Backend.words backend.new ≡ drop 1 (Backend.words backend.old))
+        × ((left : Backend) × Backend.reads backend.old (Ok taken) left × Backend.prepare_fails left 2 e × (Backend.room left ≤ Backend.room backend.new)) }
+    ensures first { (e : Backend.WriteError) → result ≡ Err (refusal.First e) →
+        (Backend.words backend.new ≡ drop 1 (Backend.words backend.old))
+        × ((left : Backend) × (taken : Option Word) × Backend.reads backend.old (Ok taken) left × Backend.write_fails left e × (Backend.room left ≡ 0)) }
+    ensures second { (e : Backend.WriteError) → result ≡ Err (refusal.Second e) →
+        (Backend.words backend.new ≡ below ∷ drop 1 (Backend.words backend.old))
+        × ((left : Backend) × (last : Backend) × (taken : Option Word) × Backend.reads backend.old (Ok taken) left × Backend.write_fails last e × (Backend.room left ≤ 1)) }
+    ensures made { Backend.makes_room → (e : Backend.WriteError) → ((result ≡ Err (refusal.First e)) ⊎ (result ≡ Err (refusal.Second e))) → ⊥ }
+{
+    let taken = match backend.read() {
+        Ok(taken) => taken,
+        Err(error) => return Err(Refusal::Read(error)),
+    };
+    if let Err(error) = backend.prepare(2) {
+        return Err(Refusal::Prepare(taken, error));
+    }
+    if let Err(error) = backend.write(below) {
+        return Err(Refusal::First(error));
+    }
+    if let Err(error) = backend.write(above) {
+        return Err(Refusal::Second(error));
+    }
+    Ok(taken)
+}
+
+/// Over a vector, want of memory changes nothing: `prepare` alone can be refused, and the room of
+/// the word that was read is still there.
+pub fn two_for_last<A: Allocator>(
+    words: &mut Vec<u32, A>,
+    below: u32,
+    above: u32,
+) -> Result<Option<u32>, AllocError>
+    ensures ok { OnOk result (reverse words.new.items ≡ above ∷ below ∷ drop 1 (reverse words.old.items)) }
+    ensures memory { OnErr result (words.new.items ≡ words.old.items) }
+{
+    match two_for_one(words, below, above) {
+        Ok(taken) => Ok(taken),
+        Err(Refusal::Read(never)) => match never {},
+        Err(Refusal::Prepare(None, error)) => Err(error),
+        Err(Refusal::Prepare(Some(taken), error)) => {
+            words.push_reserved(taken);
+            Err(error)
+        }
+        Err(Refusal::First(error)) => Err(error),
+        Err(Refusal::Second(error)) => Err(error),
+    }
+}
+
+/// Over a cursor a refused write leaves a beginning of the two words: the first finds the place of
+/// the word that was read.
+pub fn two_for_one_before(
+    words: &mut Cursor<u32, &mut [u32]>,
+    below: u32,
+    above: u32,
+) -> Result<Option<u32>, BoundedWriteError>
+    requires { 0 < words.old.pos }
+    ensures ok { OnOk result (reverse (take words.new.pos words.new.buf.now) ≡ above ∷ below ∷ drop 1 (reverse (take words.old.pos words.old.buf.now))) }
+    ensures beginning { OnErr result (reverse (take words.new.pos words.new.buf.now) ≡ below ∷ drop 1 (reverse (take words.old.pos words.old.buf.now))) }
+    ensures full { IfErr result (λ e. (e ≡ OutOfSpace) × (words.old.pos ≡ length words.old.buf.now)) }
+{
+    // This tells that the position is within the buffer.
+    let _buf = words.buf();
+    match two_for_one(words, below, above) {
+        Ok(taken) => Ok(taken),
+        Err(Refusal::Read(never)) => match never {},
+        Err(Refusal::Prepare(_, error)) => Err(error),
+        Err(Refusal::First(error)) => Err(error),
+        Err(Refusal::Second(error)) => Err(error),
+    }
+}

@@ -1,0 +1,70 @@
+"""Runs `rt check`, and reads in its lines which functions it blames."""
+
+import os
+import re
+import subprocess
+
+FUNCTION = re.compile(r"fn (\S+): (.+)")
+GOAL = re.compile(r"note: src/\S+ it is not proved that .*?\(`([^`]+)`\)")
+# A proof file that names what an edit took away says nothing about the contract, and nor does what cites such a proof.
+VANISHED = re.compile(r"has no field|is not in scope|has no `|was not admitted")
+
+
+class Ran:
+    """What a check printed, its verdict ('proved', 'refused', or '' where it gives none) and the processor seconds that it took."""
+
+    def __init__(self, folder, jobs):
+        how = {"stdin": subprocess.DEVNULL, "stdout": subprocess.PIPE, "stderr": subprocess.STDOUT, "text": True, "errors": "replace"}
+        with subprocess.Popen(["rt", "check", "--jobs", str(jobs)], cwd=folder, **how) as running:
+            self.lines = running.stdout.read().rstrip("\n").split("\n")
+            _, status, used = os.wait4(running.pid, 0)
+            running.returncode = os.waitstatus_to_exitcode(status)
+        self.seconds = used.ru_utime + used.ru_stime
+        is_refused = any(it.startswith("logic=not-proved") for it in self.lines)
+        self.verdict = "refused" if is_refused else "" if running.returncode else "proved"
+
+    def first_error(self):
+        return next((it for it in self.lines if "error" in it), self.lines[-1])
+
+
+class Blame:
+    """What the checker says of a function that is not proved, and whether that blames its own body."""
+
+    def __init__(self, name, is_own, why):
+        self.path, self.is_own, self.why = name.split("::")[1:], is_own, why  # the path is the one below the crate
+
+    def is_of(self, functions):
+        """Returns whether this is about a function of these names, or about a closure in one, whose path goes on behind a word `fn`."""
+        names = self.path[self.path.index("fn") :] if "fn" in self.path else self.path[-1:]
+        return not functions.isdisjoint(names)
+
+    def __str__(self):
+        return f"{'::'.join(self.path)}: {self.why}"
+
+
+def blames(lines):
+    """Returns a blame for each function that is not proved. It is the function's own where the lines above it note a goal that no tactic
+    proved, or where its proof file has an error. That it calls what is refused, or any word unknown here, is no blame of its own."""
+    lines = "\n".join(lines).replace("\n  has no ", " has no ").split("\n")  # a long error goes on in the next line
+    found, goals = [], []
+    for line in lines:
+        goals += GOAL.findall(line)
+        function = FUNCTION.fullmatch(line)
+        if function:
+            found += blame_of(*function.groups(), goals, lines)
+            goals = []
+    return found
+
+
+def blame_of(name, why, goals, lines):
+    """Returns the blame of a function that is not proved, and nothing for one that is."""
+    proof = "proofs/" + "/".join(name.split("::")[1:]) + "/"
+    errors = [it.partition(": error: ")[2] for it in lines if it.startswith((proof, "./" + proof)) and ": error: " in it]
+    telling = [it for it in errors if not VANISHED.search(it)]
+    if goals:
+        return [Blame(name, True, "goal " + ", ".join(dict.fromkeys(goals)))]
+    if telling:
+        return [Blame(name, True, "proof " + telling[0])]
+    if errors:
+        return [Blame(name, False, "only its proof file names what the edit took away: " + errors[0])]
+    return [] if why == "proved" else [Blame(name, False, why)]

@@ -1,0 +1,64 @@
+"""The trial of a crate's edits, many in one check."""
+
+import os
+import shutil
+import tempfile
+
+from checker import Ran, blames
+from edit import apply, in_batches
+from repository import copy_crate, copy_repository
+
+
+def is_refused(edit, found):
+    """Returns whether an edited function is blamed itself, and sets what the checker says of it. Where an edit changes what no function
+    holds, it is tried alone, and any function that is blamed will do."""
+    of_edit = [it for it in found if it.is_of(edit.functions)]
+    told = sorted(of_edit or (found if edit.is_apart else []), key=lambda it: not it.is_own)
+    edit.said = str(told[0]) if told else "the checker finds no fault with the edited function"
+    return bool(told) and told[0].is_own
+
+
+class Trial:
+    """The trial of one crate's edits, over a repository in which the crate is proved."""
+
+    def __init__(self, crate, edits, below, proved, size, logs):
+        self.crate, self.edits, self.below, self.proved, self.size, self.logs = crate, edits, below, proved, size, logs
+        self.checks, self.seconds = 0, 0.0
+
+    def run(self):
+        """Returns the edits that are not refused. Those that are not beside others are tried once more so, and then alone."""
+        passed = self.edits
+        with tempfile.TemporaryDirectory(prefix="edits-") as copy:
+            copy_repository(self.proved, copy, self.below)
+            for size in (self.size, self.size, 1):
+                batches = in_batches([it for it in passed if not it.is_settled], size)
+                passed = [it for it in passed if it.is_settled]
+                passed += [it for batch in batches for it in self.not_refused(batch, f"{copy}/crates/{self.crate}")]
+        return passed
+
+    def not_refused(self, batch, folder):
+        """Tries edits in one check over the kept work of the unedited crate, and returns those that it does not show to be refused."""
+        shutil.rmtree(folder, ignore_errors=True)
+        copy_crate(f"{self.proved}/crates/{self.crate}", folder)
+        apply(batch, folder)
+        ran = Ran(folder, 1)
+        self.note(batch, ran)
+        for edit in batch:  # where all is proved, no other function hid one of them
+            edit.is_settled = len(batch) == 1 or ran.verdict == "proved"
+        if ran.verdict:
+            found = blames(ran.lines)
+            return [it for it in batch if not is_refused(it, found)]
+        if len(batch) > 1:  # one of them may keep the others from being judged
+            half = len(batch) // 2
+            return self.not_refused(batch[:half], folder) + self.not_refused(batch[half:], folder)
+        batch[0].said = "it did not reach the prover: " + ran.first_error()
+        return batch
+
+    def note(self, batch, ran):
+        """Counts a check, and keeps what it printed where a folder for logs is given."""
+        self.checks += 1
+        self.seconds += ran.seconds
+        if self.logs:
+            os.makedirs(self.logs, exist_ok=True)
+            with open(f"{self.logs}/{self.crate}-{self.checks}.log", "w", encoding="utf-8") as out:
+                out.write("\n".join([f"seconds: {ran.seconds:.1f}", *("edit: " + it.name for it in batch), *ran.lines, ""]))
