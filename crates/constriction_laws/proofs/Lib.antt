@@ -7,3 +7,4 @@ pub mod SameModel
 pub mod Readings
 pub mod ListCalls
 pub mod PairCalls
+pub mod HavingRoom

@@ -6,7 +6,6 @@ use Rattle.std.specs.Prelude.{reverse, drop, IfSome}
 use Rattle.std.specs.List.{zip}
 use Rattle.std.proofs.lemmas.List.{reverse-append, reverse-reverse, append-nil}
 use Rattle.constriction_base.specs.declared.errors.CoderError.{CoderError}
-use Rattle.constriction_base.specs.declared.errors.CoderError.TheVariants.{Frontend, Backend}
 use Rattle.constriction_base.specs.Steps.{Step, AreWords}
 use Rattle.constriction_stream.specs.Lists.{StepsAll}
 use Rattle.constriction_stream.specs.Symbols.{EncodesSymbol, DecodesSymbol, ByBackend}
@@ -15,7 +14,7 @@ use Rattle.constriction_stack.specs.Ans.{AnsState, AnsValue, IsValid}
 use Rattle.constriction_stack.specs.Steps as calls
 use Rattle.constriction_laws.specs.Lists.{GivesPair, GivesSymbol}
 use Rattle.constriction_laws.specs.Readings.{DecodesBy, DecodesAllBy}
-use Rattle.constriction_laws.specs.Symbols.{Model, Item, item_of, items_of, Encodes, Decodes, EncodesAll, DecodesAll, IsModel}
+use Rattle.constriction_laws.specs.Symbols.{Model, Item, items_of, Encodes, Decodes, EncodesAll, DecodesAll, IsModel}
 use Rattle.constriction_laws.specs.Undone.{decode_back}
 use Rattle.constriction_laws.proofs.Undoing.{all_undone, all_free}
 use Rattle.constriction_laws.proofs.ComingBack.{decodes_only}

@@ -4,12 +4,12 @@ use Rattle.std.specs.Iterator.Adapters.{zip_first, zip_second, zip_steps_back}
 use Rattle.std.specs.Slice.Iter.{iter_rest, iter_steps_back}
 use Rattle.std.specs.declared.iter.Zip.{Zip}
 use Rattle.std.specs.List.{zip}
-use Rattle.std.proofs.Common.{◌≡◌, ◌∙◌, ◌<◌, ℕ, Bor, Iter, Option, None, List, [], ◌∷◌, ◌++◌, inl, inr, length, map, refl, sym, ap, ap₂, subst, arith, append_assoc}
-use Rattle.std.specs.Prelude.{reverse, min}
+use Rattle.std.proofs.Common.{◌≡◌, ◌∙◌, ℕ, Bor, Iter, None, List, [], ◌∷◌, ◌++◌, inl, inr, length, map, refl, sym, ap, ap₂, subst, arith, append_assoc}
+use Rattle.std.specs.Prelude.{reverse}
 use Rattle.std.proofs.lemmas.Bool.{cases_lt}
 use Rattle.std.proofs.lemmas.List.{reverse-append, reverse-reverse, append-nil, length-append}
 use Rattle.constriction_stack.specs.Ans.{AnsState}
-use Rattle.constriction_laws.specs.Symbols.{Model, Item, IsModel, item_of, pairs_of, models, AreModels, Encodes, Decodes, EncodesAll, DecodesAll}
+use Rattle.constriction_laws.specs.Symbols.{Model, Item, IsModel, pairs_of, models, AreModels, Encodes, Decodes, EncodesAll, DecodesAll}
 use Rattle.constriction_laws.specs.Undone.{decode_back}
 use Rattle.constriction_laws.proofs.Undoing.{all_undone, all_free}
 use Rattle.constriction_laws.proofs.ComingBack.{decodes_only, map-reverse, all-reverse}
@@ -22,24 +22,21 @@ zip_push [] (b ∷ ys) x y same = absurd (omega arith)
 zip_push (a ∷ xs) [] x y same = absurd (omega arith)
 zip_push {A} {B} (a ∷ xs) (b ∷ ys) x y same = ap (λ (ps : List (A × B)). (a, b) ∷ ps) (zip_push xs ys x y (omega arith))
 
+abbrev left_in : {A : Type 0} → Iter A → ℕ
+left_in s = length (iter_rest s)
+
 module _ {A B : Type 0} where
-  abbrev left_first : Iter A → ℕ
-  left_first s = length (iter_rest s)
-
-  abbrev left_second : Iter B → ℕ
-  left_second s = length (iter_rest s)
-
   abbrev rest_of : Zip (Iter A) (Iter B) → List (A × B)
   rest_of i = zip (iter_rest (zip_first i)) (iter_rest (zip_second i))
 
   abbrev SameLength : Zip (Iter A) (Iter B) → Type 0
-  SameLength i = left_first (zip_first i) ≡ left_second (zip_second i)
+  SameLength i = left_in (zip_first i) ≡ left_in (zip_second i)
 
   abbrev both_now : Bor A × Bor B → A × B
   both_now p = (p.0.now, p.1.now)
 
   pairs_from_back : (i : Zip (Iter A) (Iter B)) (xs : List (Bor A × Bor B)) (j : Zip (Iter A) (Iter B)) → SameLength i
-      → Yields (zip_steps_back iter_steps_back iter_steps_back left_first left_second) i xs j
+      → Yields (zip_steps_back iter_steps_back iter_steps_back left_in left_in) i xs j
       → (rest_of i ≡ rest_of j ++ reverse (map both_now xs)) × SameLength j
   pairs_from_back i [] j same run = (ap rest_of run ∙ sym (append-nil (rest_of j)), subst SameLength run same)
   pairs_from_back i (x ∷ xs) j same run =
@@ -47,16 +44,18 @@ module _ {A B : Type 0} where
       let first = run.1.0.3 (omega (arith, same)) in
       let second = run.1.1.3 (omega (arith, same)) in
       let alike : SameLength k = omega (arith, same, ap length first, ap length second, length-append (iter_rest (zip_first k)) (x.0.now ∷ []), length-append (iter_rest (zip_second k)) (x.1.now ∷ [])) in
-      let more = pairs_from_back k xs j alike run.2 in
-      (ap₂ (λ (xs : List A) (ys : List B). zip xs ys) first second
-      ∙ zip_push (iter_rest (zip_first k)) (iter_rest (zip_second k)) x.0.now x.1.now alike
-      ∙ ap (λ (ps : List (A × B)). ps ++ both_now x ∷ []) more.0
-      ∙ append_assoc (rest_of j) (reverse (map both_now xs)) (both_now x ∷ [])
-      ∙ ap (λ (ps : List (A × B)). rest_of j ++ ps) (sym (reverse-append (both_now x ∷ []) (map both_now xs))), more.1)
+      let more = pairs_from_back k xs j alike run.2 in (
+        ap₂ (λ (xs : List A) (ys : List B). zip xs ys) first second
+            ∙ zip_push (iter_rest (zip_first k)) (iter_rest (zip_second k)) x.0.now x.1.now alike
+            ∙ ap (λ (ps : List (A × B)). ps ++ both_now x ∷ []) more.0
+            ∙ append_assoc (rest_of j) (reverse (map both_now xs)) (both_now x ∷ [])
+            ∙ ap (λ (ps : List (A × B)). rest_of j ++ ps) (sym (reverse-append (both_now x ∷ []) (map both_now xs))),
+        more.1,
+      )
 
   -- where it ended, no item is left
-  no_pair_left : (i j : Zip (Iter A) (Iter B)) → SameLength i → zip_steps_back iter_steps_back iter_steps_back left_first left_second i None j → rest_of i ≡ []
-  no_pair_left i j same none = elim (cases_lt 0 (left_first (zip_first i))) [
+  no_pair_left : (i j : Zip (Iter A) (Iter B)) → SameLength i → zip_steps_back iter_steps_back iter_steps_back left_in left_in i None j → rest_of i ≡ []
+  no_pair_left i j same none = elim (cases_lt 0 (left_in (zip_first i))) [
     | inl some ↦ elim (none.1 (omega (arith, same, some))) [
       | inl first ↦ (let ended = first.3 (omega (arith, same)) in absurd (omega (arith, some, ended.0)))
       | inr second ↦ (let ended = second.3 (omega (arith, same)) in absurd (omega (arith, some, same, ended.0)))
@@ -64,7 +63,7 @@ module _ {A B : Type 0} where
     | inr empty ↦ ap (λ (xs : List A). zip xs (iter_rest (zip_second i))) (none_left (iter_rest (zip_first i)) (omega arith))
   ]
 
-  pub all_pairs_from_back : (i : Zip (Iter A) (Iter B)) (xs : List (Bor A × Bor B)) → SameLength i → Drains (zip_steps_back iter_steps_back iter_steps_back left_first left_second) i xs
+  pub all_pairs_from_back : (i : Zip (Iter A) (Iter B)) (xs : List (Bor A × Bor B)) → SameLength i → Drains (zip_steps_back iter_steps_back iter_steps_back left_in left_in) i xs
       → map both_now xs ≡ reverse (rest_of i)
   all_pairs_from_back i xs same run =
       let front = pairs_from_back i xs run.1.0 same run.1.1 in

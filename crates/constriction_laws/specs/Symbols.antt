@@ -1,5 +1,5 @@
 -- What coding a symbol under a table does to the stack coder's state, and what coding a list of symbols does.
-use Rattle.std.specs.Prelude.{◌≡◌, ℕ, ◌≤◌, List, [], map}
+use Rattle.std.specs.Prelude.{◌≡◌, ℕ, ◌≤◌, List, map}
 use Rattle.std.specs.List.{AllByRecursion, zip}
 use Rattle.constriction_base.specs.Tables.{Has, IsTable}
 use Rattle.constriction_stack.specs.Ans.{AnsState, IsNext, pop, IsPush}

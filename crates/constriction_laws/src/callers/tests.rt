@@ -4,6 +4,7 @@ use super::iterators::{LastFirst, list_from_an_iterator};
 use super::round_trips::{any_bytes, back_to_a_position, two_precisions, valid_bits};
 use crate::lists::lists_undo;
 use crate::stack::lists::Decoding;
+use crate::stack::round_trips::binary::words_through_list;
 use crate::stack::round_trips::coding::encode_list_reverse;
 use crate::stack::round_trips::decoders::{
     list_as_decoder, list_into_decoder, list_into_seekable_decoder,
@@ -16,7 +17,6 @@ use crate::stack::round_trips::steps::{encode_and_decode, export_and_import};
 use crate::stack::round_trips::words::{
     list_from_borrowed_words, list_from_reversed_words, list_through_words, words_of_list,
 };
-use crate::stack::round_trips::binary::words_through_list;
 use crate::stack::{binary, guards, lists, positions, readings, sizes, steps, words};
 use constriction_base::iterators::FallibleIteratorReadWords;
 use constriction_base::weights::WeightTable;
@@ -161,7 +161,8 @@ fn words_come_back(rt: HostRuntime) -> Result<(), Fail> {
     let table = WeightTable::<u8, 8>::new(rt.alloc(), &[255, 1])?;
     let mut words = Vec::new(rt.alloc());
     words.extend_from_slice(&[7u8, 0, 255, 0])?;
-    let Some(again) = words_through_list::<u8, u16, Vec<u8>, _, 8>(rt.alloc(), words, 9, &table) else {
+    let Some(again) = words_through_list::<u8, u16, Vec<u8>, _, 8>(rt.alloc(), words, 9, &table)
+    else {
         return Err(Fail::from("refused"));
     };
     assert_eq!(rt; again.as_slice(), [7u8, 0, 255, 0].as_slice());
@@ -174,7 +175,9 @@ fn words_come_back(rt: HostRuntime) -> Result<(), Fail> {
 fn shown_words_are_given(rt: HostRuntime) -> Result<(), Fail> {
     let table = WeightTable::<u8, 8>::new(rt.alloc(), &[255, 1])?;
     let mut coder = new(rt.alloc());
-    assert!(rt; encode_list_reverse::<u8, u16, Vec<u8>, _, 8>(&mut coder, &[1, 1, 1], &table).is_ok());
+    assert!(rt;
+        encode_list_reverse::<u8, u16, Vec<u8>, _, 8>(&mut coder, &[1, 1, 1], &table).is_ok()
+    );
     assert!(rt; encode_and_decode(&mut coder, &1, &table) == Some(1));
     let Some(coder) = export_and_import(coder) else {
         return Err(Fail::from("refused"));
@@ -208,6 +211,7 @@ fn each_law_is_a_call(_rt: HostRuntime) -> Result<(), Fail> {
     lists::lists_of_entries_undo();
     positions::one_word_at_most();
     positions::position_leads_back::<usize>();
+    guards::shown_words_are_exported();
     readings::items_are_words::<u8, Infallible, LastFirst>();
     readings::decodes_are_words::<usize, u8, FallibleIteratorReadWords<LastFirst>>();
     readings::symbols_come_back_by_reads::<usize, u8, FallibleIteratorReadWords<LastFirst>>();

@@ -129,11 +129,7 @@ pub fn decode_pairs<
     Backend: ReadWords<Word, Stack>,
     M: DecoderModel<PRECISION>,
     const PRECISION: usize,
->(
-    alloc: Global,
-    coder: &mut AnsCoder<Word, State, Backend>,
-    models: &[M],
-) -> Option<Vec<M::Symbol>>
+>(alloc: Global, coder: &mut AnsCoder<Word, State, Backend>, models: &[M]) -> Option<Vec<M::Symbol>>
 where
     M::Probability: WordOf<Word>,
     Backend::ReadError: Drop,

@@ -5,8 +5,7 @@ ghost use Rattle.constriction_stack.specs.Ans.{IsValid};
 
 use crate::stack::round_trips::coding::{decode_list, encode_list_reverse};
 use constriction_base::backends::{
-    BoundedReadWords, Holds, IntoReadWords, IntoSeekReadWords, ReadWords, Stack,
-    WriteWords,
+    BoundedReadWords, Holds, IntoReadWords, IntoSeekReadWords, ReadWords, Stack, WriteWords,
 };
 use constriction_base::model::{DecoderModel, EncoderModel, EntropyModel};
 use constriction_stack::coder::AnsCoder;
@@ -27,7 +26,12 @@ pub fn list_into_decoder<
     coder: AnsCoder<Word, State, Backend>,
     symbols: &[M::Symbol],
     model: &M,
-) -> Option<(Vec<M::Symbol>, AnsCoder<Word, State, Backend::IntoReadWords>)>
+) -> Option<
+    (
+        Vec<M::Symbol>,
+        AnsCoder<Word, State, Backend::IntoReadWords>,
+    ),
+>
 where
     M::Probability: WordOf<Word>,
     Backend::WriteError: Drop,
@@ -87,7 +91,12 @@ pub fn list_into_seekable_decoder<
     coder: AnsCoder<Word, State, Backend>,
     symbols: &[M::Symbol],
     model: &M,
-) -> Option<(Vec<M::Symbol>, AnsCoder<Word, State, Backend::IntoSeekReadWords>)>
+) -> Option<
+    (
+        Vec<M::Symbol>,
+        AnsCoder<Word, State, Backend::IntoSeekReadWords>,
+    ),
+>
 where
     M::Probability: WordOf<Word>,
     Backend::WriteError: Drop,

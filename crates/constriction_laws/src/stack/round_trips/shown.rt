@@ -13,10 +13,7 @@ pub fn words_shown_and_given<
     Word: WordOf<State>,
     State: BitArray,
     Backend: WriteWords<Word> + Words<Word> + Drop,
->(
-    alloc: Global,
-    coder: AnsCoder<Word, State, Backend>,
-) -> Option<(Vec<Word>, Backend)>
+>(alloc: Global, coder: AnsCoder<Word, State, Backend>) -> Option<(Vec<Word>, Backend)>
 where
     Backend::WriteError: Drop,
     requires { Backend.words coder.backend ≡ reverse (Backend.lent coder.backend) }

@@ -1,6 +1,5 @@
-use Rattle.std.proofs.Common.{◌≡◌, ◌∙◌, ◌≤◌, ℕ, List, [], ◌∷◌, ap, sym, subst, arith, map}
+use Rattle.std.proofs.Common.{◌∙◌, ap, subst, arith, map}
 use Rattle.std.specs.Prelude.{reverse}
-use Rattle.constriction_stack.specs.Ans.{AnsState}
 use Rattle.constriction_stack.specs.Binary.{binary_state, binary_words}
 use Rattle.constriction_stack.proofs.BinaryForms.{binary_valid}
 use Rattle.constriction_laws.specs.Symbols.{Model, IsModel, EncodesAll, DecodesAll, item_of, items_of}

@@ -1,7 +1,6 @@
-use Rattle.std.proofs.Common.{◌≡◌, List, subst, map}
+use Rattle.std.proofs.Common.{◌≡◌, subst, map}
 use Rattle.std.specs.Prelude.{reverse}
 use Rattle.std.proofs.lemmas.Result.{MatchResult-weaker}
-
 use Rattle.constriction_laws.specs.Symbols.{Model, EncodesAll, items_of, item_of}
 use Rattle.constriction_laws.proofs.ListCalls.{all_from_back, encodes_of}
 use Rattle.constriction_laws.proofs.stack.round_trips.coding.encode_list_reverse.Goals as goal

@@ -1,4 +1,4 @@
-use Rattle.std.proofs.Common.{◌≡◌, ◌≤◌, ◌∙◌, List, length, take, vec_len, sym, ap, ap₂, subst, arith}
+use Rattle.std.proofs.Common.{◌≡◌, ◌≤◌, ◌∙◌, length, take, vec_len, sym, ap, ap₂, subst, arith}
 use Rattle.std.specs.Prelude.{reverse, map}
 use Rattle.std.proofs.lemmas.List.{take-take, length-take, length-reverse, length-map, reverse-reverse}
 use Rattle.constriction_stack.specs.Ans.{AnsState}

@@ -1,4 +1,4 @@
-use Rattle.std.proofs.Common.{◌^◌, ◌<◌, ◌≤◌, sym, subst, arith}
+use Rattle.std.proofs.Common.{◌^◌, ◌<◌, subst, arith}
 use Rattle.std.specs.Prelude.{false}
 use Rattle.constriction_laws.specs.Readings.{words_left}
 use Rattle.constriction_laws.specs.Symbols.{Model, IsModel, items_of}
