@@ -4,8 +4,9 @@
 //! the export below the head.
 
 ghost use Rattle.std.specs.Prelude.{◌≡◌, ℕ};
+ghost use Rattle.constriction_base.specs.Digits.{count_of_words};
 ghost use Rattle.constriction_base.specs.Steps.{IsSizes};
-ghost use Rattle.constriction_stack.specs.Ans.{AnsState, IsValid, count_of_words, exported, filled};
+ghost use Rattle.constriction_stack.specs.Ans.{AnsState, IsValid, exported, filled};
 ghost use Rattle.constriction_stack.specs.Binary.{IsBinary, binary_state, binary_words};
 ghost use Rattle.constriction_stack.specs.Guards.{without};
 
