@@ -6,9 +6,9 @@ use Rattle.constriction_base.specs.Tables.{Has, IsTable, Follow, Covers}
 use Rattle.constriction_base.specs.Entries.{one_at, one_of}
 use Rattle.constriction_stack.specs.Ans.{AnsState, IsValid, pop}
 use Rattle.constriction_stack.proofs.Pushing.{push_exists, push_unique}
+use Rattle.constriction_base.proofs.Entering.{entry_is_step}
 use Rattle.constriction_laws.specs.Symbols.{Model, IsModel, Knows, Encodes, Decodes}
 use Rattle.constriction_laws.specs.Undone.{decode_back, encode_back}
-use Rattle.constriction_base.proofs.Entering.{entry_is_step}
 
 -- each number that is cut lies in an entry
 covering : {S : Type 0} (low high q : ℕ) (es : List (S × ℕ × ℕ)) → Follow low es high → low ≤ q → q < high

@@ -4,8 +4,8 @@ use Rattle.std.specs.Prelude.{reverse, map}
 use Rattle.std.specs.List.{AllByRecursion}
 use Rattle.std.proofs.lemmas.List.{reverse-append, map-append}
 use Rattle.constriction_base.specs.Steps.{IsSizes}
-use Rattle.constriction_stack.specs.Ans.{AnsState, IsValid}
-use Rattle.constriction_laws.specs.Symbols.{Model, IsModel, Decodes, empty, Item, models, AreModels, AreKnown, EncodesAll, DecodesAll}
+use Rattle.constriction_stack.specs.Ans.{AnsState, IsValid, empty}
+use Rattle.constriction_laws.specs.Symbols.{Model, IsModel, Decodes, Item, models, AreModels, AreKnown, EncodesAll, DecodesAll}
 use Rattle.constriction_laws.proofs.Choosing.{encode_exists, encode_unique, decode_unique}
 
 -- ---- lists in reverse
@@ -19,7 +19,7 @@ all-append : {A : Type 0} (P : A → Type 0) (xs ys : List A) → AllByRecursion
 all-append P [] ys h k = k
 all-append P (x ∷ xs) ys h k = (h.0, all-append P xs ys h.1 k)
 
-all-reverse : {A : Type 0} (P : A → Type 0) (xs : List A) → AllByRecursion P xs → AllByRecursion P (reverse xs)
+pub all-reverse : {A : Type 0} (P : A → Type 0) (xs : List A) → AllByRecursion P xs → AllByRecursion P (reverse xs)
 all-reverse P [] h = tt
 all-reverse {A} P (x ∷ xs) h =
     subst (λ (ys : List A). AllByRecursion P ys) (sym (reverse-append (x ∷ []) xs)) (all-append P (reverse xs) (x ∷ []) (all-reverse P xs h.1) (h.0, tt))

@@ -4,5 +4,7 @@ pub mod Exports
 pub mod ComingBack
 pub mod Seeking
 pub mod SameModel
-pub mod ByteLists
 pub mod Readings
+pub mod ListCalls
+pub mod PairCalls
+pub mod HavingRoom

@@ -9,12 +9,12 @@ use Rattle.constriction_base.specs.Backends.{Reads}
 use Rattle.constriction_base.specs.Iterators.{FusedRead}
 use Rattle.constriction_base.specs.Steps.{IsSizes}
 use Rattle.constriction_stack.specs.Ans.{AnsState, AnsValue, filled, refilled, RefillsBy}
+use Rattle.constriction_base.specs.Readings.{Gives}
 use Rattle.constriction_stack.specs.Steps.{FilledBy}
+use Rattle.constriction_base.proofs.Sizes.{Facts, facts}
 use Rattle.constriction_stack.proofs.Importing.{filled_low, filled_full}
 use Rattle.constriction_laws.specs.Readings.{TellsItems, words_left, told, DecodesBy, DecodesAllBy}
 use Rattle.constriction_laws.specs.Symbols.{Model, Item, Decodes, DecodesAll}
-use Rattle.constriction_base.specs.Readings.{Gives}
-use Rattle.constriction_base.proofs.Sizes.{Facts, facts}
 
 -- words that make a head which fits all move in
 filled_by : (w s head : ℕ) (ds rest : List ℕ) → Facts w s → number_from_digits_after (2 ^ w) head ds < 2 ^ s

@@ -1,6 +1,6 @@
 -- What coding a symbol under a table does to the stack coder's state, and what coding a list of symbols does.
 use Rattle.std.specs.Prelude.{◌≡◌, ℕ, ◌≤◌, List, [], map}
-use Rattle.std.specs.List.{AllByRecursion}
+use Rattle.std.specs.List.{AllByRecursion, zip}
 use Rattle.constriction_base.specs.Tables.{Has, IsTable}
 use Rattle.constriction_stack.specs.Ans.{AnsState, IsNext, pop, IsPush}
 use Rattle.constriction_laws.specs.Lists.{StepsLead}
@@ -35,10 +35,6 @@ Decodes w s model symbol old new =
 
 -- ---- lists
 
--- the state of a new coder
-abbrev pub empty : AnsState
-empty = record { head = 0; words = [] }
-
 -- a symbol, and the model under which it is coded
 pub record Item (S : Type 0) : Type 0 where
   pub model : Model S
@@ -69,3 +65,7 @@ EncodesAll w s items old new = StepsLead (λ item. Encodes w s item.model item.s
 -- decodes of the items, one after the other, lead from the old state to the new one
 abbrev pub DecodesAll : {S : Type 0} → ℕ → ℕ → List (Item S) → AnsState → AnsState → Type 0
 DecodesAll w s items old new = StepsLead (λ item. Decodes w s item.model item.symbol) items old new
+
+-- symbols, each under the table of a model of its own at a precision
+abbrev pub pairs_of : {S M : Type 0} → ℕ → (M → List (S × ℕ × ℕ)) → List S → List M → List (Item S)
+pairs_of precision table symbols models = map (λ pair. item_of (record { precision = precision; table = table pair.1 }) pair.0) (zip symbols models)

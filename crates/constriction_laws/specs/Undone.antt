@@ -2,9 +2,9 @@
 use Rattle.std.proofs.Common.{ℕ, sym, arith}
 use Rattle.constriction_base.specs.Steps.{IsSizes}
 use Rattle.constriction_stack.specs.Ans.{AnsState, IsValid}
+use Rattle.constriction_base.proofs.Entering.{entry_is_step}
 use Rattle.constriction_stack.proofs.Pushing.{valid_pop}
 use Rattle.constriction_laws.specs.Symbols.{Model, IsModel, Encodes, Decodes}
-use Rattle.constriction_base.proofs.Entering.{entry_is_step}
 
 -- words of w bits and heads of s bits
 pub record Sizes : Type 0 where

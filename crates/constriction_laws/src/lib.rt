@@ -16,4 +16,6 @@
 #[cfg(test)]
 mod callers;
 pub mod lists;
+pub mod room;
+pub mod round_trips;
 pub mod stack;

@@ -7,6 +7,8 @@
 //! - [`positions`]: a recorded position leads back to its moment.
 //! - [`readings`]: the same over backends of which reads tell the words, as iterators.
 //! - [`guards`]: the words that a guard shows go again.
+//! - [`refusals`]: when a step is refused, and when it isn't.
+//! - [`round_trips`]: whole lists there and back, by the coder's own calls.
 //! - [`sizes`]: how many words and bits a state has.
 
 pub mod binary;
@@ -14,6 +16,8 @@ pub mod guards;
 pub mod lists;
 pub mod positions;
 pub mod readings;
+pub mod refusals;
+pub mod round_trips;
 pub mod sizes;
 pub mod steps;
 pub mod words;

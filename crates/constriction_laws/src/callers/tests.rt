@@ -1,106 +1,189 @@
-//! The callers of the laws, and the laws themselves, at concrete types.
+//! The round trips and the callers, and the laws themselves, at concrete types.
 
-use super::decoders::{list_from_decoders, list_from_seekable_decoders};
 use super::iterators::{LastFirst, list_from_an_iterator};
-use super::lent_words::{list_comes_back_twice, list_from_lent_words};
-use super::lists::encode_list;
-use super::other_words::{list_from_borrowed_words, list_from_reversed_words};
-use super::round_trips::{
-    any_bytes, any_list, back_to_a_position, encode_and_decode, export_and_import, two_precisions,
-    valid_bits,
-};
-use super::seeking::back_by_seeking;
+use super::round_trips::{any_bytes, back_to_a_position, two_precisions, valid_bits};
 use crate::lists::lists_undo;
 use crate::stack::lists::Decoding;
-use crate::stack::{binary, lists, positions, readings, sizes, steps, words};
+use crate::stack::round_trips::coding::encode_list_reverse;
+use crate::stack::round_trips::decoders::{
+    list_as_decoder, list_into_decoder, list_into_seekable_decoder,
+};
+use crate::stack::round_trips::lent_words::list_from_lent_words;
+use crate::stack::round_trips::pairs::pairs_through_words;
+use crate::stack::round_trips::positions::list_before_a_position;
+use crate::stack::round_trips::shown::words_shown_and_given;
+use crate::stack::round_trips::steps::{encode_and_decode, export_and_import};
+use crate::stack::round_trips::words::{
+    list_from_borrowed_words, list_from_reversed_words, list_through_words, words_of_list,
+};
+use crate::stack::round_trips::binary::words_through_list;
+use crate::stack::{binary, guards, lists, positions, readings, sizes, steps, words};
 use constriction_base::iterators::FallibleIteratorReadWords;
 use constriction_base::weights::WeightTable;
 use constriction_stack::coder::AnsCoder;
-use constriction_stream::coder::Code;
+use std::alloc::Global;
 use std::convert::Infallible;
 use std::test::Fail;
 
+type Small = AnsCoder<u8, u16, Vec<u8>>;
+
+/// Each of them is put on the last one first, and comes back in order.
+const SYMBOLS: [usize; 5] = [1, 1, 0, 1, 0];
+
+fn new(alloc: Global) -> Small {
+    AnsCoder::new(alloc)
+}
+
+fn is_list(again: &Vec<usize>) -> bool {
+    again.as_slice() == SYMBOLS.as_slice()
+}
+
+fn from_words(alloc: Global, table: &WeightTable<u8, 8>) -> bool {
+    match list_through_words::<u8, u16, Vec<u8>, _, 8>(alloc, new(alloc), &SYMBOLS, table) {
+        Some((again, coder)) => is_list(&again) && coder.is_empty(),
+        None => false,
+    }
+}
+
+fn from_reversed_words(alloc: Global, table: &WeightTable<u8, 8>) -> bool {
+    let Some(mut words) = words_of_list::<u8, u16, _, 8>(alloc, &SYMBOLS, table) else {
+        return false;
+    };
+    words.reverse();
+    match list_from_reversed_words::<u8, u16, _, 8>(alloc, words, 5, table) {
+        Some(again) => is_list(&again),
+        None => false,
+    }
+}
+
+fn from_borrowed_words(alloc: Global, table: &WeightTable<u8, 8>) -> bool {
+    let Some(words) = words_of_list::<u8, u16, _, 8>(alloc, &SYMBOLS, table) else {
+        return false;
+    };
+    match list_from_borrowed_words::<u8, u16, _, 8>(alloc, words.as_slice(), 5, table) {
+        Some(again) => is_list(&again),
+        None => false,
+    }
+}
+
+fn from_items(alloc: Global, table: &WeightTable<u8, 8>) -> bool {
+    match list_from_an_iterator(alloc, &SYMBOLS, table) {
+        Some(again) => is_list(&again),
+        None => false,
+    }
+}
+
+fn from_its_own_decoder(alloc: Global, table: &WeightTable<u8, 8>) -> bool {
+    match list_into_decoder::<u8, u16, Vec<u8>, _, 8>(alloc, new(alloc), &SYMBOLS, table) {
+        Some((again, decoder)) => is_list(&again) && decoder.is_empty(),
+        None => false,
+    }
+}
+
+fn from_its_own_seekable_decoder(alloc: Global, table: &WeightTable<u8, 8>) -> bool {
+    match list_into_seekable_decoder::<u8, u16, Vec<u8>, _, 8>(alloc, new(alloc), &SYMBOLS, table) {
+        Some((again, decoder)) => is_list(&again) && decoder.is_empty(),
+        None => false,
+    }
+}
+
+fn from_a_borrowing_decoder(alloc: Global, table: &WeightTable<u8, 8>) -> bool {
+    let mut coder = new(alloc);
+    match list_as_decoder::<u8, u16, Global, _, 8>(alloc, &mut coder, &SYMBOLS, table) {
+        Some((lent, own)) => is_list(&lent) && is_list(&own) && coder.is_empty(),
+        None => false,
+    }
+}
+
+fn from_lent_words(alloc: Global, table: &WeightTable<u8, 8>) -> bool {
+    let mut coder = new(alloc);
+    match list_from_lent_words::<u8, u16, Global, _, 8>(alloc, &mut coder, &SYMBOLS, table) {
+        Some((lent, own)) => is_list(&lent) && is_list(&own) && coder.is_empty(),
+        None => false,
+    }
+}
+
+fn from_a_position(alloc: Global, table: &WeightTable<u8, 8>) -> bool {
+    let mut coder = new(alloc);
+    match list_before_a_position::<u8, u16, _, 8>(alloc, &mut coder, &SYMBOLS, &[0, 1], table) {
+        Some(again) => is_list(&again),
+        None => false,
+    }
+}
+
 #[test]
-fn symbols_come_back(rt: HostRuntime) -> Result<(), Fail> {
-    let wide = WeightTable::<u8, 8>::new(rt.alloc(), &[255, 1])?;
-    let narrow = WeightTable::<u8, 5>::new(rt.alloc(), &[31, 1])?;
-    assert!(rt; two_precisions(rt.alloc(), 1, &wide, 0, &narrow) == Some((0, 1, true)));
-    let symbols = [1usize, 1, 0, 1, 0];
-    let Some((again, is_empty)) = any_list(rt.alloc(), symbols.as_slice(), &wide) else {
+fn symbols_come_back_from_words(rt: HostRuntime) -> Result<(), Fail> {
+    let table = WeightTable::<u8, 8>::new(rt.alloc(), &[255, 1])?;
+    assert!(rt; from_words(rt.alloc(), &table));
+    assert!(rt; from_reversed_words(rt.alloc(), &table));
+    assert!(rt; from_borrowed_words(rt.alloc(), &table));
+    assert!(rt; from_items(rt.alloc(), &table));
+    Ok(())
+}
+
+#[test]
+fn symbols_come_back_from_the_coder(rt: HostRuntime) -> Result<(), Fail> {
+    let table = WeightTable::<u8, 8>::new(rt.alloc(), &[255, 1])?;
+    assert!(rt; from_its_own_decoder(rt.alloc(), &table));
+    assert!(rt; from_its_own_seekable_decoder(rt.alloc(), &table));
+    assert!(rt; from_a_borrowing_decoder(rt.alloc(), &table));
+    assert!(rt; from_lent_words(rt.alloc(), &table));
+    assert!(rt; from_a_position(rt.alloc(), &table));
+    Ok(())
+}
+
+/// The weights of the second table are those of the first the other way round.
+#[test]
+fn symbols_of_two_tables_come_back(rt: HostRuntime) -> Result<(), Fail> {
+    let tables = [
+        WeightTable::<u8, 8>::new(rt.alloc(), &[255, 1])?,
+        WeightTable::<u8, 8>::new(rt.alloc(), &[1, 255])?,
+    ];
+    let Some((again, coder)) = pairs_through_words::<u8, u16, Vec<u8>, _, 8>(
+        rt.alloc(),
+        new(rt.alloc()),
+        &[1, 0],
+        &tables,
+    ) else {
         return Err(Fail::from("refused"));
     };
-    assert_eq!(rt; again.as_slice(), [0usize, 1, 0, 1, 1].as_slice());
-    assert!(rt; is_empty);
-    assert!(rt; back_to_a_position(rt.alloc(), 1, 0, &wide) == Some((1, true)));
-    assert!(rt; back_by_seeking(rt.alloc(), 1, 0, &wide) == Some((1, true)));
-    let mut coder: AnsCoder<u8, u16, Vec<u8>> = AnsCoder::new(rt.alloc());
-    assert!(rt; encode_and_decode(&mut coder, &1, &wide) == Some(1));
-    assert!(rt; export_and_import(coder).is_some());
+    assert_eq!(rt; again.as_slice(), [1usize, 0].as_slice());
+    assert!(rt; coder.is_empty());
+    let narrow = WeightTable::<u8, 5>::new(rt.alloc(), &[31, 1])?;
+    assert!(rt; two_precisions(rt.alloc(), 1, &tables[0], 0, &narrow) == Some((0, 1, true)));
+    assert!(rt; back_to_a_position(rt.alloc(), 1, 0, &tables[0]) == Some((1, true)));
     Ok(())
 }
 
-/// The symbols, the last one first, from words that are read otherwise than from a vector.
+/// Zero words at the top too.
 #[test]
-fn symbols_come_back_from_other_words(rt: HostRuntime) -> Result<(), Fail> {
+fn words_come_back(rt: HostRuntime) -> Result<(), Fail> {
     let table = WeightTable::<u8, 8>::new(rt.alloc(), &[255, 1])?;
-    let symbols = [1usize, 1, 0, 1, 0];
-    let reversed = [0usize, 1, 0, 1, 1];
-    for given in [
-        list_from_reversed_words(rt.alloc(), symbols.as_slice(), &table),
-        list_from_borrowed_words(rt.alloc(), symbols.as_slice(), &table),
-        list_from_an_iterator(rt.alloc(), symbols.as_slice(), &table),
-    ] {
-        let Some((again, is_empty)) = given else {
-            return Err(Fail::from("refused"));
-        };
-        assert_eq!(rt; again.as_slice(), reversed.as_slice());
-        assert!(rt; is_empty);
-    }
-    Ok(())
-}
-
-/// The same from words that stay the coder's, and a second time from the coder.
-#[test]
-fn symbols_come_back_twice(rt: HostRuntime) -> Result<(), Fail> {
-    let table = WeightTable::<u8, 8>::new(rt.alloc(), &[255, 1])?;
-    let symbols = [1usize, 1, 0, 1, 0];
-    let reversed = [0usize, 1, 0, 1, 1];
-    for given in [
-        list_comes_back_twice(rt.alloc(), symbols.as_slice(), &table),
-        list_from_decoders(rt.alloc(), symbols.as_slice(), &table),
-        list_from_seekable_decoders(rt.alloc(), symbols.as_slice(), &table),
-    ] {
-        let Some((first, second)) = given else {
-            return Err(Fail::from("refused"));
-        };
-        assert_eq!(rt; first.as_slice(), reversed.as_slice());
-        assert_eq!(rt; second.as_slice(), reversed.as_slice());
-    }
+    let mut words = Vec::new(rt.alloc());
+    words.extend_from_slice(&[7u8, 0, 255, 0])?;
+    let Some(again) = words_through_list::<u8, u16, Vec<u8>, _, 8>(rt.alloc(), words, 9, &table) else {
+        return Err(Fail::from("refused"));
+    };
+    assert_eq!(rt; again.as_slice(), [7u8, 0, 255, 0].as_slice());
     Ok(())
 }
 
 /// Each symbol 1 has the last of 256 quantiles: it makes the head 255, then 65535, and the third writes the
 /// head's low word, 255, and makes 65535 again.
 #[test]
-fn a_coder_is_as_before_its_guard(rt: HostRuntime) -> Result<(), Fail> {
+fn shown_words_are_given(rt: HostRuntime) -> Result<(), Fail> {
     let table = WeightTable::<u8, 8>::new(rt.alloc(), &[255, 1])?;
-    let symbols = [1usize; 3];
-    let mut coder: AnsCoder<u8, u16, Vec<u8>> = AnsCoder::new(rt.alloc());
-    assert!(rt; encode_list(&mut coder, symbols.as_slice(), &table).is_some());
-    for _ in 0..2 {
-        let Some((again, is_empty)) = list_from_lent_words(
-            rt.alloc(),
-            &mut coder,
-            symbols.as_slice(),
-            &table,
-        ) else {
-            return Err(Fail::from("refused"));
-        };
-        assert_eq!(rt; again.as_slice(), symbols.as_slice());
-        assert!(rt; is_empty);
-        assert_eq!(rt; coder.state(), 65535);
-        assert_eq!(rt; coder.bulk().as_slice(), [255u8].as_slice());
-    }
+    let mut coder = new(rt.alloc());
+    assert!(rt; encode_list_reverse::<u8, u16, Vec<u8>, _, 8>(&mut coder, &[1, 1, 1], &table).is_ok());
+    assert!(rt; encode_and_decode(&mut coder, &1, &table) == Some(1));
+    let Some(coder) = export_and_import(coder) else {
+        return Err(Fail::from("refused"));
+    };
+    let Some((shown, given)) = words_shown_and_given(rt.alloc(), coder) else {
+        return Err(Fail::from("refused"));
+    };
+    assert_eq!(rt; shown.as_slice(), [255u8, 255, 255].as_slice());
+    assert_eq!(rt; given.as_slice(), [255u8, 255, 255].as_slice());
     Ok(())
 }
 
@@ -115,6 +198,7 @@ fn bits_of_a_state(rt: HostRuntime) -> Result<(), Fail> {
 #[test]
 fn each_law_is_a_call(_rt: HostRuntime) -> Result<(), Fail> {
     any_bytes();
+    guards::shown_words_go();
     lists_undo::<Decoding<usize>>();
     binary::binary_export_of_import();
     binary::binary_import_of_export();

@@ -3,11 +3,11 @@
 //! Each symbol has its own table and precision, as long as the precision is allowed. What is proved
 //! of one step is enough: the laws here follow by [`lists_undo`].
 
-ghost use Rattle.constriction_base.specs.Readings.{BeginsHigh};
 ghost use Rattle.std.specs.Prelude.{◌≡◌, ℕ, List, reverse, ⊤};
 ghost use Rattle.constriction_base.specs.Steps.{Step, IsSizes, AreSteps, AreWords};
-ghost use Rattle.constriction_stack.specs.Ans.{AnsState, IsValid, filled, exported, pop_all, AreNext, IsPushAll};
-ghost use Rattle.constriction_laws.specs.Symbols.{Model, Item, Encodes, Decodes, IsModel, models, AreModels, AreKnown, EncodesAll, DecodesAll, empty};
+ghost use Rattle.constriction_base.specs.Readings.{BeginsHigh};
+ghost use Rattle.constriction_stack.specs.Ans.{AnsState, IsValid, filled, exported, pop_all, AreNext, IsPushAll, empty};
+ghost use Rattle.constriction_laws.specs.Symbols.{Model, Item, Encodes, Decodes, IsModel, models, AreModels, AreKnown, EncodesAll, DecodesAll};
 ghost use Rattle.constriction_laws.specs.Undone.{Sizes, decode_back, encode_back, decoded_valid};
 
 use crate::lists::{StepsUndo, lists_undo};

@@ -6,10 +6,10 @@
 ghost use Rattle.std.specs.Prelude.{◌≡◌, ◌<◌, ◌^◌, ℕ, List, map, reverse};
 ghost use Rattle.constriction_base.specs.Iterators.{FusedRead};
 ghost use Rattle.constriction_base.specs.Steps.{IsSizes};
-ghost use Rattle.constriction_stack.specs.Ans.{AnsState, AnsValue, exported};
+ghost use Rattle.constriction_stack.specs.Ans.{AnsState, AnsValue, exported, empty};
 ghost use Rattle.constriction_stack.specs.Steps.{FilledBy};
 ghost use Rattle.constriction_laws.specs.Readings.{TellsWords, TellsItems, words_left, told, DecodesBy, DecodesAllBy};
-ghost use Rattle.constriction_laws.specs.Symbols.{Model, Item, models, AreModels, Decodes, EncodesAll, DecodesAll, empty};
+ghost use Rattle.constriction_laws.specs.Symbols.{Model, Item, models, AreModels, Decodes, EncodesAll, DecodesAll};
 
 use crate::stack::lists::symbols_come_back;
 use crate::stack::words::{imports_are_words, reads_are_words};

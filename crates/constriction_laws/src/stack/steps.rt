@@ -6,7 +6,7 @@
 ghost use Rattle.std.specs.Prelude.{◌≡◌, ℕ};
 ghost use Rattle.constriction_base.specs.Steps.{Step, IsSizes, IsStep};
 ghost use Rattle.constriction_base.specs.Tables.{IsTable};
-ghost use Rattle.constriction_stack.specs.Ans.{AnsState, IsValid, Holds, pop, IsPush};
+ghost use Rattle.constriction_stack.specs.Ans.{AnsState, IsValid, IsNext, pop, IsPush};
 ghost use Rattle.constriction_laws.specs.Symbols.{Model, IsModel, Knows, Encodes, Decodes};
 
 /// An entry can be pushed onto each valid state, in exactly one way.
@@ -20,11 +20,11 @@ pub fn one_push()
 /// A pop after a push of an entry gives the state before, and so does a push after a pop.
 pub fn pushes_and_pops_undo()
     ensures pop_undoes { (w s : ℕ) (e : Step) (old new : AnsState) →
-        IsPush w s e old new → Holds e new × (pop w s e new ≡ old) }
+        IsPush w s e old new → IsNext e new × (pop w s e new ≡ old) }
     ensures push_undoes { (w s : ℕ) (e : Step) (old new : AnsState) → IsSizes w s → IsStep w e →
-        IsValid w s old → Holds e old → IsPush w s e (pop w s e old) new → new ≡ old }
+        IsValid w s old → IsNext e old → IsPush w s e (pop w s e old) new → new ≡ old }
     ensures valid { (w s : ℕ) (e : Step) (old : AnsState) → IsSizes w s → IsStep w e →
-        IsValid w s old → Holds e old → IsValid w s (pop w s e old) }
+        IsValid w s old → IsNext e old → IsValid w s (pop w s e old) }
 {}
 
 /// A symbol that its table knows can be encoded onto each valid state, in exactly one way.

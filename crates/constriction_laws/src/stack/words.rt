@@ -1,9 +1,9 @@
 //! The words of the stack coder's states.
 
-ghost use Rattle.constriction_base.specs.Readings.{BeginsHigh};
 ghost use Rattle.std.specs.Prelude.{◌≡◌, ◌<◌, ◌^◌, ℕ, List, Option, Result, map};
 ghost use Rattle.constriction_base.specs.Backends.{Reads};
 ghost use Rattle.constriction_base.specs.Steps.{IsSizes, AreWords};
+ghost use Rattle.constriction_base.specs.Readings.{BeginsHigh};
 ghost use Rattle.constriction_stack.specs.Ans.{AnsState, IsValid, filled, exported, refilled, RefillsBy};
 ghost use Rattle.constriction_stack.specs.Steps.{FilledBy};
 

@@ -2,11 +2,12 @@ use Rattle.std.proofs.Common.{◌≡◌, ℕ, ◌-◌, ◌%◌, ◌^◌, ◌≤�
 use Rattle.std.specs.Prelude.{reverse, map}
 use Rattle.std.proofs.lemmas.List.{take-append-drop, reverse-append, length-reverse, length-map, length-drop, drop-map}
 use Rattle.constriction_base.specs.Steps.{IsSizes}
-use Rattle.constriction_stack.specs.Ans.{AnsState, IsValid}
+use Rattle.constriction_stack.specs.Ans.{AnsState, IsValid, empty}
 use Rattle.constriction_stack.specs.Positions.{position_of, sought}
 use Rattle.constriction_stack.proofs.PositionsKept.{drop_front, held_less}
-use Rattle.constriction_laws.specs.Symbols.{Model, IsModel, Item, item_of, Encodes, Decodes, empty}
+use Rattle.constriction_laws.specs.Symbols.{Model, IsModel, Item, item_of, Encodes, Decodes}
 use Rattle.constriction_laws.proofs.ComingBack.{empty_valid}
+use Rattle.constriction_laws.proofs.ListCalls.{encode_of, decode_of}
 use Rattle.constriction_laws.proofs.Seeking.{encodes_grow, cut_is_sought}
 use Rattle.constriction_laws.proofs.callers.round_trips.back_to_a_position.Goals as goal
 
@@ -19,16 +20,13 @@ returns g c =
     let one : AnsState = c.encode_symbol.new.self.state in
     let two : AnsState = c.encode_symbol-2.new.self.state in
     let last : AnsState = c.decode_symbol.new.self.state in
-    let a = c.in-Ok.ensures.ok in
-    let b = c.in-Ok-encode_symbol.ensures.ok in
-    let d = c.in-Ok-decode_symbol.ensures.ok in
-    let valid : IsValid 8 16 c.new-coder.result.state = subst (λ (x : AnsState). IsValid 8 16 x) (sym c.new-coder.ensures) (empty_valid 8 16) in
-    let here : Encodes 8 16 model c.args.before c.new-coder.result.state one = (a.0, a.1, a.2, a.3.pushed valid) in
-    let first : Encodes 8 16 model c.args.before empty one = subst (λ (x : AnsState). Encodes 8 16 model c.args.before x one) c.new-coder.ensures here in
-    let second : Encodes 8 16 model c.args.since one two = (b.0, b.1, b.2, b.3.pushed first.3.valid) in
-    let third : Decodes 8 16 model c.in-Ok-decode_symbol.again c.from_raw_parts-decoder.result.state last = (d.0, d.1, d.2, d.3.holds, d.3.popped tt) in
+    let valid : IsValid 8 16 c.new-coder.result.state = subst (λ (x : AnsState). IsValid 8 16 x) (sym c.new-coder.ensures.state) (empty_valid 8 16) in
+    let here : Encodes 8 16 model c.args.before c.new-coder.result.state one = encode_of _ _ 8 16 _ _ _ _ _ model _ _ _ valid c.in-Ok.ensures.step in
+    let first : Encodes 8 16 model c.args.before empty one = subst (λ (x : AnsState). Encodes 8 16 model c.args.before x one) c.new-coder.ensures.state here in
+    let second : Encodes 8 16 model c.args.since one two = encode_of _ _ 8 16 _ _ _ _ _ model _ _ _ first.3.valid c.in-Ok-encode_symbol.ensures.step in
+    let third : Decodes 8 16 model c.in-Ok-decode_symbol.again c.from_raw_parts-decoder.result.state last = (decode_of _ _ _ _ _ 8 16 model _ _ _ c.in-Ok-decode_symbol.ensures).0 tt in
     let held : c.len-held.result ≡ length one.words =
-    omega (arith, c.len-held.ensures, c.bulk.result.now.ok.0, ap length c.bulk.ensures.words, length-map (reverse c.bulk.result.now.items) f, length-reverse c.bulk.result.now.items) in
+    omega (arith, c.len-held.ensures, c.bulk.result.now.ok.0, ap length (ap (λ b. map f (reverse b.items)) c.bulk.ensures.backend ∙ sym c.bulk.ensures.coder.words_are), length-map (reverse c.bulk.result.now.items) f, length-reverse c.bulk.result.now.items) in
     let words : two.words ≡ map f (reverse c.into_raw_parts-words.result.0.items) = ap (λ (x : AnsState). x.words) c.into_raw_parts-words.ensures.state in
     let more : length one.words ≤ length two.words =
     held_less one two (encodes_grow 8 16 sizes (item_of model c.args.since ∷ []) one two (lawful, tt) (two, second, refl)) in

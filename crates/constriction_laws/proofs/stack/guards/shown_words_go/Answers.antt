@@ -1,8 +1,9 @@
-use Rattle.std.proofs.Common.{◌≡◌, ℕ, zero, suc, ◌/◌, ◌%◌, ◌^◌, List, [], ◌∷◌, ◌++◌, length, drop, refl, ap, subst, arith}
+use Rattle.std.proofs.Common.{◌≡◌, ◌∙◌, ℕ, zero, suc, ◌/◌, ◌%◌, ◌^◌, List, [], ◌∷◌, ◌++◌, length, drop, refl, ap, subst, arith}
 use Rattle.std.specs.Int.Digits.{digits_of}
 use Rattle.std.proofs.lemmas.List.{length-append}
 use Rattle.constriction_base.specs.Digits.{fixed_digits}
 use Rattle.constriction_stack.specs.Ans.{AnsState}
+use Rattle.constriction_stack.specs.Guards.{without}
 use Rattle.constriction_stack.proofs.PositionsKept.{drop_front}
 use Rattle.constriction_laws.proofs.stack.guards.shown_words_go.Goals as goal
 
@@ -20,7 +21,11 @@ below head count front words is =
     ap state (subst (λ k. drop k (front ++ words) ≡ words) is (drop_front front words))
 
 pub returns-clause-compressed : goal.returns-clause-compressed
-returns-clause-compressed c = λ w state. below state.head (length (digits_of (2 ^ w) state.head)) (digits_of (2 ^ w) state.head) state.words refl
+returns-clause-compressed c = λ w state shown is.
+    ap (λ (x : AnsState). without (length (digits_of (2 ^ w) state.head)) x) is
+    ∙ below state.head (length (digits_of (2 ^ w) state.head)) (digits_of (2 ^ w) state.head) state.words refl
 
 pub returns-clause-binary : goal.returns-clause-binary
-returns-clause-binary c = λ w m state. below state.head m (fixed_digits (2 ^ w) m state.head) state.words (length-fixed_digits (2 ^ w) m state.head)
+returns-clause-binary c = λ w m state shown is.
+    ap (λ (x : AnsState). without m x) is
+    ∙ below state.head m (fixed_digits (2 ^ w) m state.head) state.words (length-fixed_digits (2 ^ w) m state.head)

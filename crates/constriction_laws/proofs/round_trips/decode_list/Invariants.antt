@@ -1,0 +1,13 @@
+use Rattle.std.proofs.Common.{◌≡◌, ◌+◌, length}
+use Rattle.constriction_stream.specs.Lists.{StepsAll}
+use Rattle.constriction_laws.specs.Lists.{GivesSymbol}
+use Rattle.constriction_laws.proofs.round_trips.decode_list.Given as goal
+
+abbrev pub invariant-decode : goal.invariant-decode
+invariant-decode g l =
+    (goal.iterator-decode g).can_next l.answer-iterator
+    × (goal.iterator-decode g).is_finite l.answer-iterator
+    × (l.answer-iterator.decoder.ghost_name ≡ l.initial.answer-iterator.decoder.ghost_name)
+    × (l.answer-iterator.model.now ≡ l.fn.model)
+    × (length l.symbols.items + l.answer-iterator.amt ≡ l.amt)
+    × StepsAll (GivesSymbol g.C.Decode.decodes g.row.PRECISION (g.M.EntropyModel.table l.fn.model)) l.initial.answer-iterator.decoder.now l.symbols.items l.answer-iterator.decoder.now

@@ -1,0 +1,18 @@
+use Rattle.std.proofs.Common.{◌∙◌, sym, subst}
+use Rattle.std.specs.Prelude.{reverse}
+use Rattle.std.proofs.lemmas.List.{length-reverse, reverse-reverse}
+use Rattle.constriction_laws.specs.Symbols.{Model, EncodesAll, items_of}
+use Rattle.constriction_laws.proofs.stack.round_trips.decoders.list_as_decoder.Goals as goal
+
+pub returns : goal.returns
+returns g c = λ valid.
+    let w = g.Word.BitArray.BITS in
+    let s = g.State.BitArray.BITS in
+    let model : Model g.row.M-Symbol.Denot = record { precision = g.row.PRECISION; table = g.M.EntropyModel.table c.args.model.now } in
+    let symbols = c.args.symbols.now in
+    let before = c.args.coder.now.state in
+    let coded = c.in-Ok.ensures valid in
+    let lent = c.in_ok-lent.ensures.back tt (reverse symbols) before
+    (subst (λ x. EncodesAll w s (items_of model (reverse symbols)) before x) (sym c.as_decoder-decoder.ensures.0) coded) (length-reverse symbols) in
+    let own = c.in_ok-own.ensures.back tt (reverse symbols) before coded (length-reverse symbols) in
+    (lent.0 ∙ reverse-reverse symbols, own.0 ∙ reverse-reverse symbols, own.1)

@@ -1,0 +1,21 @@
+use Rattle.std.proofs.Common.{◌∙◌, sym, subst}
+use Rattle.std.specs.Prelude.{reverse}
+use Rattle.std.proofs.lemmas.List.{length-reverse, reverse-reverse}
+use Rattle.constriction_laws.specs.Symbols.{Model, EncodesAll, items_of}
+use Rattle.constriction_laws.proofs.ComingBack.{encoded_all_valid}
+use Rattle.constriction_laws.proofs.stack.round_trips.lent_words.list_from_lent_words.Goals as goal
+
+pub returns : goal.returns
+returns g c = λ valid.
+    let w = g.Word.BitArray.BITS in
+    let s = g.State.BitArray.BITS in
+    let model : Model g.row.M-Symbol.Denot = record { precision = g.row.PRECISION; table = g.M.EntropyModel.table c.args.model.now } in
+    let symbols = c.args.symbols.now in
+    let before = c.args.coder.now.state in
+    let state = c.encode_list_reverse.new.coder.state in
+    let coded = c.in-Ok.ensures valid in
+    let full = encoded_all_valid w s (items_of model (reverse symbols)) before state valid coded in
+    let lent = c.in_ok-lent.ensures.back (reverse symbols) before full coded (length-reverse symbols) in
+    let own = c.in_ok-own.ensures.back tt (reverse symbols) before
+    (subst (λ x. EncodesAll w s (items_of model (reverse symbols)) before x) (sym c.in_ok-lent.ensures.kept) coded) (length-reverse symbols) in
+    (lent ∙ reverse-reverse symbols, own.0 ∙ reverse-reverse symbols, own.1)

@@ -1,0 +1,22 @@
+use Rattle.std.proofs.Common.{◌≡◌, ◌∙◌, List, length, ap, sym, subst}
+use Rattle.std.specs.Prelude.{reverse}
+use Rattle.std.proofs.lemmas.List.{length-reverse, reverse-reverse}
+use Rattle.constriction_stack.specs.Ans.{AnsState, filled}
+use Rattle.constriction_laws.specs.Symbols.{Model, EncodesAll, items_of}
+use Rattle.constriction_laws.proofs.ComingBack.{encoded_all_valid}
+use Rattle.constriction_laws.proofs.stack.round_trips.words.list_through_words.Goals as goal
+
+pub returns : goal.returns
+returns g c = λ valid.
+    let w = g.Word.BitArray.BITS in
+    let s = g.State.BitArray.BITS in
+    let model : Model g.row.M-Symbol.Denot = record { precision = g.row.PRECISION; table = g.M.EntropyModel.table c.args.model.now } in
+    let symbols = c.args.symbols.now in
+    let state = c.encode_list_reverse.new.coder.state in
+    let coded = c.in-Ok.ensures valid in
+    let full = encoded_all_valid w s (items_of model (reverse symbols)) c.args.coder.state state valid coded in
+    let imported = c.in-Ok-from_compressed.ensures.ok g.met.Backend.WriteWords.knows_words ∙ ap (λ ws. filled w s 0 ws) c.in-Ok-into_compressed.ensures.ok
+    ∙ c.import_of_export.ensures.state w s state c.requires full in
+    let back = c.in_ok-again.ensures.back g.met.Backend.WriteWords.knows_words (reverse symbols) c.args.coder.state
+    (subst (λ x. EncodesAll w s (items_of model (reverse symbols)) c.args.coder.state x) (sym imported) coded) (length-reverse symbols) in
+    (back.0 ∙ reverse-reverse symbols, back.1)

@@ -1,0 +1,60 @@
+//! When a step of the stack coder is refused, and when it isn't.
+
+ghost use Rattle.std.specs.Prelude.{◌≡◌, ℕ, Err, IfErr, IfSome};
+ghost use Rattle.constriction_base.specs.Tables.{Has};
+ghost use Rattle.constriction_base.specs.declared.errors.CoderError.TheVariants as coder_error;
+ghost use Rattle.constriction_stream.specs.Symbols.{Impossible};
+ghost use Rattle.constriction_stack.specs.Ans.{OwesRead};
+
+use crate::room::step_where_room;
+use constriction_base::backends::{ReadWords, Stack, WordsMut};
+use constriction_base::cursor::Cursor;
+use constriction_base::errors::{BoundedWriteError, CoderError, DefaultEncoderError};
+use constriction_base::model::{DecoderModel, EncoderModel, EntropyModel};
+use constriction_stack::coder::AnsCoder;
+use constriction_stream::decoding::Decode;
+use constriction_words::{BitArray, WordOf};
+use std::convert::Infallible;
+
+/// A coder over a cursor that isn't full takes the next step: it is refused for an impossible symbol
+/// alone, which changes nothing. `None` says that the cursor may be full.
+pub fn step_on_open_cursor<
+    Word: WordOf<State>,
+    State: BitArray,
+    Buf: WordsMut<Word> + Drop,
+    M: EncoderModel<PRECISION>,
+    const PRECISION: usize,
+>(
+    coder: &mut AnsCoder<Word, State, Cursor<Word, Buf>>,
+    symbol: &M::Symbol,
+    model: &M,
+) -> Option<Result<(), DefaultEncoderError<BoundedWriteError>>>
+where
+    M::Probability: WordOf<Word>,
+    ensures { IfSome result (λ answer. IfErr answer (λ _.
+        Impossible (M.table model.now) symbol.now × (coder.new ≡ coder.old))) }
+{
+    step_where_room::<_, _, PRECISION>(coder, symbol, model)
+}
+
+/// A decode is refused only where a word had to be read, and that read answered the error. The coder itself
+/// refuses none, and none before the model is asked.
+pub fn decode_or_refused_read<
+    Word: WordOf<State>,
+    State: BitArray,
+    Backend: ReadWords<Word, Stack>,
+    M: DecoderModel<PRECISION>,
+    const PRECISION: usize,
+>(
+    coder: &mut AnsCoder<Word, State, Backend>,
+    model: &M,
+) -> Result<M::Symbol, CoderError<Infallible, Backend::ReadError>>
+where
+    M::Probability: WordOf<Word>,
+    ensures { (e : Backend.ReadError) → result ≡ Err (coder_error.Backend e) →
+        (symbol : M.Symbol) × (left p : ℕ) × Has (M.table model.now) symbol left p
+        × OwesRead Word.BITS State.BITS record { precision = PRECISION; left = left; p = p } coder.old.state
+        × Backend.reads coder.old.backend (Err e) coder.new.backend }
+{
+    Decode::<PRECISION>::decode_symbol(coder, model)
+}

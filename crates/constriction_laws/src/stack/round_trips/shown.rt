@@ -1,0 +1,35 @@
+//! Words that a coder shows and keeps, and those that it then gives.
+
+ghost use Rattle.std.specs.Prelude.{◌≡◌, map, reverse, IfSome};
+
+use constriction_base::backends::{Holds, Stack, Words, WriteWords};
+use constriction_stack::coder::AnsCoder;
+use constriction_words::{BitArray, WordOf};
+use std::alloc::Global;
+
+/// The words that `iter_compressed` gives of a coder are those that `into_compressed` then answers, over a
+/// backend that lends its words in the order in which they were written.
+pub fn words_shown_and_given<
+    Word: WordOf<State>,
+    State: BitArray,
+    Backend: WriteWords<Word> + Words<Word> + Drop,
+>(
+    alloc: Global,
+    coder: AnsCoder<Word, State, Backend>,
+) -> Option<(Vec<Word>, Backend)>
+where
+    Backend::WriteError: Drop,
+    requires { Backend.words coder.backend ≡ reverse (Backend.lent coder.backend) }
+    ensures { IfSome result (λ both. map Word.number (reverse both.0.items) ≡ map Word.number (Backend.words both.1)) }
+{
+    let mut shown = Vec::new(alloc);
+    'words: for word in coder.iter_compressed() {
+        let Ok(()) = shown.push(word) else {
+            return None;
+        };
+    }
+    let Ok(given) = coder.into_compressed() else {
+        return None;
+    };
+    Some((shown, given))
+}
