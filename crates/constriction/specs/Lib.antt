@@ -3,6 +3,7 @@ pub mod Backends
 pub mod Binary
 pub mod Guards
 pub mod Iterators
+pub mod Laws
 pub mod Lists
 pub mod Positions
 pub mod Sizes

@@ -48,7 +48,8 @@
 //! - [`backends::Cursor`]: a buffer and a position in it. [`backends::Reverse`]: the same, read the
 //!   other way. [`backends::FallibleIteratorReadWords`]: the items of an iterator. `Vec` is a backend
 //!   too.
-//! - [`backends::BoundedWriteError`]: why a buffer takes no more words.
+//! - [`backends::BoundedWriteError`]: why a buffer takes no more words. [`backends::ReadWriteError`]:
+//!   what stops a call that reads and writes.
 //!
 //! # [`stream`]: coders that share the bits of a word among symbols
 //!
@@ -74,6 +75,18 @@
 //! - [`stream::stack::AnsCompressedIter`]: the words of a coder that stays as it is.
 //! - [`stream::stack::CoderGuard`]: these words on the coder's own backend, until it is dropped.
 //! - [`stream::stack::CompressedDataEndsWithZeroWord`]: the error of words that are those of no coder.
+//!
+//! # [`laws`]: what holds for a whole run
+//!
+//! Functions whose contracts are theorems, for proofs of one's own. Most are called for their contract
+//! alone and do nothing.
+//!
+//! - [`laws::lists`]: where each step is undone, so is a list of them. [`laws::round_trips`]: lists that
+//!   any coder gives.
+//! - [`laws::stack`]: the stack coder. [`laws::stack::round_trips`] are whole lists there and back, by
+//!   the coder's own calls; [`laws::stack::steps`], [`laws::stack::lists`] and [`laws::stack::words`] are
+//!   the laws of one symbol, of lists, and of words that are exported and imported; the others are of
+//!   binary forms, guards, positions, readings and sizes.
 #![tactic(auto)]
 
 pub use constriction_base::backends::{Pos, PosSeek, Queue, Seek, Semantics, Stack};
@@ -88,7 +101,7 @@ pub mod backends {
         IntoSeekReadWords, ReadWords, Words, WordsMut, WriteWords,
     };
     pub use constriction_base::cursor::Cursor;
-    pub use constriction_base::errors::BoundedWriteError;
+    pub use constriction_base::errors::{BoundedWriteError, ReadWriteError};
     pub use constriction_base::iterators::FallibleIteratorReadWords;
     pub use constriction_base::reverse::Reverse;
 }
@@ -107,9 +120,121 @@ pub mod stream {
     }
 
     pub mod stack {
-        pub use constriction_stack::coder::words::CompressedDataEndsWithZeroWord;
         pub use constriction_stack::coder::guard::CoderGuard;
-        pub use constriction_stack::coder::words::AnsCompressedIter;
+        pub use constriction_stack::coder::words::{
+            AnsCompressedIter, CompressedDataEndsWithZeroWord,
+        };
         pub use constriction_stack::{AnsCoder, DefaultAnsCoder, SmallAnsCoder};
+    }
+}
+
+pub mod laws {
+    pub mod lists {
+        pub use constriction_laws::lists::lists_undo;
+    }
+
+    pub mod round_trips {
+        pub use constriction_laws::round_trips::{decode_by_models, decode_list};
+    }
+
+    pub mod stack {
+        pub mod binary {
+            pub use constriction_laws::stack::binary::{
+                binary_export_of_import, binary_import_of_export, binary_words_come_back,
+                one_binary_form,
+            };
+        }
+
+        pub mod guards {
+            pub use constriction_laws::stack::guards::{shown_words_are_exported, shown_words_go};
+        }
+
+        pub mod lists {
+            pub use constriction_laws::stack::lists::{
+                decodes_undo_encodes, encodes_undo_decodes, lists_of_entries_undo,
+                one_list_of_encodes, symbols_come_back, words_come_back,
+            };
+        }
+
+        pub mod positions {
+            pub use constriction_laws::stack::positions::{
+                one_word_at_most, position_leads_back, symbols_before_a_position,
+            };
+        }
+
+        pub mod readings {
+            pub use constriction_laws::stack::readings::{
+                decodes_are_words, items_are_words, symbols_come_back_by_reads,
+            };
+        }
+
+        pub mod round_trips {
+            pub mod binary {
+                pub use constriction_laws::stack::round_trips::binary::words_through_list;
+            }
+
+            pub mod coding {
+                pub use constriction_laws::stack::round_trips::coding::{
+                    decode_list, decode_pairs, encode_list, encode_list_reverse,
+                    encode_pairs_reverse,
+                };
+            }
+
+            pub mod decoders {
+                pub use constriction_laws::stack::round_trips::decoders::{
+                    list_as_decoder, list_into_decoder, list_into_seekable_decoder,
+                };
+            }
+
+            pub mod lent_words {
+                pub use constriction_laws::stack::round_trips::lent_words::{
+                    decode_lent_words, list_from_lent_words,
+                };
+            }
+
+            pub mod pairs {
+                pub use constriction_laws::stack::round_trips::pairs::pairs_through_words;
+            }
+
+            pub mod positions {
+                pub use constriction_laws::stack::round_trips::positions::list_before_a_position;
+            }
+
+            pub mod shown {
+                pub use constriction_laws::stack::round_trips::shown::words_shown_and_given;
+            }
+
+            pub mod steps {
+                pub use constriction_laws::stack::round_trips::steps::{
+                    encode_and_decode, export_and_import,
+                };
+            }
+
+            pub mod words {
+                pub use constriction_laws::stack::round_trips::words::{
+                    list_from_borrowed_words, list_from_items, list_from_reversed_words,
+                    list_through_words, words_of_list,
+                };
+            }
+        }
+
+        pub mod sizes {
+            pub use constriction_laws::stack::sizes::{
+                bits_of_binary_words, bits_of_numbers, words_that_are_exported,
+            };
+        }
+
+        pub mod steps {
+            pub use constriction_laws::stack::steps::{
+                decode_undoes_encode, encode_undoes_decode, one_decode, one_encode, one_push,
+                pushes_and_pops_undo,
+            };
+        }
+
+        pub mod words {
+            pub use constriction_laws::stack::words::{
+                export_of_import, import_of_export, imports_are_words, reads_are_words,
+            };
+        }
     }
 }
