@@ -81,8 +81,8 @@
 //! Functions whose contracts are theorems, for proofs of one's own. Most are called for their contract
 //! alone and do nothing.
 //!
-//! - [`laws::lists`]: where each step is undone, so is a list of them. [`laws::round_trips`]: lists that
-//!   any coder gives.
+//! - [`laws::lists`]: where each step is undone, so is a list of them. [`laws::room`]: what a coder that
+//!   isn't full takes. [`laws::round_trips`]: lists that any coder gives.
 //! - [`laws::stack`]: the stack coder. [`laws::stack::round_trips`] are whole lists there and back, by
 //!   the coder's own calls; [`laws::stack::steps`], [`laws::stack::lists`] and [`laws::stack::words`] are
 //!   the laws of one symbol, of lists, and of words that are exported and imported; the others are of
@@ -133,6 +133,10 @@ pub mod laws {
         pub use constriction_laws::lists::lists_undo;
     }
 
+    pub mod room {
+        pub use constriction_laws::room::step_where_room;
+    }
+
     pub mod round_trips {
         pub use constriction_laws::round_trips::{decode_by_models, decode_list};
     }
@@ -165,6 +169,12 @@ pub mod laws {
         pub mod readings {
             pub use constriction_laws::stack::readings::{
                 decodes_are_words, items_are_words, symbols_come_back_by_reads,
+            };
+        }
+
+        pub mod refusals {
+            pub use constriction_laws::stack::refusals::{
+                decode_or_refused_read, step_on_open_cursor,
             };
         }
 
