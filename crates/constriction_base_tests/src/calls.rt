@@ -107,7 +107,9 @@ where
 }
 
 /// The backend stands at the position.
-pub fn stands<B: Pos + PosSeek<Position = usize>>(backend: &B, position: usize) -> bool {
+pub fn stands<B: Pos + PosSeek<Position = usize>>(backend: &B, position: usize) -> bool
+    requires { B.can_tell backend.now }
+{
     backend.pos() == position
 }
 

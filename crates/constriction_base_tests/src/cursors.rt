@@ -81,6 +81,7 @@ where
     B: ReadWords<u32, Stack, ReadError = Infallible>
         + ReadWords<u32, Queue, ReadError = Infallible>,
     B: Pos + Seek + PosSeek<Position = usize>,
+    requires { (backend : B) → B.can_tell backend }
 {
     stands(cursor, 3)
         && seeks(cursor, 1)
@@ -97,6 +98,7 @@ fn stand_alone<B>(cursor: &mut B, other: &mut B) -> bool
 where
     B: ReadWords<u32, Stack, ReadError = Infallible>,
     B: WriteWords<u32, WriteError = BoundedWriteError> + Pos + PosSeek<Position = usize>,
+    requires { (backend : B) → B.can_tell backend }
 {
     pops(cursor, Some(5)) && puts(cursor, 8) && stands(other, 2) && pops(other, Some(5))
 }
@@ -108,6 +110,7 @@ where
     B: ReadWords<u32, Stack, ReadError = Infallible>
         + ReadWords<u32, Queue, ReadError = Infallible>,
     B: Pos + Seek + PosSeek<Position = usize>,
+    requires { (backend : B) → B.can_tell backend }
 {
     seems_taken(reversed)
         && !seems_popped(reversed)
@@ -127,6 +130,7 @@ where
 fn pops_at<B>(backend: &mut B, position: usize, word: u32) -> bool
 where
     B: ReadWords<u32, Stack, ReadError = Infallible> + Pos + PosSeek<Position = usize>,
+    requires { (backend : B) → B.can_tell backend }
 {
     stands(backend, position) && pops(backend, Some(word))
 }
