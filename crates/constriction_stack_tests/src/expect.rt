@@ -93,32 +93,6 @@ where
     left.is_empty()
 }
 
-/// The same, where some answers are errors in the place of a symbol.
-fn are_all_items<I, E>(given: I, answers: &[Result<usize, u8>]) -> bool
-where
-    I: Iterator<Item = Result<usize, TryCodingError<E, u8>>> + Drop,
-    E: Drop,
-    requires can { I.can_next given }
-    requires ends { IsFinite (I.remaining given) }
-{
-    if given.size_hint() != (answers.len(), Some(answers.len())) {
-        return false;
-    }
-    let mut left = answers;
-    for found in given {
-        let answer = match found {
-            Ok(symbol) => Ok(symbol),
-            Err(TryCodingError::InvalidEntropyModel(error)) => Err(error),
-            Err(TryCodingError::CodingError(_)) => return false,
-        };
-        match left.split_first() {
-            Some((first, rest)) if answer == *first => left = rest,
-            _ => return false,
-        }
-    }
-    left.is_empty()
-}
-
 /// The first symbol that an iterator gives.
 fn first_of<I, E>(mut given: I) -> Option<usize>
 where
@@ -145,7 +119,14 @@ where
     Backend::ReadError: Drop,
     Probability: WordOf<Word>,
 {
-    are_all(coder.decode_symbols(tables), symbols)
+    let mut given = coder.decode_symbols(tables);
+    for symbol in symbols {
+        match given.next() {
+            Some(Ok(found)) if found == *symbol => {}
+            _ => return false,
+        }
+    }
+    given.next().is_none()
 }
 
 /// The same, where a table may be an error, which is answered in the place of a symbol.
@@ -159,7 +140,21 @@ where
     State: BitArray,
     Probability: WordOf<Word>,
 {
-    are_all_items(coder.try_decode_symbols(items), answers)
+    let mut given = coder.try_decode_symbols(items);
+    if given.size_hint() != (answers.len(), Some(answers.len())) {
+        return false;
+    }
+    for answer in answers {
+        let found = match given.next() {
+            Some(Ok(symbol)) => Ok(symbol),
+            Some(Err(TryCodingError::InvalidEntropyModel(error))) => Err(error),
+            _ => return false,
+        };
+        if found != *answer {
+            return false;
+        }
+    }
+    given.next().is_none()
 }
 
 /// Takes symbols off by one table.

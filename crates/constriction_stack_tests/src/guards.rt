@@ -29,15 +29,13 @@ where
     Ok(guard.backend().remaining())
 }
 
-/// The same of the binary form.
+/// How many words a guard of the binary form shows.
 fn count_shown_in_binary<Word: WordOf<State>, State: BitArray, Backend>(
     coder: &mut AnsCoder<Word, State, Backend>,
 ) -> Result<usize, CoderError<(), Backend::WriteError>>
 where
     Backend: WriteWords<Word> + BoundedReadWords<Word, Stack>,
     Backend::ReadError: Drop,
-    requires { NeverRefused Backend.reads }
-    ensures { coder.new.state ≡ coder.old.state }
 {
     let guard = coder.get_binary()?;
     Ok(guard.backend().remaining())
