@@ -70,6 +70,7 @@ where
         ensures head { self.exit.0.now.state.head ≡ (lender self.entry).now.state.head }
         ensures restored { NeverRefused Backend.reads →
             self.exit.0.now.state ≡ without (written self.entry) (lender self.entry).now.state }
+        ensures coder { IsCoder Word.number Backend.words Word.BITS State.BITS self.exit.0.now }
     {
         let CoderGuard { inner, count } = self;
         take_back::<Word, Backend>(&mut inner.bulk, count);
