@@ -1,4 +1,4 @@
-use Rattle.std.specs.Prelude.{◌≡◌, length}
+use Rattle.std.specs.Prelude.{◌≡◌, ◌++◌, length, map}
 use Rattle.std.proofs.Common.{arith, refl}
 use Rattle.constriction_queue.specs.Encoder.{held_of}
 use Rattle.constriction_queue.proofs.Encoders.{low_is, moves_are}
@@ -13,6 +13,6 @@ returns g c =
     let count : c.held.result ≡ length held = rw (← c.self.view_is) at c.held.ensures in
     rw (← c.self.view_is) record {
       place_is = omega (arith, place, count, moves_are number held words);
-      lower_is = low_is _ _ _ _ _ (g.met.State.BitArray.number_law _);
+      lower_is = low_is g.Word.BitArray.BITS g.State.BitArray.BITS _ (g.State.BitArray.number c.self.inside.state.range) (held ++ map number words) (g.met.State.BitArray.number_law _);
       range_is = refl;
     }
