@@ -1,7 +1,7 @@
 -- What a table of weights is to those who read its contracts.
 use Rattle.std.specs.Prelude.{◌≡◌, ℕ, ◌^◌, ◌≤◌, List, length, map}
 use Rattle.constriction_base.specs.Tables.{IsTable, table_of, weights_between}
-use Rattle.constriction_base.specs.Lawful.{starts_make_table, two_entries}
+use Rattle.constriction_base.specs.laws.Weights.{starts_make_table, two_entries}
 use Rattle.constriction_base.specs.declared.weights.WeightTable.{WeightTable}
 
 -- its entries: each symbol of a weight above 0, where its interval begins, and how long it is
