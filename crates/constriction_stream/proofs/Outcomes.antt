@@ -137,6 +137,6 @@ pub undecoded_by : {C S F B : Type 0} (steps : C → Step → Result (Unit {0}) 
     → DecodesByBackend steps halts precision table old (Err (Backend refusal)) new
     → (symbol : S) × AtEntry precision table symbol (λ step. steps old step (Err refusal) new)
 undecoded_by steps halts precision table old new refusal never (inl halted) = absurd (never halted)
-undecoded_by steps halts precision table old new refusal never (inr (symbol, left, p, has, (Ok u, step, is))) = absurd cc
-undecoded_by steps halts precision table old new refusal never (inr (symbol, left, p, has, (Err e, step, is))) =
-    let same : e ≡ refusal = cc in (symbol, left, p, has, rw same at step)
+undecoded_by steps halts precision table old new refusal never (inr (symbol, (left, p, has, (Ok u, step, is)))) = absurd cc
+undecoded_by steps halts precision table old new refusal never (inr (symbol, (left, p, has, (Err e, step, is)))) =
+    let same : e ≡ refusal = cc in (symbol, (left, p, has, rw same at step))
