@@ -6,7 +6,7 @@ use Rattle.std.proofs.lemmas.Int.Digits.{digits_of_step}
 use Rattle.std.specs.Int.Digits.{digits_of}
 use Rattle.constriction_stack.specs.Ans.{AnsState, exported}
 use Rattle.constriction_stack.specs.Binary.{BinaryFilledBy}
-use Rattle.constriction_stack.specs.Steps.{FilledBy}
+use Rattle.constriction_stack.specs.Imports.{FilledBy}
 use Rattle.constriction_base.specs.Readings.{Gives}
 use Rattle.constriction_base.proofs.Exporting.{base_two, gives_keeps}
 

@@ -6,7 +6,7 @@ ghost use Rattle.constriction_base.specs.Iterators.{FusedRead};
 ghost use Rattle.constriction_base.specs.Steps.{IsSizes};
 ghost use Rattle.constriction_stack.specs.Ans.{IsCoder, filled};
 ghost use Rattle.constriction_stack.specs.Binary.{BinaryFilledBy, BinaryRefused, binary_state};
-ghost use Rattle.constriction_stack.specs.Steps.{FilledBy, ImportRefused};
+ghost use Rattle.constriction_stack.specs.Imports.{FilledBy, ImportRefused};
 ghost use Rattle.std.specs.Iterator.Adapters.{fuse_done, fuse_source};
 ghost use Rattle.std.specs.Prelude.{IfErr, IfOk, IsOk, false, length, map, reverse, ◌-◌, ◌↔◌, ◌≡◌};
 

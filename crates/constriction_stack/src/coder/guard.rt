@@ -63,13 +63,13 @@ where
     Backend: WriteWords<Word> + ReadWords<Word, Stack>,
     Backend::ReadError: Drop,
 {
-    ghost use Rattle.constriction_stack.specs.Guarded.{lender, written};
+    ghost use Rattle.constriction_stack.specs.Guarded.{lender, lent_back, written};
 
     /// Takes the words off that were written.
     fn drop(self)
-        ensures head { self.exit.0.now.state.head ≡ (lender self.entry).now.state.head }
+        ensures head { (lent_back self.exit).now.state.head ≡ (lender self.entry).now.state.head }
         ensures restored { NeverRefused Backend.reads →
-            self.exit.0.now.state ≡ without (written self.entry) (lender self.entry).now.state }
+            (lent_back self.exit).now.state ≡ without (written self.entry) (lender self.entry).now.state }
     {
         let CoderGuard { inner, count } = self;
         take_back::<Word, Backend>(&mut inner.bulk, count);

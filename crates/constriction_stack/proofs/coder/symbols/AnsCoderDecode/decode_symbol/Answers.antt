@@ -1,6 +1,6 @@
 use Rattle.std.specs.Prelude.{◌≡◌, ℕ, ◌%◌, ◌^◌, ◌≤◌, Ok, Err}
 use Rattle.std.proofs.Common.{arith, ◌∙◌, sym, refl, inr}
-use Rattle.constriction_base.specs.Entries.{in_range}
+use Rattle.constriction_base.proofs.Entries.{in_range}
 use Rattle.constriction_stack.proofs.Coders.{is_coder}
 use Rattle.constriction_base.proofs.Heads.{low_in_word}
 use Rattle.constriction_stack.proofs.coder.symbols.AnsCoderDecode.decode_symbol.Goals as goal
