@@ -27,11 +27,11 @@ all_come_off : InTurn (IsPop 8 16) (part 255 1 ∷ part 255 1 ∷ part 255 1 ∷
 all_come_off = (
   state 65535 [],
   (is_next 65535 (255 ∷ []) (lit≤ tt) (lit< tt), refl),
-  state 255 [],
-  (is_next 65535 [] (lit≤ tt) (lit< tt), refl),
-  state 0 [],
-  (is_next 255 [] (lit≤ tt) (lit< tt), refl),
-  refl,
+  (
+    state 255 [],
+    (is_next 65535 [] (lit≤ tt) (lit< tt), refl),
+    (state 0 [], (is_next 255 [] (lit≤ tt) (lit< tt), refl), refl),
+  ),
 )
 
 -- so each of these states is the push onto the one before: the heads 255, 65535, and 65535 over a word

@@ -48,21 +48,23 @@ returns g c =
     let covers = c.quantile_function-symbol.ensures.covers in
     rw (← c.self.view_is) (inr (
       _,
-      _,
-      _,
-      c.quantile_function-symbol.ensures.found,
       (
-        Err c.in-Err.error,
-        record {
-          before = is_coder _ _ _ _ _ _ c.self.invariant (g.met.State.BitArray.number_law _);
-          after = is_coder _ _ _ _ _ _ c.self.invariant (g.met.State.BitArray.number_law _);
-          holds = record { from = rw quantile at covers.0; below = rw quantile at covers.1 };
-          popped = tt;
-          refilled = tt;
-          head = refl;
-          kept = λ list. rw (c.in-Err.ensures.list list) refl;
-          error = rw (c.popped_head-head.ensures, c.widen-2.ensures, c.widen.ensures, c.widen-4.ensures, c.widen-3.ensures, c.from_nonzero-p.ensures) at c.in-Err.ensures.reads;
-        },
-        refl,
+        _,
+        _,
+        c.quantile_function-symbol.ensures.found,
+        (
+          Err c.in-Err.error,
+          record {
+            before = is_coder _ _ _ _ _ _ c.self.invariant (g.met.State.BitArray.number_law _);
+            after = is_coder _ _ _ _ _ _ c.self.invariant (g.met.State.BitArray.number_law _);
+            holds = record { from = rw quantile at covers.0; below = rw quantile at covers.1 };
+            popped = tt;
+            refilled = tt;
+            head = refl;
+            kept = λ list. rw (c.in-Err.ensures.list list) refl;
+            error = rw (c.popped_head-head.ensures, c.widen-2.ensures, c.widen.ensures, c.widen-4.ensures, c.widen-3.ensures, c.from_nonzero-p.ensures) at c.in-Err.ensures.reads;
+          },
+          refl,
+        ),
       ),
     ))
