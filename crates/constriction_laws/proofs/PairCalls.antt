@@ -9,8 +9,9 @@ use Rattle.std.specs.Prelude.{reverse}
 use Rattle.std.proofs.lemmas.Bool.{cases_lt}
 use Rattle.std.proofs.lemmas.List.{reverse-append, reverse-reverse, append-nil, length-append}
 use Rattle.constriction_stack.specs.Ans.{AnsState}
-use Rattle.constriction_laws.specs.Symbols.{Model, Item, IsModel, pairs_of, models, AreModels, Encodes, Decodes, EncodesAll, DecodesAll}
-use Rattle.constriction_laws.specs.Undone.{decode_back}
+use Rattle.constriction_base.specs.Models.{Model, Item, IsModel, pairs_of, models, AreModels}
+use Rattle.constriction_stack.specs.Symbols.{Encodes, Decodes, EncodesAll, DecodesAll}
+use Rattle.constriction_laws.specs.stack.Undone.{decode_back}
 use Rattle.constriction_laws.proofs.Undoing.{all_undone, all_free}
 use Rattle.constriction_laws.proofs.ComingBack.{decodes_only, map-reverse, all-reverse}
 use Rattle.constriction_laws.proofs.ListCalls.{none_left}

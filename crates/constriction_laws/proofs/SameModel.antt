@@ -3,9 +3,10 @@ use Rattle.std.proofs.Common.{◌≡◌, ℕ, List, [], ◌∷◌, ◌++◌, len
 use Rattle.std.specs.Prelude.{Option, Result, reverse, map}
 use Rattle.std.proofs.lemmas.List.{length-reverse, map_push}
 use Rattle.constriction_stack.specs.Ans.{AnsState, AnsValue}
-use Rattle.constriction_laws.specs.Readings.{DecodesBy, DecodesAllBy}
-use Rattle.constriction_laws.specs.Symbols.{Model, IsModel, Item, item_of, items_of, Encodes, Decodes, models, AreModels, EncodesAll, DecodesAll}
-use Rattle.constriction_laws.proofs.Undoing.{steps-append}
+use Rattle.constriction_laws.specs.stack.Readings.{DecodesBy, DecodesAllBy}
+use Rattle.constriction_base.specs.Models.{Model, IsModel, Item, item_of, items_of, models, AreModels}
+use Rattle.constriction_stack.specs.Symbols.{Encodes, Decodes, EncodesAll, DecodesAll}
+use Rattle.constriction_base.proofs.InTurn.{InTurn-append}
 use Rattle.constriction_laws.proofs.ComingBack.{map-reverse}
 
 symbols-items_of : {S : Type 0} (model : Model S) (xs : List S) → map (λ i. i.symbol) (items_of model xs) ≡ xs
@@ -27,19 +28,19 @@ pub encodes_push : {S : Type 0} (w s : ℕ) (model : Model S) (xs : List S) (x :
     → EncodesAll w s (items_of model xs) old mid → Encodes w s model x mid new → EncodesAll w s (items_of model (xs ++ x ∷ [])) old new
 encodes_push {S} w s model xs x old mid new h k =
     subst (λ (items : List (Item S)). EncodesAll w s items old new) (sym (map_push (item_of model) xs x))
-    (steps-append (λ item. Encodes w s item.model item.symbol) (items_of model xs) (item_of model x ∷ []) old mid new h (new, k, refl))
+    (InTurn-append (λ item. Encodes w s item.model item.symbol) (items_of model xs) (item_of model x ∷ []) old mid new h (new, k, refl))
 
 pub decodes_push : {S : Type 0} (w s : ℕ) (model : Model S) (xs : List S) (x : S) (old mid new : AnsState)
     → DecodesAll w s (items_of model xs) old mid → Decodes w s model x mid new → DecodesAll w s (items_of model (xs ++ x ∷ [])) old new
 decodes_push {S} w s model xs x old mid new h k =
     subst (λ (items : List (Item S)). DecodesAll w s items old new) (sym (map_push (item_of model) xs x))
-    (steps-append (λ item. Decodes w s item.model item.symbol) (items_of model xs) (item_of model x ∷ []) old mid new h (new, k, refl))
+    (InTurn-append (λ item. Decodes w s item.model item.symbol) (items_of model xs) (item_of model x ∷ []) old mid new h (new, k, refl))
 
 pub reads_push : {S W E B : Type 0} (number : W → ℕ) (reads : B → Result (Option W) E → B → Type 0) (w s : ℕ) (model : Model S) (xs : List S) (x : S) (old mid new : AnsValue B)
     → DecodesAllBy number reads w s (items_of model xs) old mid → DecodesBy number reads w s model x mid new → DecodesAllBy number reads w s (items_of model (xs ++ x ∷ [])) old new
 reads_push {S} number reads w s model xs x old mid new h k =
     subst (λ (items : List (Item S)). DecodesAllBy number reads w s items old new) (sym (map_push (item_of model) xs x))
-    (steps-append (λ item. DecodesBy number reads w s item.model item.symbol) (items_of model xs) (item_of model x ∷ []) old mid new h (new, k, refl))
+    (InTurn-append (λ item. DecodesBy number reads w s item.model item.symbol) (items_of model xs) (item_of model x ∷ []) old mid new h (new, k, refl))
 
 -- ---- as many symbols again, at one model
 pub models_turned : {S : Type 0} (model : Model S) (symbols again : List S) → length again ≡ length symbols

@@ -1,4 +1,4 @@
-use Rattle.constriction_laws.specs.Undone.{Sizes}
+use Rattle.constriction_laws.specs.stack.Undone.{Sizes}
 use Rattle.constriction_laws.proofs.Undoing.{all_free}
 use Rattle.constriction_laws.proofs.ComingBack.{decodes_only}
 use Rattle.constriction_laws.proofs.stack.lists.decodes_undo_encodes.Goals as goal

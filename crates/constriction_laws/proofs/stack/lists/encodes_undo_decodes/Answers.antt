@@ -1,4 +1,4 @@
-use Rattle.constriction_laws.specs.Undone.{Sizes}
+use Rattle.constriction_laws.specs.stack.Undone.{Sizes}
 use Rattle.constriction_laws.proofs.ComingBack.{encodes_only}
 use Rattle.constriction_laws.proofs.stack.lists.encodes_undo_decodes.Goals as goal
 

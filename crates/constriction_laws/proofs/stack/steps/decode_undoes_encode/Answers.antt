@@ -1,4 +1,4 @@
-use Rattle.constriction_laws.specs.Undone.{decode_back}
+use Rattle.constriction_laws.specs.stack.Undone.{decode_back}
 use Rattle.constriction_laws.proofs.Choosing.{decode_only}
 use Rattle.constriction_laws.proofs.stack.steps.decode_undoes_encode.Goals as goal
 

@@ -1,4 +1,4 @@
-use Rattle.constriction_laws.specs.Undone.{encode_back, decoded_valid}
+use Rattle.constriction_laws.specs.stack.Undone.{encode_back, decoded_valid}
 use Rattle.constriction_laws.proofs.Choosing.{encode_only}
 use Rattle.constriction_laws.proofs.stack.steps.encode_undoes_decode.Goals as goal
 

@@ -4,7 +4,8 @@ use Rattle.std.specs.List.{zip}
 use Rattle.std.specs.Iterator.Adapters.{zip_first, zip_second}
 use Rattle.std.specs.Slice.Iter.{iter_rest}
 use Rattle.std.proofs.lemmas.Result.{MatchResult-weaker}
-use Rattle.constriction_laws.specs.Symbols.{Item, EncodesAll, item_of}
+use Rattle.constriction_base.specs.Models.{Item, item_of}
+use Rattle.constriction_stack.specs.Symbols.{EncodesAll}
 use Rattle.constriction_laws.proofs.ComingBack.{map-reverse}
 use Rattle.constriction_laws.proofs.ListCalls.{encodes_of}
 use Rattle.constriction_laws.proofs.PairCalls.{all_pairs_from_back}

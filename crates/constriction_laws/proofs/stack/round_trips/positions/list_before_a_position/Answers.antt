@@ -4,7 +4,8 @@ use Rattle.std.proofs.lemmas.List.{take-take, length-take, length-reverse, lengt
 use Rattle.constriction_stack.specs.Ans.{AnsState}
 use Rattle.constriction_stack.specs.Positions.{position_of, sought}
 use Rattle.constriction_stack.proofs.PositionsKept.{held_less}
-use Rattle.constriction_laws.specs.Symbols.{Model, IsModel, EncodesAll, DecodesAll, items_of}
+use Rattle.constriction_base.specs.Models.{Model, IsModel, items_of}
+use Rattle.constriction_stack.specs.Symbols.{EncodesAll, DecodesAll}
 use Rattle.constriction_laws.proofs.ComingBack.{encoded_all_valid}
 use Rattle.constriction_laws.proofs.ListCalls.{some_both}
 use Rattle.constriction_laws.proofs.SameModel.{are_models, models_turned, symbols_turned}

@@ -1,4 +1,4 @@
-use Rattle.constriction_laws.specs.Symbols.{Model}
+use Rattle.constriction_base.specs.Models.{Model}
 use Rattle.constriction_laws.proofs.ListCalls.{encode_of, decode_of}
 use Rattle.constriction_laws.proofs.stack.round_trips.steps.encode_and_decode.Goals as goal
 
