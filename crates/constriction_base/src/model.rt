@@ -10,7 +10,8 @@ ghost use Rattle.constriction_base.specs.Tables.{Has, Impossible, IsTable, Cover
 
 use constriction_words::BitArray;
 
-/// A table of symbols, each with an interval of the numbers below two to the precision.
+/// A table of symbols, each with an interval of the numbers below two to the precision: a quantized
+/// probability mass function.
 ///
 /// Its laws hold for each value of each implementation:
 ///

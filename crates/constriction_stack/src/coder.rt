@@ -20,8 +20,8 @@ use constriction_words::{BitArray, WordOf};
 use std::alloc::{AllocError, Allocator, Global};
 use std::marker::{Model, PhantomData};
 
-/// A stack of symbols over words of the type `Word`, with a head of the type `State`, which has a
-/// whole number of words, two at least. The words below the head are in the backend, the top one
+/// A stack of symbols over words of the type `Word`, with a head (the state `x` of rANS) of the type
+/// `State`, which has a whole number of words, two at least. The words below the head are in the backend, the top one
 /// last.
 ///
 /// Contracts see an `AnsValue`: the state (the head and the words below it), and the backend.

@@ -91,6 +91,8 @@ impl<Word: WordOf<State>, State: BitArray, Backend: Holds<Word, Stack>> AnsCoder
 > {
     /// The same state over borrowed words, for reading.
     ///
+    /// # Examples
+    ///
     /// ```
     /// let mut decoder = coder.as_decoder();
     /// decoder.decode_symbol(&table)?; // what was encoded last; `coder` still holds it
@@ -114,7 +116,9 @@ impl<'a, Word: WordOf<State> + 'a, State: BitArray> AnsCoder<
     /// The coder whose words these are, as [`AnsCoder::into_compressed`] gives them. Of no words it
     /// is an empty coder.
     ///
-    /// The error comes exactly where the last word is zero.
+    /// # Errors
+    ///
+    /// `CompressedDataEndsWithZeroWord` exactly where the last word is zero.
     pub fn from_compressed_slice(
         compressed: &'a [Word],
     ) -> Result<Self, CompressedDataEndsWithZeroWord>
@@ -152,7 +156,11 @@ impl<Word: WordOf<State>, State: BitArray, Buf: Words<Word> + Drop> AnsCoder<
     /// The coder whose words these are, in the reverse of the order in which
     /// [`AnsCoder::into_compressed`] gives them. Of no words it is an empty coder.
     ///
-    /// The error is the buffer as it came. It comes exactly where the first word is zero.
+    /// # Errors
+    ///
+    /// The buffer as it came, exactly where the first word is zero.
+    ///
+    /// # Examples
     ///
     /// ```
     /// // words that a coder gave as [1, 2, 3, 4, 5], as a file holds them that is written from its end
@@ -200,8 +208,10 @@ impl<
     /// [`AnsCoder::into_compressed`] gives them. It takes words into the head until that is full; the
     /// others are taken when decoding needs them.
     ///
-    /// The error is the iterator as the reads left it. It comes exactly where the first word is zero
-    /// or where an item that was taken is an error.
+    /// # Errors
+    ///
+    /// The iterator as the reads left it, exactly where the first word is zero or where an item that was
+    /// taken is an error.
     pub fn from_reversed_compressed_iter(compressed: Iter) -> Result<Self, Fuse<Iter>>
         requires sizes { IsSizes Word.BITS State.BITS }
         requires can { Iter.can_next compressed }
@@ -222,7 +232,9 @@ impl<
     /// which [`AnsCoder::into_binary`] gives them. It takes words into the head until that is full;
     /// the others are taken when decoding needs them.
     ///
-    /// Errors: that of an item that was taken. The iterator is gone then.
+    /// # Errors
+    ///
+    /// That of an item that was taken. The iterator is gone then.
     pub fn from_reversed_binary_iter(binary: Iter) -> Result<Self, ReadError>
         requires sizes { IsSizes Word.BITS State.BITS }
         requires can { Iter.can_next binary }
@@ -333,8 +345,12 @@ impl<Word: WordOf<State>, State: BitArray, Backend: Holds<Word, Stack> + Seek> S
     /// Goes to a position that was recorded before: the head that was recorded, over the words that
     /// the backend holds at its position.
     ///
-    /// Errors: `Err(())` where the backend refuses to go to its position. The head stays, and the coder is
-    /// as before where the backend is.
+    /// # Errors
+    ///
+    /// `Err(())` where the backend refuses to go to its position. The head stays, and the coder is as before
+    /// where the backend is.
+    ///
+    /// # Examples
     ///
     /// ```
     /// coder.encode_symbol(&1, &table)?;

@@ -69,9 +69,10 @@ impl<
 
     /// Puts a symbol on, under a model of `PRECISION` bits, which are those of a word at most.
     ///
-    /// It writes one word at most, and only then asks the backend for room.
+    /// It writes one word at most (the renormalization of rANS), and only then asks the backend for room.
     ///
-    /// Errors:
+    /// # Errors
+    ///
     /// - `Frontend(ImpossibleSymbol)` exactly where the model doesn't know the symbol. Nothing
     ///   changed.
     /// - `Backend(error)` only where a word had to be written, and the backend refused room for one
@@ -140,8 +141,10 @@ impl<
     /// It reads one word at most. Where no word is left, it goes on: a coder that holds nothing
     /// gives symbols without end.
     ///
-    /// Errors: `Backend(error)` only where a word had to be read and the read answered that error.
-    /// The head is as before, and so are the words of a backend that knows them.
+    /// # Errors
+    ///
+    /// `Backend(error)` only where a word had to be read and the read returned that error. The head is as
+    /// before, and so are the words of a backend that knows them.
     #[inline]
     fn decode_symbol<M>(
         &mut self,
