@@ -1,7 +1,8 @@
 -- Steps taken one after the other: joined, one more, seen as other steps, and turned round.
 use Rattle.std.specs.Prelude.{reverse, map}
 use Rattle.std.proofs.Common.{List, [], ◌∷◌, ◌++◌, refl, sym, subst, ap}
-use Rattle.std.proofs.lemmas.List.{reverse-append}
+use Rattle.std.proofs.lemmas.List.{reverse-append, map_push}
+use Rattle.constriction_base.specs.Models.{Model, Item, item_of, items_of}
 use Rattle.constriction_base.specs.Steps.{InTurn}
 
 -- steps after other steps
@@ -12,6 +13,12 @@ InTurn-append leads (d ∷ ds) es a b c h k = (h.0, h.1, InTurn-append leads ds 
 -- one step more, at the end
 pub InTurn-more : {E S : Type 0} (leads : E → S → S → Type 0) (es : List E) (e : E) (a b c : S) → InTurn leads es a b → leads e b c → InTurn leads (es ++ e ∷ []) a c
 InTurn-more leads es e a b c h k = InTurn-append leads es (e ∷ []) a b c h (c, k, refl)
+
+-- one symbol more, under the same model
+pub InTurn-symbol : {A S : Type 0} (leads : Item A → S → S → Type 0) (model : Model A) (xs : List A) (x : A) (a b c : S)
+    → InTurn leads (items_of model xs) a b → leads (item_of model x) b c → InTurn leads (items_of model (xs ++ x ∷ [])) a c
+InTurn-symbol {A} leads model xs x a b c h k =
+    subst (λ (items : List (Item A)). InTurn leads items a c) (sym (map_push (item_of model) xs x)) (InTurn-more leads (items_of model xs) (item_of model x) a b c h k)
 
 -- the steps of one list stand for those of another, and their states for others
 pub InTurn-map : {E D S T : Type 0} (f : E → D) (view : S → T) (leads : E → S → S → Type 0) (others : D → T → T → Type 0)

@@ -2,7 +2,7 @@
 -- words, as in the Rust crate's `AnsCoder`. All definitions speak of numbers and lists; w and s are the
 -- numbers of bits of a word and of a head.
 use Rattle.std.specs.Prelude.{◌≡◌, ℕ, ◌+◌, ◌-◌, ◌*◌, ◌/◌, ◌%◌, ◌<◌, ◌≤◌, ◌^◌, ◌⊎◌, List, [], ◌∷◌, ◌++◌, Option, Some, None, Result, Ok, Err, OnOk, OnErr, IfErr, map, nat_lt, if◌then◌else◌, length}
-use Rattle.std.specs.Int.Digits.{digits_of, number_from_digits}
+use Rattle.std.specs.Int.Digits.{digits_of}
 use Rattle.constriction_base.specs.Steps.{Step, IsSizes, AreWords}
 
 -- what the coder holds: a number, the head, and a stack of words below it, the top one first

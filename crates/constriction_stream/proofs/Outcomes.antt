@@ -9,7 +9,7 @@ use Rattle.constriction_base.specs.declared.errors.CoderError.{CoderError}
 use Rattle.constriction_base.specs.declared.errors.CoderError.TheVariants.{Frontend, Backend}
 use Rattle.constriction_base.specs.declared.errors.DefaultEncoderFrontendError.{DefaultEncoderFrontendError}
 use Rattle.constriction_base.specs.declared.errors.DefaultEncoderFrontendError.TheVariants.{ImpossibleSymbol}
-use Rattle.constriction_stream.specs.Symbols.{EncodesSymbol, DecodesSymbol, HasRoom, IsBackendError, ByBackend, as_backend}
+use Rattle.constriction_stream.specs.Symbols.{EncodesSymbol, DecodesSymbol, HasRoom, IsBackendError, ByBackend}
 
 -- ---- any encoder
 
@@ -91,6 +91,13 @@ pub impossible_by : {C S B : Type 0} (steps : C → Step → Result (Unit {0}) B
 impossible_by steps precision table symbol old new answer (inl (left, p, has, (Ok u, step, is))) = (λ a. absurd cc, λ none. absurd (none left p has))
 impossible_by steps precision table symbol old new answer (inl (left, p, has, (Err e, step, is))) = (λ a. absurd cc, λ none. absurd (none left p has))
 impossible_by steps precision table symbol old new answer (inr (never, e, impossible, is, same)) = (λ a. never, λ none. cc)
+
+-- the coder itself refuses nothing else
+pub frontend_by : {C S B : Type 0} (steps : C → Step → Result (Unit {0}) B → C → Type 0) (precision : ℕ) (table : List (S × ℕ × ℕ)) (symbol : S) (old new : C) (refusal : DefaultEncoderFrontendError)
+    → EncodesByBackend steps precision table symbol old (Err (Frontend refusal)) new → Impossible table symbol × (new ≡ old)
+frontend_by steps precision table symbol old new refusal (inl (left, p, has, (Ok u, step, is))) = absurd cc
+frontend_by steps precision table symbol old new refusal (inl (left, p, has, (Err e, step, is))) = absurd cc
+frontend_by steps precision table symbol old new refusal (inr (never, e, impossible, is, same)) = (never, same)
 
 pub untouched_by : {C S B : Type 0} (steps : C → Step → Result (Unit {0}) B → C → Type 0) (precision : ℕ) (table : List (S × ℕ × ℕ)) (symbol : S) (old new : C)
     → EncodesByBackend steps precision table symbol old (Err (Frontend ImpossibleSymbol)) new → new ≡ old
