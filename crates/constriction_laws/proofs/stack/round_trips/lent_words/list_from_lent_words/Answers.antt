@@ -3,7 +3,7 @@ use Rattle.std.specs.Prelude.{reverse}
 use Rattle.std.proofs.lemmas.List.{length-reverse, reverse-reverse}
 use Rattle.constriction_base.specs.Models.{Model, items_of}
 use Rattle.constriction_stack.specs.Symbols.{EncodesAll}
-use Rattle.constriction_laws.proofs.ComingBack.{encoded_all_valid}
+use Rattle.constriction_laws.proofs.stack_coder.ComingBack.{encoded_all_valid}
 use Rattle.constriction_laws.proofs.stack.round_trips.lent_words.list_from_lent_words.Goals as goal
 
 pub returns : goal.returns

@@ -6,10 +6,10 @@ use Rattle.constriction_stack.specs.Positions.{position_of, sought}
 use Rattle.constriction_stack.proofs.PositionsKept.{held_less}
 use Rattle.constriction_base.specs.Models.{Model, IsModel, items_of}
 use Rattle.constriction_stack.specs.Symbols.{EncodesAll, DecodesAll}
-use Rattle.constriction_laws.proofs.ComingBack.{encoded_all_valid}
-use Rattle.constriction_laws.proofs.ListCalls.{some_both}
-use Rattle.constriction_laws.proofs.SameModel.{are_models, models_turned, symbols_turned}
-use Rattle.constriction_laws.proofs.Seeking.{encodes_grow, cut_is_sought}
+use Rattle.constriction_laws.proofs.stack_coder.ComingBack.{encoded_all_valid}
+use Rattle.constriction_laws.proofs.Lists.{some_both}
+use Rattle.constriction_laws.proofs.stack_coder.SameModel.{are_models, models_turned, symbols_turned}
+use Rattle.constriction_laws.proofs.stack_coder.Seeking.{encodes_grow, cut_is_sought}
 use Rattle.constriction_laws.proofs.stack.round_trips.positions.list_before_a_position.Goals as goal
 
 pub returns : goal.returns

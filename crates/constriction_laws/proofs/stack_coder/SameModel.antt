@@ -7,7 +7,7 @@ use Rattle.constriction_laws.specs.stack.Readings.{DecodesBy, DecodesAllBy}
 use Rattle.constriction_base.specs.Models.{Model, IsModel, Item, item_of, items_of, models, AreModels}
 use Rattle.constriction_stack.specs.Symbols.{Encodes, Decodes, EncodesAll, DecodesAll}
 use Rattle.constriction_base.proofs.InTurn.{InTurn-append}
-use Rattle.constriction_laws.proofs.ComingBack.{map-reverse}
+use Rattle.constriction_laws.proofs.stack_coder.ComingBack.{map-reverse}
 
 symbols-items_of : {S : Type 0} (model : Model S) (xs : List S) → map (λ i. i.symbol) (items_of model xs) ≡ xs
 symbols-items_of model [] = refl
@@ -22,25 +22,6 @@ models-alike {S} model (x ∷ xs) (y ∷ ys) e = ap (λ (ms : List (Model S)). m
 pub are_models : {S : Type 0} (w : ℕ) (model : Model S) (xs : List S) → IsModel w model → AreModels w (items_of model xs)
 are_models w model [] m = tt
 are_models w model (x ∷ xs) m = (m, are_models w model xs m)
-
--- one more symbol is encoded, or decoded
-pub encodes_push : {S : Type 0} (w s : ℕ) (model : Model S) (xs : List S) (x : S) (old mid new : AnsState)
-    → EncodesAll w s (items_of model xs) old mid → Encodes w s model x mid new → EncodesAll w s (items_of model (xs ++ x ∷ [])) old new
-encodes_push {S} w s model xs x old mid new h k =
-    subst (λ (items : List (Item S)). EncodesAll w s items old new) (sym (map_push (item_of model) xs x))
-    (InTurn-append (λ item. Encodes w s item.model item.symbol) (items_of model xs) (item_of model x ∷ []) old mid new h (new, k, refl))
-
-pub decodes_push : {S : Type 0} (w s : ℕ) (model : Model S) (xs : List S) (x : S) (old mid new : AnsState)
-    → DecodesAll w s (items_of model xs) old mid → Decodes w s model x mid new → DecodesAll w s (items_of model (xs ++ x ∷ [])) old new
-decodes_push {S} w s model xs x old mid new h k =
-    subst (λ (items : List (Item S)). DecodesAll w s items old new) (sym (map_push (item_of model) xs x))
-    (InTurn-append (λ item. Decodes w s item.model item.symbol) (items_of model xs) (item_of model x ∷ []) old mid new h (new, k, refl))
-
-pub reads_push : {S W E B : Type 0} (number : W → ℕ) (reads : B → Result (Option W) E → B → Type 0) (w s : ℕ) (model : Model S) (xs : List S) (x : S) (old mid new : AnsValue B)
-    → DecodesAllBy number reads w s (items_of model xs) old mid → DecodesBy number reads w s model x mid new → DecodesAllBy number reads w s (items_of model (xs ++ x ∷ [])) old new
-reads_push {S} number reads w s model xs x old mid new h k =
-    subst (λ (items : List (Item S)). DecodesAllBy number reads w s items old new) (sym (map_push (item_of model) xs x))
-    (InTurn-append (λ item. DecodesBy number reads w s item.model item.symbol) (items_of model xs) (item_of model x ∷ []) old mid new h (new, k, refl))
 
 -- ---- as many symbols again, at one model
 pub models_turned : {S : Type 0} (model : Model S) (symbols again : List S) → length again ≡ length symbols
