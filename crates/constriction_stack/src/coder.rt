@@ -67,7 +67,8 @@ impl<Word: WordOf<State>, State: BitArray> AnsCoder<Word, State, Vec<Word>> {
 impl<Word: WordOf<State>, State: BitArray, A: Allocator> AnsCoder<Word, State, Vec<Word, A>> {
     /// Takes everything off: the coder is as a new one, but keeps its memory.
     pub fn clear(&mut self)
-        ensures { self.new.state ≡ empty }
+        ensures state { self.new.state ≡ empty }
+        ensures coder { IsCoder Word.number (⟦<Vec<Word, A> as Holds<Word, Stack>>⟧.words) Word.BITS State.BITS self.new }
     {
         self.bulk.clear();
         self.state = State::nothing();

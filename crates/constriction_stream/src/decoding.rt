@@ -53,7 +53,7 @@ pub trait Decode<const PRECISION: usize>: Code {
     where
         M: DecoderModel<PRECISION>,
         M::Probability: WordOf<Self::Word>,
-        ensures { DecodesSymbol decodes halts PRECISION (M.table model) self.old result self.new };
+        ensures step { DecodesSymbol decodes halts PRECISION (M.table model) self.old result self.new };
 
     /// Decodes a symbol for each of the models, as the iterator is asked for it. It doesn't end at an error.
     final fn decode_symbols<I>(

@@ -70,6 +70,7 @@ where
         ensures head { (lent_back self.exit).now.state.head ≡ (lender self.entry).now.state.head }
         ensures restored { NeverRefused Backend.reads →
             (lent_back self.exit).now.state ≡ without (written self.entry) (lender self.entry).now.state }
+        ensures coder { IsCoder Word.number Backend.words Word.BITS State.BITS (lent_back self.exit).now }
     {
         let CoderGuard { inner, count } = self;
         take_back::<Word, Backend>(&mut inner.bulk, count);

@@ -3,7 +3,7 @@
 
 ghost use Rattle.constriction_base.specs.Steps.{Step};
 ghost use Rattle.constriction_base.specs.declared.errors.DefaultEncoderFrontendError.TheVariants.{ImpossibleSymbol};
-ghost use Rattle.constriction_stack.specs.Ans.{DecodeCall, EncodeCall};
+ghost use Rattle.constriction_stack.specs.Ans.{DecodeCall, EncodeCall, IsCoder};
 ghost use Rattle.constriction_stream.specs.Symbols.{ByBackend, DecodesSymbol, EncodesSymbol, GoesOn, HasRoom, IsBackendError, never_frontend};
 ghost use Rattle.std.specs.Bool.{OnFalse};
 ghost use Rattle.std.specs.Prelude.{IsTrue, ⊤, ◌+◌, ◌↔◌, ◌≡◌, ◌≤◌};
@@ -29,7 +29,10 @@ impl<Word: WordOf<State>, State: BitArray, Backend: Holds<Word, Stack>> Code
 
     /// The head.
     #[inline]
-    fn state(&self) -> State {
+    fn state(&self) -> State
+        ensures head { State.number result ≡ self.now.state.head }
+        ensures coder { IsCoder Word.number Backend.words Word.BITS State.BITS self.now }
+    {
         self.state
     }
 }

@@ -9,7 +9,7 @@ use Rattle.constriction_cli.proofs.commands.ans_decode.decode.Goals as goal
 pub loop-preserved : goal.loop-preserved
 loop-preserved g c =
     let model = of_24_bits (g.M.EntropyModel.table c.args.model.now) in
-    let one = decoded_by (DecodeCall _ _ _ _ 32 64) (λ _ _ _. ⊥) _ _ _ _ _ c.in-Ok.ensures in
+    let one = decoded_by (DecodeCall _ _ _ _ 32 64) (λ _ _ _. ⊥) _ _ _ _ _ c.in-Ok.ensures.step in
     let more = c.in_ok-push-in-Ok.ensures.items in
     record {
       counted = omega (arith, ap length more, length-append c.loop.symbols.items (c.in-Ok.symbol ∷ []), c.loop.invariant.counted);

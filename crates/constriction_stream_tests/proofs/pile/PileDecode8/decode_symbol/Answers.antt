@@ -12,8 +12,8 @@ fits q bits h =
     let word : q % 256 < 4294967296 = omega arith in
     rw (mod-eq_of_lt word) (mod-eq_of_lt within)
 
-pub returns-in-Some : goal.returns-in-Some
-returns-in-Some g c =
+pub returns-in-Some-clause-step : goal.returns-in-Some-clause-step
+returns-in-Some-clause-step g c =
     let sized = g.met.M.EntropyModel.sized c.args.model in
     let quantile = rw (fits c.in-Some.quantile g.M.Probability.BitArray.BITS sized.1) at c.narrow.ensures in
     let covers = c.quantile_function-symbol.ensures.covers in

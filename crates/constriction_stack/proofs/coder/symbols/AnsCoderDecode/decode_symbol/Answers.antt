@@ -14,8 +14,8 @@ popped_head-head-requires-clause-total g c =
 quantile_is : (w v p head q : ℕ) → p ≤ w → p ≤ v → q ≡ head % 2 ^ p % 2 ^ w % 2 ^ v → q ≡ head % 2 ^ p
 quantile_is w v p head q h k e = e ∙ low_in_word head p w v h k
 
-pub returns-in-Ok : goal.returns-in-Ok
-returns-in-Ok g c =
+pub returns-in-Ok-clause-step : goal.returns-in-Ok-clause-step
+returns-in-Ok-clause-step g c =
     let sized = g.met.M.EntropyModel.sized c.args.model in
     let quantile = quantile_is g.Word.BitArray.BITS g.M.Probability.BitArray.BITS g.row.PRECISION (g.State.BitArray.number c.self.inside.state) _
     (omega (arith, sized.1, g.met.M.Probability.WordOf.width_law)) sized.1 (rw (c.narrow.ensures, c.low_bits.ensures) at c.narrow-quantile.ensures) in
@@ -40,8 +40,8 @@ returns-in-Ok g c =
       ),
     )
 
-pub returns : goal.returns
-returns g c =
+pub returns-clause-step : goal.returns-clause-step
+returns-clause-step g c =
     let sized = g.met.M.EntropyModel.sized c.args.model in
     let quantile = quantile_is g.Word.BitArray.BITS g.M.Probability.BitArray.BITS g.row.PRECISION (g.State.BitArray.number c.self.inside.state) _
     (omega (arith, sized.1, g.met.M.Probability.WordOf.width_law)) sized.1 (rw (c.narrow.ensures, c.low_bits.ensures) at c.narrow-quantile.ensures) in
