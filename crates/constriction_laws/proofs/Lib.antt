@@ -1,4 +1,4 @@
 pub mod Undoing
 pub mod HavingRoom
-pub mod Lists
+pub mod ListsGiven
 pub mod stack_coder

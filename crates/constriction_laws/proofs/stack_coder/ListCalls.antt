@@ -1,16 +1,11 @@
 -- What list calls of a stack coder do, in the words of the laws.
-use Rattle.std.specs.Iterator.{Yields, Drains}
-use Rattle.std.specs.Slice.Iter.{iter_rest, iter_steps_back}
-use Rattle.std.proofs.Common.{◌≡◌, ◌∙◌, ◌<◌, ◌^◌, ℕ, Bor, Iter, Option, Some, None, List, [], ◌∷◌, ◌++◌, Result, Ok, Err, inl, inr, length, map, refl, sym, ap, subst, arith, append_assoc}
-use Rattle.std.specs.Prelude.{reverse, drop, IfSome}
-use Rattle.std.specs.List.{zip}
-use Rattle.std.proofs.lemmas.List.{reverse-append, reverse-reverse, append-nil}
+use Rattle.std.proofs.Common.{◌≡◌, ℕ, Option, List, [], ◌∷◌, Result, Ok, Err, inl, inr, length, map, sym, ap}
+use Rattle.std.specs.Prelude.{reverse}
 use Rattle.constriction_base.specs.declared.errors.CoderError.{CoderError}
-use Rattle.constriction_base.specs.Steps.{Step, InTurn, AreWords}
+use Rattle.constriction_base.specs.Steps.{InTurn}
 use Rattle.constriction_base.specs.Tables.{AtEntry}
-use Rattle.constriction_base.proofs.InTurn.{InTurn-more}
 use Rattle.constriction_stream.specs.Lists.{StepsAll}
-use Rattle.constriction_stream.specs.Symbols.{EncodesSymbol, DecodesSymbol, DecodesByModel, ByBackend}
+use Rattle.constriction_stream.specs.Symbols.{EncodesSymbol, ByBackend}
 use Rattle.constriction_stack.specs.Ans.{AnsState, AnsValue, IsValid}
 use Rattle.constriction_stack.specs.Ans as calls
 use Rattle.constriction_laws.specs.stack.Readings.{DecodesBy, DecodesAllBy}

@@ -14,7 +14,7 @@ use Rattle.constriction_stack.specs.Symbols.{Encodes, Decodes, EncodesAll, Decod
 use Rattle.constriction_laws.specs.stack.Undone.{decode_back}
 use Rattle.constriction_laws.proofs.Undoing.{all_undone, all_free}
 use Rattle.constriction_laws.proofs.stack_coder.ComingBack.{decodes_only, map-reverse, all-reverse}
-use Rattle.constriction_laws.proofs.Lists.{none_left}
+use Rattle.constriction_laws.proofs.ListsGiven.{none_left}
 
 -- ---- what an iterator over two slices gave from the back
 zip_push : {A B : Type 0} (xs : List A) (ys : List B) (x : A) (y : B) → length xs ≡ length ys → zip (xs ++ x ∷ []) (ys ++ y ∷ []) ≡ zip xs ys ++ (x, y) ∷ []

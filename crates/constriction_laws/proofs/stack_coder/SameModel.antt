@@ -1,12 +1,8 @@
 -- Symbols under one model.
-use Rattle.std.proofs.Common.{◌≡◌, ℕ, List, [], ◌∷◌, ◌++◌, length, refl, sym, ap, ◌∙◌, subst, arith}
-use Rattle.std.specs.Prelude.{Option, Result, reverse, map}
-use Rattle.std.proofs.lemmas.List.{length-reverse, map_push}
-use Rattle.constriction_stack.specs.Ans.{AnsState, AnsValue}
-use Rattle.constriction_laws.specs.stack.Readings.{DecodesBy, DecodesAllBy}
+use Rattle.std.proofs.Common.{◌≡◌, ℕ, List, [], ◌∷◌, length, refl, sym, ap, ◌∙◌, arith}
+use Rattle.std.specs.Prelude.{reverse, map}
+use Rattle.std.proofs.lemmas.List.{length-reverse}
 use Rattle.constriction_base.specs.Models.{Model, IsModel, Item, item_of, items_of, models, AreModels}
-use Rattle.constriction_stack.specs.Symbols.{Encodes, Decodes, EncodesAll, DecodesAll}
-use Rattle.constriction_base.proofs.InTurn.{InTurn-append}
 use Rattle.constriction_laws.proofs.stack_coder.ComingBack.{map-reverse}
 
 symbols-items_of : {S : Type 0} (model : Model S) (xs : List S) → map (λ i. i.symbol) (items_of model xs) ≡ xs

@@ -2,7 +2,7 @@ use Rattle.std.proofs.Common.{◌≡◌, ◌∙◌, [], ◌∷◌, ◌++◌, len
 use Rattle.std.specs.List.{zip}
 use Rattle.std.specs.Slice.Iter.{iter_rest}
 use Rattle.std.proofs.lemmas.List.{length-append}
-use Rattle.constriction_laws.proofs.Lists.{GavePairs, pairs_more, rest_after}
+use Rattle.constriction_laws.proofs.ListsGiven.{GavePairs, pairs_more, rest_after}
 use Rattle.constriction_laws.proofs.round_trips.decode_by_models.Goals as goal
 
 pub decode-preserved : goal.decode-preserved

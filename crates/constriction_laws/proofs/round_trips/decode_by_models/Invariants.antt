@@ -1,7 +1,7 @@
 use Rattle.std.proofs.Common.{◌≡◌, ◌+◌, length, drop}
 use Rattle.std.specs.Slice.Iter.{iter_rest}
 use Rattle.std.specs.List.{zip}
-use Rattle.constriction_laws.proofs.Lists.{GavePairs}
+use Rattle.constriction_laws.proofs.ListsGiven.{GavePairs}
 use Rattle.constriction_laws.proofs.round_trips.decode_by_models.Given as goal
 
 abbrev pub invariant-decode : goal.invariant-decode

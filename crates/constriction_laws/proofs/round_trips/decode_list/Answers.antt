@@ -1,6 +1,6 @@
 use Rattle.std.proofs.Common.{◌≡◌, ◌∙◌, [], ◌∷◌, ◌++◌, length, sym, ap, subst, arith, rules}
 use Rattle.std.proofs.lemmas.List.{length-append}
-use Rattle.constriction_laws.proofs.Lists.{GaveAll, gives_more}
+use Rattle.constriction_laws.proofs.ListsGiven.{GaveAll, gives_more}
 use Rattle.constriction_laws.proofs.round_trips.decode_list.Goals as goal
 
 pub decode-preserved : goal.decode-preserved

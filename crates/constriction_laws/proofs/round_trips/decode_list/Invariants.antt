@@ -1,5 +1,5 @@
 use Rattle.std.proofs.Common.{◌≡◌, ◌+◌, length}
-use Rattle.constriction_laws.proofs.Lists.{GaveAll}
+use Rattle.constriction_laws.proofs.ListsGiven.{GaveAll}
 use Rattle.constriction_laws.proofs.round_trips.decode_list.Given as goal
 
 abbrev pub invariant-decode : goal.invariant-decode

@@ -5,7 +5,7 @@ use Rattle.constriction_stack.proofs.BinaryForms.{binary_valid}
 use Rattle.constriction_base.specs.Models.{Model, IsModel, item_of, items_of}
 use Rattle.constriction_stack.specs.Symbols.{EncodesAll, DecodesAll}
 use Rattle.constriction_laws.proofs.stack_coder.ComingBack.{map-reverse}
-use Rattle.constriction_laws.proofs.Lists.{words_fit}
+use Rattle.constriction_laws.proofs.ListsGiven.{words_fit}
 use Rattle.constriction_laws.proofs.stack_coder.SameModel.{are_models}
 use Rattle.constriction_laws.proofs.stack.round_trips.binary.words_through_list.Goals as goal
 

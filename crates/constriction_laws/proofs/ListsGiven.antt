@@ -1,7 +1,7 @@
 -- What lists of decodes and iterators over slices gave, for any coder.
 use Rattle.std.specs.Iterator.{Yields, Drains}
 use Rattle.std.specs.Slice.Iter.{iter_rest, iter_steps_back}
-use Rattle.std.proofs.Common.{◌≡◌, ◌∙◌, ◌<◌, ◌^◌, ℕ, Bor, Iter, Option, Some, None, List, [], ◌∷◌, ◌++◌, Result, Ok, Err, inl, inr, length, map, refl, sym, ap, subst, arith, append_assoc}
+use Rattle.std.proofs.Common.{◌≡◌, ◌∙◌, ◌<◌, ◌^◌, ℕ, Bor, Iter, Option, Some, None, List, [], ◌∷◌, ◌++◌, Result, Ok, length, map, refl, sym, ap, subst, arith, append_assoc}
 use Rattle.std.specs.Prelude.{reverse, drop, IfSome}
 use Rattle.std.specs.List.{zip}
 use Rattle.std.proofs.lemmas.List.{reverse-append, reverse-reverse, append-nil}
