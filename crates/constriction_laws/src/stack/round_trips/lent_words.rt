@@ -2,7 +2,8 @@
 
 ghost use Rattle.std.specs.Prelude.{◌≡◌, List, length, reverse, IfSome};
 ghost use Rattle.constriction_stack.specs.Ans.{AnsState, IsValid};
-ghost use Rattle.constriction_laws.specs.Symbols.{EncodesAll, items_of};
+ghost use Rattle.constriction_stack.specs.Symbols.{EncodesAll};
+ghost use Rattle.constriction_base.specs.Models.{items_of};
 
 use crate::stack::guards::shown_words_are_exported;
 use crate::stack::round_trips::coding::{decode_list, encode_list_reverse};

@@ -5,8 +5,9 @@ use Rattle.std.specs.List.{AllByRecursion}
 use Rattle.std.proofs.lemmas.List.{reverse-append, map-append}
 use Rattle.constriction_base.specs.Steps.{IsSizes}
 use Rattle.constriction_stack.specs.Ans.{AnsState, IsValid, empty}
-use Rattle.constriction_laws.specs.Symbols.{Model, IsModel, Decodes, Item, models, AreModels, AreKnown, EncodesAll, DecodesAll}
-use Rattle.constriction_laws.proofs.Choosing.{encode_exists, encode_unique, decode_unique}
+use Rattle.constriction_base.specs.Models.{Model, IsModel, Item, models, AreModels, AreKnown}
+use Rattle.constriction_stack.specs.Symbols.{Decodes, EncodesAll, DecodesAll}
+use Rattle.constriction_laws.proofs.stack_coder.Choosing.{encode_exists, encode_unique, decode_unique}
 
 -- ---- lists in reverse
 pub map-reverse : {A B : Type 0} (f : A → B) (xs : List A) → map f (reverse xs) ≡ reverse (map f xs)

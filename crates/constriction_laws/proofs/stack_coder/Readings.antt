@@ -9,10 +9,12 @@ use Rattle.constriction_base.specs.Backends.{Reads}
 use Rattle.constriction_base.specs.Iterators.{FusedRead}
 use Rattle.constriction_base.specs.Steps.{IsSizes}
 use Rattle.constriction_stack.specs.Ans.{AnsState, AnsValue, filled, refilled, RefillsBy}
-use Rattle.constriction_stack.specs.Steps.{FilledBy}
+use Rattle.constriction_stack.specs.Imports.{FilledBy}
 use Rattle.constriction_stack.proofs.Importing.{filled_low, filled_full}
-use Rattle.constriction_laws.specs.Readings.{TellsItems, words_left, told, DecodesBy, DecodesAllBy}
-use Rattle.constriction_laws.specs.Symbols.{Model, Item, Decodes, DecodesAll}
+use Rattle.constriction_laws.specs.Readings.{TellsItems, words_left}
+use Rattle.constriction_laws.specs.stack.Readings.{told, DecodesBy, DecodesAllBy}
+use Rattle.constriction_base.specs.Models.{Model, Item}
+use Rattle.constriction_stack.specs.Symbols.{Decodes, DecodesAll}
 use Rattle.constriction_base.specs.Readings.{Gives}
 use Rattle.constriction_base.proofs.Sizes.{Facts, facts}
 
@@ -71,7 +73,7 @@ module _ {S W E B : Type 0} (number : W → ℕ) (reads : B → Result (Option W
   pub decode_told : (model : Model S) (symbol : S) (old new : AnsValue B) → DecodesBy number reads w s model symbol old new
       → Decodes w s model symbol (told number words old) (told number words new)
   decode_told model symbol old new d =
-      (d.0, d.1, d.2, record { from = d.3.from; below = d.3.below }, sym (law _ new.state.head old.backend new.backend d.4))
+      (d.0, d.1, d.2, (record { from = d.3.0.from; below = d.3.0.below }, sym (law _ new.state.head old.backend new.backend d.3.1)))
 
   pub decodes_told : (items : List (Item S)) (old new : AnsValue B) → DecodesAllBy number reads w s items old new
       → DecodesAll w s items (told number words old) (told number words new)

@@ -6,8 +6,9 @@ use Rattle.constriction_base.specs.Steps.{IsSizes}
 use Rattle.constriction_stack.specs.Ans.{AnsState}
 use Rattle.constriction_stack.specs.Positions.{Grows, position_of, sought}
 use Rattle.constriction_stack.proofs.PositionsKept.{push_grows, grows_none, grows_more}
-use Rattle.constriction_laws.specs.Symbols.{Item, AreModels, EncodesAll}
-use Rattle.constriction_laws.proofs.Choosing.{step_of}
+use Rattle.constriction_base.specs.Models.{Item, AreModels}
+use Rattle.constriction_stack.specs.Symbols.{EncodesAll}
+use Rattle.constriction_laws.proofs.stack_coder.Choosing.{step_of}
 
 pub encodes_grow : {S : Type 0} (w s : ℕ) → IsSizes w s → (items : List (Item S)) (old new : AnsState) → AreModels w items → EncodesAll w s items old new → Grows old new
 encodes_grow w s z [] old new ms h = grows_none old new h

@@ -9,11 +9,12 @@ use Rattle.std.specs.Prelude.{reverse}
 use Rattle.std.proofs.lemmas.Bool.{cases_lt}
 use Rattle.std.proofs.lemmas.List.{reverse-append, reverse-reverse, append-nil, length-append}
 use Rattle.constriction_stack.specs.Ans.{AnsState}
-use Rattle.constriction_laws.specs.Symbols.{Model, Item, IsModel, pairs_of, models, AreModels, Encodes, Decodes, EncodesAll, DecodesAll}
-use Rattle.constriction_laws.specs.Undone.{decode_back}
+use Rattle.constriction_base.specs.Models.{Model, Item, IsModel, pairs_of, models, AreModels}
+use Rattle.constriction_stack.specs.Symbols.{Encodes, Decodes, EncodesAll, DecodesAll}
+use Rattle.constriction_laws.specs.stack.Undone.{decode_back}
 use Rattle.constriction_laws.proofs.Undoing.{all_undone, all_free}
-use Rattle.constriction_laws.proofs.ComingBack.{decodes_only, map-reverse, all-reverse}
-use Rattle.constriction_laws.proofs.ListCalls.{none_left}
+use Rattle.constriction_laws.proofs.stack_coder.ComingBack.{decodes_only, map-reverse, all-reverse}
+use Rattle.constriction_laws.proofs.ListsGiven.{none_left}
 
 -- ---- what an iterator over two slices gave from the back
 zip_push : {A B : Type 0} (xs : List A) (ys : List B) (x : A) (y : B) → length xs ≡ length ys → zip (xs ++ x ∷ []) (ys ++ y ∷ []) ≡ zip xs ys ++ (x, y) ∷ []

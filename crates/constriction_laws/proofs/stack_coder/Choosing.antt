@@ -3,11 +3,12 @@ use Rattle.std.proofs.Common.{◌≡◌, ℕ, ◌+◌, ◌%◌, ◌^◌, ◌<◌
 use Rattle.std.proofs.lemmas.Bool.{cases_lt}
 use Rattle.constriction_base.specs.Steps.{Step, IsStep, IsSizes}
 use Rattle.constriction_base.specs.Tables.{Has, IsTable, Follow, Covers}
-use Rattle.constriction_base.specs.Entries.{one_at, one_of}
+use Rattle.constriction_base.proofs.Entries.{one_at, one_of}
 use Rattle.constriction_stack.specs.Ans.{AnsState, IsValid, pop}
 use Rattle.constriction_stack.proofs.Pushing.{push_exists, push_unique}
-use Rattle.constriction_laws.specs.Symbols.{Model, IsModel, Knows, Encodes, Decodes}
-use Rattle.constriction_laws.specs.Undone.{decode_back, encode_back}
+use Rattle.constriction_base.specs.Models.{Model, IsModel, Knows}
+use Rattle.constriction_stack.specs.Symbols.{Encodes, Decodes}
+use Rattle.constriction_laws.specs.stack.Undone.{decode_back, encode_back}
 use Rattle.constriction_base.proofs.Entering.{entry_is_step}
 
 -- each number that is cut lies in an entry
@@ -40,13 +41,13 @@ module _ {S : Type 0} (w s : ℕ) (model : Model S) where
   decode_exists old t =
       let found = covering 0 (2 ^ model.precision) (old.head % 2 ^ model.precision) model.table t.follow (omega arith) (mod-lt old.head (pow_pos model.precision)) in
       let step : Step = record { precision = model.precision; left = found.1; p = found.2 } in
-      (found.0, pop w s step old, (found.1, found.2, found.3, record { from = found.4.0; below = found.4.1 }, refl))
+      (found.0, pop w s step old, (found.1, found.2, found.3, (record { from = found.4.0; below = found.4.1 }, refl)))
 
   pub decode_unique : (symbol other : S) (old new last : AnsState) → IsTable model.precision model.table
       → Decodes w s model symbol old new → Decodes w s model other old last → (symbol ≡ other) × (new ≡ last)
   decode_unique symbol other old new last t i j =
-      let same = one_at 0 (2 ^ model.precision) (old.head % 2 ^ model.precision) model.table symbol other i.0 j.0 i.1 j.1 t.follow i.2 j.2 (i.3.from, i.3.below) (j.3.from, j.3.below) in
-      (same.0, rw (same.1, same.2) at i.4 ∙ sym j.4)
+      let same = one_at 0 (2 ^ model.precision) (old.head % 2 ^ model.precision) model.table symbol other i.0 j.0 i.1 j.1 t.follow i.2 j.2 (i.3.0.from, i.3.0.below) (j.3.0.from, j.3.0.below) in
+      (same.0, rw (same.1, same.2) at i.3.1 ∙ sym j.3.1)
 
   pub decode_only : (symbol again : S) (old new last : AnsState) → IsTable model.precision model.table
       → Encodes w s model symbol old new → Decodes w s model again new last → (again ≡ symbol) × (last ≡ old)
