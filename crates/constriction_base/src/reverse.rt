@@ -17,6 +17,8 @@ use std::convert::Infallible;
 /// As a stack it reads the words from the position on, the one at the position first; as a queue the
 /// words before the position, the one right before it first. Positions are the cursor's.
 ///
+/// # Examples
+///
 /// ```
 /// let mut backend = Reverse(Cursor::new_at_write_beginning([7u32, 9].as_slice()));
 /// ReadWords::<u32, Stack>::read(&mut backend) // Ok(Some(7))

@@ -1,6 +1,6 @@
 //! A vector of words as a stack, whose last word is the first to be read.
 //!
-//! Its writes and `prepare` answer want of memory, and nothing else; reading it never fails, takes no
+//! Its writes and `prepare` return want of memory, and nothing else; reading it never fails, takes no
 //! memory and keeps the capacity. Any allocator serves.
 
 ghost use Rattle.std.specs.Prelude.{◌≡◌, ◌+◌, ◌-◌, ℕ, true, false, List, [], ◌∷◌, ◌++◌, ◌<◌, ◌≤◌, ◌==◌, Option, Result, Ok, Err, None, length, reverse, IsTrue, vec_len, vec_capacity, slice_set, take};

@@ -1,5 +1,6 @@
 -- What the two tests promise: no step is refused because data ended, or for lack of room.
 use Rattle.std.specs.Prelude.{◌≡◌, ℕ, ◌<◌, List, Option, None, Result, Ok, Err}
+use Rattle.std.proofs.Common.{inl, inr}
 use Rattle.constriction_base.specs.Steps.{Step}
 use Rattle.constriction_base.specs.declared.errors.CoderError.{CoderError}
 use Rattle.constriction_base.specs.declared.errors.CoderError.TheVariants.{Frontend, Backend}

@@ -1,4 +1,4 @@
--- What the clause `step` of `encode_symbol`, and that of `decode_symbol`, says of each answer, for any coder.
+-- What the clause `step` of `encode_symbol` and of `decode_symbol` says of each answer, for any coder.
 use Rattle.std.specs.Prelude.{◌≡◌, ℕ, List, ◌↔◌, Bool, false, Result, Ok, Err}
 use Rattle.std.specs.Bool.{OnFalse}
 use Rattle.std.proofs.Common.{inl, inr}

@@ -115,7 +115,7 @@ impl<
 
     ghost never_impossible = { λ old step e new impossible step_gives. never_encoded e impossible step_gives };
 
-    ghost never_full = { λ e impossible lack. never_lack _ _ _ e impossible lack };
+    ghost never_full = { λ e impossible lack. never_lack C.WriteError R.ReadError C.is_lack_of_room e impossible lack };
 
     /// There is no limit.
     #[inline]

@@ -37,7 +37,7 @@ where
     step_where_room::<_, _, PRECISION>(coder, symbol, model)
 }
 
-/// A decode is refused only where a word had to be read, and that read answered the error. The coder itself
+/// A decode is refused only where a word had to be read, and that read returned the error. The coder itself
 /// refuses none, and none before the model is asked.
 pub fn decode_or_refused_read<
     Word: WordOf<State>,

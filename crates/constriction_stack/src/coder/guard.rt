@@ -70,6 +70,7 @@ where
         ensures head { self.exit.0.now.state.head ≡ (lender self.entry).now.state.head }
         ensures restored { NeverRefused Backend.reads →
             self.exit.0.now.state ≡ without (written self.entry) (lender self.entry).now.state }
+        ensures coder { IsCoder Word.number Backend.words Word.BITS State.BITS self.exit.0.now }
     {
         let CoderGuard { inner, count } = self;
         take_back::<Word, Backend>(&mut inner.bulk, count);
@@ -159,9 +160,12 @@ where
     /// leading zero words. It asks the backend for room for the head's words; where the head is 0
     /// there are none. When the guard is dropped, the coder is as before.
     ///
-    /// Errors: what the backend answers where it has no room for all the head's words, or refuses
-    /// to write one of them. The words that were written before are taken off again, as far as reads
-    /// are not refused.
+    /// # Errors
+    ///
+    /// What the backend returns where it has no room for all the head's words, or refuses to write one of
+    /// them. The words that were written before are taken off again, as far as reads are not refused.
+    ///
+    /// # Examples
     ///
     /// ```
     /// {
@@ -197,7 +201,8 @@ where
     /// first, zero words at the top too. It asks the backend for room for the head's words; where
     /// the head is 1 there are none. When the guard is dropped, the coder is as before.
     ///
-    /// Errors:
+    /// # Errors
+    ///
     /// - `Frontend(())` exactly where the head is 0, or its bit length less one is no multiple of
     ///   the bits of a word. Nothing changed.
     /// - `Backend(error)` where the backend has no room for all the head's words, or refuses to

@@ -15,7 +15,6 @@ use constriction_base::iterators::FallibleIteratorReadWords;
 use constriction_base::model::{DecoderModel, EncoderModel, EntropyModel};
 use constriction_base::reverse::Reverse;
 use constriction_stack::coder::AnsCoder;
-use constriction_stream::coder::Code;
 use constriction_words::{BitArray, WordOf};
 use std::alloc::Global;
 
@@ -38,7 +37,6 @@ where
     M::Probability: WordOf<Word>,
     Backend::ReadError: Drop,
     Backend::WriteError: Drop,
-    requires { IsSizes Word.BITS State.BITS }
     ensures { IsValid Word.BITS State.BITS coder.state →
         IfSome result (λ back. (back.0.items ≡ symbols.now) × (back.1.state ≡ coder.state)) }
 {
@@ -162,8 +160,6 @@ where
     >::from_reversed_compressed_iter(items) else {
         return None;
     };
-    // The law asks that the head fits its type.
-    let _head = decoder.state();
     items_are_words::<Word, ReadError, Iter>();
     symbols_come_back_by_reads::<M::Symbol, Word, FallibleIteratorReadWords<Iter>>();
     decode_list(alloc, &mut decoder, amt, model)

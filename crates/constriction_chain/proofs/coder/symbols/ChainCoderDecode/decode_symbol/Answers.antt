@@ -23,8 +23,8 @@ keep-requires-clause-few g c =
 pub of-self-inside-requires : goal.of-self-inside-requires
 of-self-inside-requires g c = (search rules, (c.parts-r.ensures.sized, (c.in-Ok.ensures.some, c.in-Ok-keep.ensures.window)))
 
-pub returns-in-Ok-keep : goal.returns-in-Ok-keep
-returns-in-Ok-keep g c =
+pub returns-in-Ok-keep-clause-step : goal.returns-in-Ok-keep-clause-step
+returns-in-Ok-keep-clause-step g c =
     let taken = c.in-Ok.ensures in
     let covers = covered _ _ _ _ _ _ taken.below (g.met.M.EntropyModel.sized c.args.model).1 c.narrow.ensures c.quantile_function-symbol.ensures.covers in
     let kept = rw (c.widen-left.ensures, c.widen-p.ensures, c.from_nonzero.ensures, c.parts-r.ensures.is) at c.in-Ok-keep.ensures in
@@ -35,8 +35,8 @@ returns-in-Ok-keep g c =
       decoded _ _ _ _ _ _ _ _ _ _ g.met.Word.BitArray.number_law _ _ _ _ _ _ _ _ _ _ _ covers.0 covers.1 (g.met.Word.BitArray.number_law _) taken kept,
     )
 
-pub returns : goal.returns
-returns g c =
+pub returns-clause-step : goal.returns-clause-step
+returns-clause-step g c =
     let taken = c.in-Ok.ensures in
     let covers = covered _ _ _ _ _ _ taken.below (g.met.M.EntropyModel.sized c.args.model).1 c.narrow.ensures c.quantile_function-symbol.ensures.covers in
     let lost = rw (c.widen-left.ensures, c.widen-p.ensures, c.from_nonzero.ensures, c.parts-r.ensures.is) at c.in-Err-keep.ensures in

@@ -15,6 +15,6 @@ returns g c = λ valid.
     let coded = c.in-Ok.ensures valid in
     let full = encoded_all_valid w s items c.args.coder.state state valid coded in
     let imported = c.in-Ok-from_compressed.ensures.ok g.met.Backend.WriteWords.knows_words ∙ ap (λ ws. filled w s 0 ws) c.in-Ok-into_compressed.ensures.ok
-    ∙ c.import_of_export.ensures.state w s state c.requires.sizes full in
+    ∙ c.import_of_export.ensures.state w s state c.in-Ok-into_compressed.ensures.coder.sizes full in
     c.in_ok-again.ensures.back g.met.Backend.WriteWords.knows_words symbols c.args.coder.state
-    (subst (λ x. EncodesAll w s items c.args.coder.state x) (sym imported) coded) c.requires.a_model_each
+    (subst (λ x. EncodesAll w s items c.args.coder.state x) (sym imported) coded) c.requires

@@ -16,7 +16,7 @@ returns g c = λ valid.
     let coded = c.in-Ok.ensures valid in
     let full = encoded_all_valid w s (items_of model (reverse symbols)) c.args.coder.state state valid coded in
     let imported = c.in-Ok-from_compressed.ensures.ok g.met.Backend.WriteWords.knows_words ∙ ap (λ ws. filled w s 0 ws) c.in-Ok-into_compressed.ensures.ok
-    ∙ c.import_of_export.ensures.state w s state c.requires full in
+    ∙ c.import_of_export.ensures.state w s state c.in-Ok-into_compressed.ensures.coder.sizes full in
     let back = c.in_ok-again.ensures.back g.met.Backend.WriteWords.knows_words (reverse symbols) c.args.coder.state
     (subst (λ x. EncodesAll w s (items_of model (reverse symbols)) c.args.coder.state x) (sym imported) coded) (length-reverse symbols) in
     (back.0 ∙ reverse-reverse symbols, back.1)

@@ -20,7 +20,7 @@ returns-in-Ok g c =
     let quantile = quantile_is g.Word.BitArray.BITS g.M.Probability.BitArray.BITS g.row.PRECISION (g.State.BitArray.number c.self.inside.state) _
     (omega (arith, sized.1, g.met.M.Probability.WordOf.width_law)) sized.1 (rw (c.narrow.ensures, c.low_bits.ensures) at c.narrow-quantile.ensures) in
     let covers = c.quantile_function-symbol.ensures.covers in
-    rw (← c.self.view_is) (
+    rw (← c.self.view_is) record { step = (
       _,
       _,
       c.quantile_function-symbol.ensures.found,
@@ -38,7 +38,7 @@ returns-in-Ok g c =
         },
         refl,
       ),
-    )
+    ) }
 
 pub returns : goal.returns
 returns g c =
@@ -46,7 +46,7 @@ returns g c =
     let quantile = quantile_is g.Word.BitArray.BITS g.M.Probability.BitArray.BITS g.row.PRECISION (g.State.BitArray.number c.self.inside.state) _
     (omega (arith, sized.1, g.met.M.Probability.WordOf.width_law)) sized.1 (rw (c.narrow.ensures, c.low_bits.ensures) at c.narrow-quantile.ensures) in
     let covers = c.quantile_function-symbol.ensures.covers in
-    rw (← c.self.view_is) (inr (
+    rw (← c.self.view_is) record { step = inr (
       _,
       _,
       _,
@@ -65,4 +65,4 @@ returns g c =
         },
         refl,
       ),
-    ))
+    ) }
