@@ -3,7 +3,7 @@ use Rattle.std.proofs.Common.{◌≡◌, ℕ, ◌+◌, ◌-◌, ◌*◌, ◌/◌
 use Rattle.constriction_base.specs.Steps.{Step, AreWords}
 use Rattle.constriction_base.specs.Windows.{IsInWindow}
 use Rattle.constriction_chain.specs.Walk.{IsQuantile}
-use Rattle.constriction_chain.specs.Chain.{ChainState, ChainValue, IsChain, IsChainCoder, IsSized, IsBroughtBelow, IsDecode, IsEncode, least, value_of}
+use Rattle.constriction_chain.specs.Chain.{ChainState, IsChain, IsChainCoder, IsSized, IsBroughtBelow, IsDecode, IsEncode, least, value_of}
 use Rattle.constriction_chain.proofs.Walks.{quantile_from}
 use Rattle.constriction_chain.proofs.Windows.{gain_from}
 

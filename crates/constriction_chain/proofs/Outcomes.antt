@@ -1,10 +1,10 @@
 -- Outcomes of steps over backends, from those of their parts.
-use Rattle.std.specs.Prelude.{◌≡◌, ◌⊎◌, ℕ, ◌+◌, ◌-◌, ◌*◌, ◌^◌, ◌<◌, ◌≤◌, List, map, Option, Result, Ok, Err, MatchResult}
-use Rattle.std.proofs.Common.{refl, sym, ap, ◌∙◌, inl, inr, arith}
+use Rattle.std.specs.Prelude.{◌≡◌, ℕ, ◌+◌, ◌^◌, ◌<◌, ◌≤◌, List, map, Option, Result, Ok, Err, MatchResult}
+use Rattle.std.proofs.Common.{refl, ap, ◌∙◌, inl, inr, arith}
 use Rattle.constriction_base.specs.Steps.{Step}
 use Rattle.constriction_base.specs.declared.errors.CoderError.{CoderError}
 use Rattle.constriction_base.specs.declared.errors.CoderError.TheVariants.{Backend}
-use Rattle.constriction_chain.specs.Chain.{ChainState, ChainValue, IsChainCoder, value_of}
+use Rattle.constriction_chain.specs.Chain.{ChainState, IsChainCoder, value_of}
 use Rattle.constriction_chain.specs.Steps.{Taken, Halts, Halted, Took, Kept, NotKept, DecodeCall}
 use Rattle.constriction_chain.specs.declared.errors.BackendError.{BackendError}
 use Rattle.constriction_chain.specs.declared.errors.BackendError.TheVariants.{Remainders}
@@ -19,7 +19,6 @@ mapped P P' Q Q' (Err e) f g m = g e m
 
 module _ {W E C R F : Type 0} (number : W → ℕ) (is_list : Type 0) (held : C → List W) (held' : R → List W) (reads : C → Result (Option W) E → C → Type 0)
     (write_fails : R → F → Type 0) (room : R → ℕ) (makes_room : Type 0) where
-
   -- the backends' part of a quantile, as the coder's
   pub took_of : (w s P h r : ℕ) (old new : C) (other other' : R) (quantile h' : ℕ)
       → IsChainCoder number held held' w s P (value_of number held held' h r old other)

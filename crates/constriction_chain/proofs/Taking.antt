@@ -1,5 +1,5 @@
 -- The entry that holds a quantile.
-use Rattle.std.proofs.Common.{◌≡◌, ℕ, ◌+◌, ◌%◌, ◌^◌, ◌<◌, ◌≤◌, arith, ◌∙◌}
+use Rattle.std.proofs.Common.{◌≡◌, ℕ, ◌%◌, ◌^◌, ◌<◌, ◌≤◌, arith, ◌∙◌}
 use Rattle.constriction_base.specs.Tables.{Covers}
 use Rattle.constriction_chain.proofs.Sizes.{narrowed}
 

@@ -72,12 +72,7 @@ pub fn keep<Word: WordOf<State>, State: BitArray, R: WriteWords<Word>>(
 
 /// Puts a quantile of an interval back, that which the remainders tell. Returns both heads after it.
 #[inline]
-pub fn give<
-    Word: WordOf<State>,
-    State: BitArray,
-    C: WriteWords<Word>,
-    R: ReadWords<Word, Stack>,
->(
+pub fn give<Word: WordOf<State>, State: BitArray, C: WriteWords<Word>, R: ReadWords<Word, Stack>>(
     compressed: &mut C,
     remainders: &mut R,
     heads: (Word, State),

@@ -40,5 +40,7 @@ pub mod laws;
 mod steps;
 
 pub use crate::coder::{ChainCoder, DefaultChainCoder, SmallChainCoder};
-pub use crate::errors::{BackendError, DecoderError, DecoderFrontendError, EncoderError, EncoderFrontendError};
+pub use crate::errors::{
+    BackendError, DecoderError, DecoderFrontendError, EncoderError, EncoderFrontendError,
+};
 pub use crate::heads::ChainCoderHeads;

@@ -154,7 +154,14 @@ impl<
         };
         let (left, p) = (left.widen(), M::Probability::from_nonzero(p).widen());
         let (heads, precision) = (self.heads.parts(), PRECISION as u32);
-        match give(&mut self.compressed, &mut self.remainders, heads, left, p, precision) {
+        match give(
+            &mut self.compressed,
+            &mut self.remainders,
+            heads,
+            left,
+            p,
+            precision,
+        ) {
             Ok((h, r)) => {
                 self.heads = ChainCoderHeads::of(h, r);
                 Ok(())

@@ -1,8 +1,8 @@
-use Rattle.std.proofs.Common.{◌+◌, ◌%◌, ◌^◌, ◌<◌, ◌≤◌, List, length, map, ap, refl, arith, inl, inr, ◌∙◌}
+use Rattle.std.proofs.Common.{List, map, ap, refl, arith, inl, inr, ◌∙◌}
 use Rattle.std.proofs.lemmas.List.{length-map}
 use Rattle.constriction_base.specs.Windows.{IsInWindow}
 use Rattle.constriction_chain.specs.Chain.{least}
-use Rattle.constriction_chain.proofs.Chains.{chain_of, coder_of, encode_of, state_same}
+use Rattle.constriction_chain.proofs.Chains.{coder_of, encode_of, state_same}
 use Rattle.constriction_chain.proofs.Sizes.{placed}
 use Rattle.constriction_chain.proofs.halves.give.Goals as goal
 

@@ -1,4 +1,3 @@
-use Rattle.std.proofs.Common.{◌+◌, ◌-◌, ◌<◌, ◌≤◌, length, arith}
 use Rattle.std.proofs.lemmas.List.{length-map}
 use Rattle.constriction_chain.proofs.halves.keep.Goals as goal
 

@@ -1,6 +1,4 @@
-use Rattle.std.specs.Prelude.{◌^◌, ◌∷◌, ◌++◌}
-use Rattle.std.proofs.Common.{arith, ◌∙◌, ap, refl, List}
-use Rattle.std.specs.Int.Digits.{digits_of}
+use Rattle.std.proofs.Common.{◌∙◌, refl}
 use Rattle.constriction_base.proofs.Exporting.{some_of, shr_smaller, next_digit}
 use Rattle.constriction_chain.proofs.coder.ChainCoder.into_remainders.Goals as goal
 

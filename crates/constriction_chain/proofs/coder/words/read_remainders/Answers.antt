@@ -1,7 +1,5 @@
-use Rattle.std.specs.Prelude.{[]}
-use Rattle.std.proofs.Common.{◌≡◌, ◌+◌, ◌-◌, ◌*◌, ◌^◌, ◌++◌, ℕ, List, map, ap, refl, arith, ◌∙◌, mul-le-mul_right, pow_pos, append-nil}
+use Rattle.std.proofs.Common.{◌≡◌, ◌+◌, ◌-◌, ◌^◌, ◌++◌, ℕ, List, map, ap, refl, arith, ◌∙◌, mul-le-mul_right, pow_pos, append-nil}
 use Rattle.std.specs.Int.Digits.{digits_of}
-use Rattle.constriction_chain.specs.Chain.{least}
 use Rattle.constriction_chain.proofs.Windows.{read_within}
 use Rattle.constriction_base.proofs.Exporting.{digit_in, word_grows}
 use Rattle.constriction_chain.proofs.coder.words.read_remainders.Goals as goal

@@ -1,4 +1,4 @@
-use Rattle.std.proofs.Common.{rules, arith, ◌≤◌, ◌+◌, ◌^◌, inl, inr}
+use Rattle.std.proofs.Common.{rules, arith, inr}
 use Rattle.constriction_base.specs.Entries.{in_range}
 use Rattle.constriction_chain.proofs.Outcomes.{decoded, undecoded}
 use Rattle.constriction_chain.proofs.Sizes.{narrowed}
@@ -23,27 +23,31 @@ keep-requires-clause-few g c =
 pub of-self-inside-requires : goal.of-self-inside-requires
 of-self-inside-requires g c = (search rules, (c.parts-r.ensures.sized, (c.in-Ok.ensures.some, c.in-Ok-keep.ensures.window)))
 
-pub returns-in-Ok-keep-clause-step : goal.returns-in-Ok-keep-clause-step
-returns-in-Ok-keep-clause-step g c =
+pub returns-in-Ok-keep : goal.returns-in-Ok-keep
+returns-in-Ok-keep g c =
     let taken = c.in-Ok.ensures in
     let covers = covered _ _ _ _ _ _ taken.below (g.met.M.EntropyModel.sized c.args.model).1 c.narrow.ensures c.quantile_function-symbol.ensures.covers in
     let kept = rw (c.widen-left.ensures, c.widen-p.ensures, c.from_nonzero.ensures, c.parts-r.ensures.is) at c.in-Ok-keep.ensures in
-    rw (← c.self.view_is, c.of-self-inside.ensures) (
-      _,
-      _,
-      c.quantile_function-symbol.ensures.found,
-      decoded _ _ _ _ _ _ _ _ _ _ g.met.Word.BitArray.number_law _ _ _ _ _ _ _ _ _ _ _ covers.0 covers.1 (g.met.Word.BitArray.number_law _) taken kept,
-    )
+    rw (← c.self.view_is, c.of-self-inside.ensures) (record {
+      step = (
+        _,
+        _,
+        c.quantile_function-symbol.ensures.found,
+        decoded _ _ _ _ _ _ _ _ _ _ g.met.Word.BitArray.number_law _ _ _ _ _ _ _ _ _ _ _ covers.0 covers.1 (g.met.Word.BitArray.number_law _) taken kept,
+      );
+    })
 
-pub returns-clause-step : goal.returns-clause-step
-returns-clause-step g c =
+pub returns : goal.returns
+returns g c =
     let taken = c.in-Ok.ensures in
     let covers = covered _ _ _ _ _ _ taken.below (g.met.M.EntropyModel.sized c.args.model).1 c.narrow.ensures c.quantile_function-symbol.ensures.covers in
     let lost = rw (c.widen-left.ensures, c.widen-p.ensures, c.from_nonzero.ensures, c.parts-r.ensures.is) at c.in-Err-keep.ensures in
-    rw (← c.self.view_is) (inr (
-      _,
-      _,
-      _,
-      c.quantile_function-symbol.ensures.found,
-      undecoded _ _ _ _ _ _ _ _ g.met.R.WriteWords.room_law _ _ g.met.Word.BitArray.number_law _ _ _ _ _ _ _ _ _ _ _ covers.0 covers.1 taken lost,
-    ))
+    rw (← c.self.view_is) (record {
+      step = inr (
+        _,
+        _,
+        _,
+        c.quantile_function-symbol.ensures.found,
+        undecoded _ _ _ _ _ _ _ _ g.met.R.WriteWords.room_law _ _ g.met.Word.BitArray.number_law _ _ _ _ _ _ _ _ _ _ _ covers.0 covers.1 taken lost,
+      );
+    })

@@ -1,4 +1,4 @@
-use Rattle.std.proofs.Common.{rules, ◌≤◌, ◌+◌, ◌^◌, inl}
+use Rattle.std.proofs.Common.{rules, inl}
 use Rattle.constriction_base.specs.Entries.{in_range}
 use Rattle.constriction_chain.proofs.coder.symbols.ChainCoderEncode.encode_symbol.Goals as goal
 
