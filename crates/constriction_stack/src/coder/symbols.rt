@@ -25,14 +25,11 @@ impl<Word: WordOf<State>, State: BitArray, Backend: Holds<Word, Stack>> Code
 
     type State = State;
 
-    ghost shows = { λ coder head. State.number head ≡ coder.state.head };
+    ghost shows = { λ coder head. (State.number head ≡ coder.state.head) × IsCoder Word.number Backend.words Word.BITS State.BITS coder };
 
     /// The head.
     #[inline]
-    fn state(&self) -> State
-        ensures head { State.number result ≡ self.now.state.head }
-        ensures coder { IsCoder Word.number Backend.words Word.BITS State.BITS self.now }
-    {
+    fn state(&self) -> State {
         self.state
     }
 }
