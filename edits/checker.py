@@ -9,6 +9,8 @@ GOAL = re.compile(r"note: src/\S+ it is not proved that .*?\(`([^`]+)`\)")
 LAW = re.compile(r"impl (\S+): not proved; antt refuses (.+?) in `")
 # A proof file that names what an edit took away says nothing about the contract, and nor does what cites such a proof.
 VANISHED = re.compile(r"has no field|is not in scope|has no `|was not admitted")
+# An error in the answer to a goal begins with the goal's name.
+ANSWER = re.compile(r"`([^`]+)`: (.*)")
 
 
 class Ran:
@@ -76,7 +78,9 @@ def blame_of(name, why, goals, lines):
     if goals:
         return [Blame(name, True, "goal " + ", ".join(dict.fromkeys(goals)))]
     if telling:
-        return [Blame(name, True, "proof " + telling[0])]
+        answers = [it for it in map(ANSWER.fullmatch, telling) if it]
+        goals = ", ".join(dict.fromkeys(it[1] for it in answers))
+        return [Blame(name, True, f"proof {goals}: {answers[0][2]}" if answers else "proof " + telling[0])]
     if errors:
         return [Blame(name, False, "only its proof file names what the edit took away: " + errors[0])]
     return [] if why == "proved" else [Blame(name, False, why)]
