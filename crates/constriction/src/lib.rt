@@ -190,6 +190,10 @@ pub mod laws {
                 };
             }
 
+            pub mod compressed {
+                pub use constriction_laws::stack::round_trips::compressed::compressed_words_through_list;
+            }
+
             pub mod decoders {
                 pub use constriction_laws::stack::round_trips::decoders::{
                     list_as_decoder, list_into_decoder, list_into_seekable_decoder,
@@ -198,7 +202,7 @@ pub mod laws {
 
             pub mod lent_words {
                 pub use constriction_laws::stack::round_trips::lent_words::{
-                    decode_lent_words, list_from_lent_words,
+                    decode_lent_binary_words, decode_lent_words, list_from_lent_words,
                 };
             }
 
