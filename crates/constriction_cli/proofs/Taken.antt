@@ -4,11 +4,6 @@ use Rattle.std.proofs.Math.Seq.{take-add}
 use Rattle.std.proofs.lemmas.List.{take_all}
 use Rattle.std.specs.Io.KnownBytes.{Appends, Keeps}
 
--- nothing was written
-pub appends-none : (known : Option (List ℕ)) → Appends known known []
-appends-none None = tt
-appends-none (Some xs) = sym (append-nil xs)
-
 -- two writes are one
 pub appends-two : (old between new : Option (List ℕ)) (first more : List ℕ) → Appends old between first → Appends between new more → Appends old new (first ++ more)
 appends-two None between new first more before after = tt
@@ -28,7 +23,3 @@ appends-kept (Some xs) (Some ys) (Some zs) bytes before after = after ∙ before
 pub appends-more : (old between new : Option (List ℕ)) (bytes : List ℕ) (count more : ℕ) → Appends old between (take count bytes) → Appends between new (take more (drop count bytes)) → Appends old new (take (count + more) bytes)
 appends-more old between new bytes count more before after =
     subst (Appends old new) (sym (take-add count more bytes)) (appends-two old between new (take count bytes) (take more (drop count bytes)) before after)
-
--- as many bytes as there are
-pub appends-all : (old new : Option (List ℕ)) (bytes : List ℕ) (count : ℕ) → length bytes ≤ count → Appends old new (take count bytes) → Appends old new bytes
-appends-all old new bytes count past before = subst (Appends old new) (take_all count bytes past) before

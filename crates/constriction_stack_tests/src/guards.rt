@@ -1,7 +1,7 @@
 //! Words that a guard shows, and what its drop leaves. Heads and words by hand.
 
 ghost use Rattle.constriction_base.specs.Readings.{NeverRefused};
-ghost use Rattle.std.specs.Prelude.{◌≡◌, OnOk};
+ghost use Rattle.std.specs.Prelude.{◌≡◌};
 
 use crate::coders::{HeapCoder, coder_over, coder_over_with, coder_with, new_coder, table_of};
 use crate::expect::{bulk_at, parts_of};
