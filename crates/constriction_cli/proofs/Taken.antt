@@ -1,7 +1,6 @@
 -- What a writer holds, write after write.
-use Rattle.std.proofs.Common.{ℕ, ◌+◌, ◌≤◌, Option, Some, None, List, [], ◌++◌, length, take, drop, ◌∙◌, ap, subst, sym, append_assoc, append-nil}
+use Rattle.std.proofs.Common.{ℕ, ◌+◌, Option, Some, None, List, ◌++◌, take, drop, ◌∙◌, ap, subst, sym, append_assoc}
 use Rattle.std.proofs.Math.Seq.{take-add}
-use Rattle.std.proofs.lemmas.List.{take_all}
 use Rattle.std.specs.Io.KnownBytes.{Appends, Keeps}
 
 -- two writes are one
