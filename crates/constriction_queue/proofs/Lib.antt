@@ -7,6 +7,7 @@ pub mod Seals
 pub mod Encoders
 pub mod Decoders
 pub mod Showing
+pub mod Roomy
 pub mod Pointing
 pub mod Beginning
 pub mod Exhausted

@@ -41,7 +41,10 @@ pub mod state;
 mod step;
 mod writing;
 
+pub use crate::decoder::symbols::DecoderFrontendError;
 pub use crate::decoder::{DefaultRangeDecoder, RangeDecoder, SmallRangeDecoder};
+pub use crate::encoder::compressed::RangeCompressedIter;
+pub use crate::encoder::guard::EncoderGuard;
 pub use crate::encoder::{DefaultRangeEncoder, RangeEncoder, SmallRangeEncoder};
 pub use crate::situation::EncoderSituation;
 pub use crate::state::RangeCoderState;

@@ -3,17 +3,18 @@ use Rattle.std.proofs.lemmas.List.{reverse-reverse}
 use Rattle.constriction_queue.specs.Encoder.{sealed_by}
 use Rattle.constriction_queue.proofs.Beginning.{cursor_keeps, at_start}
 use Rattle.constriction_queue.proofs.Showing.{queue_is}
+use Rattle.std.specs.declared.convert.Infallible.{Infallible}
 use Rattle.constriction_queue.specs.Guarded.{lent_by}
 use Rattle.constriction_base.specs.Backends.{Place}
 use Rattle.constriction_queue.proofs.encoder.through_guard.RangeEncoder+Word+State+Vec+Word+A.decoder.Goals as goal
 
-buffer : {B : Type 0} → Place B → B
+abbrev buffer : {B : Type 0} → Place B → B
 buffer place = place.buf
 
 pub returns-clause-same_reference : goal.returns-clause-same_reference
 returns-clause-same_reference g c =
     let reads = c.in-Ok.ensures.reads in
-    let buf = cursor_keeps g.Word.BitArray.number lent_by reads.0 c.new_at_write_beginning-bulk.result c.read_point.new.bulk reads.2 ∙ ap buffer c.new_at_write_beginning-bulk.ensures in
+    let buf = cursor_keeps Infallible g.Word.BitArray.number lent_by reads.0 c.new_at_write_beginning-bulk.result c.read_point.new.bulk reads.2 ∙ ap buffer c.new_at_write_beginning-bulk.ensures in
     rw buf refl
 
 pub returns-clause-ok : goal.returns-clause-ok
@@ -29,11 +30,11 @@ returns-clause-ok g c =
 pub returns-clause-back : goal.returns-clause-back
 returns-clause-back g c =
     let reads = c.in-Ok.ensures.reads in
-    let buf = cursor_keeps g.Word.BitArray.number lent_by reads.0 c.new_at_write_beginning-bulk.result c.read_point.new.bulk reads.2 ∙ ap buffer c.new_at_write_beginning-bulk.ensures in
+    let buf = cursor_keeps Infallible g.Word.BitArray.number lent_by reads.0 c.new_at_write_beginning-bulk.result c.read_point.new.bulk reads.2 ∙ ap buffer c.new_at_write_beginning-bulk.ensures in
     rw buf c.in_ok-count.ensures.back
 
 pub returns-clause-heads : goal.returns-clause-heads
 returns-clause-heads g c =
     let reads = c.in-Ok.ensures.reads in
-    let buf = cursor_keeps g.Word.BitArray.number lent_by reads.0 c.new_at_write_beginning-bulk.result c.read_point.new.bulk reads.2 ∙ ap buffer c.new_at_write_beginning-bulk.ensures in
+    let buf = cursor_keeps Infallible g.Word.BitArray.number lent_by reads.0 c.new_at_write_beginning-bulk.result c.read_point.new.bulk reads.2 ∙ ap buffer c.new_at_write_beginning-bulk.ensures in
     rw buf c.put_seal.ensures.heads
