@@ -5,7 +5,7 @@
 
 ghost use Rattle.std.specs.Prelude.{◌≡◌, ◌+◌, ◌-◌, ℕ, true, false, List, [], ◌∷◌, ◌++◌, ◌<◌, ◌≤◌, ◌==◌, Option, Result, Ok, Err, None, length, reverse, IsTrue, vec_len, vec_capacity, slice_set, take};
 ghost use Rattle.constriction_base.specs.Backends.{Reads};
-ghost use Rattle.constriction_base.specs.Room.{no_room_left, room_for, at_length, within, words_counted};
+ghost use Rattle.constriction_base.specs.laws.Room.{no_room_left, room_for, at_length, within, words_counted};
 ghost use Rattle.std.proofs.Common.{sym};
 ghost use Rattle.std.proofs.lemmas.List.{reverse-reverse};
 

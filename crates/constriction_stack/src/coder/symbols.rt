@@ -3,8 +3,7 @@
 
 ghost use Rattle.constriction_base.specs.Steps.{Step};
 ghost use Rattle.constriction_base.specs.declared.errors.DefaultEncoderFrontendError.TheVariants.{ImpossibleSymbol};
-ghost use Rattle.constriction_stack.specs.Ans.{IsCoder};
-ghost use Rattle.constriction_stack.specs.Steps.{DecodeCall, EncodeCall};
+ghost use Rattle.constriction_stack.specs.Ans.{DecodeCall, EncodeCall, IsCoder};
 ghost use Rattle.constriction_stream.specs.Symbols.{ByBackend, DecodesSymbol, EncodesSymbol, GoesOn, HasRoom, IsBackendError, never_frontend};
 ghost use Rattle.std.specs.Bool.{OnFalse};
 ghost use Rattle.std.specs.Prelude.{IsTrue, ⊤, ◌+◌, ◌↔◌, ◌≡◌, ◌≤◌};
@@ -26,14 +25,11 @@ impl<Word: WordOf<State>, State: BitArray, Backend: Holds<Word, Stack>> Code
 
     type State = State;
 
-    ghost shows = { λ coder head. State.number head ≡ coder.state.head };
+    ghost shows = { λ coder head. (State.number head ≡ coder.state.head) × IsCoder Word.number Backend.words Word.BITS State.BITS coder };
 
     /// The head.
     #[inline]
-    fn state(&self) -> State
-        ensures head { State.number result ≡ self.now.state.head }
-        ensures coder { IsCoder Word.number Backend.words Word.BITS State.BITS self.now }
-    {
+    fn state(&self) -> State {
         self.state
     }
 }
@@ -93,7 +89,7 @@ impl<
         ensures step { EncodesSymbol (⟦<AnsCoder<Word, State, Backend> as Encode<PRECISION>>⟧.encodes)
             (⟦<AnsCoder<Word, State, Backend> as Encode<PRECISION>>⟧.is_impossible_symbol)
             PRECISION (M.table model) symbol.now self.old result self.new }
-        ensures left { ⟦<AnsCoder<Word, State, Backend> as Encode<PRECISION>>⟧.symbols_left self.old
+        ensures fewer_left { ⟦<AnsCoder<Word, State, Backend> as Encode<PRECISION>>⟧.symbols_left self.old
             ≤ ⟦<AnsCoder<Word, State, Backend> as Encode<PRECISION>>⟧.symbols_left self.new + 1 }
     {
         let Some((left, p)) = model.left_cumulative_and_probability(symbol) else {

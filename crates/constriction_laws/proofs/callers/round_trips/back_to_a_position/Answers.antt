@@ -5,10 +5,11 @@ use Rattle.constriction_base.specs.Steps.{IsSizes}
 use Rattle.constriction_stack.specs.Ans.{AnsState, IsValid, empty}
 use Rattle.constriction_stack.specs.Positions.{position_of, sought}
 use Rattle.constriction_stack.proofs.PositionsKept.{drop_front, held_less}
-use Rattle.constriction_laws.specs.Symbols.{Model, IsModel, Item, item_of, Encodes, Decodes}
-use Rattle.constriction_laws.proofs.ComingBack.{empty_valid}
-use Rattle.constriction_laws.proofs.ListCalls.{encode_of, decode_of}
-use Rattle.constriction_laws.proofs.Seeking.{encodes_grow, cut_is_sought}
+use Rattle.constriction_base.specs.Models.{Model, IsModel, Item, item_of}
+use Rattle.constriction_stack.specs.Symbols.{Encodes, Decodes}
+use Rattle.constriction_laws.proofs.stack_coder.ComingBack.{empty_valid}
+use Rattle.constriction_laws.proofs.stack_coder.ListCalls.{encode_of, decode_of}
+use Rattle.constriction_laws.proofs.stack_coder.Seeking.{encodes_grow, cut_is_sought}
 use Rattle.constriction_laws.proofs.callers.round_trips.back_to_a_position.Goals as goal
 
 pub returns : goal.returns
@@ -31,7 +32,7 @@ returns g c =
     let more : length one.words ≤ length two.words =
     held_less one two (encodes_grow 8 16 sizes (item_of model c.args.since ∷ []) one two (lawful, tt) (two, second, refl)) in
     let cut : c.from_raw_parts-decoder.result.state ≡ record { head = one.head; words = map f (reverse (take c.len-held.result c.into_raw_parts-words.result.0.items)) } =
-    rw (c.truncate.ensures.items, c.state-head.ensures.head) at c.from_raw_parts-decoder.ensures.state in
+    rw (c.truncate.ensures.items, c.state-head.ensures.0) at c.from_raw_parts-decoder.ensures.state in
     let there : c.from_raw_parts-decoder.result.state ≡ sought (position_of one) two = cut_is_sought f c.into_raw_parts-words.result.0.items c.len-held.result one two c.from_raw_parts-decoder.result.state held words more cut in
     let back = c.symbols_before_a_position.ensures.only 8 16 (item_of model c.args.before ∷ []) (item_of model c.args.since ∷ []) (item_of model c.in-Ok-decode_symbol.again ∷ []) empty one two last
     sizes (lawful, tt) (lawful, tt) (one, first, refl) (two, second, refl)

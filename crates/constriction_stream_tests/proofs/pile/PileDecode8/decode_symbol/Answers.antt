@@ -12,9 +12,9 @@ fits q bits h =
     let word : q % 256 < 4294967296 = omega arith in
     rw (mod-eq_of_lt word) (mod-eq_of_lt within)
 
-pub returns-in-Some-clause-step : goal.returns-in-Some-clause-step
-returns-in-Some-clause-step g c =
+pub returns-in-Some : goal.returns-in-Some
+returns-in-Some g c =
     let sized = g.met.M.EntropyModel.sized c.args.model in
     let quantile = rw (fits c.in-Some.quantile g.M.Probability.BitArray.BITS sized.1) at c.narrow.ensures in
     let covers = c.quantile_function-symbol.ensures.covers in
-    (_, _, c.quantile_function-symbol.ensures.found, (refl, refl, (c.in-Some.quantile, search rules, (rw quantile at covers.0, rw quantile at covers.1))))
+    record { step = (_, _, c.quantile_function-symbol.ensures.found, (refl, refl, (c.in-Some.quantile, search rules, (rw quantile at covers.0, rw quantile at covers.1)))) }

@@ -62,9 +62,7 @@ returns-clause-step g c =
     let covers = c.quantile_function-symbol.ensures.covers in
     rw (← c.self.view_is) (inr (
       _,
-      _,
-      _,
-      c.quantile_function-symbol.ensures.found,
+      (_, _, c.quantile_function-symbol.ensures.found,
       (
         Err c.in-Err.error,
         record {
@@ -81,7 +79,7 @@ returns-clause-step g c =
           error = rw (c.widen-p.ensures, c.widen-2.ensures, c.from_nonzero-p.ensures) at c.in-Err.ensures.err;
         },
         refl,
-      ),
+      )),
     ))
 
 pub returns-clause-variant : goal.returns-clause-variant

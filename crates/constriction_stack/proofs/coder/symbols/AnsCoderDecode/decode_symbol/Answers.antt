@@ -1,6 +1,6 @@
 use Rattle.std.specs.Prelude.{◌≡◌, ℕ, ◌%◌, ◌^◌, ◌≤◌, Ok, Err}
 use Rattle.std.proofs.Common.{arith, ◌∙◌, sym, refl, inr}
-use Rattle.constriction_base.specs.Entries.{in_range}
+use Rattle.constriction_base.proofs.Entries.{in_range}
 use Rattle.constriction_stack.proofs.Coders.{is_coder}
 use Rattle.constriction_base.proofs.Heads.{low_in_word}
 use Rattle.constriction_stack.proofs.coder.symbols.AnsCoderDecode.decode_symbol.Goals as goal
@@ -14,55 +14,61 @@ popped_head-head-requires-clause-total g c =
 quantile_is : (w v p head q : ℕ) → p ≤ w → p ≤ v → q ≡ head % 2 ^ p % 2 ^ w % 2 ^ v → q ≡ head % 2 ^ p
 quantile_is w v p head q h k e = e ∙ low_in_word head p w v h k
 
-pub returns-in-Ok-clause-step : goal.returns-in-Ok-clause-step
-returns-in-Ok-clause-step g c =
+pub returns-in-Ok : goal.returns-in-Ok
+returns-in-Ok g c =
     let sized = g.met.M.EntropyModel.sized c.args.model in
     let quantile = quantile_is g.Word.BitArray.BITS g.M.Probability.BitArray.BITS g.row.PRECISION (g.State.BitArray.number c.self.inside.state) _
     (omega (arith, sized.1, g.met.M.Probability.WordOf.width_law)) sized.1 (rw (c.narrow.ensures, c.low_bits.ensures) at c.narrow-quantile.ensures) in
     let covers = c.quantile_function-symbol.ensures.covers in
-    rw (← c.self.view_is) (
-      _,
-      _,
-      c.quantile_function-symbol.ensures.found,
-      (
-        Ok tt,
-        record {
-          before = is_coder _ _ _ _ _ _ c.self.invariant (g.met.State.BitArray.number_law _);
-          after = is_coder _ _ _ _ _ _ c.self.invariant (g.met.State.BitArray.number_law _);
-          holds = record { from = rw quantile at covers.0; below = rw quantile at covers.1 };
-          popped = λ list. sym (rw (c.popped_head-head.ensures, c.widen-2.ensures, c.widen.ensures, c.widen-4.ensures, c.widen-3.ensures, c.from_nonzero-p.ensures) at c.in-Ok.ensures.list list);
-          refilled = rw (c.popped_head-head.ensures, c.widen-2.ensures, c.widen.ensures, c.widen-4.ensures, c.widen-3.ensures, c.from_nonzero-p.ensures) at c.in-Ok.ensures.reads;
-          head = tt;
-          kept = tt;
-          error = tt;
-        },
-        refl,
-      ),
-    )
+    record {
+      step = rw (← c.self.view_is) (
+        _,
+        _,
+        c.quantile_function-symbol.ensures.found,
+        (
+          Ok tt,
+          record {
+            before = is_coder _ _ _ _ _ _ c.self.invariant (g.met.State.BitArray.number_law _);
+            after = is_coder _ _ _ _ _ _ c.self.invariant (g.met.State.BitArray.number_law _);
+            holds = record { from = rw quantile at covers.0; below = rw quantile at covers.1 };
+            popped = λ list. sym (rw (c.popped_head-head.ensures, c.widen-2.ensures, c.widen.ensures, c.widen-4.ensures, c.widen-3.ensures, c.from_nonzero-p.ensures) at c.in-Ok.ensures.list list);
+            refilled = rw (c.popped_head-head.ensures, c.widen-2.ensures, c.widen.ensures, c.widen-4.ensures, c.widen-3.ensures, c.from_nonzero-p.ensures) at c.in-Ok.ensures.reads;
+            head = tt;
+            kept = tt;
+            error = tt;
+          },
+          refl,
+        ),
+      );
+    }
 
-pub returns-clause-step : goal.returns-clause-step
-returns-clause-step g c =
+pub returns : goal.returns
+returns g c =
     let sized = g.met.M.EntropyModel.sized c.args.model in
     let quantile = quantile_is g.Word.BitArray.BITS g.M.Probability.BitArray.BITS g.row.PRECISION (g.State.BitArray.number c.self.inside.state) _
     (omega (arith, sized.1, g.met.M.Probability.WordOf.width_law)) sized.1 (rw (c.narrow.ensures, c.low_bits.ensures) at c.narrow-quantile.ensures) in
     let covers = c.quantile_function-symbol.ensures.covers in
-    rw (← c.self.view_is) (inr (
-      _,
-      _,
-      _,
-      c.quantile_function-symbol.ensures.found,
-      (
-        Err c.in-Err.error,
-        record {
-          before = is_coder _ _ _ _ _ _ c.self.invariant (g.met.State.BitArray.number_law _);
-          after = is_coder _ _ _ _ _ _ c.self.invariant (g.met.State.BitArray.number_law _);
-          holds = record { from = rw quantile at covers.0; below = rw quantile at covers.1 };
-          popped = tt;
-          refilled = tt;
-          head = refl;
-          kept = λ list. rw (c.in-Err.ensures.list list) refl;
-          error = rw (c.popped_head-head.ensures, c.widen-2.ensures, c.widen.ensures, c.widen-4.ensures, c.widen-3.ensures, c.from_nonzero-p.ensures) at c.in-Err.ensures.reads;
-        },
-        refl,
-      ),
-    ))
+    record {
+      step = rw (← c.self.view_is) (inr (
+        _,
+        (
+          _,
+          _,
+          c.quantile_function-symbol.ensures.found,
+          (
+            Err c.in-Err.error,
+            record {
+              before = is_coder _ _ _ _ _ _ c.self.invariant (g.met.State.BitArray.number_law _);
+              after = is_coder _ _ _ _ _ _ c.self.invariant (g.met.State.BitArray.number_law _);
+              holds = record { from = rw quantile at covers.0; below = rw quantile at covers.1 };
+              popped = tt;
+              refilled = tt;
+              head = refl;
+              kept = λ list. rw (c.in-Err.ensures.list list) refl;
+              error = rw (c.popped_head-head.ensures, c.widen-2.ensures, c.widen.ensures, c.widen-4.ensures, c.widen-3.ensures, c.from_nonzero-p.ensures) at c.in-Err.ensures.reads;
+            },
+            refl,
+          ),
+        ),
+      ));
+    }
