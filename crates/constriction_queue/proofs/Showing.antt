@@ -1,10 +1,10 @@
 -- The words of an encoder in the order in which they are shown, the first one first.
 use Rattle.std.specs.Prelude.{replicate}
-use Rattle.std.proofs.Common.{◌≡◌, ℕ, zero, suc, ◌+◌, ◌-◌, ◌<◌, List, [], ◌∷◌, ◌++◌, Option, None, Some, map, reverse, drop, length, refl, sym, ap, ◌∙◌, arith, append_assoc}
+use Rattle.std.proofs.Common.{◌≡◌, ℕ, zero, suc, ◌-◌, ◌<◌, List, [], ◌∷◌, ◌++◌, Option, None, Some, map, reverse, drop, length, refl, sym, ap, ◌∙◌, arith, append_assoc}
 use Rattle.std.proofs.lemmas.List.{map-append, reverse-append, reverse-reverse}
 use Rattle.std.specs.Int.NonZero.{non_zero_usize_get}
 use Rattle.constriction_queue.specs.declared.situation.HeldWords.{HeldWords}
-use Rattle.constriction_queue.specs.Encoder.{first_held, first_owed, owed_of, released_of, word_of, words_held}
+use Rattle.constriction_queue.specs.Encoder.{first_held, first_owed, owed_of, released_of, word_of}
 
 -- words that are all the same, the other way round
 one_behind : (x k : ℕ) → replicate k x ++ (x ∷ []) ≡ x ∷ replicate k x

@@ -1,6 +1,6 @@
 -- What a call of a range coder may answer and leave, over a backend of which only its rules are known: what it holds,
 -- what a read may answer, and which errors a write and a `prepare` may answer.
-use Rattle.std.specs.Prelude.{◌≡◌, ℕ, ◌+◌, ◌<◌, ◌≤◌, ◌⊎◌, List, [], ◌∷◌, ◌++◌, Option, Some, None, Result, Ok, Err, length, map, reverse, OnOk, OnErr, IfErr}
+use Rattle.std.specs.Prelude.{◌≡◌, ℕ, ◌+◌, ◌<◌, ◌≤◌, ◌⊎◌, List, [], ◌++◌, Option, Result, Err, length, map, reverse, OnOk, OnErr, IfErr}
 use Rattle.constriction_base.specs.Steps.{Step}
 use Rattle.constriction_base.specs.declared.errors.ReadWriteError.{ReadWriteError}
 use Rattle.constriction_base.specs.declared.errors.ReadWriteError.TheVariants.{Read, Write}

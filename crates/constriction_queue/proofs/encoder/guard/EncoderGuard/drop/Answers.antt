@@ -1,4 +1,4 @@
-use Rattle.std.proofs.Common.{map, reverse, ap, ◌∙◌, refl}
+use Rattle.std.proofs.Common.{map, reverse, ap, ◌∙◌}
 use Rattle.constriction_base.proofs.Guards.{map-drop}
 use Rattle.constriction_queue.proofs.encoder.guard.EncoderGuard.drop.Goals as goal
 

@@ -1,4 +1,4 @@
-use Rattle.std.proofs.Common.{◌≡◌, ◌+◌, ◌++◌, map, reverse, drop, length, arith, refl, ap, ◌∙◌}
+use Rattle.std.proofs.Common.{map, reverse, drop, length, arith, ap, ◌∙◌}
 use Rattle.std.proofs.lemmas.List.{length-map}
 use Rattle.constriction_queue.specs.Encoder.{owed_of}
 use Rattle.constriction_queue.proofs.Seals.{words_of_numbers, count_is}

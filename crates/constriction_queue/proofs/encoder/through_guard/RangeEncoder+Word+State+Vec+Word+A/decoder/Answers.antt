@@ -1,6 +1,5 @@
-use Rattle.std.proofs.Common.{◌≡◌, map, drop, reverse, ap, ◌∙◌, refl, sym}
+use Rattle.std.proofs.Common.{reverse, ap, ◌∙◌, refl, sym}
 use Rattle.std.proofs.lemmas.List.{reverse-reverse}
-use Rattle.constriction_queue.specs.Encoder.{sealed_by}
 use Rattle.constriction_queue.proofs.Beginning.{cursor_keeps, at_start}
 use Rattle.constriction_queue.proofs.Showing.{queue_is}
 use Rattle.std.specs.declared.convert.Infallible.{Infallible}
