@@ -98,7 +98,7 @@ impl<
         ensures step { EncodesSymbol (⟦<RangeEncoder<Word, State, Backend> as Encode<PRECISION>>⟧.encodes)
             (⟦<RangeEncoder<Word, State, Backend> as Encode<PRECISION>>⟧.is_impossible_symbol)
             PRECISION (M.table model) symbol.now self.old result self.new }
-        ensures left { ⟦<RangeEncoder<Word, State, Backend> as Encode<PRECISION>>⟧.symbols_left self.old
+        ensures fewer_left { ⟦<RangeEncoder<Word, State, Backend> as Encode<PRECISION>>⟧.symbols_left self.old
             ≤ ⟦<RangeEncoder<Word, State, Backend> as Encode<PRECISION>>⟧.symbols_left self.new + 1 }
     {
         let Some((left, p)) = model.left_cumulative_and_probability(symbol) else {
