@@ -60,6 +60,10 @@ abbrev pub ReadsPoint : {Word E B : Type 0} → (Word → ℕ) → (B → Result
 ReadsPoint number reads w s old point new =
     (xs : List ℕ) × (length xs ≡ s / w) × TakesWords number reads old xs new × (point ≡ number_of_first (2 ^ w) (s / w) xs)
 
+-- a decoder before its first symbol, which read its point from the first backend
+abbrev pub BeginsOver : {Word E B : Type 0} → (Word → ℕ) → (B → Result (Option Word) E → B → Type 0) → ℕ → ℕ → B → Decoder B → Type 0
+BeginsOver number reads w s first d = (d.lower ≡ 0) × (d.range + 1 ≡ 2 ^ s) × ReadsPoint number reads w s first d.point d.bulk
+
 -- where these words come next, a moment of reading leads to another
 abbrev pub LeadsOn : ℕ → ℕ → (Run → Run) → List ℕ → ℕ → ℕ → ℕ → ℕ → ℕ → ℕ → Type 0
 LeadsOn w s next taken lower range point lower' range' point' =

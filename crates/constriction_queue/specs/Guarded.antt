@@ -17,3 +17,7 @@ written g = g.count
 -- the words that it lends
 abbrev pub lent_by : {Word State A WordNonZero StateNonZero : Type 0} → EncoderGuard Word State A WordNonZero StateNonZero → List Word
 lent_by g = g.inner.now.bulk.items
+
+-- what a drop of a guard leaves behind its reference: the first of the fields that it gives back
+abbrev pub lent_back : {A B : Type 0} → A × B → A
+lent_back exit = exit.0

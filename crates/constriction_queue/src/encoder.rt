@@ -93,6 +93,7 @@ impl<Word: WordOf<State>, State: BitArray, A: Allocator> RangeEncoder<Word, Stat
     pub fn clear(&mut self)
         ensures run { run_by Word.BITS State.BITS self.new ≡ start State.BITS }
         ensures held { self.new.held ≡ [] }
+        ensures coder { IsEncoder Word.number (⟦<Vec<Word, A> as Holds<Word, Stack>>⟧.words) Word.BITS State.BITS self.new }
     {
         self.bulk.clear();
         self.state = RangeCoderState::start();

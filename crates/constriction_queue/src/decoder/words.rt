@@ -4,7 +4,7 @@ ghost use Rattle.std.specs.Prelude.{◌≡◌, ◌↔◌, ◌+◌, ◌-◌, ◌%
 ghost use Rattle.constriction_base.specs.Steps.{IsSizes};
 ghost use Rattle.constriction_queue.specs.Range.{IsAt, start};
 ghost use Rattle.constriction_queue.specs.States.{lower_of, range_of};
-ghost use Rattle.constriction_queue.specs.Decoder.{IsDecoder, ReadsPoint, decoder_of, distance};
+ghost use Rattle.constriction_queue.specs.Decoder.{BeginsOver, IsDecoder, decoder_of, distance};
 
 use crate::decoder::RangeDecoder;
 use crate::reading::read_point;
@@ -27,8 +27,7 @@ impl<Word: WordOf<State>, State: BitArray, Backend: ReadWords<Word, Queue>> Rang
         Backend: Drop,
         requires { IsSizes Word.BITS State.BITS }
         ensures ok { Backend.is_list → IfOk result (λ d. IsAt Word.BITS State.BITS (map Word.number (Backend.words bulk)) (start State.BITS) d.lower d.range d.point d.words) }
-        ensures begun { IfOk result (λ d. (d.lower ≡ 0) × (d.range + 1 ≡ 2 ^ State.BITS)) }
-        ensures reads { IfOk result (λ d. ReadsPoint Word.number Backend.reads Word.BITS State.BITS bulk d.point d.bulk) }
+        ensures reads { IfOk result (λ d. BeginsOver Word.number Backend.reads Word.BITS State.BITS bulk d) }
         ensures err { IfErr result (λ e. (last rest : Backend) × Backend.reads last (Err e) rest) }
         ensures coder { IfOk result (λ d. IsDecoder Word.number Backend.words Word.BITS State.BITS d) }
     {
@@ -58,6 +57,7 @@ impl<Word: WordOf<State>, State: BitArray, Backend: ReadWords<Word, Queue>> Rang
         Backend: Drop,
         requires { IsSizes Word.BITS State.BITS }
         ensures ok { Backend.is_list → IfOk result (λ d. IsAt Word.BITS State.BITS (map Word.number (Buf.words compressed)) (start State.BITS) d.lower d.range d.point d.words) }
+        ensures place { IfOk result (λ d. (first : Backend) × Buf.becomes compressed first × BeginsOver Word.number Backend.reads Word.BITS State.BITS first d) }
         ensures err { IfErr result (λ e. (last rest : Backend) × Backend.reads last (Err e) rest) }
         ensures coder { IfOk result (λ d. IsDecoder Word.number Backend.words Word.BITS State.BITS d) }
     {
@@ -75,6 +75,7 @@ impl<Word: WordOf<State>, State: BitArray, Backend: ReadWords<Word, Queue>> Rang
         Backend: Drop,
         requires { IsSizes Word.BITS State.BITS }
         ensures ok { Backend.is_list → IfOk result (λ d. IsAt Word.BITS State.BITS (map Word.number (Buf.words compressed.now)) (start State.BITS) d.lower d.range d.point d.words) }
+        ensures place { IfOk result (λ d. (first : Backend) × Buf.becomes compressed.now first × BeginsOver Word.number Backend.reads Word.BITS State.BITS first d) }
         ensures err { IfErr result (λ e. (last rest : Backend) × Backend.reads last (Err e) rest) }
         ensures coder { IfOk result (λ d. IsDecoder Word.number Backend.words Word.BITS State.BITS d) }
     {

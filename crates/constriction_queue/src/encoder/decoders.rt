@@ -1,10 +1,10 @@
 //! A decoder of what an encoder holds.
 
-ghost use Rattle.std.specs.Prelude.{◌≡◌, ◌⊎◌, ◌<◌, Err, Result, IfOk, IfErr, MatchResult};
+ghost use Rattle.std.specs.Prelude.{◌≡◌, map, reverse, IfOk, IfErr, MatchResult};
 ghost use Rattle.constriction_base.specs.declared.errors.ReadWriteError.TheVariants as read_write;
 ghost use Rattle.constriction_queue.specs.Range.{IsAt, start};
 ghost use Rattle.constriction_queue.specs.Encoder.{sealed_by};
-ghost use Rattle.constriction_queue.specs.Decoder.{IsDecoder};
+ghost use Rattle.constriction_queue.specs.Decoder.{BeginsOver, IsDecoder};
 ghost use Rattle.constriction_queue.specs.Calls.{SealRefused, NoDecoder};
 
 use crate::decoder::RangeDecoder;
@@ -37,6 +37,8 @@ impl<
     >
         ensures ok { ⟦<Backend::IntoReadWords as Holds<Word, Queue>>⟧.is_list → IfOk result (λ decoder.
             IsAt Word.BITS State.BITS (sealed_by Word.BITS State.BITS self) (start State.BITS) decoder.lower decoder.range decoder.point decoder.words) }
+        ensures place { IfOk result (λ decoder. (all : Backend) × (reverse (map Word.number (⟦<Backend as Holds<Word, Stack>>⟧.words all)) ≡ sealed_by Word.BITS State.BITS self)
+            × (first : _) × Backend.becomes all first × BeginsOver Word.number (⟦<Backend::IntoReadWords as ReadWords<Word, Queue>>⟧.reads) Word.BITS State.BITS first decoder) }
         ensures coder { IfOk result (λ decoder. IsDecoder Word.number (⟦<Backend::IntoReadWords as Holds<Word, Queue>>⟧.words) Word.BITS State.BITS decoder) }
         ensures err { IfErr result (NoDecoder
             (SealRefused Word.number (⟦<Backend as Holds<Word, Stack>>⟧.words) Word.BITS State.BITS Backend.room Backend.makes_room Backend.prepare_fails Backend.write_fails self)
@@ -70,7 +72,9 @@ impl<
 
     ghost becomes = { λ encoder decoder.
         IsDecoder Word.number (⟦<Backend::IntoReadWords as Holds<Word, Queue>>⟧.words) Word.BITS State.BITS decoder
-        × (⟦<Backend::IntoReadWords as Holds<Word, Queue>>⟧.is_list → IsAt Word.BITS State.BITS (sealed_by Word.BITS State.BITS encoder) (start State.BITS) decoder.lower decoder.range decoder.point decoder.words) };
+        × (⟦<Backend::IntoReadWords as Holds<Word, Queue>>⟧.is_list → IsAt Word.BITS State.BITS (sealed_by Word.BITS State.BITS encoder) (start State.BITS) decoder.lower decoder.range decoder.point decoder.words)
+        × ((all : Backend) × (reverse (map Word.number (⟦<Backend as Holds<Word, Stack>>⟧.words all)) ≡ sealed_by Word.BITS State.BITS encoder)
+        × (first : _) × Backend.becomes all first × BeginsOver Word.number (⟦<Backend::IntoReadWords as ReadWords<Word, Queue>>⟧.reads) Word.BITS State.BITS first decoder) };
 
     ghost fails = { λ encoder error. NoDecoder
         (SealRefused Word.number (⟦<Backend as Holds<Word, Stack>>⟧.words) Word.BITS State.BITS Backend.room Backend.makes_room Backend.prepare_fails Backend.write_fails encoder)

@@ -28,6 +28,7 @@ impl<'a, Word: WordOf<State>, State: BitArray, A: Allocator> EncoderGuard<'a, Wo
     /// The words that [`RangeEncoder::into_compressed`] would give.
     pub fn words(&self) -> &[Word]
         ensures words { result.now ≡ lent_by self.now }
+        ensures shows { map Word.number result.now ≡ reverse (lender self.now).now.words }
         ensures coder { IsEncoder Word.number (⟦<Vec<Word, A> as Holds<Word, Stack>>⟧.words) Word.BITS State.BITS (lender self.now).now }
     {
         let inner: &RangeEncoder<Word, State, Vec<Word, A>> = &*self.inner;
@@ -36,12 +37,12 @@ impl<'a, Word: WordOf<State>, State: BitArray, A: Allocator> EncoderGuard<'a, Wo
 }
 
 impl<Word: WordOf<State>, State: BitArray, A: Allocator> Drop for EncoderGuard<'_, Word, State, A> {
-    ghost use Rattle.constriction_queue.specs.Guarded.{lender, written};
+    ghost use Rattle.constriction_queue.specs.Guarded.{lender, lent_back, written};
 
     /// Takes the words off that were written.
     fn drop(self)
-        ensures heads { HasHeads (lender self.entry).now self.exit.0.now }
-        ensures restored { self.exit.0.now.words ≡ drop (written self.entry) (lender self.entry).now.words }
+        ensures heads { HasHeads (lender self.entry).now (lent_back self.exit).now }
+        ensures restored { (lent_back self.exit).now.words ≡ drop (written self.entry) (lender self.entry).now.words }
     {
         let EncoderGuard { inner, count } = self;
         take_back::<Word, Vec<Word, A>>(&mut inner.bulk, count);
