@@ -8,7 +8,7 @@ use Rattle.constriction_laws.proofs.stack.round_trips.lent_words.decode_lent_bin
 
 pub returns-clause-kept : goal.returns-clause-kept
 returns-clause-kept g c =
-    let kept : c.drop-guard.new.self.0.state ≡ c.args.coder.now.state = c.drop-guard.ensures.restored (search rules) ∙ c.in-Ok.ensures.back in
+    let kept : c.drop-guard.new.self.0.state ≡ c.args.coder.now.state = c.drop-guard.ensures.back (search rules) ∙ c.in-Ok.ensures.back in
     search rules ∙ kept
 
 pub returns-clause-back : goal.returns-clause-back
