@@ -1,7 +1,7 @@
 //! Words that a guard shows, and what its drop leaves. Heads and words by hand.
 
 ghost use Rattle.constriction_base.specs.Readings.{NeverRefused};
-ghost use Rattle.std.specs.Prelude.{◌≡◌, OnOk};
+ghost use Rattle.std.specs.Prelude.{◌≡◌};
 
 use crate::cases::{cursor_does, heap_does, new_does, small_does};
 use crate::coders::{HeapCoder, coder_with, table_of};
