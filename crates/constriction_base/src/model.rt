@@ -5,8 +5,8 @@
 //! interval, [`DecoderModel`] the interval that holds a quantile; both stand on [`EntropyModel`],
 //! whose laws say that the intervals are a table. A `&M` is a model wherever `M` is.
 
-ghost use Rattle.std.specs.Prelude.{◌≡◌, ℕ, ◌+◌, ◌^◌, ◌<◌, ◌≤◌, List, length, IfSome, IfNone};
-ghost use Rattle.constriction_base.specs.Tables.{Has, IsTable, Covers};
+ghost use Rattle.std.specs.Prelude.{◌≡◌, ℕ, ◌^◌, ◌<◌, ◌≤◌, List, length, IfSome, IfNone};
+ghost use Rattle.constriction_base.specs.Tables.{Has, Impossible, IsTable, Covers};
 
 use constriction_words::BitArray;
 
@@ -53,7 +53,7 @@ pub trait EncoderModel<const PRECISION: usize>: EntropyModel<PRECISION> {
         symbol: &Self::Symbol,
     ) -> Option<(Self::Probability, <Self::Probability as BitArray>::NonZero)>
         ensures found { IfSome result (λ found. Has (Self.table self.now) symbol.now (Self.Probability.number found.0) (Self.Probability.nonzero_number found.1)) }
-        ensures unknown { IfNone result ((left p : ℕ) → Has (Self.table self.now) symbol.now left p → ⊥) };
+        ensures impossible { IfNone result (Impossible (Self.table self.now) symbol.now) };
 }
 
 /// A model that a decoder can use.

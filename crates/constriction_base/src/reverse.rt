@@ -3,7 +3,7 @@
 //! Words that stand in the order in which a stack reads them, as in a file that is written from its
 //! end, are read by `Reverse(Cursor::new_at_write_beginning(words))`.
 
-ghost use Rattle.constriction_base.specs.Room.{within};
+ghost use Rattle.constriction_base.specs.laws.Room.{within};
 
 use crate::backends::{
     BoundedReadWords, Holds, Pos, PosSeek, Queue, ReadWords, Seek, SeeksBack, Stack, Words,

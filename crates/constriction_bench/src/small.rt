@@ -1,6 +1,5 @@
 //! Cases at words of 16 bits, states of 32 bits and a precision of 12 bits.
 
-ghost use Rattle.std.specs.Prelude.{◌≡◌, ◌≤◌, length};
 
 use crate::flat::Flat;
 use crate::lookup::LookupTable;

@@ -94,7 +94,7 @@ pub trait Encode<const PRECISION: usize>: Code {
         M::Probability: WordOf<Self::Word>,
         requires { counts_symbols → 0 < symbols_left self.old }
         ensures step { EncodesSymbol encodes is_impossible_symbol PRECISION (M.table model) symbol.now self.old result self.new }
-        ensures left { symbols_left self.old ≤ symbols_left self.new + 1 };
+        ensures fewer_left { symbols_left self.old ≤ symbols_left self.new + 1 };
 
     /// Encodes symbols in order, each by its own model, up to the first that is refused. To a coder that
     /// counts symbols as many must be left as there are items.
@@ -122,7 +122,7 @@ pub trait Encode<const PRECISION: usize>: Code {
         requires { GivesAtMost (I.into_iter_gives symbols_and_models) I.IntoIter.can_next I.IntoIter.remaining counts_symbols (symbols_left self.old) }
         ensures steps { StepsUntilFault (EncodesPair encodes is_impossible_symbol PRECISION M.table S.lent)
             (I.into_iter_gives symbols_and_models) I.IntoIter.next_gives self.old result self.new }
-        ensures left { LowersByItems (I.into_iter_gives symbols_and_models) I.IntoIter.remaining (symbols_left self.old) (symbols_left self.new) }
+        ensures fewer_left { LowersByItems (I.into_iter_gives symbols_and_models) I.IntoIter.remaining (symbols_left self.old) (symbols_left self.new) }
     {
         for (symbol, model) in symbols_and_models {
             match self.encode_symbol(symbol.lend(), model) {
@@ -155,7 +155,7 @@ pub trait Encode<const PRECISION: usize>: Code {
         requires { GivesAtMost (I.into_iter_gives symbols_and_models) I.IntoIter.can_next I.IntoIter.remaining counts_symbols (symbols_left self.old) }
         ensures steps { StepsUntilFault (TriesItem (EncodesPair encodes is_impossible_symbol PRECISION M.table S.lent))
             (I.into_iter_gives symbols_and_models) I.IntoIter.next_gives self.old result self.new }
-        ensures left { LowersByItems (I.into_iter_gives symbols_and_models) I.IntoIter.remaining (symbols_left self.old) (symbols_left self.new) }
+        ensures fewer_left { LowersByItems (I.into_iter_gives symbols_and_models) I.IntoIter.remaining (symbols_left self.old) (symbols_left self.new) }
     {
         for symbol_and_model in symbols_and_models {
             let (symbol, model) = match symbol_and_model {
@@ -191,7 +191,7 @@ pub trait Encode<const PRECISION: usize>: Code {
         requires { GivesAtMost (I.into_iter_gives symbols) I.IntoIter.can_next I.IntoIter.remaining counts_symbols (symbols_left self.old) }
         ensures steps { StepsUntilFault (λ old symbol result new. EncodesSymbol encodes is_impossible_symbol PRECISION (M.table model) (S.lent symbol) old result new)
             (I.into_iter_gives symbols) I.IntoIter.next_gives self.old result self.new }
-        ensures left { LowersByItems (I.into_iter_gives symbols) I.IntoIter.remaining (symbols_left self.old) (symbols_left self.new) }
+        ensures fewer_left { LowersByItems (I.into_iter_gives symbols) I.IntoIter.remaining (symbols_left self.old) (symbols_left self.new) }
     {
         for symbol in symbols {
             match self.encode_symbol(symbol.lend(), model) {

@@ -6,7 +6,7 @@ ghost use Rattle.constriction_base.specs.Iterators.{FusedRead};
 ghost use Rattle.constriction_base.specs.Steps.{IsSizes};
 ghost use Rattle.constriction_stack.specs.Ans.{IsCoder, filled};
 ghost use Rattle.constriction_stack.specs.Binary.{BinaryFilledBy, BinaryRefused, binary_state};
-ghost use Rattle.constriction_stack.specs.Steps.{FilledBy, ImportRefused};
+ghost use Rattle.constriction_stack.specs.Imports.{FilledBy, ImportRefused};
 ghost use Rattle.std.specs.Iterator.Adapters.{fuse_done, fuse_source};
 ghost use Rattle.std.specs.Prelude.{IfErr, IfOk, IsOk, OnErr, OnOk, false, length, map, reverse, ◌-◌, ◌↔◌, ◌≡◌};
 
@@ -175,7 +175,7 @@ impl<Word: WordOf<State>, State: BitArray, Buf: Words<Word> + Drop> AnsCoder<
         ensures variant { IsOk result ↔ BeginsHigh (map Word.number (Buf.lent compressed)) }
         ensures buffer { IfOk result (λ new. new.backend.0.buf ≡ compressed) }
         ensures coder { IfOk result (λ new. IsCoder Word.number (⟦<Reverse<Cursor<Word, Buf>> as Holds<Word, Stack>>⟧.words) Word.BITS State.BITS new) }
-        ensures rest { IfErr result (λ rest. rest ≡ compressed) }
+        ensures err { IfErr result (λ rest. rest ≡ compressed) }
     {
         match Self::from_compressed(Reverse(Cursor::new_at_write_beginning(compressed))) {
             Ok(coder) => Ok(coder),

@@ -1,11 +1,9 @@
 //! The two steps: a symbol is put on, or taken off. Lists of symbols are put on in their order by the trait
 //! `Encode`, and from the last to the first by `EncodeReverse`.
 
-ghost use Rattle.constriction_base.specs.Steps.{Step};
 ghost use Rattle.constriction_base.specs.declared.errors.DefaultEncoderFrontendError.TheVariants.{ImpossibleSymbol};
-ghost use Rattle.constriction_stack.specs.Ans.{IsCoder};
-ghost use Rattle.constriction_stack.specs.Steps.{DecodeCall, EncodeCall};
-ghost use Rattle.constriction_stream.specs.Symbols.{ByBackend, DecodesSymbol, EncodesSymbol, GoesOn, HasRoom, IsBackendError, never_frontend};
+ghost use Rattle.constriction_stack.specs.Ans.{DecodeCall, EncodeCall, IsCoder};
+ghost use Rattle.constriction_stream.specs.Symbols.{ByBackend, EncodesSymbol, GoesOn, HasRoom, IsBackendError, never_frontend};
 ghost use Rattle.std.specs.Bool.{OnFalse};
 ghost use Rattle.std.specs.Prelude.{IsTrue, ⊤, ◌+◌, ◌↔◌, ◌≡◌, ◌≤◌};
 
@@ -90,7 +88,7 @@ impl<
         ensures step { EncodesSymbol (⟦<AnsCoder<Word, State, Backend> as Encode<PRECISION>>⟧.encodes)
             (⟦<AnsCoder<Word, State, Backend> as Encode<PRECISION>>⟧.is_impossible_symbol)
             PRECISION (M.table model) symbol.now self.old result self.new }
-        ensures left { ⟦<AnsCoder<Word, State, Backend> as Encode<PRECISION>>⟧.symbols_left self.old
+        ensures fewer_left { ⟦<AnsCoder<Word, State, Backend> as Encode<PRECISION>>⟧.symbols_left self.old
             ≤ ⟦<AnsCoder<Word, State, Backend> as Encode<PRECISION>>⟧.symbols_left self.new + 1 }
     {
         let Some((left, p)) = model.left_cumulative_and_probability(symbol) else {

@@ -4,7 +4,8 @@ ghost use Rattle.std.specs.Prelude.{◌≡◌, List, length, map, reverse, IfSom
 ghost use Rattle.constriction_base.specs.Steps.{IsSizes};
 ghost use Rattle.constriction_stack.specs.Ans.{AnsState, IsValid, exported, empty};
 ghost use Rattle.constriction_laws.specs.Readings.{TellsItems};
-ghost use Rattle.constriction_laws.specs.Symbols.{EncodesAll, items_of};
+ghost use Rattle.constriction_stack.specs.Symbols.{EncodesAll};
+ghost use Rattle.constriction_base.specs.Models.{items_of};
 
 use crate::stack::readings::{items_are_words, symbols_come_back_by_reads};
 use crate::stack::round_trips::coding::{decode_list, encode_list_reverse};

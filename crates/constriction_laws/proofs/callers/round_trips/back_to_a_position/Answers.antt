@@ -5,10 +5,11 @@ use Rattle.constriction_base.specs.Steps.{IsSizes}
 use Rattle.constriction_stack.specs.Ans.{AnsState, IsValid, empty}
 use Rattle.constriction_stack.specs.Positions.{position_of, sought}
 use Rattle.constriction_stack.proofs.PositionsKept.{drop_front, held_less}
-use Rattle.constriction_laws.specs.Symbols.{Model, IsModel, Item, item_of, Encodes, Decodes}
-use Rattle.constriction_laws.proofs.ComingBack.{empty_valid}
-use Rattle.constriction_laws.proofs.ListCalls.{encode_of, decode_of}
-use Rattle.constriction_laws.proofs.Seeking.{encodes_grow, cut_is_sought}
+use Rattle.constriction_base.specs.Models.{Model, IsModel, Item, item_of}
+use Rattle.constriction_stack.specs.Symbols.{Encodes, Decodes}
+use Rattle.constriction_laws.proofs.stack_coder.ComingBack.{empty_valid}
+use Rattle.constriction_laws.proofs.stack_coder.ListCalls.{encode_of, decode_of}
+use Rattle.constriction_laws.proofs.stack_coder.Seeking.{encodes_grow, cut_is_sought}
 use Rattle.constriction_laws.proofs.callers.round_trips.back_to_a_position.Goals as goal
 
 pub returns : goal.returns

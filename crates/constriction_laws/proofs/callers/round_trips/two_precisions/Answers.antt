@@ -2,9 +2,10 @@ use Rattle.std.proofs.Common.{◌≡◌, ℕ, List, [], ◌∷◌, refl, sym, ap
 use Rattle.std.specs.Prelude.{reverse, map}
 use Rattle.constriction_base.specs.Steps.{IsSizes}
 use Rattle.constriction_stack.specs.Ans.{AnsState, IsValid, filled, exported, empty}
-use Rattle.constriction_laws.specs.Symbols.{Model, IsModel, Item, Encodes, Decodes, EncodesAll, DecodesAll, AreModels, models}
-use Rattle.constriction_laws.proofs.ComingBack.{empty_valid}
-use Rattle.constriction_laws.proofs.ListCalls.{encode_of, decode_of}
+use Rattle.constriction_base.specs.Models.{Model, IsModel, Item, AreModels, models}
+use Rattle.constriction_stack.specs.Symbols.{Encodes, Decodes, EncodesAll, DecodesAll}
+use Rattle.constriction_laws.proofs.stack_coder.ComingBack.{empty_valid}
+use Rattle.constriction_laws.proofs.stack_coder.ListCalls.{encode_of, decode_of}
 use Rattle.constriction_laws.proofs.callers.round_trips.two_precisions.Goals as goal
 
 abbrev item : Model ℕ → ℕ → Item ℕ

@@ -1,8 +1,9 @@
 use Rattle.std.proofs.Common.{◌∙◌, ap, sym, subst, map}
 use Rattle.std.specs.Prelude.{reverse}
 use Rattle.constriction_stack.specs.Ans.{filled}
-use Rattle.constriction_laws.specs.Symbols.{Model, EncodesAll, items_of}
-use Rattle.constriction_laws.proofs.ListCalls.{some_weaker}
+use Rattle.constriction_base.specs.Models.{Model, items_of}
+use Rattle.constriction_stack.specs.Symbols.{EncodesAll}
+use Rattle.constriction_laws.proofs.ListsGiven.{some_weaker}
 use Rattle.constriction_laws.proofs.stack.round_trips.lent_words.decode_lent_words.Goals as goal
 
 pub returns-clause-back : goal.returns-clause-back

@@ -1,8 +1,9 @@
 use Rattle.std.proofs.Common.{◌∙◌, ap, sym, subst}
 use Rattle.std.specs.Prelude.{reverse}
 use Rattle.constriction_stack.specs.Ans.{filled}
-use Rattle.constriction_laws.specs.Symbols.{EncodesAll, pairs_of}
-use Rattle.constriction_laws.proofs.ComingBack.{encoded_all_valid}
+use Rattle.constriction_stack.specs.Symbols.{EncodesAll}
+use Rattle.constriction_base.specs.Models.{pairs_of}
+use Rattle.constriction_laws.proofs.stack_coder.ComingBack.{encoded_all_valid}
 use Rattle.constriction_laws.proofs.stack.round_trips.pairs.pairs_through_words.Goals as goal
 
 pub returns : goal.returns

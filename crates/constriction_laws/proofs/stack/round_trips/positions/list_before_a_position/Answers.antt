@@ -1,14 +1,15 @@
-use Rattle.std.proofs.Common.{◌≡◌, ◌≤◌, ◌∙◌, length, take, vec_len, sym, ap, ap₂, subst, arith}
+use Rattle.std.proofs.Common.{◌≡◌, ◌≤◌, ◌∙◌, length, take, sym, ap, ap₂, subst, arith}
 use Rattle.std.specs.Prelude.{reverse, map}
 use Rattle.std.proofs.lemmas.List.{take-take, length-take, length-reverse, length-map, reverse-reverse}
 use Rattle.constriction_stack.specs.Ans.{AnsState}
 use Rattle.constriction_stack.specs.Positions.{position_of, sought}
 use Rattle.constriction_stack.proofs.PositionsKept.{held_less}
-use Rattle.constriction_laws.specs.Symbols.{Model, IsModel, EncodesAll, DecodesAll, items_of}
-use Rattle.constriction_laws.proofs.ComingBack.{encoded_all_valid}
-use Rattle.constriction_laws.proofs.ListCalls.{some_both}
-use Rattle.constriction_laws.proofs.SameModel.{are_models, models_turned, symbols_turned}
-use Rattle.constriction_laws.proofs.Seeking.{encodes_grow, cut_is_sought}
+use Rattle.constriction_base.specs.Models.{Model, IsModel, items_of}
+use Rattle.constriction_stack.specs.Symbols.{EncodesAll, DecodesAll}
+use Rattle.constriction_laws.proofs.stack_coder.ComingBack.{encoded_all_valid}
+use Rattle.constriction_laws.proofs.ListsGiven.{some_both}
+use Rattle.constriction_laws.proofs.stack_coder.SameModel.{are_models, models_turned, symbols_turned}
+use Rattle.constriction_laws.proofs.stack_coder.Seeking.{encodes_grow, cut_is_sought}
 use Rattle.constriction_laws.proofs.stack.round_trips.positions.list_before_a_position.Goals as goal
 
 pub returns : goal.returns

@@ -1,5 +1,5 @@
-use Rattle.constriction_laws.specs.Symbols.{Model}
-use Rattle.constriction_laws.proofs.ListCalls.{encode_of, decode_of}
+use Rattle.constriction_base.specs.Models.{Model}
+use Rattle.constriction_laws.proofs.stack_coder.ListCalls.{encode_of, decode_of}
 use Rattle.constriction_laws.proofs.stack.round_trips.steps.encode_and_decode.Goals as goal
 
 pub returns-in-Ok-decode_symbol : goal.returns-in-Ok-decode_symbol

@@ -1,9 +1,9 @@
 use Rattle.std.proofs.Common.{arith}
 use Rattle.std.specs.Prelude.{false}
 use Rattle.constriction_laws.specs.Readings.{words_left}
-use Rattle.constriction_laws.specs.Symbols.{Model, IsModel, items_of}
-use Rattle.constriction_laws.proofs.SameModel.{are_models, models_turned, symbols_turned}
-use Rattle.constriction_laws.proofs.ListCalls.{some_both}
+use Rattle.constriction_base.specs.Models.{Model, IsModel, items_of}
+use Rattle.constriction_laws.proofs.stack_coder.SameModel.{are_models, models_turned, symbols_turned}
+use Rattle.constriction_laws.proofs.ListsGiven.{some_both}
 use Rattle.constriction_laws.proofs.stack.round_trips.words.list_from_items.Goals as goal
 
 pub returns : goal.returns

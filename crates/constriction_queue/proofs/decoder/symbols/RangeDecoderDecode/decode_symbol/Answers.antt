@@ -1,4 +1,4 @@
-use Rattle.std.specs.Prelude.{◌≡◌, Ok, Err}
+use Rattle.std.specs.Prelude.{Ok, Err}
 use Rattle.std.proofs.Common.{arith, refl, ◌∙◌, sym, inl, inr}
 use Rattle.constriction_base.proofs.Heads.{large_of_shr, small_of_shr}
 use Rattle.constriction_base.proofs.Entering.{entry_is_step}
@@ -40,6 +40,7 @@ returns-in-Ok-clause-step g c =
         from = rw quantile at covers.0;
         below = rw quantile at covers.1;
         read = λ list. rw (c.widen-left.ensures, c.widen.ensures, c.widen-p.ensures, c.widen-2.ensures, c.from_nonzero-p.ensures) at c.in-Ok.ensures.list list;
+        by_reads = rw (c.widen-left.ensures, c.widen.ensures, c.widen-p.ensures, c.widen-2.ensures, c.from_nonzero-p.ensures) at c.in-Ok.ensures.reads;
         lower = tt;
         range = tt;
         point = tt;
@@ -61,9 +62,7 @@ returns-clause-step g c =
     let covers = c.quantile_function-symbol.ensures.covers in
     rw (← c.self.view_is) (inr (
       _,
-      _,
-      _,
-      c.quantile_function-symbol.ensures.found,
+      (_, _, c.quantile_function-symbol.ensures.found,
       (
         Err c.in-Err.error,
         record {
@@ -72,6 +71,7 @@ returns-clause-step g c =
           from = rw quantile at covers.0;
           below = rw quantile at covers.1;
           read = tt;
+          by_reads = tt;
           lower = refl;
           range = refl;
           point = refl;
@@ -79,7 +79,7 @@ returns-clause-step g c =
           error = rw (c.widen-p.ensures, c.widen-2.ensures, c.from_nonzero-p.ensures) at c.in-Err.ensures.err;
         },
         refl,
-      ),
+      )),
     ))
 
 pub returns-clause-variant : goal.returns-clause-variant
