@@ -9,7 +9,7 @@ pub mod decoders;
 pub mod guard;
 pub mod words;
 
-ghost use Rattle.constriction_base.specs.Iterators.{item_of};
+ghost use Rattle.constriction_base.specs.Iterators.{item_of_answer};
 ghost use Rattle.constriction_symbol.specs.Bits.{BitsValue, PopsBit, PutsBit, PutsLast, bits_above};
 ghost use Rattle.std.specs.Prelude.{IfErr, IfOk, IsTrue, List, OnErr, OnOk, Result, [], length, reverse, ℕ, ◌*◌, ◌+◌, ◌<◌, ◌↔◌, ◌≡◌, ◌≤◌};
 
@@ -152,7 +152,7 @@ impl<Word: BitArray, B: ReadWords<Word, Stack>> StackCoder<Word, B> {
     /// Where the backend refuses that read. The bits of a backend that knows its words are as before.
     #[inline]
     pub fn read_bit(&mut self) -> Result<Option<bool>, B::ReadError>
-        ensures { PopsBit Word.BITS Word.number B.is_list B.reads self.old (item_of result) self.new }
+        ensures { PopsBit Word.BITS Word.number B.is_list B.reads self.old (item_of_answer result) self.new }
     {
         take_last(&mut self.backend, &mut self.last)
     }

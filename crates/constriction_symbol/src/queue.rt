@@ -1,6 +1,6 @@
 //! The bits of words, the first one first.
 
-ghost use Rattle.constriction_base.specs.Iterators.{item_of};
+ghost use Rattle.constriction_base.specs.Iterators.{item_of_answer};
 ghost use Rattle.constriction_symbol.specs.Bits.{AreZeros, BitsValue, TakesBit, bits_behind, bits_of_words};
 ghost use Rattle.std.specs.Prelude.{IsTrue, [], map, ◌↔◌, ◌≡◌};
 
@@ -55,7 +55,7 @@ impl<Word: BitArray, B: ReadWords<Word, Queue>> QueueDecoder<Word, B> {
     /// Where the backend refuses that read. The bits of a backend that knows its words are as before.
     #[inline]
     pub fn read_bit(&mut self) -> Result<Option<bool>, B::ReadError>
-        ensures { TakesBit Word.BITS Word.number B.is_list B.reads self.old (item_of result) self.new }
+        ensures { TakesBit Word.BITS Word.number B.is_list B.reads self.old (item_of_answer result) self.new }
     {
         take_first(&mut self.backend, &mut self.last)
     }

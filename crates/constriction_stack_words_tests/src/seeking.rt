@@ -3,9 +3,7 @@
 ghost use Rattle.constriction_base.specs.Steps.{IsSizes};
 
 use crate::coders::{coder_with, new_coder, table_of};
-use crate::decoders::through_reference;
-use crate::expect::{gives, gives_all, has_head, holds};
-use crate::put::puts;
+use crate::expect::{gives, gives_all, has_head, holds, puts};
 use constriction_base::backends::{Holds, IntoReversed, Pos, PosSeek, ReadWords, Seek, Stack};
 use constriction_base::cursor::Cursor;
 use constriction_base::reverse::Reverse;
@@ -244,6 +242,20 @@ where
     puts(coder, table, run.before)
         && stands_at(coder, run.place, run.head)
         && puts(coder, table, run.after)
+}
+
+/// Takes symbols off through the decoder that is made from a reference.
+fn through_reference<State>(
+    coder: &AnsCoder<u8, State>,
+    table: &WeightTable<u8, 8>,
+    symbols: &[usize],
+) -> bool
+where
+    u8: WordOf<State>,
+    State: BitArray,
+{
+    let mut borrowed = AnsCoder::<u8, State, Cursor<u8, &[u8]>>::from(coder);
+    gives(&mut borrowed, table, symbols)
 }
 
 /// Decoders that borrow the words: one goes to the position and takes all off that lies below it,

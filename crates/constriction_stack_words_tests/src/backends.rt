@@ -9,6 +9,7 @@ use constriction_base::iterators::FallibleIteratorReadWords;
 use constriction_base::reverse::Reverse;
 use constriction_base::weights::WeightTable;
 use constriction_stack::AnsCoder;
+use std::alloc::Global;
 use std::convert::Infallible;
 use std::test::Fail;
 
@@ -34,20 +35,36 @@ where
         )
 }
 
-#[test]
-fn the_same_symbols_over_other_backends(rt: HostRuntime) -> Result<(), Fail> {
-    let table = table_of(rt.alloc(), &[200, 55, 1])?;
-    let owned: AnsCoder<u8, u16> = coder_of([9u8, 3, 255].to_vec(rt.alloc())?)?;
-    let mut lent = owned.as_decoder();
-    let mut turned: AnsCoder<u8, u16, Reverse<Cursor<u8, &[u8]>>> = coder_of(Reverse(
-        Cursor::new_at_write_beginning([255u8, 3, 9].as_slice()),
-    ))?;
-    let answers: Vec<Result<u8, Infallible>> = [Ok(255u8), Ok(3), Ok(9)].to_vec(rt.alloc())?;
+/// Over a decoder that borrows the words of a coder.
+fn twenty_of_lent(alloc: Global, table: &WeightTable<u8, 8>) -> Result<bool, Fail> {
+    let owned: AnsCoder<u8, u16> = coder_of([9u8, 3, 255].to_vec(alloc)?)?;
+    Ok(twenty(&mut owned.as_decoder(), table))
+}
+
+/// Over the words in reverse.
+fn twenty_of_turned(words: &[u8], table: &WeightTable<u8, 8>) -> bool {
+    match coder_of(Reverse(Cursor::new_at_write_beginning(words))) {
+        Ok(mut turned) => twenty(&mut turned, table),
+        Err(_) => false,
+    }
+}
+
+/// Over an iterator, which gives the last word first.
+fn twenty_of_answers(alloc: Global, table: &WeightTable<u8, 8>) -> Result<bool, Fail> {
+    let answers: Vec<Result<u8, Infallible>> = [Ok(255u8), Ok(3), Ok(9)].to_vec(alloc)?;
     let mut given: AnsCoder<u8, u16, FallibleIteratorReadWords<_>> = coder_of(
         FallibleIteratorReadWords::new(answers.into_iter()),
     )?;
+    Ok(twenty(&mut given, table))
+}
+
+#[test]
+fn the_same_symbols_over_other_backends(rt: HostRuntime) -> Result<(), Fail> {
+    let table = table_of(rt.alloc(), &[200, 55, 1])?;
     assert!(rt;
-        twenty(&mut lent, &table) && twenty(&mut turned, &table) && twenty(&mut given, &table)
+        twenty_of_lent(rt.alloc(), &table)?
+            && twenty_of_turned(&[255, 3, 9], &table)
+            && twenty_of_answers(rt.alloc(), &table)?
     );
     Ok(())
 }

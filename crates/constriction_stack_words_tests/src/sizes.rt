@@ -2,7 +2,7 @@
 
 use crate::binary::from_binary;
 use crate::coders::{coder_over, coder_with, new_coder, table_of};
-use crate::put::puts;
+use crate::expect::puts;
 use constriction_base::backends::{BoundedReadWords, Stack, WriteWords};
 use constriction_base::weights::WeightTable;
 use constriction_stack::{AnsCoder, DefaultAnsCoder};

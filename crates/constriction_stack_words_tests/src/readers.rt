@@ -2,10 +2,10 @@
 
 ghost use Rattle.constriction_base.specs.Steps.{IsSizes};
 
-use crate::coders::{coder_with, table_of};
-use crate::expect::{has_head, holds};
-use crate::put::puts;
-use constriction_base::backends::Pos;
+use crate::coders::{HeapCoder, coder_with, table_of};
+use crate::expect::{has_head, holds, puts};
+use crate::script::Below;
+use constriction_base::backends::{Pos, WriteWords};
 use constriction_base::cursor::Cursor;
 use constriction_base::iterators::FallibleIteratorReadWords;
 use constriction_base::reverse::Reverse;
@@ -13,6 +13,7 @@ use constriction_base::weights::WeightTable;
 use constriction_stack::coder::words::CompressedDataEndsWithZeroWord;
 use constriction_stack::{AnsCoder, DefaultAnsCoder};
 use constriction_words::{BitArray, WordOf};
+use linked_list_allocator::LocalHeap;
 use std::test::Fail;
 
 /// Where the coder of a slice's words stands, and its head.
@@ -139,11 +140,15 @@ fn the_text_of_a_coder(rt: HostRuntime) -> Result<(), Fail> {
 }
 
 /// From when a coder is cloned on, it and the clone part.
-fn parts(
-    coder: &mut AnsCoder<u8, u16>,
-    clone: &AnsCoder<u8, u16>,
+fn parts<Backend>(
+    coder: &mut AnsCoder<u8, u16, Backend>,
+    clone: &AnsCoder<u8, u16, Backend>,
     table: &WeightTable<u8, 8>,
-) -> bool {
+) -> bool
+where
+    Backend: WriteWords<u8> + Below<u8>,
+    Backend::WriteError: Drop,
+{
     holds(clone, 65535, &[7])
         && puts(coder, table, &[(1, 65535)])
         && holds(coder, 65535, &[7, 255])
@@ -156,5 +161,18 @@ fn a_clone_parts_from_its_coder(rt: HostRuntime) -> Result<(), Fail> {
     let mut coder: AnsCoder<u8, u16> = coder_with([7u8].to_vec(rt.alloc())?, 65535);
     let clone = coder.clone()?;
     assert!(rt; parts(&mut coder, &clone, &table));
+    Ok(())
+}
+
+/// The coder's word takes 16 bytes of the heap, and the rest is full.
+#[test]
+fn a_full_heap_refuses_a_clone(rt: HostRuntime) -> Result<(), Fail> {
+    let heap = LocalHeap::new(rt.alloc(), 512)?;
+    let coder: HeapCoder<'_> = coder_with([7u8].to_vec(&heap)?, 515);
+    let filler: Vec<u8, &LocalHeap> = Vec::with_capacity(&heap, 496)?;
+    let is_refused = coder.clone().is_err();
+    drop(filler);
+    let clone = coder.clone()?;
+    assert!(rt; is_refused && holds(&clone, 515, &[7]) && holds(&coder, 515, &[7]));
     Ok(())
 }
