@@ -26,7 +26,7 @@ use std::marker::{Model, PhantomData};
 /// outside the backend until the next bit comes.
 ///
 /// Contracts see a `BitsValue`: all bits, those of the word outside the backend, and the backend.
-#[derive(Drop)]
+#[derive(Debug, Drop)]
 pub struct SymbolCoder<Word: BitArray, S: Semantics, B: Holds<Word, Stack> = Vec<Word>> {
     backend: B,
     last: WordBits<Word>,
@@ -173,5 +173,25 @@ impl<Word: BitArray, B: ReadWords<Word, Stack> + Drop> Iterator for StackCoder<W
             Ok(None) => None,
             Err(error) => Some(Err(error)),
         }
+    }
+}
+
+impl<Word: BitArray, S: Semantics, B: Holds<Word, Stack> + Clone> Clone
+    for SymbolCoder<Word, S, B> {
+    ghost use Rattle.constriction_symbol.specs.Bits.{bits_above};
+
+    ghost is_clone = { λ old new. B.is_clone old.backend new.backend × (new.last ≡ old.last)
+        × (new.bits ≡ bits_above Word.BITS Word.number (B.words new.backend) new.last) };
+
+    ghost is_infallible = { λ coder. B.is_infallible coder.backend };
+
+    /// The same last bits over a clone of the backend. It is refused only where the backend's clone is.
+    fn clone(&self) -> Result<Self, AllocError> {
+        let backend = self.backend.clone()?;
+        Ok(SymbolCoder {
+            backend,
+            last: self.last.copied(),
+            semantics: PhantomData,
+        })
     }
 }

@@ -6,8 +6,8 @@ ghost use Rattle.std.specs.Borrow.{RestsIfErr, sem};
 ghost use Rattle.std.specs.Prelude.{IfErr, IfOk, OnErr, OnOk, [], drop, map, reverse, vec_capacity, vec_len, ◌-◌, ◌<◌, ◌≡◌, ◌≤◌};
 
 use crate::coder::{QueueEncoder, StackCoder, SymbolCoder};
-use constriction_base::backends::{Queue, Semantics, Stack, WriteWords, take_back};
 use crate::word_bits::WordBits;
+use constriction_base::backends::{Queue, Semantics, Stack, WriteWords, take_back};
 use constriction_words::BitArray;
 use std::alloc::{AllocError, Allocator, Global};
 use std::fmt;
@@ -51,7 +51,8 @@ impl<Word: BitArray, S: Semantics, A: Allocator> Drop for CoderGuard<'_, Word, S
     }
 }
 
-impl<Word: BitArray + fmt::Debug, S: Semantics, A: Allocator> fmt::Debug for CoderGuard<'_, Word, S, A> {
+impl<Word: BitArray + fmt::Debug, S: Semantics, A: Allocator> fmt::Debug
+    for CoderGuard<'_, Word, S, A> {
     /// The list of the words.
     fn fmt<W: fmt::Write>(&self, f: &mut fmt::Formatter<W>) -> fmt::Result {
         f.debug_list().entries(self.words().iter()).finish()
