@@ -14,6 +14,11 @@ use Rattle.constriction_base.proofs.Guards.{fixed-length}
 use Rattle.constriction_base.proofs.Sizes.{pow_le}
 use Rattle.constriction_chain.specs.Words.{Begins, IsBeginning, IsOneAbove, MovesIn, NotWritten}
 
+-- a number that isn't above 0
+pub none_left : (n : ℕ) → (0 < n → ⊥) → n ≡ 0
+none_left zero h = refl
+none_left (suc n) h = absurd (h (omega arith))
+
 -- no word has moved in yet
 pub moves_none : {W E B : Type 0} (number : W → ℕ) (held : B → List W) (is_list : Type 0) (reads : B → Result (Option W) E → B → Type 0) (w from : ℕ) (old : B)
     → MovesIn number held is_list reads w from old from old
