@@ -1,5 +1,5 @@
-use Rattle.std.specs.Prelude.{◌^◌, ◌+◌, ◌≡◌, ◌++◌, ◌∷◌, map, List, length}
-use Rattle.std.proofs.Common.{arith, ap, sym, refl, ◌∙◌}
+use Rattle.std.specs.Prelude.{◌^◌, ◌+◌, ◌≡◌, ◌∷◌, List, length}
+use Rattle.std.proofs.Common.{arith, ap, sym}
 use Rattle.std.specs.Int.Digits.{digits_of}
 use Rattle.constriction_base.proofs.Exporting.{base_two, digits_within}
 use Rattle.constriction_base.proofs.Guards.{all_digits}

@@ -1,4 +1,4 @@
-use Rattle.std.specs.Prelude.{◌%◌, ◌^◌, ◌≡◌, [], ◌∷◌}
+use Rattle.std.specs.Prelude.{◌%◌, ◌^◌, [], ◌∷◌}
 use Rattle.std.proofs.Common.{arith, ◌∙◌, ap, refl, append-nil}
 use Rattle.constriction_base.specs.Digits.{fixed_digits}
 use Rattle.constriction_base.proofs.Guards.{fixed-length}

@@ -1,4 +1,4 @@
-use Rattle.std.proofs.Common.{rules, arith, refl, ◌<◌, ◌^◌}
+use Rattle.std.proofs.Common.{rules, arith, refl}
 use Rattle.constriction_base.proofs.Exporting.{base_two}
 use Rattle.constriction_chain.proofs.Chains.{coder_of}
 use Rattle.constriction_chain.proofs.Moving.{binary_begin}

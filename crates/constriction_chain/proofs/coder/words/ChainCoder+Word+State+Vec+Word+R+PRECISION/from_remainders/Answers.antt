@@ -41,7 +41,7 @@ returns-in-Ok-Some-begin_window-clause-ok g c =
     rw c.of.ensures (
       search rules,
       λ list. ap (λ (ws : List _). map number ws) (top list)
-      ∙ ap (λ (ws : List ℕ). number c.in-Ok-Some.word ∷ ws) (digits_begin number g.R.Holds.words g.R.Holds.is_list g.R.ReadWords.reads _ _ _ _ c.requires.sizes.some_bits g.met.Word.BitArray.number_law some found.1 list),
+          ∙ ap (λ (ws : List ℕ). number c.in-Ok-Some.word ∷ ws) (digits_begin number g.R.Holds.words g.R.Holds.is_list g.R.ReadWords.reads _ _ _ _ c.requires.sizes.some_bits g.met.Word.BitArray.number_law some found.1 list),
     )
 
 pub returns-in-Ok-Some-begin_window-clause-reads : goal.returns-in-Ok-Some-begin_window-clause-reads
