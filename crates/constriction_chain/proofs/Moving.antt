@@ -1,7 +1,7 @@
 -- Words that move into the number of the remainders and out of it.
 use Rattle.std.specs.Prelude.{◌≡◌, ℕ, zero, suc, ◌+◌, ◌-◌, ◌*◌, ◌/◌, ◌%◌, ◌^◌, ◌<◌, ◌≤◌, List, [], ◌∷◌, ◌++◌, length, map, Option, Some, Result, Ok}
 use Rattle.std.specs.Int.Digits.{digits_of, number_from_digits, number_from_digits_after}
-use Rattle.std.proofs.Common.{refl, sym, subst, ap, ◌∙◌, arith, inl, inr, pow_pos, pow-add, append_assoc, append-nil, div-add-mod', mul-le-mul_right}
+use Rattle.std.proofs.Common.{refl, sym, subst, ap, ◌∙◌, arith, inl, inr, pow_pos, pow-add, append_assoc, div-add-mod', mul-le-mul_right}
 use Rattle.std.proofs.lemmas.Bool.{cases_lt}
 use Rattle.std.proofs.lemmas.Nat.{div-mul-add, mod-mul-add}
 use Rattle.std.proofs.lemmas.Int.Digits.{number_after_append}
@@ -10,9 +10,13 @@ use Rattle.constriction_base.specs.Digits.{fixed_digits}
 use Rattle.constriction_base.specs.Readings.{BeginsHigh}
 use Rattle.constriction_base.specs.Steps.{AreWords}
 use Rattle.constriction_base.proofs.Exporting.{digit_alone, digit_in, gives_push, word_grows}
-use Rattle.constriction_base.proofs.Guards.{fixed-length}
 use Rattle.constriction_base.proofs.Sizes.{pow_le}
 use Rattle.constriction_chain.specs.Words.{Begins, IsBeginning, IsOneAbove, MovesIn, NotWritten}
+
+-- a number that isn't above 0
+pub none_left : (n : ℕ) → (0 < n → ⊥) → n ≡ 0
+none_left zero h = refl
+none_left (suc n) h = absurd (h (omega arith))
 
 -- no word has moved in yet
 pub moves_none : {W E B : Type 0} (number : W → ℕ) (held : B → List W) (is_list : Type 0) (reads : B → Result (Option W) E → B → Type 0) (w from : ℕ) (old : B)
@@ -167,7 +171,6 @@ some_bits (suc bits) n some below = omega arith
 -- ---- words that could not be written
 
 module _ {W B E : Type 0} (number : W → ℕ) (held : B → List W) (room : B → ℕ) (makes_room : Type 0) (prepare_fails : B → ℕ → E → Type 0) (write_fails : B → E → Type 0) where
-
   -- no room was made
   pub not_prepared : ((b : B) (count : ℕ) (e : E) → count ≤ room b → prepare_fails b count e → ⊥) → (all : List ℕ) (old : B) (e : E) → prepare_fails old (length all) e
       → NotWritten number held room makes_room prepare_fails write_fails all old e

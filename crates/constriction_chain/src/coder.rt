@@ -106,14 +106,12 @@ impl<
     const PRECISION: usize,
 > Clone for ChainCoder<Word, State, C, R, PRECISION> {
     ghost is_clone = { λ old new. C.is_clone old.compressed new.compressed × R.is_clone old.remainders new.remainders
-        × (new.state.h ≡ old.state.h) × (new.state.r ≡ old.state.r)
-        × IsChainCoder Word.number C.words R.words Word.BITS State.BITS PRECISION new };
+        × (new.state.h ≡ old.state.h) × (new.state.r ≡ old.state.r) };
 
     ghost is_infallible = { λ coder. C.is_infallible coder.compressed × R.is_infallible coder.remainders };
 
     /// The same heads over clones of the backends. It is refused only where one of these is.
     fn clone(&self) -> Result<Self, AllocError> {
-        let _ = self.heads.parts();
         let compressed = self.compressed.clone()?;
         let remainders = self.remainders.clone()?;
         Ok(ChainCoder {

@@ -134,8 +134,9 @@ impl<
     const PRECISION: usize,
 > SeeksBack for ChainCoder<Word, State, C, R, PRECISION> {
     ghost reach_law = { λ coder position stands. (
-        C.reach_law coder.compressed position.0.compressed stands.0,
-        R.reach_law coder.remainders position.0.remainders stands.1) };
+      C.reach_law coder.compressed position.0.compressed stands.0,
+      R.reach_law coder.remainders position.0.remainders stands.1,
+    ) };
 
     ghost accept_law = { λ coder position stands fails. neither
         (C.accept_law coder.compressed position.0.compressed stands.0)

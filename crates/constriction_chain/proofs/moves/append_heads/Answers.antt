@@ -1,9 +1,9 @@
-use Rattle.std.specs.Prelude.{◌^◌, ◌+◌, ◌≡◌, ◌++◌, ◌∷◌, map, List, length}
-use Rattle.std.proofs.Common.{arith, ap, sym, refl, ◌∙◌}
+use Rattle.std.specs.Prelude.{◌^◌, ◌+◌, ◌≡◌, ◌∷◌, List, length}
+use Rattle.std.proofs.Common.{arith, ap, sym}
 use Rattle.std.specs.Int.Digits.{digits_of}
-use Rattle.constriction_base.proofs.Exporting.{base_two, digits_within, no_room}
+use Rattle.constriction_base.proofs.Exporting.{base_two, digits_within}
 use Rattle.constriction_base.proofs.Guards.{all_digits}
-use Rattle.constriction_chain.proofs.Moving.{below_last, last_missing, not_prepared, not_written}
+use Rattle.constriction_chain.proofs.Moving.{below_last, last_missing, none_left, not_prepared, not_written}
 use Rattle.constriction_chain.proofs.moves.append_heads.Goals as goal
 
 pub returns-in-Err : goal.returns-in-Err
@@ -41,7 +41,7 @@ returns-in-Err-write g c =
     let digits = digits_of (2 ^ w) r in
     let len : length (h ∷ digits) ≡ c.count_of_words-count.result + 1 = omega (arith, c.count_of_words-count.ensures) in
     let done = rw (all_digits (2 ^ w) c.count_of_words-count.result r (base_two w c.requires.some_bits) (sym c.count_of_words-count.ensures)) at c.in-Ok-write_words.ensures in
-    let none = no_room _ (λ some. g.met.B.WriteWords.room_law c.write_words.new.backend c.in-Err-write.last some c.in-Err-write.ensures.err) in
+    let none = none_left _ (λ some. g.met.B.WriteWords.room_law c.write_words.new.backend c.in-Err-write.last some c.in-Err-write.ensures.err) in
     not_written g.Word.BitArray.number g.B.Holds.words g.B.WriteWords.room g.B.WriteWords.makes_room g.B.WriteWords.prepare_fails g.B.WriteWords.write_fails
     (h ∷ digits) c.args.backend.now c.prepare.new.self c.write_words.new.backend c.in-Err-write.last c.in-Ok.ensures.room c.prepare.ensures.words (λ m. rw len (c.in-Ok.ensures.made m)) (omega (arith, len, none, done.1)) c.in-Err-write.ensures.err (last_missing h digits _ _ done.0)
 

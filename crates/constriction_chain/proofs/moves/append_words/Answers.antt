@@ -1,5 +1,5 @@
 use Rattle.std.specs.Prelude.{◌^◌, ◌++◌, map, List}
-use Rattle.std.proofs.Common.{arith, ap, ◌∙◌}
+use Rattle.std.proofs.Common.{ap, ◌∙◌}
 use Rattle.constriction_base.specs.Digits.{fixed_digits}
 use Rattle.constriction_base.proofs.Guards.{fixed-length}
 use Rattle.constriction_chain.proofs.Moving.{not_prepared, not_written}
@@ -20,5 +20,5 @@ returns g c =
     mapped _ _ _ _ c.write_words.result
     (λ u done. done.0 ∙ ap (λ (ws : List _). all ++ map g.Word.BitArray.number ws) c.prepare.ensures.words)
     (λ e refused. not_written g.Word.BitArray.number g.B.Holds.words g.B.WriteWords.room g.B.WriteWords.makes_room g.B.WriteWords.prepare_fails g.B.WriteWords.write_fails
-        all c.args.backend.now c.prepare.new.self refused.1.0 e c.in-Ok.ensures.room c.prepare.ensures.words (λ m. rw len (c.in-Ok.ensures.made m)) (rw len refused.0) refused.1.1 refused.1.2)
+    all c.args.backend.now c.prepare.new.self refused.1.0 e c.in-Ok.ensures.room c.prepare.ensures.words (λ m. rw len (c.in-Ok.ensures.made m)) (rw len refused.0) refused.1.1 refused.1.2)
     c.write_words.ensures

@@ -1,4 +1,4 @@
-use Rattle.std.proofs.Common.{◌≡◌, ◌+◌, ◌-◌, ◌*◌, ◌^◌, ℕ, arith, mul-le-mul_right, pow_pos}
+use Rattle.std.proofs.Common.{◌≡◌, ◌+◌, ◌-◌, ◌^◌, ℕ, arith, mul-le-mul_right, pow_pos}
 use Rattle.constriction_base.proofs.Exporting.{word_grows}
 use Rattle.constriction_chain.proofs.Moving.{moves_more, moves_none}
 use Rattle.constriction_chain.proofs.Windows.{read_within}

@@ -1,9 +1,8 @@
-use Rattle.std.specs.Prelude.{◌%◌, ◌^◌, ◌≡◌, [], ◌∷◌}
+use Rattle.std.specs.Prelude.{◌%◌, ◌^◌, [], ◌∷◌}
 use Rattle.std.proofs.Common.{arith, ◌∙◌, ap, refl, append-nil}
 use Rattle.constriction_base.specs.Digits.{fixed_digits}
-use Rattle.constriction_base.proofs.Exporting.{no_room}
 use Rattle.constriction_base.proofs.Guards.{fixed-length}
-use Rattle.constriction_chain.proofs.Moving.{fixed_less}
+use Rattle.constriction_chain.proofs.Moving.{fixed_less, none_left}
 use Rattle.constriction_chain.proofs.moves.write_words.Goals as goal
 
 pub words-init : goal.words-init
@@ -23,7 +22,7 @@ words-preserved g c =
 
 pub returns-in-Err : goal.returns-in-Err
 returns-in-Err g c =
-    let none = no_room _ (λ some. g.met.B.WriteWords.room_law c.words.backend c.in-Err.refusal some c.in-Err.ensures.err) in (
+    let none = none_left _ (λ some. g.met.B.WriteWords.room_law c.words.backend c.in-Err.refusal some c.in-Err.ensures.err) in (
       omega (arith, none, c.words.invariant.room),
       (
         c.words.backend,

@@ -1,0 +1,33 @@
+use Rattle.std.proofs.Common.{refl}
+use Rattle.constriction_chain.proofs.Chains.{coder_of}
+use Rattle.constriction_chain.proofs.coder.ChainCoder.into_binary.Goals as goal
+
+pub returns-then-not-is_whole-clause-coder : goal.returns-then-not-is_whole-clause-coder
+returns-then-not-is_whole-clause-coder g c =
+    let law = g.met.Word.BitArray.number_law in
+    let parts = c.parts.ensures in
+    rw (← c.self.view_is) (coder_of _ _ _ g.Word.BitArray.number law _ _ _ _ _ _ parts.sized parts.some (law _) parts.window)
+
+pub returns-in_default-clause-coder : goal.returns-in_default-clause-coder
+returns-in_default-clause-coder g c =
+    let law = g.met.Word.BitArray.number_law in
+    let parts = c.parts.ensures in
+    rw (← c.self.view_is) (coder_of _ _ _ g.Word.BitArray.number law _ _ _ _ _ _ parts.sized parts.some (law _) parts.window)
+
+pub returns-in-Ok-clause-coder : goal.returns-in-Ok-clause-coder
+returns-in-Ok-clause-coder g c =
+    let law = g.met.Word.BitArray.number_law in
+    let parts = c.parts.ensures in
+    rw (← c.self.view_is) (coder_of _ _ _ g.Word.BitArray.number law _ _ _ _ _ _ parts.sized parts.some (law _) parts.window)
+
+pub returns-in-Err-clause-coder : goal.returns-in-Err-clause-coder
+returns-in-Err-clause-coder g c =
+    let law = g.met.Word.BitArray.number_law in
+    let parts = c.parts.ensures in
+    rw (← c.self.view_is) (coder_of _ _ _ g.Word.BitArray.number law _ _ _ _ _ _ parts.sized parts.some (law _) parts.window)
+
+pub returns-in-Err-clause-err : goal.returns-in-Err-clause-err
+returns-in-Err-clause-err g c =
+    let ones = rw c.parts.ensures.is at c.in-Some.ensures.some in
+    let refused = rw c.parts.ensures.is at c.in-Err.ensures in
+    rw (← c.self.view_is) ((c.if-not-is_whole.ensures.0 refl, (_, ones)), (_, ones, refused))
