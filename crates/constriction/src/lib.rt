@@ -110,6 +110,7 @@
 //! - [`laws::lists`]: where each step is undone, so is a list of them. [`laws::room`]: what a coder that
 //!   isn't full takes. [`laws::round_trips`]: lists that any coder gives.
 //! - [`laws::chain`]: the chain coder: its steps undo each other, and its symbols are isolated.
+//! - [`laws::symbol`]: codebooks: a symbol comes back, and no Exp-Golomb codeword begins another.
 //! - [`laws::stack`]: the stack coder. [`laws::stack::round_trips`] are whole lists there and back, by
 //!   the coder's own calls; [`laws::stack::steps`], [`laws::stack::lists`] and [`laws::stack::words`] are
 //!   the laws of one symbol, of lists, and of words that are exported and imported; the others are of
@@ -315,5 +316,11 @@ pub mod laws {
                 export_of_import, import_of_export, imports_are_words, reads_are_words,
             };
         }
+    }
+
+    pub mod symbol {
+        pub use constriction_symbol::round_trips::{
+            golomb_is_prefix_free, one_stack_of_words, symbol_comes_back,
+        };
     }
 }
