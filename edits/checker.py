@@ -67,7 +67,7 @@ def blame_of_members(name, members, lines):
     impl's own where the terms name what is there."""
     errors = [it.partition(": error: ")[2] for it in lines if it.startswith("src/") and ": error: " in it]
     telling = [it for it in errors if not VANISHED.search(it) and it.startswith(tuple(f"`{member}`" for member in members))]
-    return Blame(name, bool(telling), "law " + ", ".join(it.removesuffix("-value") for it in members))
+    return Blame(name, bool(telling), "member " + ", ".join(it.removesuffix("-value").removesuffix("-tells") for it in members))
 
 
 def blame_of(name, why, goals, lines):

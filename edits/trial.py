@@ -13,7 +13,7 @@ def is_refused(edit, found):
     """Returns whether an edited function is blamed itself, and sets what the checker says of it. Where an edit changes what no function
     holds, it is tried alone, and any function that is blamed will do."""
     of_edit = [it for it in found if it.is_of(edit.functions)]
-    told = sorted(of_edit or (found if edit.is_apart else []), key=lambda it: not it.is_own)
+    told = sorted(found if edit.is_apart else of_edit, key=lambda it: (not it.is_own, it not in of_edit))
     edit.said = str(told[0]) if told else "the checker finds no fault with the edited function"
     return bool(told) and told[0].is_own
 

@@ -7,4 +7,7 @@ pub mod Readings
 pub mod Steps
 pub mod Symbols
 pub mod Tables
+pub mod chain
+pub mod queue
 pub mod stack
+pub mod symbol

@@ -76,6 +76,32 @@
 //! - [`stream::stack::CoderGuard`]: these words on the coder's own backend, until it is dropped.
 //! - [`stream::stack::CompressedDataEndsWithZeroWord`]: the error of words that are those of no coder.
 //!
+//! ## [`stream::queue`]: range coding, the first symbol first
+//!
+//! - [`stream::queue::RangeEncoder`], with [`stream::queue::DefaultRangeEncoder`] (32-bit words, 64-bit
+//!   states) and [`stream::queue::SmallRangeEncoder`] (16 and 32); [`stream::queue::RangeCoderState`] and
+//!   [`stream::queue::EncoderSituation`] are its parts.
+//! - [`stream::queue::RangeDecoder`], with [`stream::queue::DefaultRangeDecoder`] and
+//!   [`stream::queue::SmallRangeDecoder`]; [`stream::queue::DecoderFrontendError`] says that no symbol has
+//!   the quantile that was read.
+//! - [`stream::queue::RangeCompressedIter`], [`stream::queue::EncoderGuard`]: the sealed words of an encoder
+//!   that stays as it is.
+//!
+//! ## [`stream::chain`]: symbols that don't depend on one another's models
+//!
+//! - [`stream::chain::ChainCoder`], with [`stream::chain::DefaultChainCoder`] and
+//!   [`stream::chain::SmallChainCoder`]; [`stream::chain::ChainCoderHeads`] and
+//!   [`stream::chain::BackendPosition`] are what it holds beside its words, and where these stand.
+//! - [`stream::chain::DecoderFrontendError`], [`stream::chain::EncoderFrontendError`],
+//!   [`stream::chain::BackendError`], [`stream::chain::ChangePrecisionError`]: why a call is refused.
+//!
+//! # [`symbol`]: symbols as lists of bits
+//!
+//! - [`symbol::QueueEncoder`], [`symbol::QueueDecoder`], [`symbol::StackCoder`]: bits in words, by the traits
+//!   [`symbol::WriteBitStream`] and [`symbol::ReadBitStream`].
+//! - [`symbol::EncoderCodebook`], [`symbol::DecoderCodebook`]: a list of bits for each symbol;
+//!   [`symbol::exp_golomb::ExpGolomb`] is one for all numbers.
+//!
 //! # [`laws`]: what holds for a whole run
 //!
 //! Functions whose contracts are theorems, for proofs of one's own. Most are called for their contract
@@ -83,6 +109,7 @@
 //!
 //! - [`laws::lists`]: where each step is undone, so is a list of them. [`laws::room`]: what a coder that
 //!   isn't full takes. [`laws::round_trips`]: lists that any coder gives.
+//! - [`laws::chain`]: the chain coder: its steps undo each other, and its symbols are isolated.
 //! - [`laws::stack`]: the stack coder. [`laws::stack::round_trips`] are whole lists there and back, by
 //!   the coder's own calls; [`laws::stack::steps`], [`laws::stack::lists`] and [`laws::stack::words`] are
 //!   the laws of one symbol, of lists, and of words that are exported and imported; the others are of
@@ -126,6 +153,40 @@ pub mod stream {
         };
         pub use constriction_stack::{AnsCoder, DefaultAnsCoder, SmallAnsCoder};
     }
+
+    pub mod queue {
+        pub use constriction_queue::{
+            DecoderFrontendError, DefaultRangeDecoder, DefaultRangeEncoder, EncoderGuard,
+            EncoderSituation, RangeCoderState, RangeCompressedIter, RangeDecoder, RangeEncoder,
+            SmallRangeDecoder, SmallRangeEncoder,
+        };
+    }
+
+    pub mod chain {
+        pub use constriction_chain::{
+            BackendError, BackendPosition, ChainCoder, ChainCoderHeads, ChangePrecisionError,
+            DecoderError, DecoderFrontendError, DefaultChainCoder, EncoderError,
+            EncoderFrontendError, SmallChainCoder,
+        };
+    }
+}
+
+pub mod symbol {
+    pub use constriction_symbol::codebooks::{
+        BitOrder, Codebook, DecoderCodebook, EncoderCodebook, SymbolCodeError,
+    };
+    pub use constriction_symbol::coder::guard::{QueueEncoderGuard, StackCoderGuard};
+    pub use constriction_symbol::coder::{
+        DefaultQueueEncoder, DefaultStackCoder, QueueEncoder, StackCoder, SymbolCoder,
+    };
+    pub use constriction_symbol::iterators::{DecodeSymbols, RepeatCodebook};
+    pub use constriction_symbol::queue::{DefaultQueueDecoder, QueueDecoder};
+    pub use constriction_symbol::reading::ReadBitStream;
+    pub use constriction_symbol::writing::WriteBitStream;
+
+    pub mod exp_golomb {
+        pub use constriction_symbol::exp_golomb::{ExpGolomb, InvalidCodeword};
+    }
 }
 
 pub mod laws {
@@ -139,6 +200,10 @@ pub mod laws {
 
     pub mod round_trips {
         pub use constriction_laws::round_trips::{decode_by_models, decode_list};
+    }
+
+    pub mod chain {
+        pub use constriction_chain::laws::{changes_undo, steps_undo, symbols_are_isolated};
     }
 
     pub mod stack {

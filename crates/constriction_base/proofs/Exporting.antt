@@ -13,6 +13,11 @@ pub some_of : (n : ℕ) → (n ≡ 0 → false ≡ true) → 0 < n
 some_of zero h = let no = h refl in absurd cc
 some_of (suc n) h = omega arith
 
+-- a number that isn't above 0
+pub no_room : (n : ℕ) → (0 < n → ⊥) → n ≡ 0
+no_room zero h = refl
+no_room (suc n) h = absurd (h (omega arith))
+
 pub base_two : (w : ℕ) → 1 ≤ w → 2 ≤ 2 ^ w
 base_two zero h = absurd (omega arith)
 base_two (suc w) h = rw (pow-suc 2 w) (omega (arith, pow_pos w))

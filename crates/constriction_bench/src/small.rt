@@ -1,6 +1,5 @@
 //! Cases at words of 16 bits, states of 32 bits and a precision of 12 bits.
 
-
 use crate::flat::Flat;
 use crate::lookup::LookupTable;
 use crate::runs::{copy_out, decode_in, encode_out, reload_out};

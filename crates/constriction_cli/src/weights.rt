@@ -16,7 +16,7 @@ pub const PRECISION: usize = 24;
 pub type Table = WeightTable<u32, PRECISION>;
 
 /// The table of these weights.
-pub fn table_of(alloc: Global, weights: &[u32]) -> Result<Table, Fault>
+pub fn make_table(alloc: Global, weights: &[u32]) -> Result<Table, Fault>
     ensures ok { IfOk result (λ table. ⟦<Table as EntropyModel<PRECISION>>⟧.table table ≡ table_of weights.now) }
     ensures total { OnOk result (Total weights.now) }
     ensures empty { IsErrOf result NoWeights → weights.now ≡ [] }

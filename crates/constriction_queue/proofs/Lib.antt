@@ -8,6 +8,8 @@ pub mod Encoders
 pub mod Decoders
 pub mod Showing
 pub mod Roomy
+pub mod Sought
+mod Rows
 pub mod Pointing
 pub mod Beginning
 pub mod Exhausted

@@ -5,7 +5,6 @@ use crate::coders::{new_coder, table_of};
 use crate::expect::gives_all;
 use crate::put::Call;
 use crate::script::Act;
-use constriction_base::backends::{ReadWords, Stack};
 use constriction_base::cursor::Cursor;
 use constriction_base::weights::WeightTable;
 use constriction_stack::{AnsCoder, DefaultAnsCoder};

@@ -3,8 +3,8 @@
 use crate::coders::{HeapCoder, coder_over_with, coder_with};
 use crate::expect::{coder_of, export_is_refused, exports, holds};
 use constriction_base::iterators::FallibleIteratorReadWords;
+use constriction_stack::DefaultAnsCoder;
 use constriction_stack::coder::words::CompressedDataEndsWithZeroWord;
-use constriction_stack::{AnsCoder, DefaultAnsCoder};
 use linked_list_allocator::LocalHeap;
 use std::alloc::Global;
 use std::test::Fail;

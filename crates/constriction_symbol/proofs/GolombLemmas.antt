@@ -109,7 +109,7 @@ zeros_more : (k : ℕ) → replicate k false ++ false ∷ [] ≡ replicate (suc 
 zeros_more zero = refl
 zeros_more (suc k) = ap (λ bs. false ∷ bs) (zeros_more k)
 
-reverse_zeros : (k : ℕ) → reverse (replicate k false) ≡ replicate k false
+pub reverse_zeros : (k : ℕ) → reverse (replicate k false) ≡ replicate k false
 reverse_zeros zero = refl
 reverse_zeros (suc k) = reverse-append (false ∷ []) (replicate k false) ∙ (ap (λ bs. bs ++ false ∷ []) (reverse_zeros k) ∙ zeros_more k)
 

@@ -4,3 +4,5 @@ pub mod Lengths
 pub mod Emitted
 pub mod GolombLemmas
 pub mod BitsGiven
+pub mod ReadBack
+pub mod Words

@@ -1,5 +1,5 @@
 -- Codewords: what a codebook emits, what a stream of bits then holds, and what a codebook reads.
-use Rattle.std.specs.Prelude.{◌≡◌, Bool, List, [], ◌∷◌, ◌++◌, ◌⊎◌, Option, Some, None, Result, Ok, Err, map}
+use Rattle.std.specs.Prelude.{◌≡◌, Bool, List, [], ◌∷◌, ◌++◌, ◌⊎◌, Option, Some, None, Result, Ok, Err, map, ⊤}
 use Rattle.std.specs.Iterator.{Yields}
 use Rattle.std.specs.Fn.{Mut, Called}
 use Rattle.constriction_base.specs.declared.errors.CoderError.{CoderError}
@@ -93,3 +93,10 @@ ReadsSymbol next codeword reads_on is_invalid old (Ok symbol) new = (bits : List
 ReadsSymbol next codeword reads_on is_invalid old (Err (Frontend OutOfCompressedData)) new = (bits : List Bool) × reads_on bits × EndsAfter next old bits new
 ReadsSymbol next codeword reads_on is_invalid old (Err (Frontend (InvalidCodeword e))) new = (bits : List Bool) × is_invalid bits e × GivesBits next old bits new
 ReadsSymbol next codeword reads_on is_invalid old (Err (Backend e)) new = (bits : List Bool) × reads_on bits × FailsAfter next old bits e new
+
+-- after bits that begin with the codeword of a symbol: that symbol, or one of the same meaning, and just its codeword
+-- was read; or their source answered an error. No refusal of the codebook comes
+abbrev pub ComesBack : {S V E : Type 0} → (S → S → Type 0) → S → List Bool → Result S (CoderError (SymbolCodeError V) E) → List Bool → Type 0
+ComesBack same symbol rest (Ok t) unread = same t symbol × (unread ≡ rest)
+ComesBack same symbol rest (Err (Frontend _)) unread = ⊥
+ComesBack same symbol rest (Err (Backend _)) unread = ⊤

@@ -189,3 +189,6 @@ known_on b n bits code tail on known is = wanted_more b n bits tail on (is ∙ a
 
 pub known_invalid : (b n : ℕ) (bits rest code tail : List Bool) → n < 2 ^ b → IsInvalid b bits → Some (golomb n) ≡ Some code → bits ++ rest ≡ code ++ tail → ⊥
 known_invalid b n bits rest code tail fits invalid known is = invalid_bits b n bits rest tail fits invalid (is ∙ ap (λ bs. bs ++ tail) (sym (some_same _ _ known)))
+
+pub same_codeword : (m n : ℕ) → m ≡ n → Some (golomb m) ≡ Some (golomb n)
+same_codeword m n is = ap (λ k. Some (golomb k)) is

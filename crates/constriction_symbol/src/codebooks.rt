@@ -13,8 +13,9 @@ use thiserror::Error;
 
 /// Symbols, and a list of bits for each that is known: its codeword.
 ///
-/// No codeword begins another one: the law says so, and each implementation proves it. An implementation
-/// chooses freely which symbols have the same meaning; two of which one's codeword begins the other's must.
+/// No codeword begins another one: the laws say so, and each implementation proves them. An implementation
+/// chooses freely which symbols have the same meaning, as equal numbers have: they have one codeword, and two
+/// symbols of which one's codeword begins the other's are such.
 pub trait Codebook: Drop {
     type Symbol;
 
@@ -23,6 +24,9 @@ pub trait Codebook: Drop {
 
     /// The two symbols mean the same.
     ghost is_same: { Self → Self.Symbol → Self.Symbol → Type 0 };
+
+    // Symbols of one meaning have one codeword.
+    ghost same_law: { (c : Self) (s t : Self.Symbol) → is_same c s t → codeword c s ≡ codeword c t };
 
     // No symbol's codeword begins another's.
     ghost prefix_law: { (c : Self) (s t : Self.Symbol) (bits tail : List Bool) → codeword c s ≡ Some bits → codeword c t ≡ Some (bits ++ tail) → is_same c s t };
@@ -188,6 +192,8 @@ impl<C: Codebook> Codebook for &C {
     ghost codeword = { λ c s. C.codeword c.now s };
 
     ghost is_same = { λ c s t. C.is_same c.now s t };
+
+    ghost same_law = { λ c s t same. C.same_law c.now s t same };
 
     ghost prefix_law = { λ c s t bits tail first second. C.prefix_law c.now s t bits tail first second };
 }

@@ -9,7 +9,7 @@ pub mod decoders;
 pub mod guard;
 pub mod words;
 
-ghost use Rattle.constriction_base.specs.Iterators.{item_of};
+ghost use Rattle.constriction_base.specs.Iterators.{item_of_answer};
 ghost use Rattle.constriction_symbol.specs.Bits.{BitsValue, PopsBit, PutsBit, PutsLast, bits_above};
 ghost use Rattle.std.specs.Prelude.{IfErr, IfOk, IsTrue, List, OnErr, OnOk, Result, [], length, reverse, ℕ, ◌*◌, ◌+◌, ◌<◌, ◌↔◌, ◌≡◌, ◌≤◌};
 
@@ -26,7 +26,7 @@ use std::marker::{Model, PhantomData};
 /// outside the backend until the next bit comes.
 ///
 /// Contracts see a `BitsValue`: all bits, those of the word outside the backend, and the backend.
-#[derive(Drop)]
+#[derive(Debug, Drop)]
 pub struct SymbolCoder<Word: BitArray, S: Semantics, B: Holds<Word, Stack> = Vec<Word>> {
     backend: B,
     last: WordBits<Word>,
@@ -152,7 +152,7 @@ impl<Word: BitArray, B: ReadWords<Word, Stack>> StackCoder<Word, B> {
     /// Where the backend refuses that read. The bits of a backend that knows its words are as before.
     #[inline]
     pub fn read_bit(&mut self) -> Result<Option<bool>, B::ReadError>
-        ensures { PopsBit Word.BITS Word.number B.is_list B.reads self.old (item_of result) self.new }
+        ensures { PopsBit Word.BITS Word.number B.is_list B.reads self.old (item_of_answer result) self.new }
     {
         take_last(&mut self.backend, &mut self.last)
     }
@@ -173,5 +173,25 @@ impl<Word: BitArray, B: ReadWords<Word, Stack> + Drop> Iterator for StackCoder<W
             Ok(None) => None,
             Err(error) => Some(Err(error)),
         }
+    }
+}
+
+impl<Word: BitArray, S: Semantics, B: Holds<Word, Stack> + Clone> Clone
+    for SymbolCoder<Word, S, B> {
+    ghost use Rattle.constriction_symbol.specs.Bits.{bits_above};
+
+    ghost is_clone = { λ old new. B.is_clone old.backend new.backend × (new.last ≡ old.last)
+        × (new.bits ≡ bits_above Word.BITS Word.number (B.words new.backend) new.last) };
+
+    ghost is_infallible = { λ coder. B.is_infallible coder.backend };
+
+    /// The same last bits over a clone of the backend. It is refused only where the backend's clone is.
+    fn clone(&self) -> Result<Self, AllocError> {
+        let backend = self.backend.clone()?;
+        Ok(SymbolCoder {
+            backend,
+            last: self.last.copied(),
+            semantics: PhantomData,
+        })
     }
 }

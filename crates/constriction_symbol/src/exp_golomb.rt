@@ -3,7 +3,7 @@
 ghost use Rattle.constriction_symbol.specs.Bits.{bits_of};
 ghost use Rattle.constriction_symbol.specs.Codewords.{Emits};
 ghost use Rattle.constriction_symbol.specs.Golomb.{IsInvalid, ReadsOn, golomb};
-ghost use Rattle.constriction_symbol.specs.GolombLaws.{known_invalid, known_on, known_prefix_free};
+ghost use Rattle.constriction_symbol.specs.GolombLaws.{known_invalid, known_on, known_prefix_free, same_codeword};
 ghost use Rattle.std.specs.Prelude.{Some, false, replicate, reverse, ◌+◌, ◌++◌, ◌-◌, ◌<◌, ◌^◌, ◌≡◌, ◌≤◌};
 
 use crate::codebooks::{Codebook, DecoderCodebook, EncoderCodebook, SymbolCodeError};
@@ -46,6 +46,8 @@ impl<N: BitArray> Codebook for ExpGolomb<N> {
     ghost codeword = { λ _ n. Some (golomb (N.number n)) };
 
     ghost is_same = { λ _ m n. N.number m ≡ N.number n };
+
+    ghost same_law = { λ c m n same. same_codeword (N.number m) (N.number n) same };
 
     ghost prefix_law = { λ c m n bits tail first second. known_prefix_free (N.number m) (N.number n) bits tail first second };
 }

@@ -1,4 +1,30 @@
 //! Bits in words, and codebooks: symbols as lists of bits.
+//!
+//! A bit coder is a list of bits over words. A codebook has a list of bits for each symbol that it knows, its
+//! codeword, and no codeword begins another. So symbols are written by putting their codewords behind one another,
+//! and are read without any marks between them: from a queue in the order in which they were written, from a stack
+//! the last one first. Codebooks can be mixed in one stream.
+//!
+//! ```
+//! let golomb = ExpGolomb::<u32>::new();
+//! let mut encoder = DefaultQueueEncoder::new(alloc);
+//! encoder.encode_iid_symbols([0u32, 5, 7].iter(), &golomb)?; // the bits 1, 00110, 0001000
+//!
+//! let mut decoder = encoder.into_decoder()?;
+//! decoder.decode_symbol(&golomb)?; // 0, and 5 and 7 after it
+//! ```
+//!
+//! The modules:
+//! - [`codebooks`]: the traits of codebooks, and why no symbol was read.
+//! - [`coder`]: `SymbolCoder`, bits that grow: a queue for writing, or a stack. Its words, and its guards.
+//! - [`queue`]: `QueueDecoder`, the bits of words.
+//! - [`writing`], [`reading`]: streams of bits, to which symbols are written and from which they are read, with lists.
+//! - [`iterators`]: the iterators of symbols.
+//! - [`exp_golomb`]: the Exp-Golomb codebook of numbers.
+//! - [`round_trips`]: what follows: a symbol comes back, and so do the bits of a stack.
+//!
+//! Contracts cite the definitions of `specs/Bits.antt` (bits of words), `specs/Codewords.antt` (what is emitted, written
+//! and read) and `specs/Golomb.antt` (the grammar).
 #![tactic(auto)]
 
 pub mod codebooks;
@@ -8,6 +34,7 @@ pub mod exp_golomb;
 pub mod iterators;
 pub mod queue;
 pub mod reading;
+pub mod round_trips;
 mod steps;
 mod taking;
 mod word_bits;

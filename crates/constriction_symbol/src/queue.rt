@@ -1,6 +1,6 @@
 //! The bits of words, the first one first.
 
-ghost use Rattle.constriction_base.specs.Iterators.{item_of};
+ghost use Rattle.constriction_base.specs.Iterators.{item_of_answer};
 ghost use Rattle.constriction_symbol.specs.Bits.{AreZeros, BitsValue, TakesBit, bits_behind, bits_of_words};
 ghost use Rattle.std.specs.Prelude.{IsTrue, [], map, ◌↔◌, ◌≡◌};
 
@@ -9,12 +9,13 @@ use crate::word_bits::WordBits;
 use constriction_base::backends::{Holds, Queue, ReadWords};
 use constriction_base::cursor::Cursor;
 use constriction_words::BitArray;
+use std::alloc::AllocError;
 use std::marker::Model;
 
 /// The bits of a backend's words, those of a word from the lowest up.
 ///
 /// Contracts see a `BitsValue`: all bits that are left, those of them whose word was read, and the backend.
-#[derive(Drop)]
+#[derive(Debug, Drop)]
 pub struct QueueDecoder<Word: BitArray, B: Holds<Word, Queue>> {
     backend: B,
     last: WordBits<Word>,
@@ -55,7 +56,7 @@ impl<Word: BitArray, B: ReadWords<Word, Queue>> QueueDecoder<Word, B> {
     /// Where the backend refuses that read. The bits of a backend that knows its words are as before.
     #[inline]
     pub fn read_bit(&mut self) -> Result<Option<bool>, B::ReadError>
-        ensures { TakesBit Word.BITS Word.number B.is_list B.reads self.old (item_of result) self.new }
+        ensures { TakesBit Word.BITS Word.number B.is_list B.reads self.old (item_of_answer result) self.new }
     {
         take_first(&mut self.backend, &mut self.last)
     }
@@ -84,5 +85,24 @@ impl<Word: BitArray, B: ReadWords<Word, Queue> + Drop> Iterator for QueueDecoder
             Ok(None) => None,
             Err(error) => Some(Err(error)),
         }
+    }
+}
+
+impl<Word: BitArray, B: Holds<Word, Queue> + Clone> Clone for QueueDecoder<Word, B> {
+    ghost use Rattle.constriction_symbol.specs.Bits.{bits_behind};
+
+    ghost is_clone = { λ old new. B.is_clone old.backend new.backend × (new.last ≡ old.last)
+        × (new.bits ≡ bits_behind Word.BITS Word.number new.last (B.words new.backend)) };
+
+    ghost is_infallible = { λ decoder. B.is_infallible decoder.backend };
+
+    /// The same bits of the word that was read last over a clone of the backend. It is refused only where the backend's
+    /// clone is.
+    fn clone(&self) -> Result<Self, AllocError> {
+        let backend = self.backend.clone()?;
+        Ok(QueueDecoder {
+            backend,
+            last: self.last.copied(),
+        })
     }
 }

@@ -2,7 +2,7 @@
 
 ghost use Rattle.constriction_symbol.specs.Bits.{GivesBit, PopsBit, TakesBit};
 ghost use Rattle.constriction_symbol.specs.Codewords.{ReadsSymbol};
-ghost use Rattle.constriction_base.specs.Iterators.{item_of};
+ghost use Rattle.constriction_base.specs.Iterators.{item_of_answer};
 ghost use Rattle.std.specs.Prelude.{Bool, List, Option, Result, reverse, ◌≡◌};
 
 use crate::codebooks::{Codebook, DecoderCodebook, SymbolCodeError};
@@ -35,7 +35,7 @@ pub trait ReadBitStream<S: Semantics> {
     /// # Errors
     /// Where what holds the bits refuses to give them. A stream that knows its bits keeps them.
     fn read_bit(&mut self) -> Result<Option<bool>, Self::ReadError>
-        ensures { gives self.old (item_of result) self.new };
+        ensures { gives self.old (item_of_answer result) self.new };
 
     /// Takes the bits of a codeword, and returns its symbol.
     ///

@@ -1,6 +1,6 @@
 //! A bit more and a bit less in words, of which those of one lie outside the backend.
 
-ghost use Rattle.constriction_base.specs.Iterators.{item_of};
+ghost use Rattle.constriction_base.specs.Iterators.{item_of_answer};
 ghost use Rattle.constriction_symbol.specs.Bits.{GivesBit, PutsLast, TakesFirst, TakesLast, bits_above, bits_behind};
 ghost use Rattle.std.specs.Prelude.{reverse};
 
@@ -36,9 +36,9 @@ pub fn take_last<Word: BitArray, B: ReadWords<Word, Stack>>(
     backend: &mut B,
     last: &mut WordBits<Word>,
 ) -> Result<Option<bool>, B::ReadError>
-    ensures takes { TakesLast Word.BITS Word.number B.reads last.old backend.old (item_of result) last.new backend.new }
+    ensures takes { TakesLast Word.BITS Word.number B.reads last.old backend.old (item_of_answer result) last.new backend.new }
     ensures bits { B.is_list → GivesBit (reverse (bits_above Word.BITS Word.number (B.words backend.old) last.old))
-        (item_of result) (reverse (bits_above Word.BITS Word.number (B.words backend.new) last.new)) }
+        (item_of_answer result) (reverse (bits_above Word.BITS Word.number (B.words backend.new) last.new)) }
 {
     if last.is_empty() {
         match backend.read() {
@@ -59,9 +59,9 @@ pub fn take_first<Word: BitArray, B: ReadWords<Word, Queue>>(
     backend: &mut B,
     last: &mut WordBits<Word>,
 ) -> Result<Option<bool>, B::ReadError>
-    ensures takes { TakesFirst Word.BITS Word.number B.reads last.old backend.old (item_of result) last.new backend.new }
+    ensures takes { TakesFirst Word.BITS Word.number B.reads last.old backend.old (item_of_answer result) last.new backend.new }
     ensures bits { B.is_list → GivesBit (bits_behind Word.BITS Word.number last.old (B.words backend.old))
-        (item_of result) (bits_behind Word.BITS Word.number last.new (B.words backend.new)) }
+        (item_of_answer result) (bits_behind Word.BITS Word.number last.new (B.words backend.new)) }
 {
     if last.is_empty() {
         match backend.read() {

@@ -9,7 +9,7 @@ use std::marker::Model;
 /// A list of bits, as many as a word has at most. The first one is the word's lowest.
 ///
 /// Contracts see the list.
-#[derive(Drop)]
+#[derive(Debug, Drop)]
 pub struct WordBits<Word: BitArray> {
     word: Word,
     count: u32,

@@ -10,7 +10,7 @@ ghost use Rattle.constriction_cli.specs.declared.fault.Fault.TheVariants.{BadNum
 use crate::fault::Fault;
 use crate::input::{parse_numbers, split_line};
 use crate::output::line_of_numbers;
-use crate::weights::{PRECISION, table_of};
+use crate::weights::{PRECISION, make_table};
 use constriction::CoderError;
 use constriction::stream::Decode;
 use constriction::stream::model::{DecoderModel, EntropyModel};
@@ -69,7 +69,7 @@ pub fn answer(alloc: Global, text: &[u8]) -> Result<Vec<u8>, Fault>
     let weights = parse_numbers::<u32>(alloc, first)?;
     let mut words = parse_numbers::<u32>(alloc, second)?;
     let count = take_count(&mut words)?;
-    let table = table_of(alloc, weights.as_slice())?;
+    let table = make_table(alloc, weights.as_slice())?;
     let Ok(mut coder) = DefaultAnsCoder::from_compressed(words) else {
         return Err(Fault::ZeroWord(CompressedDataEndsWithZeroWord));
     };

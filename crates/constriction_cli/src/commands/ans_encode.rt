@@ -10,7 +10,7 @@ ghost use Rattle.constriction_cli.specs.Answers.{IsEncoded, EncodeFails, PushFai
 use crate::fault::Fault;
 use crate::input::{parse_numbers, split_line};
 use crate::output::line_of_words;
-use crate::weights::{PRECISION, table_of};
+use crate::weights::{PRECISION, make_table};
 use constriction::CoderError;
 use constriction::stream::Encode;
 use constriction::stream::model::{EncoderModel, EntropyModel};
@@ -50,7 +50,7 @@ pub fn answer(alloc: Global, text: &[u8]) -> Result<Vec<u8>, Fault>
     let (second, _) = split_line(rest);
     let weights = parse_numbers::<u32>(alloc, first)?;
     let symbols = parse_numbers::<usize>(alloc, second)?;
-    let table = table_of(alloc, weights.as_slice())?;
+    let table = make_table(alloc, weights.as_slice())?;
     let words = encode(alloc, &table, symbols.as_slice())?;
     Ok(line_of_words(alloc, words.as_slice())?)
 }

@@ -1,7 +1,7 @@
 use Rattle.std.proofs.Common.{Err, sym, ◌∙◌, ap}
 use Rattle.constriction.specs.Tables.{table_of}
 use Rattle.constriction_cli.proofs.OwnNumbers.{own_numbers, own_sum}
-use Rattle.constriction_cli.proofs.weights.table_of.Goals as goal
+use Rattle.constriction_cli.proofs.weights.make_table.Goals as goal
 
 pub returns-in-Ok-clause-ok : goal.returns-in-Ok-clause-ok
 returns-in-Ok-clause-ok c = c.in-Ok.ensures.ok ∙ ap table_of (own_numbers c.args.weights.now c.type_inv.weights)

@@ -1,0 +1,7 @@
+pub mod Calls
+pub mod Decoder
+pub mod Encoder
+pub mod Guarded
+pub mod Range
+pub mod States
+pub mod Writing

@@ -1,0 +1,5 @@
+pub mod Bits
+pub mod Codewords
+pub mod Golomb
+pub mod Guarded
+pub mod Guards

@@ -1,0 +1,2 @@
+-- What a guard of a bit coder borrows and wrote.
+pub use Rattle.constriction_symbol.specs.Guarded.{lender, written}

@@ -1,0 +1,2 @@
+-- Bits that a guard of a bit coder takes off again.
+pub use Rattle.constriction_symbol.specs.Guards.{bits_without}
