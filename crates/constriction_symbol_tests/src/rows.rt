@@ -42,43 +42,42 @@ fn stack_end_bit(rt: HostRuntime) -> Result<(), Fail> {
     Ok(())
 }
 
-/// Whether the codeword of the number is this one: as a prefix in a queue, and as a suffix in a stack, of
+/// Whether the codeword of the one number is this one: as a prefix in a queue, and as a suffix in a stack, of
 /// which it is read in the same order.
-pub fn is_codeword<N: BitArray + PartialEq>(alloc: Global, number: N, bits: &[u8]) -> bool {
-    let symbols = [number];
-    let Some(queue) = queue_of_numbers::<u32, N>(alloc, &symbols) else {
+pub fn is_codeword<N: BitArray + PartialEq>(alloc: Global, symbols: &[N], bits: &[u8]) -> bool {
+    let Some(queue) = queue_of_numbers::<u32, N>(alloc, symbols) else {
         return false;
     };
-    let Some(mut stack) = stack_of_numbers::<u32, N>(alloc, &symbols) else {
+    let Some(mut stack) = stack_of_numbers::<u32, N>(alloc, symbols) else {
         return false;
     };
-    let Some(mut other) = stack_of_numbers::<u32, N>(alloc, &symbols) else {
+    let Some(mut other) = stack_of_numbers::<u32, N>(alloc, symbols) else {
         return false;
     };
     queue_len(&queue, bits.len())
         && gives::<Stack, _>(&mut stack, bits)
         && ends::<Stack, _>(&mut stack)
-        && matches!(takes::<Stack, _, N>(&mut other, &symbols), Took::All)
+        && matches!(takes::<Stack, _, N>(&mut other, symbols), Took::All)
         && ends::<Stack, _>(&mut other)
         && matches!(queue.into_compressed(), Ok(words) if gives::<Queue, _>(&mut word_queue(&words), bits)
-            && matches!(takes::<Queue, _, N>(&mut word_queue(&words), &symbols), Took::All))
+            && matches!(takes::<Queue, _, N>(&mut word_queue(&words), symbols), Took::All))
 }
 
 #[test]
 fn golomb_codewords(rt: HostRuntime) {
     assert!(rt;
-        is_codeword(rt.alloc(), 0u32, b"1")
-            && is_codeword(rt.alloc(), 1u32, b"010")
-            && is_codeword(rt.alloc(), 5u32, b"00110")
-            && is_codeword(rt.alloc(), 7u32, b"0001000")
+        is_codeword(rt.alloc(), &[0u32], b"1")
+            && is_codeword(rt.alloc(), &[1u32], b"010")
+            && is_codeword(rt.alloc(), &[5u32], b"00110")
+            && is_codeword(rt.alloc(), &[7u32], b"0001000")
             && is_codeword(
                 rt.alloc(),
-                u32::MAX - 1,
+                &[u32::MAX - 1],
                 b"000000000000000000000000000000011111111111111111111111111111111"
             )
             && is_codeword(
                 rt.alloc(),
-                u32::MAX,
+                &[u32::MAX],
                 b"00000000000000000000000000000000100000000000000000000000000000000"
             )
     );

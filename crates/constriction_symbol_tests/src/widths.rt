@@ -107,36 +107,30 @@ fn words_of_usize(rt: HostRuntime) {
     );
 }
 
-/// Whether three numbers, the last two of which are the greatest of their type, are these words in a queue
-/// and those in a stack, and come back from both.
+/// Whether the numbers are these words in a queue and those in a stack, and come back from both.
 fn greatest_go<N: BitArray + PartialEq>(
     alloc: Global,
-    first: N,
-    last: [N; 2],
+    symbols: &[N],
+    back: &[N],
     queue: &[u32],
     stack: &[u32],
 ) -> bool {
-    let [second, third] = last;
-    let symbols = [first, second, third];
-    let Some(written) = queue_of_numbers::<u32, N>(alloc, &symbols) else {
+    let Some(written) = queue_of_numbers::<u32, N>(alloc, symbols) else {
         return false;
     };
-    let Some(piled) = stack_of_numbers::<u32, N>(alloc, &symbols) else {
+    let Some(piled) = stack_of_numbers::<u32, N>(alloc, symbols) else {
         return false;
     };
-    let Some(mut other) = stack_of_numbers::<u32, N>(alloc, &symbols) else {
+    let Some(mut other) = stack_of_numbers::<u32, N>(alloc, symbols) else {
         return false;
     };
     exports_queue(written, queue)
         && exports(piled, stack)
         && matches!(
-            takes::<Queue, _, N>(&mut word_queue(queue), &symbols),
+            takes::<Queue, _, N>(&mut word_queue(queue), symbols),
             Took::All
         )
-        && matches!(
-            takes::<Stack, _, N>(&mut other, &[third, second, first]),
-            Took::All
-        )
+        && matches!(takes::<Stack, _, N>(&mut other, back), Took::All)
         && stack_len(&other, 0)
 }
 
@@ -145,8 +139,8 @@ fn numbers_of_u16(rt: HostRuntime) {
     assert!(rt;
         greatest_go::<u16>(
             rt.alloc(),
-            300,
-            [u16::MAX - 1, u16::MAX],
+            &[300, u16::MAX - 1, u16::MAX],
+            &[u16::MAX, u16::MAX - 1, 300],
             &[92416, 65535, 1],
             &[4294836525, 1, 131073]
         )
@@ -175,8 +169,8 @@ fn numbers_of_u64_and_usize(rt: HostRuntime) {
     assert!(rt;
         greatest_go::<u64>(
             rt.alloc(),
-            1000000000000000,
-            [u64::MAX - 1, u64::MAX],
+            &[1000000000000000, u64::MAX - 1, u64::MAX],
+            &[u64::MAX, u64::MAX - 1, 1000000000000000],
             &queue,
             &stack
         ) && greatest_go::<usize>(
@@ -223,8 +217,16 @@ fn numbers_of_u128(rt: HostRuntime) {
     assert!(rt;
         greatest_go::<u128>(
             rt.alloc(),
-            1000000000000000000000000000000,
-            [u128::MAX - 1, u128::MAX],
+            &[
+                1000000000000000000000000000000,
+                u128::MAX - 1,
+                u128::MAX,
+            ],
+            &[
+                u128::MAX,
+                u128::MAX - 1,
+                1000000000000000000000000000000,
+            ],
             &queue,
             &stack
         )
@@ -235,11 +237,11 @@ fn numbers_of_u128(rt: HostRuntime) {
 #[test]
 fn codewords_of_bytes(rt: HostRuntime) {
     assert!(rt;
-        is_codeword(rt.alloc(), 2u8, b"011")
-            && is_codeword(rt.alloc(), 3u8, b"00100")
-            && is_codeword(rt.alloc(), 126u8, b"0000001111111")
-            && is_codeword(rt.alloc(), 127u8, b"000000010000000")
-            && is_codeword(rt.alloc(), 254u8, b"000000011111111")
-            && is_codeword(rt.alloc(), 255u8, b"00000000100000000")
+        is_codeword(rt.alloc(), &[2u8], b"011")
+            && is_codeword(rt.alloc(), &[3u8], b"00100")
+            && is_codeword(rt.alloc(), &[126u8], b"0000001111111")
+            && is_codeword(rt.alloc(), &[127u8], b"000000010000000")
+            && is_codeword(rt.alloc(), &[254u8], b"000000011111111")
+            && is_codeword(rt.alloc(), &[255u8], b"00000000100000000")
     );
 }
