@@ -1,12 +1,10 @@
-pub mod Ans
 pub mod Backends
-pub mod Binary
-pub mod Guards
+pub mod Digits
 pub mod Iterators
-pub mod Laws
 pub mod Lists
-pub mod Positions
-pub mod Sizes
+pub mod Models
+pub mod Readings
 pub mod Steps
 pub mod Symbols
 pub mod Tables
+pub mod stack

@@ -190,6 +190,10 @@ pub mod laws {
                 };
             }
 
+            pub mod compressed {
+                pub use constriction_laws::stack::round_trips::compressed::compressed_words_through_list;
+            }
+
             pub mod decoders {
                 pub use constriction_laws::stack::round_trips::decoders::{
                     list_as_decoder, list_into_decoder, list_into_seekable_decoder,

@@ -3,7 +3,7 @@ use Rattle.std.specs.Prelude.{ℕ, ◌≤◌, ◌^◌, List}
 use Rattle.std.proofs.Common.{arith}
 use Rattle.constriction_base.specs.Steps.{IsStep}
 use Rattle.constriction_base.specs.Tables.{Has, IsTable}
-use Rattle.constriction_base.specs.Entries.{in_range}
+use Rattle.constriction_base.proofs.Entries.{in_range}
 
 pub entry_is_step : {S : Type 0} (w precision bits left p : ℕ) (table : List (S × ℕ × ℕ)) (symbol : S) → IsTable precision table → Has table symbol left p
     → (1 ≤ precision) × (precision ≤ bits) → bits ≤ w → IsStep w (record { precision = precision; left = left; p = p })

@@ -2,7 +2,7 @@
 use Rattle.std.proofs.Common.{◌≡◌, ℕ, ◌+◌, ◌*◌, ◌<◌, ◌≤◌, List, [], ◌∷◌, ◌++◌, length, get_or, refl, inl, inr, ap, arith, length-append, below_more, add-one}
 use Rattle.std.proofs.lemmas.List.{get_or_push, get_or_append_left}
 use Rattle.std.proofs.lemmas.Bool.{cases_lt}
-use Rattle.constriction_base.specs.Entries.{ends_inside, ends_at}
+use Rattle.constriction_base.specs.laws.Weights.{ends_inside, ends_at}
 use Rattle.constriction_base.specs.Hints.{IsHint, AreHints}
 
 -- no hint yet

@@ -1,7 +1,7 @@
 -- Worked values: the definitions of tables and windows compute.
 use Rattle.std.proofs.Common.{◌≡◌, ◌<◌, [], ◌∷◌, refl, arith}
 use Rattle.constriction_base.specs.Tables.{IsTable, table_of, weights_between}
-use Rattle.constriction_base.specs.Entries.{weights_make_table}
+use Rattle.constriction_base.specs.laws.Weights.{weights_make_table}
 use Rattle.constriction_base.specs.Windows.{IsMovedIn, IsMovedOut}
 
 -- two weights

@@ -2,10 +2,10 @@
 use Rattle.std.specs.Prelude.{◌≡◌, Bool, true, false, List, [], ◌∷◌, Option, None, Some, Result, Ok, Err, MatchBool, MatchOption}
 
 -- what the iterator gave, where a read answered this
-abbrev pub item_of : {W E : Type 0} → Result (Option W) E → Option (Result W E)
-item_of (Ok None) = None
-item_of (Ok (Some w)) = Some (Ok w)
-item_of (Err e) = Some (Err e)
+abbrev pub item_of_answer : {W E : Type 0} → Result (Option W) E → Option (Result W E)
+item_of_answer (Ok None) = None
+item_of_answer (Ok (Some w)) = Some (Ok w)
+item_of_answer (Err e) = Some (Err e)
 
 -- one item of an iterator that ends for good; a state is the iterator, and whether it has ended
 abbrev pub FusedStep : {S A : Type 0} → (S → Option A → S → Type 0) → S × Bool → Option A → S × Bool → Type 0
@@ -13,7 +13,7 @@ FusedStep steps old r new = MatchBool old.1 (r ≡ None) (steps old.0 r new.0) �
 
 -- a read that answers what the iterator gives next
 abbrev pub FusedRead : {S W E : Type 0} → (S → Option (Result W E) → S → Type 0) → S × Bool → Result (Option W) E → S × Bool → Type 0
-FusedRead steps old answer new = FusedStep steps old (item_of answer) new
+FusedRead steps old answer new = FusedStep steps old (item_of_answer answer) new
 
 -- what a read answers where the iterator gives this
 abbrev pub answer_of : {W E : Type 0} → Result W E → Result (Option W) E

@@ -2,11 +2,10 @@ pub mod Backends
 pub mod Iterators
 pub mod Steps
 pub mod Tables
-pub mod Room
-pub mod Entries
-pub mod Lawful
+pub mod Models
 pub mod Hints
 pub mod Windows
 pub mod WeightTables
 pub mod Digits
 pub mod Readings
+pub mod laws

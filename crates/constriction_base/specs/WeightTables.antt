@@ -1,14 +1,19 @@
 -- What a table of weights is to those who read its contracts.
 use Rattle.std.specs.Prelude.{◌≡◌, ℕ, ◌^◌, ◌≤◌, List, length, map}
 use Rattle.constriction_base.specs.Tables.{IsTable, table_of, weights_between}
-use Rattle.constriction_base.specs.Lawful.{starts_make_table, two_entries}
+use Rattle.constriction_base.specs.Models.{Model}
+use Rattle.constriction_base.specs.laws.Weights.{starts_make_table, two_entries}
 use Rattle.constriction_base.specs.declared.weights.WeightTable.{WeightTable}
 
 -- its entries: each symbol of a weight above 0, where its interval begins, and how long it is
 abbrev pub entries : {Probability NonZero : Type 0} {precision : ℕ} {word : _} → WeightTable Probability precision NonZero word → List (ℕ × ℕ × ℕ)
 entries {precision = precision} {word = word} t = table_of (weights_between (map word.number t.starts.items) (2 ^ precision))
 
--- they cut what is below two to the precision
+-- the table as a model
+abbrev pub model_of : {Probability NonZero : Type 0} {precision : ℕ} {word : _} → WeightTable Probability precision NonZero word → Model ℕ
+model_of {precision = precision} t = record { precision = precision; table = entries t }
+
+-- the entries cut what is below two to the precision
 pub entries_are_table : {Probability NonZero : Type 0} {precision : ℕ} {word : _} (t : WeightTable Probability precision NonZero word) → IsTable precision (entries t)
 entries_are_table {precision = precision} {word = word} t = starts_make_table word.number precision t.starts.items t.has_symbols t.rising
 

@@ -1,4 +1,5 @@
--- Windows: a number and a list of words, of which moves bring the number into bounds.
+-- Windows: a number and a list of words, of which moves bring the number into bounds, as those of the chain coder's
+-- remainders.
 -- The number stands above the words, as the head of a stack of digits in base two to the bits of a word.
 use Rattle.std.specs.Prelude.{◌≡◌, ℕ, ◌+◌, ◌*◌, ◌^◌, ◌<◌, ◌≤◌, List, ◌∷◌}
 

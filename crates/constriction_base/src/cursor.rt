@@ -21,6 +21,8 @@ mod writing;
 /// sets the word at the position and moves past it, and is refused at the buffer's end. Contracts see
 /// the buffer and the position, which is never past the buffer's length.
 ///
+/// # Examples
+///
 /// ```
 /// let mut words = [0u32; 2];
 /// let mut cursor = Cursor::new_at_write_beginning(words.as_mut_slice());

@@ -40,7 +40,7 @@ pub enum DefaultEncoderFrontendError {
     ImpossibleSymbol,
 }
 
-/// The error of an encoder whose backend's writes answer `E`.
+/// The error of an encoder whose backend's writes return `E`.
 pub type DefaultEncoderError<E> = CoderError<DefaultEncoderFrontendError, E>;
 
 /// The error of a call that both reads from a backend and writes to it.
@@ -61,7 +61,7 @@ pub enum BoundedWriteError {
     /// The buffer ends here.
     #[error("out of space")]
     OutOfSpace,
-    /// A growth found no memory. A `Cursor` never answers this: it stands here for what is coded
+    /// A growth found no memory. A `Cursor` never returns this: it stands here for what is coded
     /// onto a cursor and needs memory of its own.
     #[error("out of memory")]
     Memory,

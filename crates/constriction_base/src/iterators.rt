@@ -15,6 +15,8 @@ use std::marker::Model;
 /// the read's error, and the reads after it go on with the items behind it. Once the iterator has
 /// ended it is not called again. Contracts see the iterator, and whether it has ended.
 ///
+/// # Examples
+///
 /// ```
 /// let words = [Ok(9u32), Ok(7)].to_vec(alloc)?;
 /// let mut backend = FallibleIteratorReadWords::new(words.into_iter());

@@ -13,7 +13,7 @@
 //! - [`iterators`]: an iterator of words, or of refusals, to be read.
 //! - [`model`]: the traits of models, with the law that a model is a table.
 //! - [`weights`]: `WeightTable`, a model by the weights of its symbols, with a fast search.
-//! - [`errors`]: what coders and backends answer where they refuse.
+//! - [`errors`]: what coders and backends return where they refuse.
 //! - [`head_words`]: the words of the number that a coder holds above its words.
 #![tactic(auto)]
 

@@ -6,11 +6,15 @@
 //! whose laws say that the intervals are a table. A `&M` is a model wherever `M` is.
 
 ghost use Rattle.std.specs.Prelude.{◌≡◌, ℕ, ◌+◌, ◌^◌, ◌<◌, ◌≤◌, List, length, IfSome, IfNone};
-ghost use Rattle.constriction_base.specs.Tables.{Has, IsTable, Covers};
+ghost use Rattle.constriction_base.specs.Tables.{Has, Impossible, IsTable, Covers};
 
 use constriction_words::BitArray;
 
-/// A table of symbols, each with an interval of the numbers below two to the precision.
+/// A table of symbols, each with an interval of the numbers below two to the precision: a quantized
+/// probability mass function.
+///
+/// An implementation chooses freely which table it is, as far as the laws allow: which symbols have an
+/// interval, in which order these follow on one another, and how long each is.
 ///
 /// Its laws hold for each value of each implementation:
 ///
@@ -40,6 +44,8 @@ pub trait EntropyModel<const PRECISION: usize>: Drop {
 }
 
 /// A model that an encoder can use.
+///
+/// An implementation chooses nothing here: the table says what each call returns.
 pub trait EncoderModel<const PRECISION: usize>: EntropyModel<PRECISION> {
     /// Where the symbol's interval begins, and how long it is, or `None` if the model doesn't know it.
     fn left_cumulative_and_probability(
@@ -47,10 +53,12 @@ pub trait EncoderModel<const PRECISION: usize>: EntropyModel<PRECISION> {
         symbol: &Self::Symbol,
     ) -> Option<(Self::Probability, <Self::Probability as BitArray>::NonZero)>
         ensures found { IfSome result (λ found. Has (Self.table self.now) symbol.now (Self.Probability.number found.0) (Self.Probability.nonzero_number found.1)) }
-        ensures unknown { IfNone result ((left p : ℕ) → Has (Self.table self.now) symbol.now left p → ⊥) };
+        ensures impossible { IfNone result (Impossible (Self.table self.now) symbol.now) };
 }
 
 /// A model that a decoder can use.
+///
+/// An implementation chooses nothing here: the table says what each call returns.
 pub trait DecoderModel<const PRECISION: usize>: EntropyModel<PRECISION> {
     /// The symbol whose interval holds the quantile, where that begins, and how long it is.
     ///

@@ -3,7 +3,7 @@
 //! Words that stand in the order in which a stack reads them, as in a file that is written from its
 //! end, are read by `Reverse(Cursor::new_at_write_beginning(words))`.
 
-ghost use Rattle.constriction_base.specs.Room.{within};
+ghost use Rattle.constriction_base.specs.laws.Room.{within};
 
 use crate::backends::{
     BoundedReadWords, Holds, Pos, PosSeek, Queue, ReadWords, Seek, SeeksBack, Stack, Words,
@@ -16,6 +16,8 @@ use std::convert::Infallible;
 ///
 /// As a stack it reads the words from the position on, the one at the position first; as a queue the
 /// words before the position, the one right before it first. Positions are the cursor's.
+///
+/// # Examples
 ///
 /// ```
 /// let mut backend = Reverse(Cursor::new_at_write_beginning([7u32, 9].as_slice()));

@@ -65,14 +65,22 @@ pub struct WeightTable<Probability: BitArray, const PRECISION: usize> {
 impl<Probability: BitArray, const PRECISION: usize> WeightTable<Probability, PRECISION> {
     ghost use Rattle.constriction_base.specs.WeightTables.{entries};
 
-    /// The table of these weights.
+    /// The table of these weights (a quantized probability mass function).
     ///
-    /// Refused are, in this order, an empty list, weights that do not add up to two to the precision
-    /// (the sum is exact, whatever the width of `Probability`), and want of memory. With all bits of
-    /// `Probability` as precision the total does not fit one weight, so that at least two are above 0.
+    /// With all bits of `Probability` as precision the total does not fit one weight, so that at least two are
+    /// above 0. It keeps a start for each symbol up to the last of a weight above 0, and more than two hints
+    /// for each of these, at most four, in `alloc`.
     ///
-    /// It keeps a start for each symbol up to the last of a weight above 0, and more than two hints for each of
-    /// these, at most four, in `alloc`.
+    /// # Errors
+    ///
+    /// Looked for in this order:
+    ///
+    /// - `Empty`, for an empty list.
+    /// - `WrongTotal`, where the weights do not add up to two to the precision. The sum is exact, whatever the
+    ///   width of `Probability`.
+    /// - `Memory`, for want of memory.
+    ///
+    /// # Examples
     ///
     /// ```
     /// let table = WeightTable::<u8, 8>::new(rt.alloc(), &[255, 1])?;

@@ -1,4 +1,4 @@
-//! The calls of a backend of `u32`, by its bounds alone. Each answers whether it did what is expected.
+//! The calls of a backend of `u32`, by its bounds alone. Each returns whether it did what is expected.
 
 use constriction_base::backends::{
     BoundedReadWords, Pos, PosSeek, Queue, ReadWords, Seek, Stack, WriteWords,

@@ -7,7 +7,8 @@ use Rattle.std.proofs.lemmas.Nat.{pow-add, pow_pos}
 use Rattle.std.proofs.lemmas.List.{length-replicate, take-replicate, get_or-replicate}
 use Rattle.std.proofs.lemmas.List.Folds.{sum_by-replicate}
 use Rattle.constriction_base.specs.Tables.{Has, IsTable, table_of, table_from}
-use Rattle.constriction_base.specs.Entries.{weights_make_table, has_at, has_only}
+use Rattle.constriction_base.specs.laws.Weights.{weights_make_table, has_only}
+use Rattle.constriction_base.proofs.Entries.{has_at}
 
 -- 2 ^ bits symbols of weight 2 ^ shift each
 pub equal_table : ℕ → ℕ → List (ℕ × ℕ × ℕ)

@@ -36,7 +36,7 @@ where
     coder.into_compressed().ok()
 }
 
-/// Decodes a symbol for each place of `symbols`, the first first. It answers whether the words are
+/// Decodes a symbol for each place of `symbols`, the first first. It returns whether the words are
 /// a coder's, whose last is not zero.
 #[inline(never)]
 pub fn decode_all<
@@ -73,7 +73,7 @@ pub fn reload_all<Word: WordOf<State>, State: BitArray>(words: Vec<Word>) -> Opt
     }
 }
 
-/// Encodes symbols, and writes as many of the words as there is room for. It answers how many there are,
+/// Encodes symbols, and writes as many of the words as there is room for. It returns how many there are,
 /// 0 where there are none.
 pub fn encode_out<
     Word: WordOf<State>,
@@ -91,7 +91,7 @@ where
     }
 }
 
-/// Decodes a symbol for each place of `symbols` from a copy of the words. It answers false where they are
+/// Decodes a symbol for each place of `symbols` from a copy of the words. It returns false where they are
 /// not a coder's, or memory is missing.
 pub fn decode_in<
     Word: WordOf<State>,
@@ -109,7 +109,7 @@ where
     }
 }
 
-/// Puts a copy of the words into a coder and takes them out again. It answers how many there are, 0 where
+/// Puts a copy of the words into a coder and takes them out again. It returns how many there are, 0 where
 /// they are not a coder's, or memory is missing.
 pub fn reload_out<Word: WordOf<State>, State: BitArray>(
     alloc: Global,
@@ -127,7 +127,7 @@ pub fn reload_out<Word: WordOf<State>, State: BitArray>(
     }
 }
 
-/// Writes as many of the words as there is room for, and answers how many words there are.
+/// Writes as many of the words as there is room for, and returns how many words there are.
 pub fn copy_out<Word: BitArray>(words: &[Word], out: &mut [Word]) -> usize
     ensures count { result ≡ length words.now }
     ensures copied { out.new ≡ take (length out.old) words.now ++ drop (length words.now) out.old }

@@ -1,4 +1,3 @@
-pub mod Outcomes
 pub mod OwnNumbers
 pub mod Reading
 pub mod Symbols

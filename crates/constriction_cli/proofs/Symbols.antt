@@ -1,34 +1,32 @@
--- Symbols onto and off a state, one more at a time.
-use Rattle.std.proofs.Common.{◌≡◌, ℕ, ◌+◌, ◌<◌, ◌≤◌, inr, List, [], ◌∷◌, ◌++◌, length, get_or, drop, drop-cons, add-one, refl, ◌∙◌, ap, arith, zero, suc, inl}
-use Rattle.std.proofs.lemmas.List.{drop_all}
-use Rattle.constriction.specs.Tables.{Has}
-use Rattle.constriction.specs.Ans.{AnsState, IsValid, IsPush, IsNext, pop}
-use Rattle.constriction_cli.specs.Coding.{empty_state, step_of, PushesSymbols, PopsSymbols, IsUnknown, HasUnknown}
+-- Symbols onto a state, one more at a time.
+use Rattle.std.specs.List.{Any}
+use Rattle.std.proofs.Common.{◌≡◌, ℕ, ◌+◌, ◌<◌, ◌≤◌, inr, List, [], ◌∷◌, ◌++◌, length, get_or, drop, drop-cons, reverse, add-one, ◌∙◌, ap, sym, subst, refl, arith}
+use Rattle.std.proofs.lemmas.List.{drop_all, get_or_default, reverse-append}
+use Rattle.constriction.specs.Models.{Model, items_of}
+use Rattle.constriction.specs.Tables.{Impossible}
+use Rattle.constriction.specs.stack.Ans.{AnsState, IsValid, empty}
+use Rattle.constriction.specs.stack.Symbols.{Encodes, EncodesAll}
+use Rattle.constriction.proofs.InTurn.{InTurn-symbol}
 
 -- a coder that holds nothing is valid
-pub empty_valid : IsValid 32 64 empty_state
+pub empty_valid : IsValid 32 64 empty
 empty_valid = record { state = record { fits = omega arith; are_words = tt }; full = inr refl }
 
--- where no symbol is left, none was pushed
-pub pushed-none : (table : List (ℕ × ℕ × ℕ)) (symbols : List ℕ) (left : ℕ) (state : AnsState) → length symbols ≤ left → state ≡ empty_state → PushesSymbols table (drop left symbols) empty_state state
-pushed-none table symbols left state past is = rw (drop_all left symbols past) is
+-- where no symbol is left, none was encoded
+pub encoded-none : (model : Model ℕ) (symbols : List ℕ) (place : ℕ) (state : AnsState) → length symbols ≤ place → state ≡ empty → EncodesAll 32 64 (items_of model (reverse (drop place symbols))) empty state
+encoded-none model symbols place state past is = rw (drop_all place symbols past) is
 
--- the symbol before those that were pushed
-pub pushed-more : (table : List (ℕ × ℕ × ℕ)) (symbols : List ℕ) (place behind left p : ℕ) (old new : AnsState) → place < length symbols → behind ≡ place + 1 → PushesSymbols table (drop behind symbols) empty_state old → Has table (get_or symbols place 0) left p → IsPush 32 64 (step_of left p) old new → PushesSymbols table (drop place symbols) empty_state new
-pushed-more table symbols place behind left p old new inside next pushed has push =
-    let cut : drop place symbols ≡ get_or symbols place 0 ∷ drop (place + 1) symbols = rw (add-one, drop-cons symbols place 0) refl in
-    rw cut (old, left, p, rw next at pushed, has, push)
+-- the symbol before those that were encoded
+pub encoded-more : (model : Model ℕ) (symbols : List ℕ) (place behind : ℕ) (old new : AnsState) → place < length symbols → behind ≡ place + 1
+    → EncodesAll 32 64 (items_of model (reverse (drop behind symbols))) empty old → Encodes 32 64 model (get_or symbols place 0) old new
+    → EncodesAll 32 64 (items_of model (reverse (drop place symbols))) empty new
+encoded-more model symbols place behind old new inside next encoded one =
+    let symbol : ℕ = get_or symbols place 0 in
+    let cut : drop place symbols ≡ symbol ∷ drop behind symbols = rw (next, add-one, drop-cons symbols place 0) refl in
+    let turned : reverse (drop place symbols) ≡ reverse (drop behind symbols) ++ symbol ∷ [] = ap reverse cut ∙ reverse-append (symbol ∷ []) (drop behind symbols) in
+    subst (λ (xs : List ℕ). EncodesAll 32 64 (items_of model xs) empty new) (sym turned)
+    (InTurn-symbol (λ item. Encodes 32 64 item.model item.symbol) model (reverse (drop behind symbols)) symbol empty old new encoded one)
 
--- the symbol behind those that were popped
-pub popped-more : (table : List (ℕ × ℕ × ℕ)) (symbols : List ℕ) (symbol left p : ℕ) (old between new : AnsState) → PopsSymbols table symbols old between → Has table symbol left p → IsNext (step_of left p) between → new ≡ pop 32 64 (step_of left p) between → PopsSymbols table (symbols ++ symbol ∷ []) old new
-popped-more table [] symbol left p old between new same has holds is =
-    let start : between ≡ old = same in
-    (left, p, has, rw start at holds, is ∙ ap (pop 32 64 (step_of left p)) start)
-popped-more table (first ∷ symbols) symbol left p old between new popped has holds is =
-    (popped.0, popped.1, popped.2, popped.3, popped-more table symbols symbol left p (pop 32 64 (step_of popped.0 popped.1) old) between new popped.4 has holds is)
-
--- an unknown symbol at a place
-pub unknown_at : (table : List (ℕ × ℕ × ℕ)) (symbols : List ℕ) (place : ℕ) → place < length symbols → IsUnknown table (get_or symbols place 0) → HasUnknown table symbols
-unknown_at table [] place inside unknown = absurd (omega arith)
-unknown_at table (symbol ∷ symbols) zero inside unknown = inl unknown
-unknown_at table (symbol ∷ symbols) (suc place) inside unknown = inr (unknown_at table symbols place (omega arith) unknown)
+-- an impossible symbol at a place
+pub impossible_at : (table : List (ℕ × ℕ × ℕ)) (symbols : List ℕ) (place : ℕ) → place < length symbols → Impossible table (get_or symbols place 0) → Any (Impossible table) symbols
+impossible_at table symbols place inside none = (place, get_or symbols place 0, inside, get_or_default symbols place (get_or symbols place 0) 0 inside, none)

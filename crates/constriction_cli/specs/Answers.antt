@@ -1,9 +1,13 @@
 -- What each command answers a text, and when it gives which fault.
 use Rattle.std.specs.Prelude.{Option, None, ◌≡◌, ℕ, ◌-◌, ◌≤◌, ◌^◌, Some, List, [], ◌∷◌, length, sum, reverse, codes, ◌≢◌, ◌⊎◌, ◌<◌, ⊤, IfSome}
-use Rattle.constriction.specs.Tables.{table_of}
-use Rattle.constriction.specs.Ans.{AnsState, exported, filled, BeginsHigh}
+use Rattle.std.specs.List.{Any}
+use Rattle.constriction.specs.Tables.{Impossible, table_of}
+use Rattle.constriction.specs.Models.{items_of}
+use Rattle.constriction.specs.stack.Ans.{AnsState, empty, exported, filled}
+use Rattle.constriction.specs.stack.Symbols.{EncodesAll, DecodesAll}
+use Rattle.constriction.specs.Readings.{BeginsHigh}
 use Rattle.constriction_cli.specs.Lines.{first_line, second_line, numbers_of, line_of}
-use Rattle.constriction_cli.specs.Coding.{EndsWithZero, empty_state, PushesSymbols, PopsSymbols, HasUnknown}
+use Rattle.constriction_cli.specs.Coding.{of_24_bits, EndsWithZero}
 use Rattle.constriction_cli.specs.declared.commands.Command.{Command}
 use Rattle.constriction_cli.specs.declared.commands.Command.TheVariants.{AnsEncode, AnsDecode}
 use Rattle.constriction_cli.specs.declared.fault.Fault.{Fault}
@@ -43,11 +47,11 @@ pub record IsEncoded (text answer : List ℕ) : Type 0 where
   pub weights_line : WeightsAre text weights
   pub symbols_line : SymbolsAre text symbols
   pub total : Total weights
-  pub pushed : PushesSymbols (table_of weights) symbols empty_state state
+  pub encoded : EncodesAll 32 64 (items_of (of_24_bits (table_of weights)) (reverse symbols)) empty state
   pub words_of_state : reverse words ≡ exported 32 state
   pub printed : answer ≡ line_of words
 
--- the symbols that are popped from the state that the words make, as a line
+-- the symbols that are decoded from the state that the words make, as a line
 pub record IsDecoded (text answer : List ℕ) : Type 0 where
   pub weights : List ℕ
   pub count : ℕ
@@ -59,7 +63,7 @@ pub record IsDecoded (text answer : List ℕ) : Type 0 where
   pub few : count ≤ 16777216
   pub total : Total weights
   pub high : BeginsHigh (reverse words)
-  pub popped : PopsSymbols (table_of weights) symbols (filled 32 64 0 (reverse words)) state
+  pub decoded : DecodesAll 32 64 (items_of (of_24_bits (table_of weights)) symbols) (filled 32 64 0 (reverse words)) state
   pub counted : length symbols ≡ count
   pub printed : answer ≡ line_of symbols
 
@@ -67,9 +71,9 @@ pub record IsDecoded (text answer : List ℕ) : Type 0 where
 abbrev pub IsBad : Option (List ℕ) → Type 0
 IsBad numbers = numbers ≡ None
 
--- why symbols are not pushed: one of them is unknown
+-- why symbols are not encoded onto a coder: one of them is impossible
 abbrev pub PushFails : List (ℕ × ℕ × ℕ) → List ℕ → Fault → Type 0
-PushFails table symbols (Encoder error) = HasUnknown table symbols
+PushFails table symbols (Encoder error) = Any (Impossible table) symbols
 PushFails table symbols OutOfMemory = ⊤
 PushFails table symbols BadNumber = ⊥
 PushFails table symbols NoCount = ⊥
@@ -79,12 +83,12 @@ PushFails table symbols (ZeroWord error) = ⊥
 PushFails table symbols Unreadable = ⊥
 PushFails table symbols Unwritable = ⊥
 
--- why symbols are not encoded: a line is bad, or else the table is, or else a symbol is unknown
+-- why symbols are not encoded: a line is bad, or else the table is, or else a symbol is impossible
 abbrev pub EncodeFails : List ℕ → Fault → Type 0
 EncodeFails text BadNumber = IsBad (numbers_of (2 ^ 32 - 1) (first_line text)) ⊎ IsBad (numbers_of (2 ^ 64 - 1) (second_line text))
 EncodeFails text NoWeights = (symbols : List ℕ) × WeightsAre text [] × SymbolsAre text symbols
 EncodeFails text WrongTotal = (weights symbols : List ℕ) × WeightsAre text weights × SymbolsAre text symbols × (weights ≢ []) × (sum weights ≢ 2 ^ 24)
-EncodeFails text (Encoder error) = (weights symbols : List ℕ) × WeightsAre text weights × SymbolsAre text symbols × Total weights × HasUnknown (table_of weights) symbols
+EncodeFails text (Encoder error) = (weights symbols : List ℕ) × WeightsAre text weights × SymbolsAre text symbols × Total weights × Any (Impossible (table_of weights)) symbols
 EncodeFails text OutOfMemory = ⊤
 EncodeFails text NoCount = ⊥
 EncodeFails text (ZeroWord error) = ⊥

@@ -28,7 +28,9 @@ const USAGE: &[u8] =
 /// The arguments behind the program's name, of those that the system gave. There are none where one of them is
 /// not UTF-8, so that they name no command.
 ///
-/// Errors: `OutOfMemory`.
+/// # Errors
+///
+/// `OutOfMemory`.
 fn arguments(alloc: Global, given: io::Result<Args>) -> Result<Vec<String>, Fault>
     ensures not_text { IfErr given (λ error. error_kind error ≢ kind.OutOfMemory → IsOk result) }
     ensures none { IfErr given (λ _. IfOk result (λ args. args.items ≡ [])) }

@@ -9,7 +9,8 @@ use Rattle.constriction_base.specs.declared.errors.BoundedWriteError.{BoundedWri
 use Rattle.constriction_base.specs.declared.errors.BoundedWriteError.TheVariants.{OutOfSpace}
 use Rattle.constriction_base.specs.declared.errors.DefaultEncoderFrontendError.{DefaultEncoderFrontendError}
 use Rattle.constriction_base.specs.declared.errors.DefaultEncoderFrontendError.TheVariants.{ImpossibleSymbol}
-use Rattle.constriction_stream.specs.Symbols.{EncodesSymbol, HasRoom, ByBackend, IsBackendError, Impossible}
+use Rattle.constriction_stream.specs.Symbols.{EncodesSymbol, HasRoom, ByBackend, IsBackendError}
+use Rattle.constriction_base.specs.Tables.{Impossible}
 use Rattle.constriction_stream.proofs.Outcomes.{room_of}
 
 pub on_false : (b : Bool) {P : Type 0} → OnFalse b P → b ≡ false → P

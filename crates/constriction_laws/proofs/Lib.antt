@@ -1,10 +1,4 @@
 pub mod Undoing
-pub mod Choosing
-pub mod Exports
-pub mod ComingBack
-pub mod Seeking
-pub mod SameModel
-pub mod Readings
-pub mod ListCalls
-pub mod PairCalls
 pub mod HavingRoom
+pub mod ListsGiven
+pub mod stack_coder

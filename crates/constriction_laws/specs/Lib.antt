@@ -1,4 +1,2 @@
-pub mod Lists
 pub mod Readings
-pub mod Symbols
-pub mod Undone
+pub mod stack

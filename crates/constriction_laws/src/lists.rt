@@ -2,7 +2,7 @@
 
 ghost use Rattle.std.specs.Prelude.{List, reverse};
 ghost use Rattle.std.specs.List.{AllByRecursion};
-ghost use Rattle.constriction_laws.specs.Lists.{StepsLead};
+ghost use Rattle.constriction_base.specs.Steps.{InTurn};
 
 /// Steps of a coder, and the steps that undo them.
 ///
@@ -41,8 +41,8 @@ pub trait StepsUndo {
 pub fn lists_undo<C: StepsUndo>()
     ensures undone { (g : C.setting) (steps : List C.step) (old new : C.state) →
         AllByRecursion (C.allowed g) steps → C.valid g old →
-        StepsLead (C.does g) steps old new → StepsLead (C.undoes g) (reverse steps) new old }
+        InTurn (C.does g) steps old new → InTurn (C.undoes g) (reverse steps) new old }
     ensures valid { (g : C.setting) (steps : List C.step) (old new : C.state) →
         AllByRecursion (C.allowed g) steps → C.valid g old →
-        StepsLead (C.does g) steps old new → C.valid g new }
+        InTurn (C.does g) steps old new → C.valid g new }
 {}

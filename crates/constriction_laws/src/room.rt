@@ -19,7 +19,7 @@ where
     C: Encode<PRECISION>,
     M: EncoderModel<PRECISION>,
     M::Probability: WordOf<C::Word>,
-    requires left { C.counts_symbols → 0 < C.symbols_left coder.old }
+    requires some_left { C.counts_symbols → 0 < C.symbols_left coder.old }
     requires tells { C.tells_room coder.old }
     ensures step { IfSome result (λ answer. EncodesSymbol C.encodes C.is_impossible_symbol PRECISION
         (M.table model.now) symbol.now coder.old answer coder.new) }

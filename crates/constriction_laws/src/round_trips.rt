@@ -1,9 +1,9 @@
 //! Lists of symbols from any decoder, by its own iterators, as vectors.
 
-ghost use Rattle.std.specs.Prelude.{◌≡◌, length, IfSome};
+ghost use Rattle.std.specs.Prelude.{◌≡◌, length, Ok, IfSome};
 ghost use Rattle.std.specs.List.{zip};
-ghost use Rattle.constriction_stream.specs.Lists.{StepsAll};
-ghost use Rattle.constriction_laws.specs.Lists.{GivesPair, GivesSymbol};
+ghost use Rattle.constriction_base.specs.Steps.{InTurn};
+ghost use Rattle.constriction_stream.specs.Symbols.{DecodesSymbol, DecodesByModel};
 
 use constriction_base::model::{DecoderModel, EntropyModel};
 use constriction_stream::decoding::Decode;
@@ -27,8 +27,9 @@ where
     M: DecoderModel<PRECISION>,
     M::Probability: WordOf<C::Word>,
     ensures count { IfSome result (λ symbols. length symbols.items ≡ amt) }
-    ensures steps { IfSome result (λ symbols. StepsAll (GivesSymbol C.decodes PRECISION (M.table model.now))
-        decoder.old symbols.items decoder.new) }
+    ensures steps { IfSome result (λ symbols. InTurn
+        (λ symbol old new. DecodesSymbol C.decodes C.halts PRECISION (M.table model.now) old (Ok symbol) new)
+        symbols.items decoder.old decoder.new) }
 {
     let mut symbols = Vec::new(alloc);
     'decode: for answer in decoder.decode_iid_symbols(amt, model) {
@@ -58,8 +59,9 @@ where
     M: DecoderModel<PRECISION>,
     M::Probability: WordOf<C::Word>,
     ensures count { IfSome result (λ symbols. length symbols.items ≡ length models.now) }
-    ensures steps { IfSome result (λ symbols. StepsAll (GivesPair C.decodes PRECISION M.table)
-        decoder.old (zip symbols.items models.now) decoder.new) }
+    ensures steps { IfSome result (λ symbols. InTurn
+        (λ pair old new. DecodesByModel C.decodes C.halts PRECISION M.table old pair.1 (Ok pair.0) new)
+        (zip symbols.items models.now) decoder.old decoder.new) }
 {
     let mut symbols = Vec::new(alloc);
     'decode: for answer in decoder.decode_symbols(models) {

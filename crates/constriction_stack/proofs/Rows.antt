@@ -1,7 +1,7 @@
 -- The definitions compute: worked values.
-use Rattle.std.proofs.Common.{◌≡◌, ℕ, List, [], ◌∷◌, refl, inl, inr, lit<, lit≤}
-use Rattle.constriction_base.specs.Steps.{Step}
-use Rattle.constriction_stack.specs.Ans.{AnsState, IsPush, exported, filled, pop, pop_all, words_after}
+use Rattle.std.proofs.Common.{◌≡◌, ℕ, ◌%◌, ◌^◌, ◌<◌, ◌≤◌, List, [], ◌∷◌, refl, inl, inr, lit<, lit≤}
+use Rattle.constriction_base.specs.Steps.{Step, InTurn}
+use Rattle.constriction_stack.specs.Ans.{AnsState, IsNext, IsPop, IsPush, exported, filled, pop, words_after}
 
 -- an interval of a table of 8 bits
 abbrev part : ℕ → ℕ → Step
@@ -20,8 +20,19 @@ second_comes_off = refl
 first_comes_off : pop 8 16 (part 255 1) (state 255 []) ≡ state 0 []
 first_comes_off = refl
 
-all_come_off : pop_all 8 16 (part 255 1 ∷ part 255 1 ∷ part 255 1 ∷ []) (state 65535 (255 ∷ [])) ≡ state 0 []
-all_come_off = refl
+abbrev is_next : (head : ℕ) (words : List ℕ) → 255 ≤ head % 2 ^ 8 → head % 2 ^ 8 < 256 → IsNext (part 255 1) (state head words)
+is_next head words from below = record { from = from; below = below }
+
+all_come_off : InTurn (IsPop 8 16) (part 255 1 ∷ part 255 1 ∷ part 255 1 ∷ []) (state 65535 (255 ∷ [])) (state 0 [])
+all_come_off = (
+  state 65535 [],
+  (is_next 65535 (255 ∷ []) (lit≤ tt) (lit< tt), refl),
+  (
+    state 255 [],
+    (is_next 65535 [] (lit≤ tt) (lit< tt), refl),
+    (state 0 [], (is_next 255 [] (lit≤ tt) (lit< tt), refl), refl),
+  ),
+)
 
 -- so each of these states is the push onto the one before: the heads 255, 65535, and 65535 over a word
 abbrev first_goes_on : IsPush 8 16 (part 255 1) (state 0 []) (state 255 [])

@@ -1,14 +1,14 @@
 -- Sizes of states: what is exported, and what a count of bits says.
-use Rattle.std.proofs.Common.{◌≡◌, ℕ, zero, suc, ◌+◌, ◌*◌, ◌/◌, ◌%◌, ◌^◌, ◌<◌, ◌≤◌, ◌↔◌, [], ◌∷◌, length, refl, sym, ap, ◌∙◌, arith, lit≤, pow_pos, pow-add, le-div_iff_mul-le, mul-le-mul_right}
+use Rattle.std.proofs.Common.{◌≡◌, ℕ, zero, suc, ◌+◌, ◌*◌, ◌/◌, ◌^◌, ◌<◌, ◌≤◌, ◌↔◌, length, refl, sym, ap, ◌∙◌, arith, lit≤, pow_pos, pow-add, le-div_iff_mul-le, mul-le-mul_right}
 use Rattle.std.proofs.lemmas.List.{length-append}
 use Rattle.std.proofs.lemmas.Int.Digits.{length-digits_of_step, length-digits_of-le, all_below_base_digits_of, number_digits_of, number_lt}
-use Rattle.std.specs.Int.Digits.{digits_of, number_from_digits}
+use Rattle.std.specs.Int.Digits.{digits_of}
 use native.Mathlib.Nat.{pow-suc, pow-zero}
 use Rattle.constriction_base.proofs.Guards.{fixed-length}
 use Rattle.constriction_stack.specs.Ans.{AnsState, exported}
 use Rattle.constriction_base.specs.Digits.{fixed_digits}
 use Rattle.constriction_stack.specs.Binary.{IsBinary, binary_words}
-use Rattle.constriction_stack.specs.Sizes.{word_count, bit_count, valid_bit_count, SizesFit}
+use Rattle.constriction_stack.specs.Sizes.{word_count, bit_count, valid_bit_count}
 use Rattle.constriction_stack.proofs.BinaryForms.{power_more}
 use Rattle.constriction_base.proofs.Exporting.{base_two}
 

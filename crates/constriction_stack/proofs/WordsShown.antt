@@ -1,13 +1,12 @@
 -- The words of a coder as it shows them, the first one first; and what reads keep of a backend.
-use Rattle.std.specs.Prelude.{◌⊎◌, Option, None, Some, Result, Ok, map, reverse}
+use Rattle.std.specs.Prelude.{Option, None, Result, Ok, map, reverse}
 use Rattle.std.proofs.Common.{◌≡◌, ℕ, ◌/◌, ◌%◌, ◌^◌, ◌<◌, ◌≤◌, List, [], ◌∷◌, ◌++◌, length, refl, sym, ap, ◌∙◌, arith, inl, inr}
 use Rattle.std.proofs.lemmas.List.{map-append, reverse-append, reverse-reverse}
 use Rattle.std.proofs.lemmas.Int.Digits.{digits_of_step}
 use Rattle.std.specs.Int.Digits.{digits_of}
-use Rattle.constriction_stack.specs.Ans.{AnsState, exported}
+use Rattle.constriction_stack.specs.Ans.{exported}
 use Rattle.constriction_stack.specs.Binary.{BinaryFilledBy}
-use Rattle.constriction_stack.specs.Steps.{FilledBy}
-use Rattle.constriction_base.specs.Readings.{Gives}
+use Rattle.constriction_stack.specs.Imports.{FilledBy}
 use Rattle.constriction_base.proofs.Exporting.{base_two, gives_keeps}
 
 -- ---- words in the order in which they were written

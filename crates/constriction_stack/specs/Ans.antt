@@ -1,8 +1,8 @@
 -- The stack coder: asymmetric numeral systems, found by Jarek Duda, in the range variant that streams
 -- words, as in the Rust crate's `AnsCoder`. All definitions speak of numbers and lists; w and s are the
 -- numbers of bits of a word and of a head.
-use Rattle.std.specs.Prelude.{◌≡◌, ℕ, ◌+◌, ◌-◌, ◌*◌, ◌/◌, ◌%◌, ◌<◌, ◌≤◌, ◌^◌, ◌⊎◌, List, [], ◌∷◌, ◌++◌, Option, Some, None, Result, Ok, map, nat_lt, if◌then◌else◌, length, ⊤}
-use Rattle.std.specs.Int.Digits.{digits_of, number_from_digits}
+use Rattle.std.specs.Prelude.{◌≡◌, ℕ, ◌+◌, ◌-◌, ◌*◌, ◌/◌, ◌%◌, ◌<◌, ◌≤◌, ◌^◌, ◌⊎◌, List, [], ◌∷◌, ◌++◌, Option, Some, None, Result, Ok, Err, OnOk, OnErr, IfErr, map, nat_lt, if◌then◌else◌, length}
+use Rattle.std.specs.Int.Digits.{digits_of}
 use Rattle.constriction_base.specs.Steps.{Step, IsSizes, AreWords}
 
 -- what the coder holds: a number, the head, and a stack of words below it, the top one first
@@ -47,29 +47,16 @@ popped_head e x = x.head / 2 ^ e.precision * e.p + (x.head % 2 ^ e.precision - e
 abbrev pub pop : ℕ → ℕ → Step → AnsState → AnsState
 pop w s e x = refilled w s (popped_head e x) x.words
 
+-- it can be taken off, and this is left
+abbrev pub IsPop : ℕ → ℕ → Step → AnsState → AnsState → Type 0
+IsPop w s e old new = IsNext e old × (new ≡ pop w s e old)
+
 -- a step is put on: the new state is the valid one whose pop gives that step and the old state. So a
 -- push is no list of instructions, but what a pop undoes; `one_push` of the laws says that there is one
 pub record IsPush (w s : ℕ) (e : Step) (old new : AnsState) : Type 0 where
   pub valid : IsValid w s new
   pub holds : IsNext e new
   pub back : pop w s e new ≡ old
-
--- ---- lists of steps
-
--- the steps are taken off, from the first to the last
-abbrev pub pop_all : ℕ → ℕ → List Step → AnsState → AnsState
-pop_all w s [] x = x
-pop_all w s (e ∷ es) x = pop_all w s es (pop w s e x)
-
--- the quantiles on the way lie in the intervals of the steps
-abbrev pub AreNext : ℕ → ℕ → List Step → AnsState → Type 0
-AreNext w s [] x = ⊤
-AreNext w s (e ∷ es) x = IsNext e x × AreNext w s es (pop w s e x)
-
--- the steps are put on, from the last to the first
-abbrev pub IsPushAll : ℕ → ℕ → List Step → AnsState → AnsState → Type 0
-IsPushAll w s [] old new = new ≡ old
-IsPushAll w s (e ∷ es) old new = (between : AnsState) × IsPushAll w s es old between × IsPush w s e between new
 
 -- ---- words of a state
 
@@ -132,3 +119,42 @@ RefillsBy {W} {E} {B} number reads w s head old new_head new =
     ((2 ^ (s - w) ≤ head) × (new_head ≡ head) × (new ≡ old))
     ⊎ ((head < 2 ^ (s - w)) × (new_head ≡ head) × reads old (Ok None) new)
     ⊎ ((head < 2 ^ (s - w)) × ((word : W) × (new_head ≡ head * 2 ^ w + number word) × reads old (Ok (Some word)) new))
+
+-- ---- calls of a coder: what they may answer and leave, over a backend of which only its rules are known: what it
+-- holds, what a read may answer, which errors a write and a `prepare` may answer, and how many writes are sure to succeed
+
+-- an encode of a step
+pub record EncodeCall {W B E : Type 0} (number : W → ℕ) (held : B → List W) (w s : ℕ) (room : B → ℕ) (makes_room : Type 0) (prepare_fails : B → ℕ → E → Type 0) (write_fails : B → E → Type 0) (old : AnsValue B) (step : Step) (answer : Result (Unit {0}) E) (new : AnsValue B) : Type 0 where
+  -- before and after it is a coder, whatever the answer
+  pub before : IsCoder number held w s old
+  pub after : IsCoder number held w s new
+  -- onto a valid state it is the push
+  pub pushed : OnOk answer (IsValid w s old.state → IsPush w s step old.state new.state)
+  -- one word more at most
+  pub words : OnOk answer (new.state.words ≡ words_after w s step old.state)
+  -- no more room is used than words are written
+  pub room_used : OnOk answer (room old.backend + length old.state.words ≤ room new.backend + length new.state.words)
+  -- where no word is owed, the backend isn't touched
+  pub owes : (OwesWord s step old.state → ⊥) → new.backend ≡ old.backend
+  -- an error leaves the head and the words
+  pub kept : OnErr answer (new.state ≡ old.state)
+  -- and comes only where one word is owed: the backend had no room for one; or, where asking for room makes
+  -- none, the write was refused
+  pub error : IfErr answer (λ e. OwesWord s step old.state × (prepare_fails old.backend 1 e ⊎ ((makes_room → ⊥) × write_fails old.backend e)))
+
+-- a decode at a step, of a coder over a backend that knows its words (is_list) or whose reads tell them
+pub record DecodeCall {W B E : Type 0} (number : W → ℕ) (held : B → List W) (is_list : Type 0) (reads : B → Result (Option W) E → B → Type 0) (w s : ℕ) (old : AnsValue B) (step : Step) (answer : Result (Unit {0}) E) (new : AnsValue B) : Type 0 where
+  -- before and after it is a coder, whatever the answer
+  pub before : IsCoder number held w s old
+  pub after : IsCoder number held w s new
+  -- the head's quantile is one of the step's
+  pub holds : IsNext step old.state
+  -- of every state, valid or not, it is the pop
+  pub popped : OnOk answer (is_list → new.state ≡ pop w s step old.state)
+  -- and by the reads: one at most, and none where none is owed
+  pub refilled : OnOk answer (RefillsBy number reads w s (popped_head step old.state) old.backend new.state.head new.backend)
+  -- an error leaves the head, and the words
+  pub head : OnErr answer (new.state.head ≡ old.state.head)
+  pub kept : OnErr answer (is_list → new.state ≡ old.state)
+  -- and is that of the one read that is owed
+  pub error : IfErr answer (λ e. OwesRead w s step old.state × reads old.backend (Err e) new.backend)

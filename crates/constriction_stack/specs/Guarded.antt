@@ -13,3 +13,7 @@ lender g = g.inner
 abbrev pub written : {Word State Backend : Type 0} {sealed : ℕ} {WordNonZero StateNonZero WriteError ReadError : Type 0}
     → CoderGuard Word State Backend sealed WordNonZero StateNonZero WriteError ReadError → ℕ
 written g = g.count
+
+-- what a drop of a guard leaves behind its reference: the first of the fields that it gives back
+abbrev pub lent_back : {A B : Type 0} → A × B → A
+lent_back exit = exit.0

@@ -1,5 +1,5 @@
 -- Words that a guard shows on a coder's backend, and takes off again.
-use Rattle.std.specs.Prelude.{◌≡◌, ◌⊎◌, ℕ, List, Option, Result, Err, drop}
+use Rattle.std.specs.Prelude.{◌≡◌, ◌⊎◌, ℕ, drop}
 use Rattle.constriction_stack.specs.Ans.{AnsState}
 
 -- the state with so many words taken off the top, below the same head

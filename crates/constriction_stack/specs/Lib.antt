@@ -2,6 +2,7 @@ pub mod Ans
 pub mod Binary
 pub mod Guarded
 pub mod Guards
+pub mod Imports
 pub mod Positions
 pub mod Sizes
-pub mod Steps
+pub mod Symbols

@@ -20,8 +20,8 @@ use constriction_words::{BitArray, WordOf};
 use std::alloc::{AllocError, Allocator, Global};
 use std::marker::{Model, PhantomData};
 
-/// A stack of symbols over words of the type `Word`, with a head of the type `State`, which has a
-/// whole number of words, two at least. The words below the head are in the backend, the top one
+/// A stack of symbols over words of the type `Word`, with a head (the state `x` of rANS) of the type
+/// `State`, which has a whole number of words, two at least. The words below the head are in the backend, the top one
 /// last.
 ///
 /// Contracts see an `AnsValue`: the state (the head and the words below it), and the backend.
@@ -67,7 +67,8 @@ impl<Word: WordOf<State>, State: BitArray> AnsCoder<Word, State, Vec<Word>> {
 impl<Word: WordOf<State>, State: BitArray, A: Allocator> AnsCoder<Word, State, Vec<Word, A>> {
     /// Takes everything off: the coder is as a new one, but keeps its memory.
     pub fn clear(&mut self)
-        ensures { self.new.state ≡ empty }
+        ensures state { self.new.state ≡ empty }
+        ensures coder { IsCoder Word.number (⟦<Vec<Word, A> as Holds<Word, Stack>>⟧.words) Word.BITS State.BITS self.new }
     {
         self.bulk.clear();
         self.state = State::nothing();

@@ -2,8 +2,7 @@
 
 ghost use Rattle.std.specs.Prelude.{◌≡◌, ◌+◌, ◌-◌, ◌*◌, ◌/◌, ◌%◌, ◌^◌, ◌<◌, ◌≤◌, map, MatchResult, Ok, Err};
 ghost use Rattle.constriction_base.specs.Steps.{Step, IsStep, IsSizes};
-ghost use Rattle.constriction_stack.specs.Ans.{AnsState, AnsValue, RefillsBy, refilled, value_of};
-ghost use Rattle.constriction_stack.specs.Steps.{EncodeCall};
+ghost use Rattle.constriction_stack.specs.Ans.{AnsState, AnsValue, RefillsBy, refilled, value_of, EncodeCall};
 
 use constriction_base::backends::{Holds, ReadWords, Stack, WriteWords};
 use constriction_words::{BitArray, WordOf};

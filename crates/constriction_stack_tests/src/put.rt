@@ -1,4 +1,4 @@
-//! Steps and lists that put symbols on a coder, and what they answer.
+//! Steps and lists that put symbols on a coder, and what they return.
 
 ghost use Rattle.constriction_stream.specs.Lists.{GivesAtMost};
 
@@ -13,7 +13,7 @@ use constriction_stream::errors::TryCodingError;
 use constriction_words::{BitArray, WordOf};
 use std::alloc::{AllocError, Global};
 
-/// What a call that puts symbols on answers.
+/// What a call that puts symbols on returns.
 #[derive(Drop)]
 pub enum Put<E> {
     Done,

@@ -48,7 +48,7 @@ fn a_full_cursor_keeps_the_head(rt: HostRuntime) -> Result<(), Fail> {
     Ok(())
 }
 
-/// A decode whose read answers the error 3.
+/// A decode whose read returns the error 3.
 fn read_is_refused<Backend: ReadWords<u8, Stack, ReadError = u8>>(
     coder: &mut AnsCoder<u8, u16, Backend>,
     table: &WeightTable<u8, 8>,
@@ -98,7 +98,7 @@ fn an_export_finds_memory(rt: HostRuntime) {
     assert!(rt; exports_two_words(rt.alloc()) || exports_two_words(rt.alloc()));
 }
 
-/// The words of an export have room, or it answers an error after those that had.
+/// The words of an export have room, or it returns an error after those that had.
 #[test]
 fn a_refused_export(rt: HostRuntime) {
     let mut one = [0u8; 1];

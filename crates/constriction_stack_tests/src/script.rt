@@ -64,7 +64,7 @@ pub enum Act<'a, Word, State> {
     NoBinary,
 }
 
-/// Whether a guard shows these words; where it finds no room, what the backend answered.
+/// Whether a guard shows these words; where it finds no room, what the backend returned.
 fn shown<Word, State, Backend>(
     coder: &mut AnsCoder<Word, State, Backend>,
     words: &[Word],
@@ -155,7 +155,7 @@ where
     }
 }
 
-/// Whether a coder does as expected, act by act. Where its backend finds no room it answers `lack`.
+/// Whether a coder does as expected, act by act. Where its backend finds no room it returns `lack`.
 pub fn follows<Word, State, Backend, Probability, const PRECISION: usize>(
     alloc: Global,
     coder: &mut AnsCoder<Word, State, Backend>,

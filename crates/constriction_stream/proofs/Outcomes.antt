@@ -1,15 +1,15 @@
--- What the clause `step` of `encode_symbol`, and that of `decode_symbol`, says of each answer, for any coder.
+-- What the clause `step` of `encode_symbol` and of `decode_symbol` says of each answer, for any coder.
 use Rattle.std.specs.Prelude.{◌≡◌, ℕ, List, ◌↔◌, Bool, false, Result, Ok, Err}
 use Rattle.std.specs.Bool.{OnFalse}
 use Rattle.std.proofs.Common.{inl, inr}
 use Rattle.std.proofs.lemmas.Bool.{OnFalse_from}
 use Rattle.constriction_base.specs.Steps.{Step}
-use Rattle.constriction_base.specs.Tables.{Has}
+use Rattle.constriction_base.specs.Tables.{AtEntry, Impossible}
 use Rattle.constriction_base.specs.declared.errors.CoderError.{CoderError}
 use Rattle.constriction_base.specs.declared.errors.CoderError.TheVariants.{Frontend, Backend}
 use Rattle.constriction_base.specs.declared.errors.DefaultEncoderFrontendError.{DefaultEncoderFrontendError}
 use Rattle.constriction_base.specs.declared.errors.DefaultEncoderFrontendError.TheVariants.{ImpossibleSymbol}
-use Rattle.constriction_stream.specs.Symbols.{EncodesSymbol, DecodesSymbol, HasRoom, AtEntry, Impossible, IsBackendError, ByBackend, as_backend}
+use Rattle.constriction_stream.specs.Symbols.{EncodesSymbol, DecodesSymbol, HasRoom, IsBackendError, ByBackend}
 
 -- ---- any encoder
 
@@ -66,19 +66,19 @@ room_of {F = F} {B = B} encodes is_impossible is_lack_of_room precision table sy
 -- ---- an encoder that itself refuses an impossible symbol alone
 
 -- the clause `step` there
-abbrev pub Encodes : {C S B : Type 0} → (C → Step → Result (Unit {0}) B → C → Type 0) → ℕ → List (S × ℕ × ℕ) → S → C
+abbrev pub EncodesByBackend : {C S B : Type 0} → (C → Step → Result (Unit {0}) B → C → Type 0) → ℕ → List (S × ℕ × ℕ) → S → C
     → Result (Unit {0}) (CoderError DefaultEncoderFrontendError B) → C → Type 0
-Encodes steps precision table symbol old answer new = EncodesSymbol (ByBackend steps) (λ error. error ≡ ImpossibleSymbol) precision table symbol old answer new
+EncodesByBackend steps precision table symbol old answer new = EncodesSymbol (ByBackend steps) (λ error. error ≡ ImpossibleSymbol) precision table symbol old answer new
 
 pub ok_by : {C S B : Type 0} (steps : C → Step → Result (Unit {0}) B → C → Type 0) (precision : ℕ) (table : List (S × ℕ × ℕ)) (symbol : S) (old new : C)
-    → Encodes steps precision table symbol old (Ok tt) new
+    → EncodesByBackend steps precision table symbol old (Ok tt) new
     → AtEntry precision table symbol (λ step. steps old step (Ok tt) new)
 ok_by steps precision table symbol old new (inl (left, p, has, (Ok u, step, is))) = (left, p, has, step)
 ok_by steps precision table symbol old new (inl (left, p, has, (Err e, step, is))) = absurd cc
 ok_by steps precision table symbol old new (inr (never, e, impossible, is, same)) = absurd cc
 
 pub refused_by : {C S B : Type 0} (steps : C → Step → Result (Unit {0}) B → C → Type 0) (precision : ℕ) (table : List (S × ℕ × ℕ)) (symbol : S) (old new : C) (refusal : B)
-    → Encodes steps precision table symbol old (Err (Backend refusal)) new
+    → EncodesByBackend steps precision table symbol old (Err (Backend refusal)) new
     → AtEntry precision table symbol (λ step. steps old step (Err refusal) new)
 refused_by steps precision table symbol old new refusal (inl (left, p, has, (Ok u, step, is))) = absurd cc
 refused_by steps precision table symbol old new refusal (inl (left, p, has, (Err e, step, is))) =
@@ -86,14 +86,21 @@ refused_by steps precision table symbol old new refusal (inl (left, p, has, (Err
 refused_by steps precision table symbol old new refusal (inr (never, e, impossible, is, same)) = absurd cc
 
 pub impossible_by : {C S B : Type 0} (steps : C → Step → Result (Unit {0}) B → C → Type 0) (precision : ℕ) (table : List (S × ℕ × ℕ)) (symbol : S) (old new : C) (answer : Result (Unit {0}) (CoderError DefaultEncoderFrontendError B))
-    → Encodes steps precision table symbol old answer new
+    → EncodesByBackend steps precision table symbol old answer new
     → (answer ≡ Err (Frontend ImpossibleSymbol)) ↔ Impossible table symbol
 impossible_by steps precision table symbol old new answer (inl (left, p, has, (Ok u, step, is))) = (λ a. absurd cc, λ none. absurd (none left p has))
 impossible_by steps precision table symbol old new answer (inl (left, p, has, (Err e, step, is))) = (λ a. absurd cc, λ none. absurd (none left p has))
 impossible_by steps precision table symbol old new answer (inr (never, e, impossible, is, same)) = (λ a. never, λ none. cc)
 
+-- the coder itself refuses nothing else
+pub frontend_by : {C S B : Type 0} (steps : C → Step → Result (Unit {0}) B → C → Type 0) (precision : ℕ) (table : List (S × ℕ × ℕ)) (symbol : S) (old new : C) (refusal : DefaultEncoderFrontendError)
+    → EncodesByBackend steps precision table symbol old (Err (Frontend refusal)) new → Impossible table symbol × (new ≡ old)
+frontend_by steps precision table symbol old new refusal (inl (left, p, has, (Ok u, step, is))) = absurd cc
+frontend_by steps precision table symbol old new refusal (inl (left, p, has, (Err e, step, is))) = absurd cc
+frontend_by steps precision table symbol old new refusal (inr (never, e, impossible, is, same)) = (never, same)
+
 pub untouched_by : {C S B : Type 0} (steps : C → Step → Result (Unit {0}) B → C → Type 0) (precision : ℕ) (table : List (S × ℕ × ℕ)) (symbol : S) (old new : C)
-    → Encodes steps precision table symbol old (Err (Frontend ImpossibleSymbol)) new → new ≡ old
+    → EncodesByBackend steps precision table symbol old (Err (Frontend ImpossibleSymbol)) new → new ≡ old
 untouched_by steps precision table symbol old new (inl (left, p, has, (Ok u, step, is))) = absurd cc
 untouched_by steps precision table symbol old new (inl (left, p, has, (Err e, step, is))) = absurd cc
 untouched_by steps precision table symbol old new (inr (never, e, impossible, is, same)) = same
@@ -120,13 +127,13 @@ room_unless {B = B} F full tells steps is_lack_of_room coder never =
 -- ---- a decoder whose steps answer what its backend does
 
 -- its clause
-abbrev pub Decodes : {C S F B : Type 0} → (C → Step → Result (Unit {0}) B → C → Type 0) → (C → CoderError F B → C → Type 0) → ℕ → List (S × ℕ × ℕ) → C
+abbrev pub DecodesByBackend : {C S F B : Type 0} → (C → Step → Result (Unit {0}) B → C → Type 0) → (C → CoderError F B → C → Type 0) → ℕ → List (S × ℕ × ℕ) → C
     → Result S (CoderError F B) → C → Type 0
-Decodes steps halts precision table old answer new = DecodesSymbol (ByBackend steps) halts precision table old answer new
+DecodesByBackend steps halts precision table old answer new = DecodesSymbol (ByBackend steps) halts precision table old answer new
 
 -- a success is the step of the symbol's entry
 pub decoded_by : {C S F B : Type 0} (steps : C → Step → Result (Unit {0}) B → C → Type 0) (halts : C → CoderError F B → C → Type 0) (precision : ℕ) (table : List (S × ℕ × ℕ)) (symbol : S) (old new : C)
-    → Decodes steps halts precision table old (Ok symbol) new
+    → DecodesByBackend steps halts precision table old (Ok symbol) new
     → AtEntry precision table symbol (λ step. steps old step (Ok tt) new)
 decoded_by steps halts precision table symbol old new (left, p, has, (Ok u, step, is)) = (left, p, has, step)
 decoded_by steps halts precision table symbol old new (left, p, has, (Err e, step, is)) = absurd cc
@@ -134,9 +141,9 @@ decoded_by steps halts precision table symbol old new (left, p, has, (Err e, ste
 -- an error is that of an entry's step, or the coder halts by it
 pub undecoded_by : {C S F B : Type 0} (steps : C → Step → Result (Unit {0}) B → C → Type 0) (halts : C → CoderError F B → C → Type 0) (precision : ℕ) (table : List (S × ℕ × ℕ)) (old new : C) (refusal : B)
     → (halts old (Backend refusal) new → ⊥)
-    → Decodes steps halts precision table old (Err (Backend refusal)) new
-    → (symbol : S) × (left p : ℕ) × Has table symbol left p × steps old (record { precision = precision; left = left; p = p }) (Err refusal) new
+    → DecodesByBackend steps halts precision table old (Err (Backend refusal)) new
+    → (symbol : S) × AtEntry precision table symbol (λ step. steps old step (Err refusal) new)
 undecoded_by steps halts precision table old new refusal never (inl halted) = absurd (never halted)
-undecoded_by steps halts precision table old new refusal never (inr (symbol, left, p, has, (Ok u, step, is))) = absurd cc
-undecoded_by steps halts precision table old new refusal never (inr (symbol, left, p, has, (Err e, step, is))) =
-    let same : e ≡ refusal = cc in (symbol, left, p, has, rw same at step)
+undecoded_by steps halts precision table old new refusal never (inr (symbol, (left, p, has, (Ok u, step, is)))) = absurd cc
+undecoded_by steps halts precision table old new refusal never (inr (symbol, (left, p, has, (Err e, step, is)))) =
+    let same : e ≡ refusal = cc in (symbol, (left, p, has, rw same at step))

@@ -1,13 +1,13 @@
 -- What list calls and iterators do: a step at each item, in order.
-use Rattle.std.specs.Prelude.{◌≡◌, ℕ, ◌+◌, ◌≤◌, List, [], ◌∷◌, Option, None, Some, Result, Ok, Err, MatchOption, MatchResult}
+use Rattle.std.specs.Prelude.{◌≡◌, ℕ, ◌+◌, ◌≤◌, List, Option, None, Some, Result, Ok, Err, MatchOption, MatchResult}
 use Rattle.std.specs.Iterator.{Count, IsFinite, size, Drains, YieldsThen}
+use Rattle.constriction_base.specs.Steps.{InTurn}
 use Rattle.constriction_stream.specs.declared.errors.TryCodingError.{TryCodingError}
 use Rattle.constriction_stream.specs.declared.errors.TryCodingError.TheVariants.{InvalidEntropyModel, CodingError}
 
 -- steps at the items in order, none of which is refused, lead from old to new
 abbrev pub StepsAll : {C A E : Type 0} → (C → A → Result (Unit {0}) E → C → Type 0) → C → List A → C → Type 0
-StepsAll step old [] new = old ≡ new
-StepsAll {C = C} step old (x ∷ xs) new = (mid : C) × step old x (Ok tt) mid × StepsAll step mid xs new
+StepsAll step old items new = InTurn (λ item before after. step before item (Ok tt) after) items old new
 
 -- steps at an iterator's items in order up to the first that is refused: exactly the items before it were coded
 abbrev pub StepsUntilFault : {C I A E : Type 0} → (C → A → Result (Unit {0}) E → C → Type 0) → (I → Type 0) → (I → Option A → I → Type 0)
@@ -18,10 +18,10 @@ StepsUntilFault {C} {I} {A} step gives next old result new =
     (λ _. (mid ≡ new) × Drains next iterator coded)
     (λ e. (item : A) × (rest : I) × YieldsThen next iterator coded (Some item) rest × step mid item (Err e) new)
 
--- each such iterator can be asked, and ends; and to a coder that counts symbols it gives no more items than symbols are left
+-- each such iterator can be asked, and ends; and to a coder that counts symbols it gives so many items at most
 abbrev pub GivesAtMost : {I : Type 0} → (I → Type 0) → (I → Type 0) → (I → Count) → Type 0 → ℕ → Type 0
-GivesAtMost {I} gives can_next remaining counts left =
-    (iterator : I) → gives iterator → can_next iterator × IsFinite (remaining iterator) × (counts → size (remaining iterator) ≤ left)
+GivesAtMost {I} gives can_next remaining counts most =
+    (iterator : I) → gives iterator → can_next iterator × IsFinite (remaining iterator) × (counts → size (remaining iterator) ≤ most)
 
 -- what is left is lowered by no more than the items that each such iterator gives at most
 abbrev pub LowersByItems : {I : Type 0} → (I → Type 0) → (I → Count) → ℕ → ℕ → Type 0

@@ -1,17 +1,9 @@
 -- What the step calls do with a model's table: the step of one of its entries.
 use Rattle.std.specs.Prelude.{◌≡◌, ℕ, List, ◌⊎◌, Result, Ok, Err, MatchResult}
 use Rattle.constriction_base.specs.Steps.{Step}
-use Rattle.constriction_base.specs.Tables.{Has}
+use Rattle.constriction_base.specs.Tables.{AtEntry, Impossible}
 use Rattle.constriction_base.specs.declared.errors.CoderError.{CoderError}
 use Rattle.constriction_base.specs.declared.errors.CoderError.TheVariants.{Frontend, Backend}
-
--- the step of an entry of the symbol
-abbrev pub AtEntry : {S : Type 0} → ℕ → List (S × ℕ × ℕ) → S → (Step → Type 0) → Type 0
-AtEntry precision table symbol holds = (left p : ℕ) × Has table symbol left p × holds (record { precision = precision; left = left; p = p })
-
--- the symbol has no entry: the model doesn't know it
-abbrev pub Impossible : {S : Type 0} → List (S × ℕ × ℕ) → S → Type 0
-Impossible table symbol = (left p : ℕ) → Has table symbol left p → ⊥
 
 -- the step of the symbol's entry; or, where the table has none, a frontend's refusal that leaves the coder
 abbrev pub EncodesSymbol : {C S F B : Type 0} → (C → Step → Result (Unit {0}) (CoderError F B) → C → Type 0) → (F → Type 0)
@@ -32,7 +24,7 @@ abbrev pub DecodesSymbol : {C S E : Type 0} → (C → Step → Result (Unit {0}
 DecodesSymbol {S = S} decodes halts precision table old result new =
     MatchResult result
     (λ symbol. AtEntry precision table symbol (λ step. decodes old step (Ok tt) new))
-    (λ e. halts old e new ⊎ ((symbol : S) × (left p : ℕ) × Has table symbol left p × decodes old (record { precision = precision; left = left; p = p }) (Err e) new))
+    (λ e. halts old e new ⊎ ((symbol : S) × AtEntry precision table symbol (λ step. decodes old step (Err e) new)))
 
 -- the same of a model, whose table this is
 abbrev pub DecodesByModel : {C S M E : Type 0} → (C → Step → Result (Unit {0}) E → C → Type 0) → (C → E → C → Type 0)

@@ -25,7 +25,7 @@ pub trait Decode<const PRECISION: usize>: Code {
     /// Why what holds the compressed data refuses a step.
     type BackendError;
 
-    /// What the step of an interval may answer, and the coder that it leaves. It is chosen freely: it is
+    /// What the step of an interval may return, and the coder that it leaves. It is chosen freely: it is
     /// what the coder does.
     ghost decodes: { Self → Step → Result (Unit {0}) (CoderError Self.FrontendError Self.BackendError) → Self → Type 0 };
 
@@ -33,7 +33,7 @@ pub trait Decode<const PRECISION: usize>: Code {
     /// freely, and nothing where the model is always asked.
     ghost halts: { Self → CoderError Self.FrontendError Self.BackendError → Self → Type 0 };
 
-    /// What the coder says of what it holds where `maybe_exhausted` answers false. It is chosen freely.
+    /// What the coder says of what it holds where `maybe_exhausted` returns false. It is chosen freely.
     ghost has_data: { Self → Type 0 };
 
     /// The error says that the data ended. It is chosen freely, and no error for a coder that goes on past
@@ -42,8 +42,10 @@ pub trait Decode<const PRECISION: usize>: Code {
 
     /// Decodes a symbol: that of the model's interval which holds the coder's next quantile.
     ///
-    /// Errors: `Frontend(error)` and `Backend(error)` as `halts` says, where the model isn't asked, and as
-    /// `decodes` says, where it is.
+    /// # Errors
+    ///
+    /// `Frontend(error)` and `Backend(error)` as `halts` says, where the model isn't asked, and as `decodes`
+    /// says, where it is.
     fn decode_symbol<M>(
         &mut self,
         model: M,
@@ -51,7 +53,7 @@ pub trait Decode<const PRECISION: usize>: Code {
     where
         M: DecoderModel<PRECISION>,
         M::Probability: WordOf<Self::Word>,
-        ensures { DecodesSymbol decodes halts PRECISION (M.table model) self.old result self.new };
+        ensures step { DecodesSymbol decodes halts PRECISION (M.table model) self.old result self.new };
 
     /// Decodes a symbol for each of the models, as the iterator is asked for it. It doesn't end at an error.
     final fn decode_symbols<I>(
@@ -91,6 +93,8 @@ pub trait Decode<const PRECISION: usize>: Code {
     }
 
     /// Decodes `amt` symbols, all by one model, as the iterator is asked for them. It doesn't end at an error.
+    ///
+    /// # Examples
     ///
     /// ```
     /// for symbol in decoder.decode_iid_symbols(1000, &table) {

@@ -48,12 +48,12 @@ pub trait Encode<const PRECISION: usize>: Code {
     /// Why what holds the compressed data refuses a step.
     type BackendError;
 
-    /// What the step of an interval may answer, and the coder that it leaves. It is chosen freely: it is
+    /// What the step of an interval may return, and the coder that it leaves. It is chosen freely: it is
     /// what the coder does.
     ghost encodes: { Self → Step → Result (Unit {0}) (CoderError Self.FrontendError Self.BackendError) → Self → Type 0 };
 
     /// The error says that the model doesn't know the symbol. It is chosen freely among the errors that no
-    /// step answers (`never_impossible`).
+    /// step returns (`never_impossible`).
     ghost is_impossible_symbol: { Self.FrontendError → Type 0 };
 
     /// The coder counts symbols, and can be asked to encode no more than are left. It is chosen freely:
@@ -80,7 +80,8 @@ pub trait Encode<const PRECISION: usize>: Code {
     /// Encodes a symbol by the model's interval for it. To a coder that counts symbols at least one must be
     /// left.
     ///
-    /// Errors:
+    /// # Errors
+    ///
     /// - `Frontend(error)`, where the model doesn't know the symbol. The coder is as before.
     /// - `Frontend(error)` and `Backend(error)` where the coder refuses the step, as `encodes` says.
     fn encode_symbol<M>(
@@ -93,13 +94,17 @@ pub trait Encode<const PRECISION: usize>: Code {
         M::Probability: WordOf<Self::Word>,
         requires { counts_symbols → 0 < symbols_left self.old }
         ensures step { EncodesSymbol encodes is_impossible_symbol PRECISION (M.table model) symbol.now self.old result self.new }
-        ensures left { symbols_left self.old ≤ symbols_left self.new + 1 };
+        ensures fewer_left { symbols_left self.old ≤ symbols_left self.new + 1 };
 
     /// Encodes symbols in order, each by its own model, up to the first that is refused. To a coder that
     /// counts symbols as many must be left as there are items.
     ///
-    /// Errors: that of the first step that is refused. Exactly the symbols before it are encoded, and the
-    /// items behind it aren't asked for.
+    /// # Errors
+    ///
+    /// That of the first step that is refused. Exactly the symbols before it are encoded, and the items
+    /// behind it aren't asked for.
+    ///
+    /// # Examples
     ///
     /// ```
     /// coder.encode_symbols([(&3usize, &table), (&0, &other)])?;
@@ -117,7 +122,7 @@ pub trait Encode<const PRECISION: usize>: Code {
         requires { GivesAtMost (I.into_iter_gives symbols_and_models) I.IntoIter.can_next I.IntoIter.remaining counts_symbols (symbols_left self.old) }
         ensures steps { StepsUntilFault (EncodesPair encodes is_impossible_symbol PRECISION M.table S.lent)
             (I.into_iter_gives symbols_and_models) I.IntoIter.next_gives self.old result self.new }
-        ensures left { LowersByItems (I.into_iter_gives symbols_and_models) I.IntoIter.remaining (symbols_left self.old) (symbols_left self.new) }
+        ensures fewer_left { LowersByItems (I.into_iter_gives symbols_and_models) I.IntoIter.remaining (symbols_left self.old) (symbols_left self.new) }
     {
         for (symbol, model) in symbols_and_models {
             match self.encode_symbol(symbol.lend(), model) {
@@ -131,7 +136,10 @@ pub trait Encode<const PRECISION: usize>: Code {
     /// Encodes symbols in order, each by its own model, where an item may be an error in place of both. To
     /// a coder that counts symbols as many must be left as there are items.
     ///
-    /// Errors, after which exactly the symbols before the item are encoded:
+    /// # Errors
+    ///
+    /// After each of them exactly the symbols before the item are encoded.
+    ///
     /// - `InvalidEntropyModel(error)`, where an item is an error. It leaves the coder.
     /// - `CodingError(error)`, where a step is refused.
     fn try_encode_symbols<S, M, E, I>(
@@ -147,7 +155,7 @@ pub trait Encode<const PRECISION: usize>: Code {
         requires { GivesAtMost (I.into_iter_gives symbols_and_models) I.IntoIter.can_next I.IntoIter.remaining counts_symbols (symbols_left self.old) }
         ensures steps { StepsUntilFault (TriesItem (EncodesPair encodes is_impossible_symbol PRECISION M.table S.lent))
             (I.into_iter_gives symbols_and_models) I.IntoIter.next_gives self.old result self.new }
-        ensures left { LowersByItems (I.into_iter_gives symbols_and_models) I.IntoIter.remaining (symbols_left self.old) (symbols_left self.new) }
+        ensures fewer_left { LowersByItems (I.into_iter_gives symbols_and_models) I.IntoIter.remaining (symbols_left self.old) (symbols_left self.new) }
     {
         for symbol_and_model in symbols_and_models {
             let (symbol, model) = match symbol_and_model {
@@ -165,8 +173,10 @@ pub trait Encode<const PRECISION: usize>: Code {
     /// Encodes symbols in order, all by one model, up to the first that is refused. To a coder that counts
     /// symbols as many must be left as there are items.
     ///
-    /// Errors: that of the first step that is refused. Exactly the symbols before it are encoded, and those
-    /// behind it aren't asked for.
+    /// # Errors
+    ///
+    /// That of the first step that is refused. Exactly the symbols before it are encoded, and those behind it
+    /// aren't asked for.
     fn encode_iid_symbols<S, M, I>(
         &mut self,
         symbols: I,
@@ -181,7 +191,7 @@ pub trait Encode<const PRECISION: usize>: Code {
         requires { GivesAtMost (I.into_iter_gives symbols) I.IntoIter.can_next I.IntoIter.remaining counts_symbols (symbols_left self.old) }
         ensures steps { StepsUntilFault (λ old symbol result new. EncodesSymbol encodes is_impossible_symbol PRECISION (M.table model) (S.lent symbol) old result new)
             (I.into_iter_gives symbols) I.IntoIter.next_gives self.old result self.new }
-        ensures left { LowersByItems (I.into_iter_gives symbols) I.IntoIter.remaining (symbols_left self.old) (symbols_left self.new) }
+        ensures fewer_left { LowersByItems (I.into_iter_gives symbols) I.IntoIter.remaining (symbols_left self.old) (symbols_left self.new) }
     {
         for symbol in symbols {
             match self.encode_symbol(symbol.lend(), model) {

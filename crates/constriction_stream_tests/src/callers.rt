@@ -3,7 +3,8 @@
 ghost use Rattle.std.specs.Prelude.{◌≡◌, ◌<◌, ◌≤◌, ◌↔◌, ◌∷◌, ◌++◌, List, length, reverse, IfOk, IfErr, IfSome, MatchOption, Ok, Err};
 ghost use Rattle.constriction_base.specs.declared.errors.CoderError.TheVariants as coder_error;
 ghost use Rattle.constriction_stream.specs.Lists.{StepsAll};
-ghost use Rattle.constriction_stream.specs.Symbols.{EncodesSymbol, DecodesSymbol, Impossible};
+ghost use Rattle.constriction_stream.specs.Symbols.{EncodesSymbol, DecodesSymbol};
+ghost use Rattle.constriction_base.specs.Tables.{Impossible};
 
 use crate::sources::Mixed;
 use constriction_base::errors::CoderError;

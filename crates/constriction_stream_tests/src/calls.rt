@@ -12,7 +12,7 @@ use std::alloc::AllocError;
 /// A table of 8 bits.
 pub type Table = WeightTable<u8, 8>;
 
-/// What a refused step of an encode answers.
+/// What a refused step of an encode returns.
 pub type Refusal = CoderError<DefaultEncoderFrontendError, AllocError>;
 
 /// How a call ended that puts symbols on a pile.

@@ -1,3 +1,2 @@
 mod Models
-mod Outcomes
 mod Runs

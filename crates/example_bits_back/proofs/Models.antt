@@ -7,15 +7,15 @@ use Rattle.std.proofs.lemmas.Option.{slice_get-map, slice_get_read}
 use Rattle.constriction.specs.Steps.{IsSizes}
 use Rattle.constriction.specs.Tables.{entries_are_table}
 use Rattle.constriction.specs.declared.stream.model.WeightTable.{WeightTable}
-use Rattle.constriction_laws.specs.Symbols.{Model, IsModel}
-use Rattle.example_bits_back.specs.Hiding.{model}
+use Rattle.constriction.specs.Models.{Model, IsModel}
+use Rattle.constriction.specs.Tables.{model_of}
 
 -- words of 32 bits and heads of 64
 pub sizes : IsSizes 32 64
 sizes = record { some_bits = lit≤ tt; two_words = lit≤ tt; whole = refl }
 
 -- a table of 12 bits is a model at words of 32 bits
-pub is_model : {Probability NonZero : Type 0} {word : _} (table : WeightTable Probability 12 NonZero word) → IsModel 32 (model table)
+pub is_model : {Probability NonZero : Type 0} {word : _} (table : WeightTable Probability 12 NonZero word) → IsModel 32 (model_of table)
 is_model table = record { some_bits = lit≤ tt; within_word = lit≤ tt; lawful = entries_are_table table }
 
 -- what a look-up lends is the model of that place

@@ -7,9 +7,9 @@
 #![tactic(auto)]
 
 ghost use Rattle.std.specs.Prelude.{◌≡◌, ℕ, List, length, reverse, IfOk, OnOk};
-ghost use Rattle.constriction.specs.Ans.{AnsState, IsValid};
-ghost use Rattle.constriction_laws.specs.Symbols.{Encodes, Decodes};
-ghost use Rattle.example_bits_back.specs.Hiding.{model};
+ghost use Rattle.constriction.specs.stack.Ans.{AnsState, IsValid};
+ghost use Rattle.constriction.specs.stack.Symbols.{Encodes, Decodes};
+ghost use Rattle.constriction.specs.Tables.{model_of};
 
 use anyhow::{Context, Result, bail};
 use constriction::CoderError;
@@ -38,7 +38,7 @@ const MILLIBITS: u64 = 8 * 1608 + 4 * 2541;
 
 /// Takes a symbol off a coder under a table.
 fn take_off(coder: &mut Coder, table: &Table) -> usize
-    ensures { Decodes 32 64 (model table.now) result coder.old.state coder.new.state }
+    ensures { Decodes 32 64 (model_of table.now) result coder.old.state coder.new.state }
 {
     match coder.decode_symbol(table) {
         Ok(symbol) => symbol,
@@ -49,7 +49,7 @@ fn take_off(coder: &mut Coder, table: &Table) -> usize
 
 /// Puts a symbol on a coder under a table.
 fn put_on(coder: &mut Coder, symbol: usize, table: &Table) -> Result<()>
-    ensures { IsValid 32 64 coder.old.state → OnOk result (Encodes 32 64 (model table.now) symbol coder.old.state coder.new.state) }
+    ensures { IsValid 32 64 coder.old.state → OnOk result (Encodes 32 64 (model_of table.now) symbol coder.old.state coder.new.state) }
 {
     coder.encode_symbol(&symbol, table)?;
     Ok(())
@@ -67,7 +67,8 @@ struct Mixture {
 }
 
 impl Mixture {
-    ghost use Rattle.example_bits_back.specs.Hiding.{Hides, HidesAll};
+    ghost use Rattle.constriction.specs.Steps.{InTurn};
+    ghost use Rattle.example_bits_back.specs.Hiding.{Hides};
 
     fn new(alloc: Global) -> Result<Mixture> {
         Ok(Mixture {
@@ -116,7 +117,7 @@ impl Mixture {
 
     /// Hides symbols, one after the other.
     fn hide_all(&self, coder: &mut Coder, symbols: &[usize]) -> Result<()>
-        ensures hides { IsValid 32 64 coder.old.state → OnOk result (HidesAll self.now (reverse symbols.now) coder.old.state coder.new.state) }
+        ensures hides { IsValid 32 64 coder.old.state → OnOk result (InTurn (Hides self.now) symbols.now coder.old.state coder.new.state) }
     {
         'symbols: for symbol in symbols {
             self.hide(coder, *symbol)?;
@@ -126,8 +127,8 @@ impl Mixture {
 
     /// Reveals so many symbols. The one that was hidden last comes first.
     fn reveal_all(&self, alloc: Global, coder: &mut Coder, count: usize) -> Result<Vec<usize>>
-        ensures reveals { (hidden : List ℕ) (before : AnsState) → length hidden ≡ count → IsValid 32 64 before → HidesAll self.now hidden before coder.old.state
-            → IfOk result (λ symbols. (symbols.items ≡ hidden) × (coder.new.state ≡ before)) }
+        ensures reveals { (hidden : List ℕ) (before : AnsState) → length hidden ≡ count → IsValid 32 64 before → InTurn (Hides self.now) hidden before coder.old.state
+            → IfOk result (λ symbols. (symbols.items ≡ reverse hidden) × (coder.new.state ≡ before)) }
     {
         let mut symbols = Vec::new(alloc);
         'symbols: for _ in 0..count {

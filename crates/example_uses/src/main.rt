@@ -3,7 +3,8 @@
 #![tactic(auto)]
 
 ghost use Rattle.std.specs.Prelude.{◌≡◌, ℕ, List, length, IfSome};
-ghost use Rattle.example_uses.specs.Packing.{ArePacked, model};
+ghost use Rattle.constriction.specs.Tables.{model_of};
+ghost use Rattle.example_uses.specs.Packing.{ArePacked};
 
 use anyhow::{Result, bail};
 use constriction::laws::stack::round_trips::positions::list_before_a_position;
@@ -34,7 +35,7 @@ pub fn there_and_back(
 ///
 /// `None`: the table doesn't know a symbol, or memory ran out.
 pub fn pack(alloc: Global, symbols: &[usize], table: &WeightTable<u32, 24>) -> Option<Vec<u32>>
-    ensures packed { IfSome result (λ words. ArePacked (model table.now) symbols.now words.items) }
+    ensures packed { IfSome result (λ words. ArePacked (model_of table.now) symbols.now words.items) }
 {
     words_of_list::<u32, u64, _, 24>(alloc, symbols, table)
 }
@@ -48,7 +49,7 @@ pub fn unpack(
     count: usize,
     table: &WeightTable<u32, 24>,
 ) -> Option<Vec<usize>>
-    ensures back { (symbols : List ℕ) → ArePacked (model table.now) symbols words.now → length symbols ≡ count →
+    ensures back { (symbols : List ℕ) → ArePacked (model_of table.now) symbols words.now → length symbols ≡ count →
         IfSome result (λ again. again.items ≡ symbols) }
 {
     list_from_borrowed_words::<u32, u64, _, 24>(alloc, words, count, table)

@@ -19,6 +19,8 @@ pub trait BothWays<Word>: Holds<Word, Stack> + Holds<Word, Queue> {
 
 /// Hands on what was written, to be read in the order in which it was written.
 ///
+/// # Examples
+///
 /// ```
 /// let mut words: Vec<u32> = Vec::new(alloc);
 /// words.write(7)?;

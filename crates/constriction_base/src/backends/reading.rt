@@ -24,32 +24,36 @@ pub trait Holds<Word, S: Semantics> {
 /// As a `Stack` a backend gives the word that was written last, as a `Queue` the one that was
 /// written first.
 ///
-/// An implementation chooses freely what a read may answer and leave, and when it seems exhausted; where it
+/// An implementation chooses freely what a read may return and leave, and when it seems exhausted; where it
 /// knows its words, these bound both choices.
+///
+/// # Examples
 ///
 /// ```
 /// let mut cursor = Cursor::new_at_write_end([7u32, 9].as_slice());
 /// ReadWords::<u32, Stack>::read(&mut cursor) // Ok(Some(9))
 /// ```
 pub trait ReadWords<Word, S: Semantics>: Holds<Word, S> {
-    /// What a read may answer in place of a word: `Infallible` for vectors and cursors, and what the
+    /// What a read may return in place of a word: `Infallible` for vectors and cursors, and what the
     /// iterator gives for one over an iterator.
     type ReadError;
 
-    /// What the next read may answer, and what it leaves.
+    /// What the next read may return, and what it leaves.
     ghost reads: { Self → Result (Option Word) Self.ReadError → Self → Type 0 };
 
-    /// What `maybe_exhausted` answers.
+    /// What `maybe_exhausted` returns.
     ghost seems_exhausted: { Self → Bool };
 
-    /// Takes the next word, or answers `None` where no word is left, which changes nothing.
+    /// Takes the next word, or returns `None` where no word is left, which changes nothing.
     ///
-    /// An error leaves the words of a backend that knows them.
+    /// # Errors
+    ///
+    /// What `reads` says. It leaves the words of a backend that knows them.
     fn read(&mut self) -> Result<Option<Word>, Self::ReadError>
         ensures reads { reads self.old result self.new }
         ensures words { Self.is_list → Reads (Self.words self.old) result (Self.words self.new) };
 
-    /// Whether the next read may answer that no word is left. `false` promises that a word is left.
+    /// Whether the next read may return that no word is left. `false` promises that a word is left.
     fn maybe_exhausted(&self) -> bool
         ensures value { result ≡ seems_exhausted self.now }
         ensures exhausted { Self.is_list → Self.words self.now ≡ [] → IsTrue result }

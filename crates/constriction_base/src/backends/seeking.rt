@@ -58,8 +58,12 @@ pub trait Seek: PosSeek {
     /// The second value is what a refusal to go to the position leaves of the first one.
     ghost stays: { Self → Self.Position → Self → Type 0 };
 
-    /// Goes to a position that was recorded before. Where it can't be gone to, as where words were
-    /// taken off since, the answer is `Err(())`. A vector or cursor then is as before.
+    /// Goes to a position that was recorded before.
+    ///
+    /// # Errors
+    ///
+    /// `Err(())` where it can't be gone to, as where words were taken off since. A vector or cursor then is
+    /// as before.
     fn seek(&mut self, position: Self::Position) -> Result<(), ()>
         ensures variant { IsOk result → can_seek self.old position }
         ensures err { OnErr result (seek_fails self.old position) }

@@ -7,7 +7,7 @@ use crate::backends::semantics::Stack;
 
 /// Words can be put on the stack that the type holds.
 ///
-/// Which error a call may answer is a function of what the backend holds at the moment of the call.
+/// Which error a call may return is a function of what the backend holds at the moment of the call.
 ///
 /// An implementation chooses freely which errors these are, how many writes are sure to succeed (it
 /// may name none), whether `prepare` makes room, which errors are lack of room and when it seems full. The
@@ -16,10 +16,10 @@ pub trait WriteWords<Word>: Holds<Word, Stack> {
     /// Why a word could not be written: want of memory for a vector, want of room for a cursor.
     type WriteError;
 
-    /// Which error the next write may answer.
+    /// Which error the next write may return.
     ghost write_fails: { Self → Self.WriteError → Type 0 };
 
-    /// Which error the next call of `prepare` for so many words may answer.
+    /// Which error the next call of `prepare` for so many words may return.
     ghost prepare_fails: { Self → ℕ → Self.WriteError → Type 0 };
 
     /// How many writes are sure to succeed.
@@ -31,10 +31,14 @@ pub trait WriteWords<Word>: Holds<Word, Stack> {
     /// The error says that the backend is full, and not that memory is missing.
     ghost is_lack_of_room: { Self.WriteError → Type 0 };
 
-    /// What `maybe_full` answers.
+    /// What `maybe_full` returns.
     ghost seems_full: { Self → Bool };
 
-    /// Writes a word, which is then the first to be read. An error leaves the words.
+    /// Writes a word, which is then the first to be read.
+    ///
+    /// # Errors
+    ///
+    /// What `write_fails` says of the backend as it was. The words stay.
     fn write(&mut self, word: Word) -> Result<(), Self::WriteError>
         ensures ok { OnOk result (Self.words self.new ≡ word ∷ Self.words self.old) }
         ensures room { OnOk result (room self.old ≤ room self.new + 1) }
@@ -42,15 +46,19 @@ pub trait WriteWords<Word>: Holds<Word, Stack> {
         ensures err { IfErr result (λ e. write_fails self.old e) };
 
     /// Whether the next write, or a `prepare` for it, may be refused for lack of room. `false` promises
-    /// that it is not, so a backend that grows as long as there is memory always answers `false`.
+    /// that it is not, so a backend that grows as long as there is memory always returns `false`.
     fn maybe_full(&self) -> bool
         ensures value { result ≡ seems_full self.now }
         ensures room_left { result ≡ false → (e : Self.WriteError) → is_lack_of_room e → write_fails self.now e → ⊥ };
 
-    /// Asks for room for `count` further words, and changes no word. A refusal leaves the room there was,
-    /// and either way a write may answer no error that it could not answer before.
+    /// Asks for room for `count` further words, and changes no word. A write may return no error then that
+    /// it could not return before.
     ///
     /// After `Ok` over a vector the next `count` writes succeed. Over a cursor it promises nothing.
+    ///
+    /// # Errors
+    ///
+    /// What `prepare_fails` says of the backend as it was. The room that there was stays.
     fn prepare(&mut self, count: usize) -> Result<(), Self::WriteError>
         ensures words { Self.words self.new ≡ Self.words self.old }
         ensures room { OnOk result (room self.old ≤ room self.new) }

@@ -35,6 +35,8 @@ impl<Word: BitArray, Buf: WordsMut<Word> + Drop> Cursor<Word, Buf> {
     ///
     /// Words that were written as a stack are then read in the order in which they stand.
     ///
+    /// # Examples
+    ///
     /// ```
     /// let mut words = [1u32, 2, 3];
     /// let cursor = Cursor::new_at_write_end(words.as_mut_slice());

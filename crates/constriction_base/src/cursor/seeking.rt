@@ -2,7 +2,7 @@
 
 ghost use Rattle.std.specs.Prelude.{◌≡◌, ◌+◌, ◌-◌, ℕ, true, false, List, [], ◌∷◌, ◌++◌, ◌<◌, ◌≤◌, ◌==◌, Option, Result, Ok, Err, None, length, reverse, IsTrue, slice_set, take, drop};
 ghost use Rattle.constriction_base.specs.Backends.{Reads, Place};
-ghost use Rattle.constriction_base.specs.Room.{within, words_before};
+ghost use Rattle.constriction_base.specs.laws.Room.{within, words_before};
 
 use crate::backends::{CountsWords, Pos, PosSeek, Seek, SeeksBack, Words};
 use crate::cursor::Cursor;

@@ -2,7 +2,7 @@
 
 ghost use Rattle.std.specs.Prelude.{◌≡◌, ◌+◌, ◌-◌, ℕ, true, false, List, [], ◌∷◌, ◌++◌, ◌<◌, ◌≤◌, ◌==◌, Option, Result, Ok, Err, None, length, reverse, IsTrue, IsOk, OnOk, OnErr, IfErr, slice_set, take, drop};
 ghost use Rattle.constriction_base.specs.Backends.{Reads, Place};
-ghost use Rattle.constriction_base.specs.Room.{no_room_at};
+ghost use Rattle.constriction_base.specs.laws.Room.{no_room_at};
 ghost use Rattle.constriction_base.specs.declared.errors.BoundedWriteError.TheVariants.{OutOfSpace};
 
 use crate::backends::{WordsMut, WriteWords};
@@ -25,8 +25,11 @@ impl<Word: BitArray, Buf: WordsMut<Word> + Drop> WriteWords<Word> for Cursor<Wor
 
     ghost seems_full = { λ c. c.pos == length (Buf.lent c.buf) };
 
-    /// Sets the word at the position and moves past it, and changes no other word. At the buffer's end it
-    /// answers `OutOfSpace` and changes nothing.
+    /// Sets the word at the position and moves past it, and changes no other word.
+    ///
+    /// # Errors
+    ///
+    /// `OutOfSpace` at the buffer's end. Nothing changes then.
     #[tactic(auto, using(crate::proofs::Ends::reverse_push))]
     fn write(&mut self, word: Word) -> Result<(), BoundedWriteError>
         ensures ok { OnOk result (reverse (take self.new.pos (Buf.lent self.new.buf)) ≡ word ∷ reverse (take self.old.pos (Buf.lent self.old.buf))) }
@@ -49,7 +52,7 @@ impl<Word: BitArray, Buf: WordsMut<Word> + Drop> WriteWords<Word> for Cursor<Wor
         self.pos == self.buf.words().len()
     }
 
-    /// Answers `Ok` without a promise, and changes nothing.
+    /// Returns `Ok` without a promise, and changes nothing.
     fn prepare(&mut self, _count: usize) -> Result<(), BoundedWriteError>
         ensures done { IsOk result }
         ensures unchanged { self.new ≡ self.old }

@@ -1,8 +1,10 @@
 //! `ans-decode`: the words of an ANS coder to symbols.
 
 ghost use Rattle.std.specs.Prelude.{◌≡◌, ◌⊎◌, ◌<◌, ◌≤◌, ℕ, List, ◌∷◌, [], length, reverse, IfOk, IfErr, OnErr, IsErrOf};
-ghost use Rattle.constriction.specs.Ans.{AnsState};
-ghost use Rattle.constriction_cli.specs.Coding.{PopsSymbols};
+ghost use Rattle.constriction.specs.stack.Ans.{AnsState};
+ghost use Rattle.constriction.specs.Models.{items_of};
+ghost use Rattle.constriction.specs.stack.Symbols.{DecodesAll};
+ghost use Rattle.constriction_cli.specs.Coding.{of_24_bits};
 ghost use Rattle.constriction_cli.specs.Answers.{IsDecoded, DecodeFails};
 ghost use Rattle.constriction_cli.specs.declared.fault.Fault.TheVariants.{BadNumber, NoCount, OutOfMemory};
 
@@ -42,7 +44,8 @@ fn decode<M: DecoderModel<PRECISION, Symbol = usize, Probability = u32>>(
     count: u32,
     coder: &mut DefaultAnsCoder,
 ) -> Result<Vec<usize>, Fault>
-    ensures ok { IfOk result (λ symbols. PopsSymbols (M.table model.now) symbols.items coder.old.state coder.new.state) }
+    ensures ok { IfOk result (λ symbols.
+        DecodesAll 32 64 (items_of (of_24_bits (M.table model.now)) symbols.items) coder.old.state coder.new.state) }
     ensures counted { IfOk result (λ symbols. length symbols.items ≡ count) }
     ensures err { IfErr result (λ fault. fault ≡ OutOfMemory) }
 {

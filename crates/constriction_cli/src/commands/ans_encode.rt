@@ -1,8 +1,10 @@
 //! `ans-encode`: symbols to the words of an ANS coder.
 
 ghost use Rattle.std.specs.Prelude.{◌≡◌, ◌%◌, ◌^◌, map, reverse, IfOk, IfErr};
-ghost use Rattle.constriction.specs.Ans.{AnsState, exported};
-ghost use Rattle.constriction_cli.specs.Coding.{empty_state, PushesSymbols};
+ghost use Rattle.constriction.specs.Models.{items_of};
+ghost use Rattle.constriction.specs.stack.Ans.{AnsState, empty, exported};
+ghost use Rattle.constriction.specs.stack.Symbols.{EncodesAll};
+ghost use Rattle.constriction_cli.specs.Coding.{of_24_bits};
 ghost use Rattle.constriction_cli.specs.Answers.{IsEncoded, EncodeFails, PushFails};
 
 use crate::fault::Fault;
@@ -22,7 +24,7 @@ fn encode<M: EncoderModel<PRECISION, Symbol = usize, Probability = u32>>(
     symbols: &[usize],
 ) -> Result<Vec<u32>, Fault>
     ensures ok { IfOk result (λ words. (state : AnsState)
-        × PushesSymbols (M.table model.now) symbols.now empty_state state
+        × EncodesAll 32 64 (items_of (of_24_bits (M.table model.now)) (reverse symbols.now)) empty state
         × (map (λ word. word % 2 ^ 32) (reverse words.items) ≡ exported 32 state)) }
     ensures err { IfErr result (PushFails (M.table model.now) symbols.now) }
 {

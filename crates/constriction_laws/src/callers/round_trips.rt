@@ -5,7 +5,8 @@ ghost use Rattle.constriction_base.specs.Steps.{AreWords};
 ghost use Rattle.constriction_stack.specs.Ans.{AnsState};
 ghost use Rattle.constriction_stack.specs.Binary.{IsBinary, binary_state, binary_words};
 ghost use Rattle.constriction_stack.specs.Sizes.{valid_bit_count};
-ghost use Rattle.constriction_laws.specs.Symbols.{Item, AreModels, EncodesAll, DecodesAll};
+ghost use Rattle.constriction_base.specs.Models.{Item, AreModels};
+ghost use Rattle.constriction_stack.specs.Symbols.{EncodesAll, DecodesAll};
 
 use crate::stack::binary::binary_words_come_back;
 use crate::stack::lists::symbols_come_back;

@@ -6,6 +6,7 @@ use crate::lists::lists_undo;
 use crate::stack::lists::Decoding;
 use crate::stack::round_trips::binary::words_through_list;
 use crate::stack::round_trips::coding::encode_list_reverse;
+use crate::stack::round_trips::compressed::compressed_words_through_list;
 use crate::stack::round_trips::decoders::{
     list_as_decoder, list_into_decoder, list_into_seekable_decoder,
 };
@@ -166,6 +167,24 @@ fn words_come_back(rt: HostRuntime) -> Result<(), Fail> {
         return Err(Fail::from("refused"));
     };
     assert_eq!(rt; again.as_slice(), [7u8, 0, 255, 0].as_slice());
+    Ok(())
+}
+
+/// The last word isn't zero.
+#[test]
+fn compressed_words_come_back(rt: HostRuntime) -> Result<(), Fail> {
+    let table = WeightTable::<u8, 8>::new(rt.alloc(), &[255, 1])?;
+    let mut words = Vec::new(rt.alloc());
+    words.extend_from_slice(&[7u8, 0, 255, 9])?;
+    let Some(again) = compressed_words_through_list::<u8, u16, Vec<u8>, _, 8>(
+        rt.alloc(),
+        words,
+        9,
+        &table,
+    ) else {
+        return Err(Fail::from("refused"));
+    };
+    assert_eq!(rt; again.as_slice(), [7u8, 0, 255, 9].as_slice());
     Ok(())
 }
 

@@ -7,7 +7,8 @@ ghost use Rattle.std.specs.Prelude.{◌≡◌, ◌≤◌, ℕ, List, reverse};
 ghost use Rattle.constriction_base.specs.Steps.{IsSizes, AreWords};
 ghost use Rattle.constriction_stack.specs.Ans.{AnsState, IsValid};
 ghost use Rattle.constriction_stack.specs.Binary.{IsBinary, binary_state, binary_words};
-ghost use Rattle.constriction_laws.specs.Symbols.{Item, AreModels, EncodesAll, DecodesAll};
+ghost use Rattle.constriction_base.specs.Models.{Item, AreModels};
+ghost use Rattle.constriction_stack.specs.Symbols.{EncodesAll, DecodesAll};
 
 use crate::stack::lists::encodes_undo_decodes;
 

@@ -5,10 +5,11 @@
 
 ghost use Rattle.std.specs.Prelude.{◌≡◌, ℕ, List, reverse, ⊤};
 ghost use Rattle.constriction_base.specs.Readings.{BeginsHigh};
-ghost use Rattle.constriction_base.specs.Steps.{Step, IsSizes, AreSteps, AreWords};
-ghost use Rattle.constriction_stack.specs.Ans.{AnsState, IsValid, filled, exported, pop_all, AreNext, IsPushAll, empty};
-ghost use Rattle.constriction_laws.specs.Symbols.{Model, Item, Encodes, Decodes, IsModel, models, AreModels, AreKnown, EncodesAll, DecodesAll};
-ghost use Rattle.constriction_laws.specs.Undone.{Sizes, decode_back, encode_back, decoded_valid};
+ghost use Rattle.constriction_base.specs.Steps.{Step, InTurn, IsSizes, AreSteps, AreWords};
+ghost use Rattle.constriction_stack.specs.Ans.{AnsState, IsValid, IsPush, IsPop, filled, exported, empty};
+ghost use Rattle.constriction_base.specs.Models.{Model, Item, IsModel, models, AreModels, AreKnown};
+ghost use Rattle.constriction_stack.specs.Symbols.{Encodes, Decodes, EncodesAll, DecodesAll};
+ghost use Rattle.constriction_laws.specs.stack.Undone.{Sizes, decode_back, encode_back, decoded_valid};
 
 use crate::lists::{StepsUndo, lists_undo};
 use std::marker::PhantomData;
@@ -141,17 +142,18 @@ pub fn words_come_back<Symbol>()
     encodes_undo_decodes::<Symbol>()
 }
 
-/// Lists of entries undo each other, whatever tables they are of: pushes from the last to the first,
-/// and pops from the first to the last.
+/// Lists of steps undo each other, whatever tables they are of: pops in reverse order undo pushes, and
+/// pushes in reverse order undo pops.
 pub fn lists_of_entries_undo()
-    ensures pushes { (w s : ℕ) (steps : List Step) (state : AnsState) → IsSizes w s →
+    ensures pushes { (w s : ℕ) (steps : List Step) (old : AnsState) → IsSizes w s →
+        AreSteps w steps → IsValid w s old →
+        (new : AnsState) × InTurn (IsPush w s) steps old new × IsValid w s new }
+    ensures only { (w s : ℕ) (steps : List Step) (old new other : AnsState) → IsSizes w s →
         AreSteps w steps →
-        IsValid w s state → (new : AnsState) × IsPushAll w s steps state new × IsValid w s new }
-    ensures pops_undo { (w s : ℕ) (steps : List Step) (state new : AnsState) →
-        IsPushAll w s steps state new →
-        AreNext w s steps new × (pop_all w s steps new ≡ state) }
-    ensures pushes_undo { (w s : ℕ) (steps : List Step) (state new : AnsState) → IsSizes w s →
-        AreSteps w steps →
-        IsValid w s state → AreNext w s steps state →
-        IsPushAll w s steps (pop_all w s steps state) new → new ≡ state }
+        InTurn (IsPush w s) steps old new → InTurn (IsPush w s) steps old other → new ≡ other }
+    ensures pops_undo { (w s : ℕ) (steps : List Step) (old new : AnsState) →
+        InTurn (IsPush w s) steps old new → InTurn (IsPop w s) (reverse steps) new old }
+    ensures pushes_undo { (w s : ℕ) (steps : List Step) (old new : AnsState) → IsSizes w s →
+        AreSteps w steps → IsValid w s old →
+        InTurn (IsPop w s) steps old new → InTurn (IsPush w s) (reverse steps) new old }
 {}

@@ -7,7 +7,8 @@ ghost use Rattle.std.specs.Prelude.{◌≡◌, ◌≤◌, ◌⊎◌, ℕ, ◌%�
 ghost use Rattle.constriction_base.specs.Steps.{Step, IsSizes, IsStep};
 ghost use Rattle.constriction_stack.specs.Ans.{AnsState, IsValid, IsPush, filled, exported};
 ghost use Rattle.constriction_stack.specs.Positions.{position_of, sought, Grows};
-ghost use Rattle.constriction_laws.specs.Symbols.{Item, models, AreModels, EncodesAll, DecodesAll};
+ghost use Rattle.constriction_base.specs.Models.{Item, models, AreModels};
+ghost use Rattle.constriction_stack.specs.Symbols.{EncodesAll, DecodesAll};
 
 use crate::stack::lists::decodes_undo_encodes;
 

@@ -7,9 +7,11 @@ ghost use Rattle.std.specs.Prelude.{◌≡◌, ◌<◌, ◌^◌, ℕ, List, map,
 ghost use Rattle.constriction_base.specs.Iterators.{FusedRead};
 ghost use Rattle.constriction_base.specs.Steps.{IsSizes};
 ghost use Rattle.constriction_stack.specs.Ans.{AnsState, AnsValue, exported, empty};
-ghost use Rattle.constriction_stack.specs.Steps.{FilledBy};
-ghost use Rattle.constriction_laws.specs.Readings.{TellsWords, TellsItems, words_left, told, DecodesBy, DecodesAllBy};
-ghost use Rattle.constriction_laws.specs.Symbols.{Model, Item, models, AreModels, Decodes, EncodesAll, DecodesAll};
+ghost use Rattle.constriction_stack.specs.Imports.{FilledBy};
+ghost use Rattle.constriction_laws.specs.Readings.{TellsWords, TellsItems, words_left};
+ghost use Rattle.constriction_laws.specs.stack.Readings.{told, DecodesBy, DecodesAllBy};
+ghost use Rattle.constriction_base.specs.Models.{Model, Item, models, AreModels};
+ghost use Rattle.constriction_stack.specs.Symbols.{Decodes, EncodesAll, DecodesAll};
 
 use crate::stack::lists::symbols_come_back;
 use crate::stack::words::{imports_are_words, reads_are_words};

@@ -1,9 +1,8 @@
 //! When a step of the stack coder is refused, and when it isn't.
 
 ghost use Rattle.std.specs.Prelude.{◌≡◌, ℕ, Err, IfErr, IfSome};
-ghost use Rattle.constriction_base.specs.Tables.{Has};
+ghost use Rattle.constriction_base.specs.Tables.{AtEntry, Impossible};
 ghost use Rattle.constriction_base.specs.declared.errors.CoderError.TheVariants as coder_error;
-ghost use Rattle.constriction_stream.specs.Symbols.{Impossible};
 ghost use Rattle.constriction_stack.specs.Ans.{OwesRead};
 
 use crate::room::step_where_room;
@@ -37,7 +36,7 @@ where
     step_where_room::<_, _, PRECISION>(coder, symbol, model)
 }
 
-/// A decode is refused only where a word had to be read, and that read answered the error. The coder itself
+/// A decode is refused only where a word had to be read, and that read returned the error. The coder itself
 /// refuses none, and none before the model is asked.
 pub fn decode_or_refused_read<
     Word: WordOf<State>,
@@ -52,8 +51,8 @@ pub fn decode_or_refused_read<
 where
     M::Probability: WordOf<Word>,
     ensures { (e : Backend.ReadError) → result ≡ Err (coder_error.Backend e) →
-        (symbol : M.Symbol) × (left p : ℕ) × Has (M.table model.now) symbol left p
-        × OwesRead Word.BITS State.BITS record { precision = PRECISION; left = left; p = p } coder.old.state
+        (symbol : M.Symbol)
+        × AtEntry PRECISION (M.table model.now) symbol (λ step. OwesRead Word.BITS State.BITS step coder.old.state)
         × Backend.reads coder.old.backend (Err e) coder.new.backend }
 {
     Decode::<PRECISION>::decode_symbol(coder, model)

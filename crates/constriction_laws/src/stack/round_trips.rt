@@ -7,6 +7,7 @@
 //!
 //! - [`binary`]: any words that come back from the symbols decoded from them.
 //! - [`coding`]: list calls, said in the words of the laws.
+//! - [`compressed`]: words in compressed form that come back from the symbols decoded from them.
 //! - [`decoders`]: symbols that come back from decoders over the coder's own words.
 //! - [`lent_words`]: symbols that come back from the words that a guard shows.
 //! - [`pairs`]: symbols that have a model each.
@@ -17,6 +18,7 @@
 
 pub mod binary;
 pub mod coding;
+pub mod compressed;
 pub mod decoders;
 pub mod lent_words;
 pub mod pairs;

@@ -7,7 +7,8 @@ ghost use Rattle.std.specs.Prelude.{◌≡◌, ℕ};
 ghost use Rattle.constriction_base.specs.Steps.{Step, IsSizes, IsStep};
 ghost use Rattle.constriction_base.specs.Tables.{IsTable};
 ghost use Rattle.constriction_stack.specs.Ans.{AnsState, IsValid, IsNext, pop, IsPush};
-ghost use Rattle.constriction_laws.specs.Symbols.{Model, IsModel, Knows, Encodes, Decodes};
+ghost use Rattle.constriction_base.specs.Models.{Model, IsModel, Knows};
+ghost use Rattle.constriction_stack.specs.Symbols.{Encodes, Decodes};
 
 /// An entry can be pushed onto each valid state, in exactly one way.
 pub fn one_push()

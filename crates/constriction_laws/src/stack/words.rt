@@ -5,7 +5,7 @@ ghost use Rattle.std.specs.Prelude.{◌≡◌, ◌<◌, ◌^◌, ℕ, List, Opti
 ghost use Rattle.constriction_base.specs.Backends.{Reads};
 ghost use Rattle.constriction_base.specs.Steps.{IsSizes, AreWords};
 ghost use Rattle.constriction_stack.specs.Ans.{AnsState, IsValid, filled, exported, refilled, RefillsBy};
-ghost use Rattle.constriction_stack.specs.Steps.{FilledBy};
+ghost use Rattle.constriction_stack.specs.Imports.{FilledBy};
 
 use constriction_base::backends::{ReadWords, Stack};
 use constriction_words::BitArray;

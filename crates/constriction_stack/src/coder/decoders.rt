@@ -6,9 +6,9 @@ ghost use Rattle.constriction_base.specs.Iterators.{FusedRead};
 ghost use Rattle.constriction_base.specs.Steps.{IsSizes};
 ghost use Rattle.constriction_stack.specs.Ans.{IsCoder, filled};
 ghost use Rattle.constriction_stack.specs.Binary.{BinaryFilledBy, BinaryRefused, binary_state};
-ghost use Rattle.constriction_stack.specs.Steps.{FilledBy, ImportRefused};
+ghost use Rattle.constriction_stack.specs.Imports.{FilledBy, ImportRefused};
 ghost use Rattle.std.specs.Iterator.Adapters.{fuse_done, fuse_source};
-ghost use Rattle.std.specs.Prelude.{IfErr, IfOk, IsOk, false, length, map, reverse, ◌-◌, ◌↔◌, ◌≡◌};
+ghost use Rattle.std.specs.Prelude.{IfErr, IfOk, IsOk, OnErr, OnOk, false, length, map, reverse, ◌-◌, ◌↔◌, ◌≡◌};
 
 use crate::coder::AnsCoder;
 use crate::coder::words::CompressedDataEndsWithZeroWord;
@@ -91,6 +91,8 @@ impl<Word: WordOf<State>, State: BitArray, Backend: Holds<Word, Stack>> AnsCoder
 > {
     /// The same state over borrowed words, for reading.
     ///
+    /// # Examples
+    ///
     /// ```
     /// let mut decoder = coder.as_decoder();
     /// decoder.decode_symbol(&table)?; // what was encoded last; `coder` still holds it
@@ -114,7 +116,9 @@ impl<'a, Word: WordOf<State> + 'a, State: BitArray> AnsCoder<
     /// The coder whose words these are, as [`AnsCoder::into_compressed`] gives them. Of no words it
     /// is an empty coder.
     ///
-    /// The error comes exactly where the last word is zero.
+    /// # Errors
+    ///
+    /// `CompressedDataEndsWithZeroWord` exactly where the last word is zero.
     pub fn from_compressed_slice(
         compressed: &'a [Word],
     ) -> Result<Self, CompressedDataEndsWithZeroWord>
@@ -123,6 +127,7 @@ impl<'a, Word: WordOf<State> + 'a, State: BitArray> AnsCoder<
             new.state ≡ filled Word.BITS State.BITS 0 (map Word.number (reverse compressed.now))) }
         ensures variant { IsOk result ↔ BeginsHigh (map Word.number (reverse compressed.now)) }
         ensures buffer { IfOk result (λ new. new.backend.buf.now ≡ compressed.now) }
+        ensures coder { IfOk result (λ new. IsCoder Word.number (⟦<Cursor<Word, &'a [Word]> as Holds<Word, Stack>>⟧.words) Word.BITS State.BITS new) }
     {
         match Self::from_compressed(Cursor::new_at_write_end(compressed)) {
             Ok(decoder) => Ok(decoder),
@@ -136,6 +141,7 @@ impl<'a, Word: WordOf<State> + 'a, State: BitArray> AnsCoder<
         ensures state { result.state
             ≡ binary_state Word.BITS State.BITS (map Word.number (reverse binary.now)) }
         ensures buffer { result.backend.buf.now ≡ binary.now }
+        ensures coder { IsCoder Word.number (⟦<Cursor<Word, &'a [Word]> as Holds<Word, Stack>>⟧.words) Word.BITS State.BITS result }
     {
         match Self::from_binary(Cursor::new_at_write_end(binary)) {
             Ok(coder) => coder,
@@ -152,7 +158,11 @@ impl<Word: WordOf<State>, State: BitArray, Buf: Words<Word> + Drop> AnsCoder<
     /// The coder whose words these are, in the reverse of the order in which
     /// [`AnsCoder::into_compressed`] gives them. Of no words it is an empty coder.
     ///
-    /// The error is the buffer as it came. It comes exactly where the first word is zero.
+    /// # Errors
+    ///
+    /// The buffer as it came, exactly where the first word is zero.
+    ///
+    /// # Examples
     ///
     /// ```
     /// // words that a coder gave as [1, 2, 3, 4, 5], as a file holds them that is written from its end
@@ -164,7 +174,8 @@ impl<Word: WordOf<State>, State: BitArray, Buf: Words<Word> + Drop> AnsCoder<
             new.state ≡ filled Word.BITS State.BITS 0 (map Word.number (Buf.lent compressed))) }
         ensures variant { IsOk result ↔ BeginsHigh (map Word.number (Buf.lent compressed)) }
         ensures buffer { IfOk result (λ new. new.backend.0.buf ≡ compressed) }
-        ensures rest { IfErr result (λ rest. rest ≡ compressed) }
+        ensures coder { IfOk result (λ new. IsCoder Word.number (⟦<Reverse<Cursor<Word, Buf>> as Holds<Word, Stack>>⟧.words) Word.BITS State.BITS new) }
+        ensures err { IfErr result (λ rest. rest ≡ compressed) }
     {
         match Self::from_compressed(Reverse(Cursor::new_at_write_beginning(compressed))) {
             Ok(coder) => Ok(coder),
@@ -182,6 +193,7 @@ impl<Word: WordOf<State>, State: BitArray, Buf: Words<Word> + Drop> AnsCoder<
         ensures state { result.state
             ≡ binary_state Word.BITS State.BITS (map Word.number (Buf.lent binary)) }
         ensures buffer { result.backend.0.buf ≡ binary }
+        ensures coder { IsCoder Word.number (⟦<Reverse<Cursor<Word, Buf>> as Holds<Word, Stack>>⟧.words) Word.BITS State.BITS result }
     {
         match Self::from_binary(Reverse(Cursor::new_at_write_beginning(binary))) {
             Ok(coder) => coder,
@@ -200,14 +212,17 @@ impl<
     /// [`AnsCoder::into_compressed`] gives them. It takes words into the head until that is full; the
     /// others are taken when decoding needs them.
     ///
-    /// The error is the iterator as the reads left it. It comes exactly where the first word is zero
-    /// or where an item that was taken is an error.
+    /// # Errors
+    ///
+    /// The iterator as the reads left it, exactly where the first word is zero or where an item that was
+    /// taken is an error.
     pub fn from_reversed_compressed_iter(compressed: Iter) -> Result<Self, Fuse<Iter>>
         requires sizes { IsSizes Word.BITS State.BITS }
         requires can { Iter.can_next compressed }
         ensures reads { IfOk result (λ new.
             FilledBy Word.number (FusedRead Iter.next_gives) Word.BITS State.BITS (compressed, false)
             new.state.head new.backend) }
+        ensures coder { IfOk result (λ new. IsCoder Word.number (⟦<FallibleIteratorReadWords<Iter> as Holds<Word, Stack>>⟧.words) Word.BITS State.BITS new) }
         ensures err { IfErr result (λ rest.
             ImportRefused Word.number (FusedRead Iter.next_gives) Word.BITS State.BITS (compressed, false)
             (fuse_source rest, fuse_done rest)) }
@@ -222,13 +237,16 @@ impl<
     /// which [`AnsCoder::into_binary`] gives them. It takes words into the head until that is full;
     /// the others are taken when decoding needs them.
     ///
-    /// Errors: that of an item that was taken. The iterator is gone then.
+    /// # Errors
+    ///
+    /// That of an item that was taken. The iterator is gone then.
     pub fn from_reversed_binary_iter(binary: Iter) -> Result<Self, ReadError>
         requires sizes { IsSizes Word.BITS State.BITS }
         requires can { Iter.can_next binary }
         ensures reads { IfOk result (λ new.
             BinaryFilledBy Word.number (FusedRead Iter.next_gives) Word.BITS State.BITS (binary, false)
             new.state.head new.backend) }
+        ensures coder { IfOk result (λ new. IsCoder Word.number (⟦<FallibleIteratorReadWords<Iter> as Holds<Word, Stack>>⟧.words) Word.BITS State.BITS new) }
         ensures err { IfErr result (λ e.
             BinaryRefused Word.number (FusedRead Iter.next_gives) Word.BITS State.BITS (binary, false) e) }
     {
@@ -312,7 +330,12 @@ impl<Word: WordOf<State>, State: BitArray, Backend: Holds<Word, Stack> + Pos> Po
     ghost can_tell = { λ coder. Backend.can_tell coder.backend };
 
     /// Where the backend stands now, and the head.
-    fn pos(&self) -> (Backend::Position, State) {
+    fn pos(&self) -> (Backend::Position, State)
+        requires { Backend.can_tell self.now.backend }
+        ensures place { Backend.stands_at self.now.backend result.0 }
+        ensures head { State.number result.1 ≡ self.now.state.head }
+        ensures coder { IsCoder Word.number Backend.words Word.BITS State.BITS self.now }
+    {
         (self.bulk.pos(), self.state)
     }
 }
@@ -333,8 +356,12 @@ impl<Word: WordOf<State>, State: BitArray, Backend: Holds<Word, Stack> + Seek> S
     /// Goes to a position that was recorded before: the head that was recorded, over the words that
     /// the backend holds at its position.
     ///
-    /// Errors: `Err(())` where the backend refuses to go to its position. The head stays, and the coder is
-    /// as before where the backend is.
+    /// # Errors
+    ///
+    /// `Err(())` where the backend refuses to go to its position. The head stays, and the coder is as before
+    /// where the backend is.
+    ///
+    /// # Examples
     ///
     /// ```
     /// coder.encode_symbol(&1, &table)?;
@@ -344,7 +371,16 @@ impl<Word: WordOf<State>, State: BitArray, Backend: Holds<Word, Stack> + Seek> S
     /// decoder.seek(position); // Ok(())
     /// decoder.decode_symbol(&table)?; // 1
     /// ```
-    fn seek(&mut self, position: (Backend::Position, State)) -> Result<(), ()> {
+    fn seek(&mut self, position: (Backend::Position, State)) -> Result<(), ()>
+        ensures variant { IsOk result → Backend.can_seek self.old.backend position.0 }
+        ensures ok { OnOk result (Backend.sought self.old.backend position.0 self.new.backend
+            × (self.new.state ≡ record { head = State.number position.1; words = map Word.number (Backend.words self.new.backend) })) }
+        ensures err { OnErr result (Backend.seek_fails self.old.backend position.0) }
+        ensures kept { OnErr result (Backend.stays self.old.backend position.0 self.new.backend
+            × (self.new.state.head ≡ self.old.state.head)
+            × (self.new.backend ≡ self.old.backend → self.new ≡ self.old)) }
+        ensures coder { IsCoder Word.number Backend.words Word.BITS State.BITS self.new }
+    {
         let (place, state) = position;
         self.bulk.seek(place)?;
         self.state = state;

@@ -63,13 +63,14 @@ where
     Backend: WriteWords<Word> + ReadWords<Word, Stack>,
     Backend::ReadError: Drop,
 {
-    ghost use Rattle.constriction_stack.specs.Guarded.{lender, written};
+    ghost use Rattle.constriction_stack.specs.Guarded.{lender, lent_back, written};
 
     /// Takes the words off that were written.
     fn drop(self)
-        ensures head { self.exit.0.now.state.head ≡ (lender self.entry).now.state.head }
-        ensures restored { NeverRefused Backend.reads →
-            self.exit.0.now.state ≡ without (written self.entry) (lender self.entry).now.state }
+        ensures kept { (lent_back self.exit).now.state.head ≡ (lender self.entry).now.state.head }
+        ensures back { NeverRefused Backend.reads →
+            (lent_back self.exit).now.state ≡ without (written self.entry) (lender self.entry).now.state }
+        ensures coder { IsCoder Word.number Backend.words Word.BITS State.BITS (lent_back self.exit).now }
     {
         let CoderGuard { inner, count } = self;
         take_back::<Word, Backend>(&mut inner.bulk, count);
@@ -98,7 +99,7 @@ where
         ensures shows { OnOk result (self.new.state
             ≡ record { head = self.old.state.head; words = exported Word.BITS self.old.state }) }
         ensures back { IfOk result (λ count. without count self.new.state ≡ self.old.state) }
-        ensures left { IfErr result (λ e. LeftByRefusal (NeverRefused Backend.reads)
+        ensures kept { IfErr result (λ e. LeftByRefusal (NeverRefused Backend.reads)
             ((Backend.makes_room → ⊥) × ((last : Backend) × Backend.write_fails last e
             × PartlyExported Word.BITS self.old.state (map Word.number (Backend.words last))))
             self.old.state self.new.state) }
@@ -124,7 +125,7 @@ where
         ensures frontend { (result ≡ Err (coder_error.Frontend tt))
             ↔ ((m : ℕ) → IsBinary Word.BITS m self.old.state → ⊥) }
         ensures kept { result ≡ Err (coder_error.Frontend tt) → self.new ≡ self.old }
-        ensures left { (e : Backend.WriteError) → result ≡ Err (coder_error.Backend e) →
+        ensures taken_back { (e : Backend.WriteError) → result ≡ Err (coder_error.Backend e) →
             LeftByRefusal (NeverRefused Backend.reads)
             ((Backend.makes_room → ⊥) × ((m : ℕ) × (last : Backend) × Backend.write_fails last e
             × PartlyBinary Word.BITS m self.old.state (map Word.number (Backend.words last))))
@@ -159,9 +160,12 @@ where
     /// leading zero words. It asks the backend for room for the head's words; where the head is 0
     /// there are none. When the guard is dropped, the coder is as before.
     ///
-    /// Errors: what the backend answers where it has no room for all the head's words, or refuses
-    /// to write one of them. The words that were written before are taken off again, as far as reads
-    /// are not refused.
+    /// # Errors
+    ///
+    /// What the backend returns where it has no room for all the head's words, or refuses to write one of
+    /// them. The words that were written before are taken off again, as far as reads are not refused.
+    ///
+    /// # Examples
     ///
     /// ```
     /// {
@@ -181,7 +185,7 @@ where
             × (Backend.prepare_fails self.old.backend (count_of_words Word.BITS self.old.state.head) e
             ⊎ ((Backend.makes_room → ⊥) × ((last : Backend) × Backend.write_fails last e
             × PartlyExported Word.BITS self.old.state (map Word.number (Backend.words last)))))) }
-        ensures* left { sem 𝓛 (RestsIfErr (the_row Word.row State.row Backend.row Word.NonZero.row State.NonZero.row Word.BitArray State.BitArray Backend.Holds)
+        ensures* kept { sem 𝓛 (RestsIfErr (the_row Word.row State.row Backend.row Word.NonZero.row State.NonZero.row Word.BitArray State.BitArray Backend.Holds)
             self.entry (λ g. (lender g).ghost_name) result
             (λ after. IfErr result (λ e. LeftByRefusal (NeverRefused Backend.reads)
             ((Backend.makes_room → ⊥) × ((last : Backend) × Backend.write_fails last e
@@ -197,7 +201,8 @@ where
     /// first, zero words at the top too. It asks the backend for room for the head's words; where
     /// the head is 1 there are none. When the guard is dropped, the coder is as before.
     ///
-    /// Errors:
+    /// # Errors
+    ///
     /// - `Frontend(())` exactly where the head is 0, or its bit length less one is no multiple of
     ///   the bits of a word. Nothing changed.
     /// - `Backend(error)` where the backend has no room for all the head's words, or refuses to
@@ -217,7 +222,7 @@ where
             × (Backend.prepare_fails self.old.backend m e
             ⊎ ((Backend.makes_room → ⊥) × ((last : Backend) × Backend.write_fails last e
             × PartlyBinary Word.BITS m self.old.state (map Word.number (Backend.words last))))) }
-        ensures* left { sem 𝓛 (RestsIfErr (the_row Word.row State.row Backend.row Word.NonZero.row State.NonZero.row Word.BitArray State.BitArray Backend.Holds)
+        ensures* kept { sem 𝓛 (RestsIfErr (the_row Word.row State.row Backend.row Word.NonZero.row State.NonZero.row Word.BitArray State.BitArray Backend.Holds)
             self.entry (λ g. (lender g).ghost_name) result
             (λ after. (result ≡ Err (coder_error.Frontend tt) → after ≡ self.old)
             × ((e : Backend.WriteError) → result ≡ Err (coder_error.Backend e) →

@@ -3,7 +3,7 @@
 
 ghost use Rattle.constriction_base.specs.Steps.{Step};
 ghost use Rattle.constriction_base.specs.declared.errors.DefaultEncoderFrontendError.TheVariants.{ImpossibleSymbol};
-ghost use Rattle.constriction_stack.specs.Steps.{DecodeCall, EncodeCall};
+ghost use Rattle.constriction_stack.specs.Ans.{DecodeCall, EncodeCall, IsCoder};
 ghost use Rattle.constriction_stream.specs.Symbols.{ByBackend, DecodesSymbol, EncodesSymbol, GoesOn, HasRoom, IsBackendError, never_frontend};
 ghost use Rattle.std.specs.Bool.{OnFalse};
 ghost use Rattle.std.specs.Prelude.{IsTrue, ⊤, ◌+◌, ◌↔◌, ◌≡◌, ◌≤◌};
@@ -25,7 +25,7 @@ impl<Word: WordOf<State>, State: BitArray, Backend: Holds<Word, Stack>> Code
 
     type State = State;
 
-    ghost shows = { λ coder head. State.number head ≡ coder.state.head };
+    ghost shows = { λ coder head. (State.number head ≡ coder.state.head) × IsCoder Word.number Backend.words Word.BITS State.BITS coder };
 
     /// The head.
     #[inline]
@@ -69,9 +69,10 @@ impl<
 
     /// Puts a symbol on, under a model of `PRECISION` bits, which are those of a word at most.
     ///
-    /// It writes one word at most, and only then asks the backend for room.
+    /// It writes one word at most (the renormalization of rANS), and only then asks the backend for room.
     ///
-    /// Errors:
+    /// # Errors
+    ///
     /// - `Frontend(ImpossibleSymbol)` exactly where the model doesn't know the symbol. Nothing
     ///   changed.
     /// - `Backend(error)` only where a word had to be written, and the backend refused room for one
@@ -88,7 +89,7 @@ impl<
         ensures step { EncodesSymbol (⟦<AnsCoder<Word, State, Backend> as Encode<PRECISION>>⟧.encodes)
             (⟦<AnsCoder<Word, State, Backend> as Encode<PRECISION>>⟧.is_impossible_symbol)
             PRECISION (M.table model) symbol.now self.old result self.new }
-        ensures left { ⟦<AnsCoder<Word, State, Backend> as Encode<PRECISION>>⟧.symbols_left self.old
+        ensures fewer_left { ⟦<AnsCoder<Word, State, Backend> as Encode<PRECISION>>⟧.symbols_left self.old
             ≤ ⟦<AnsCoder<Word, State, Backend> as Encode<PRECISION>>⟧.symbols_left self.new + 1 }
     {
         let Some((left, p)) = model.left_cumulative_and_probability(symbol) else {
@@ -140,8 +141,10 @@ impl<
     /// It reads one word at most. Where no word is left, it goes on: a coder that holds nothing
     /// gives symbols without end.
     ///
-    /// Errors: `Backend(error)` only where a word had to be read and the read answered that error.
-    /// The head is as before, and so are the words of a backend that knows them.
+    /// # Errors
+    ///
+    /// `Backend(error)` only where a word had to be read and the read returned that error. The head is as
+    /// before, and so are the words of a backend that knows them.
     #[inline]
     fn decode_symbol<M>(
         &mut self,

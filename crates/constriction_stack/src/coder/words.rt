@@ -9,7 +9,7 @@ ghost use Rattle.constriction_base.specs.Steps.{IsSizes};
 ghost use Rattle.constriction_stack.specs.Ans.{AnsState, IsCoder, PartlyExported, exported, filled};
 ghost use Rattle.constriction_stack.specs.Binary.{BinaryFilledBy, BinaryRefused, IsBinary, PartlyBinary, binary_state, binary_words};
 ghost use Rattle.constriction_stack.specs.Sizes.{SizesFit, valid_bit_count};
-ghost use Rattle.constriction_stack.specs.Steps.{FilledBy, ImportRefused, ListRefused};
+ghost use Rattle.constriction_stack.specs.Imports.{FilledBy, ImportRefused, ListRefused};
 ghost use Rattle.std.specs.Int.Digits.{digits_of};
 ghost use Rattle.std.specs.Prelude.{Err, IfErr, IfOk, IsTrue, None, Ok, OnErr, OnOk, Some, [], length, map, reverse, ℕ, ◌*◌, ◌++◌, ◌<◌, ◌^◌, ◌↔◌, ◌≡◌, ◌⊎◌};
 
@@ -39,8 +39,10 @@ impl<Word: WordOf<State>, State: BitArray, Backend: ReadWords<Word, Stack>> AnsC
     /// It reads words into the head until that is full (two words, where `State` has the bits of
     /// two) or none is left.
     ///
-    /// The error is the backend as the reads left it. It comes exactly where the last word is zero
-    /// (which was then read) or where a read answered an error.
+    /// # Errors
+    ///
+    /// The backend as the reads left it, exactly where the last word is zero (which was then read) or where
+    /// a read returned an error.
     pub fn from_compressed(mut bulk: Backend) -> Result<Self, Backend>
     where
         Backend::ReadError: Drop,
@@ -91,8 +93,10 @@ impl<Word: WordOf<State>, State: BitArray, Backend: WriteWords<Word>> AnsCoder<
     /// without leading zero words. It asks the backend for room for the head's words; where the
     /// head is 0 there are none, and the backend comes back as it is.
     ///
-    /// Errors: what the backend answers where it has no room for all the head's words, or refuses
-    /// to write one of them. The coder is gone then.
+    /// # Errors
+    ///
+    /// What the backend returns where it has no room for all the head's words, or refuses to write one of
+    /// them. The coder is gone then.
     pub fn into_compressed(self) -> Result<Backend, Backend::WriteError>
     where
         Backend: Drop,
@@ -131,7 +135,11 @@ impl<Word: WordOf<State>, State: BitArray, Backend: ReadWords<Word, Stack>> AnsC
     /// It reads words into the head, below a leading 1, until that is full (one word, where `State`
     /// has the bits of two) or none is left.
     ///
-    /// Errors: that of a read. The backend is gone then.
+    /// # Errors
+    ///
+    /// That of a read. The backend is gone then.
+    ///
+    /// # Examples
     ///
     /// ```
     /// let mut coder = DefaultAnsCoder::from_binary([5u32, 0].to_vec(alloc)?)?; // head 2^32, word 5 below
@@ -173,7 +181,10 @@ impl<Word: WordOf<State>, State: BitArray, Backend: WriteWords<Word>> AnsCoder<
     /// backend for room for the head's words; where the head is 1 there are none, and the backend
     /// comes back as it is.
     ///
-    /// Errors, after which the coder is gone:
+    /// # Errors
+    ///
+    /// After each of them the coder is gone.
+    ///
     /// - `None` exactly where the head is 0, or its bit length less one is no multiple of the bits of
     ///   a word.
     /// - `Some(error)` where the backend has no room for all the head's words, or refuses to write

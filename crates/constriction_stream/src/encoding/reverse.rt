@@ -18,8 +18,10 @@ pub trait EncodeReverse<const PRECISION: usize>: Encode<PRECISION> {
     /// refused. A decoder then gives them in the order of the list. To a coder that counts symbols as many
     /// must be left as there are items.
     ///
-    /// Errors: that of the first step that is refused. Exactly the symbols behind it are encoded, and
-    /// the items before it aren't asked for.
+    /// # Errors
+    ///
+    /// That of the first step that is refused. Exactly the symbols behind it are encoded, and the items
+    /// before it aren't asked for.
     final fn encode_symbols_reverse<S, M, I>(
         &mut self,
         symbols_and_models: I,
@@ -33,7 +35,7 @@ pub trait EncodeReverse<const PRECISION: usize>: Encode<PRECISION> {
         requires { GivesAtMost (I.into_iter_gives symbols_and_models) I.IntoIter.can_next_back I.IntoIter.remaining Self.counts_symbols (Self.symbols_left self.old) }
         ensures steps { StepsUntilFault (EncodesPair Self.encodes Self.is_impossible_symbol PRECISION M.table S.lent)
             (I.into_iter_gives symbols_and_models) I.IntoIter.next_back_gives self.old result self.new }
-        ensures left { LowersByItems (I.into_iter_gives symbols_and_models) I.IntoIter.remaining (Self.symbols_left self.old) (Self.symbols_left self.new) }
+        ensures fewer_left { LowersByItems (I.into_iter_gives symbols_and_models) I.IntoIter.remaining (Self.symbols_left self.old) (Self.symbols_left self.new) }
     {
         for (symbol, model) in symbols_and_models.into_iter().rev() {
             match self.encode_symbol(symbol.lend(), model) {
@@ -47,7 +49,10 @@ pub trait EncodeReverse<const PRECISION: usize>: Encode<PRECISION> {
     /// Encodes symbols from the last to the first, each by its own model, where an item may be an error in
     /// place of both. To a coder that counts symbols as many must be left as there are items.
     ///
-    /// Errors, after which exactly the symbols behind the item are encoded:
+    /// # Errors
+    ///
+    /// After each of them exactly the symbols behind the item are encoded.
+    ///
     /// - `InvalidEntropyModel(error)`, where an item is an error. It leaves the coder.
     /// - `CodingError(error)`, where a step is refused.
     final fn try_encode_symbols_reverse<S, M, E, I>(
@@ -63,7 +68,7 @@ pub trait EncodeReverse<const PRECISION: usize>: Encode<PRECISION> {
         requires { GivesAtMost (I.into_iter_gives symbols_and_models) I.IntoIter.can_next_back I.IntoIter.remaining Self.counts_symbols (Self.symbols_left self.old) }
         ensures steps { StepsUntilFault (TriesItem (EncodesPair Self.encodes Self.is_impossible_symbol PRECISION M.table S.lent))
             (I.into_iter_gives symbols_and_models) I.IntoIter.next_back_gives self.old result self.new }
-        ensures left { LowersByItems (I.into_iter_gives symbols_and_models) I.IntoIter.remaining (Self.symbols_left self.old) (Self.symbols_left self.new) }
+        ensures fewer_left { LowersByItems (I.into_iter_gives symbols_and_models) I.IntoIter.remaining (Self.symbols_left self.old) (Self.symbols_left self.new) }
     {
         for symbol_and_model in symbols_and_models.into_iter().rev() {
             let (symbol, model) = match symbol_and_model {
@@ -82,8 +87,12 @@ pub trait EncodeReverse<const PRECISION: usize>: Encode<PRECISION> {
     /// decoder then gives them in the order of the list. To a coder that counts symbols as many must be
     /// left as there are items.
     ///
-    /// Errors: that of the first step that is refused. Exactly the symbols behind it are encoded, and
-    /// those before it aren't asked for.
+    /// # Errors
+    ///
+    /// That of the first step that is refused. Exactly the symbols behind it are encoded, and those before it
+    /// aren't asked for.
+    ///
+    /// # Examples
     ///
     /// ```
     /// coder.encode_iid_symbols_reverse([2usize, 0, 1].as_slice(), &table)?;
@@ -103,7 +112,7 @@ pub trait EncodeReverse<const PRECISION: usize>: Encode<PRECISION> {
         requires { GivesAtMost (I.into_iter_gives symbols) I.IntoIter.can_next_back I.IntoIter.remaining Self.counts_symbols (Self.symbols_left self.old) }
         ensures steps { StepsUntilFault (λ old symbol result new. EncodesSymbol Self.encodes Self.is_impossible_symbol PRECISION (M.table model) (S.lent symbol) old result new)
             (I.into_iter_gives symbols) I.IntoIter.next_back_gives self.old result self.new }
-        ensures left { LowersByItems (I.into_iter_gives symbols) I.IntoIter.remaining (Self.symbols_left self.old) (Self.symbols_left self.new) }
+        ensures fewer_left { LowersByItems (I.into_iter_gives symbols) I.IntoIter.remaining (Self.symbols_left self.old) (Self.symbols_left self.new) }
     {
         for symbol in symbols.into_iter().rev() {
             match self.encode_symbol(symbol.lend(), model) {

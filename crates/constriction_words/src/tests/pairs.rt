@@ -5,7 +5,7 @@ use crate::BitArray;
 use std::fmt::Debug;
 use std::process::Abort;
 
-/// Two words, and what the methods answer of them.
+/// Two words, and what the methods return of them.
 struct Pair<W> {
     numbers: (W, W),
     /// The sum, difference, product, quotient and remainder; `None` where the condition fails.

@@ -5,7 +5,7 @@ use crate::BitArray;
 use std::fmt::Debug;
 use std::process::Abort;
 
-/// A word, and what the methods answer of it.
+/// A word, and what the methods return of it.
 struct Single<W> {
     number: W,
     by: u32,

@@ -2,9 +2,7 @@ use Rattle.std.proofs.Common.{◌≡◌, ◌∙◌, [], ◌∷◌, ◌++◌, len
 use Rattle.std.specs.List.{zip}
 use Rattle.std.specs.Slice.Iter.{iter_rest}
 use Rattle.std.proofs.lemmas.List.{length-append}
-use Rattle.constriction_stream.specs.Lists.{StepsAll}
-use Rattle.constriction_laws.specs.Lists.{GivesPair}
-use Rattle.constriction_laws.proofs.ListCalls.{pairs_more, rest_after}
+use Rattle.constriction_laws.proofs.ListsGiven.{GavePairs, pairs_more, rest_after}
 use Rattle.constriction_laws.proofs.round_trips.decode_by_models.Goals as goal
 
 pub decode-preserved : goal.decode-preserved
@@ -26,15 +24,15 @@ decode-preserved g c =
       given.0 ∙ kept.2,
       rest_after models xs x (iter_rest after.models) model.now next ∙ ap (λ ys. drop (length ys) models) (sym more),
       omega (arith, ap length more, length-append xs (x ∷ []), kept.4, ap length given.1.1),
-      subst (λ ys. StepsAll (GivesPair g.C.Decode.decodes g.row.PRECISION table) c.into_iter-answer-iterator.result.decoder.now (zip ys models) after.decoder.now) (sym more)
+      subst (λ ys. GavePairs g.C.Decode.decodes g.C.Decode.halts g.row.PRECISION table (zip ys models) c.into_iter-answer-iterator.result.decoder.now after.decoder.now) (sym more)
           (pairs_more g.C.Decode.decodes g.C.Decode.halts g.row.PRECISION table models c.into_iter-answer-iterator.result.decoder.now xs before.decoder.now x model.now (iter_rest after.models) c.in-Some.answer after.decoder.now kept.5 next c.in-Ok.is given.1.2),
     )
 
 pub returns-clause-steps : goal.returns-clause-steps
 returns-clause-steps g c =
     let begun = ap (λ i. i.decoder.now) c.into_iter-answer-iterator.ensures.into_iter_gives ∙ c.decode_symbols-answer-items.ensures.decoder in
-    let all = subst (λ d. StepsAll (GivesPair g.C.Decode.decodes g.row.PRECISION g.M.EntropyModel.table) d (zip c.decode.symbols.items c.args.models.now) c.decode.answer-iterator.decoder.now) begun c.decode.invariant.5 in
-    subst (λ d. StepsAll (GivesPair g.C.Decode.decodes g.row.PRECISION g.M.EntropyModel.table) c.args.decoder.now (zip c.decode.symbols.items c.args.models.now) d) (search (rules, c.in-None.ensures.steps.1.1)) all
+    let all = subst (λ d. GavePairs g.C.Decode.decodes g.C.Decode.halts g.row.PRECISION g.M.EntropyModel.table (zip c.decode.symbols.items c.args.models.now) d c.decode.answer-iterator.decoder.now) begun c.decode.invariant.5 in
+    subst (λ d. GavePairs g.C.Decode.decodes g.C.Decode.halts g.row.PRECISION g.M.EntropyModel.table (zip c.decode.symbols.items c.args.models.now) c.args.decoder.now d) (search (rules, c.in-None.ensures.steps.1.1)) all
 
 pub returns-clause-count : goal.returns-clause-count
 returns-clause-count g c = omega (arith, c.decode.invariant.4, c.in-None.ensures.steps.1.0.0)

@@ -1,8 +1,7 @@
 use Rattle.std.proofs.Common.{◌≡◌, ◌+◌, length, drop}
 use Rattle.std.specs.Slice.Iter.{iter_rest}
 use Rattle.std.specs.List.{zip}
-use Rattle.constriction_stream.specs.Lists.{StepsAll}
-use Rattle.constriction_laws.specs.Lists.{GivesPair}
+use Rattle.constriction_laws.proofs.ListsGiven.{GavePairs}
 use Rattle.constriction_laws.proofs.round_trips.decode_by_models.Given as goal
 
 abbrev pub invariant-decode : goal.invariant-decode
@@ -12,4 +11,4 @@ invariant-decode g l =
     × (l.answer-iterator.decoder.ghost_name ≡ l.initial.answer-iterator.decoder.ghost_name)
     × (iter_rest l.answer-iterator.models ≡ drop (length l.symbols.items) l.fn.models)
     × (length l.symbols.items + length (iter_rest l.answer-iterator.models) ≡ length l.fn.models)
-    × StepsAll (GivesPair g.C.Decode.decodes g.row.PRECISION g.M.EntropyModel.table) l.initial.answer-iterator.decoder.now (zip l.symbols.items l.fn.models) l.answer-iterator.decoder.now
+    × GavePairs g.C.Decode.decodes g.C.Decode.halts g.row.PRECISION g.M.EntropyModel.table (zip l.symbols.items l.fn.models) l.initial.answer-iterator.decoder.now l.answer-iterator.decoder.now

@@ -1,8 +1,6 @@
 use Rattle.std.proofs.Common.{◌≡◌, ◌∙◌, [], ◌∷◌, ◌++◌, length, sym, ap, subst, arith, rules}
 use Rattle.std.proofs.lemmas.List.{length-append}
-use Rattle.constriction_stream.specs.Lists.{StepsAll}
-use Rattle.constriction_laws.specs.Lists.{GivesSymbol}
-use Rattle.constriction_laws.proofs.ListCalls.{gives_more}
+use Rattle.constriction_laws.proofs.ListsGiven.{GaveAll, gives_more}
 use Rattle.constriction_laws.proofs.round_trips.decode_list.Goals as goal
 
 pub decode-preserved : goal.decode-preserved
@@ -21,15 +19,15 @@ decode-preserved g c =
       given.0 ∙ kept.2,
       ap (λ m. m.now) given.1 ∙ kept.3,
       omega (arith, ap length more, length-append xs (x ∷ []), kept.4, given.2.0),
-      subst (λ ys. StepsAll (GivesSymbol g.C.Decode.decodes g.row.PRECISION table) c.into_iter-answer-iterator.result.decoder.now ys after.decoder.now) (sym more)
+      subst (λ ys. GaveAll g.C.Decode.decodes g.C.Decode.halts g.row.PRECISION table ys c.into_iter-answer-iterator.result.decoder.now after.decoder.now) (sym more)
           (gives_more g.C.Decode.decodes g.C.Decode.halts g.row.PRECISION table _ c.into_iter-answer-iterator.result.decoder.now xs before.decoder.now x c.in-Some.answer after.decoder.now kept.5 (ap g.M.EntropyModel.table kept.3) c.in-Ok.is given.2.1),
     )
 
 pub returns-clause-steps : goal.returns-clause-steps
 returns-clause-steps g c =
     let begun = ap (λ i. i.decoder.now) c.into_iter-answer-iterator.ensures.into_iter_gives ∙ c.decode_iid_symbols-answer-items.ensures.decoder in
-    let all = subst (λ d. StepsAll (GivesSymbol g.C.Decode.decodes g.row.PRECISION (g.M.EntropyModel.table c.args.model.now)) d c.decode.symbols.items c.decode.answer-iterator.decoder.now) begun c.decode.invariant.5 in
-    subst (λ d. StepsAll (GivesSymbol g.C.Decode.decodes g.row.PRECISION (g.M.EntropyModel.table c.args.model.now)) c.args.decoder.now c.decode.symbols.items d) (search (rules, c.in-None.ensures.steps.2.2)) all
+    let all = subst (λ d. GaveAll g.C.Decode.decodes g.C.Decode.halts g.row.PRECISION (g.M.EntropyModel.table c.args.model.now) c.decode.symbols.items d c.decode.answer-iterator.decoder.now) begun c.decode.invariant.5 in
+    subst (λ d. GaveAll g.C.Decode.decodes g.C.Decode.halts g.row.PRECISION (g.M.EntropyModel.table c.args.model.now) c.decode.symbols.items c.args.decoder.now d) (search (rules, c.in-None.ensures.steps.2.2)) all
 
 pub returns-clause-count : goal.returns-clause-count
 returns-clause-count g c = omega (arith, c.decode.invariant.4, c.in-None.ensures.steps.2.0)

@@ -1,6 +1,5 @@
 use Rattle.std.proofs.Common.{◌≡◌, ◌+◌, length}
-use Rattle.constriction_stream.specs.Lists.{StepsAll}
-use Rattle.constriction_laws.specs.Lists.{GivesSymbol}
+use Rattle.constriction_laws.proofs.ListsGiven.{GaveAll}
 use Rattle.constriction_laws.proofs.round_trips.decode_list.Given as goal
 
 abbrev pub invariant-decode : goal.invariant-decode
@@ -10,4 +9,4 @@ invariant-decode g l =
     × (l.answer-iterator.decoder.ghost_name ≡ l.initial.answer-iterator.decoder.ghost_name)
     × (l.answer-iterator.model.now ≡ l.fn.model)
     × (length l.symbols.items + l.answer-iterator.amt ≡ l.amt)
-    × StepsAll (GivesSymbol g.C.Decode.decodes g.row.PRECISION (g.M.EntropyModel.table l.fn.model)) l.initial.answer-iterator.decoder.now l.symbols.items l.answer-iterator.decoder.now
+    × GaveAll g.C.Decode.decodes g.C.Decode.halts g.row.PRECISION (g.M.EntropyModel.table l.fn.model) l.symbols.items l.initial.answer-iterator.decoder.now l.answer-iterator.decoder.now

@@ -2,8 +2,9 @@
 
 ghost use Rattle.std.specs.Prelude.{◌≡◌, ℕ, List, length, reverse, IfSome, OnOk};
 ghost use Rattle.constriction_stack.specs.Ans.{AnsState, IsValid};
-ghost use Rattle.constriction_laws.specs.Readings.{DecodesAllBy};
-ghost use Rattle.constriction_laws.specs.Symbols.{EncodesAll, DecodesAll, items_of, pairs_of};
+ghost use Rattle.constriction_laws.specs.stack.Readings.{DecodesAllBy};
+ghost use Rattle.constriction_stack.specs.Symbols.{EncodesAll, DecodesAll};
+ghost use Rattle.constriction_base.specs.Models.{items_of, pairs_of};
 
 use crate::round_trips as any_coder;
 use constriction_base::backends::{Holds, ReadWords, Stack, WriteWords};

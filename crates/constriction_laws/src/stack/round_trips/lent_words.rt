@@ -1,9 +1,9 @@
 //! Symbols that come back from the words that a coder lends by a guard.
 
 ghost use Rattle.std.specs.Prelude.{◌≡◌, List, length, reverse, IfSome};
-ghost use Rattle.constriction_base.specs.Steps.{IsSizes};
 ghost use Rattle.constriction_stack.specs.Ans.{AnsState, IsValid};
-ghost use Rattle.constriction_laws.specs.Symbols.{EncodesAll, items_of};
+ghost use Rattle.constriction_stack.specs.Symbols.{EncodesAll};
+ghost use Rattle.constriction_base.specs.Models.{items_of};
 
 use crate::stack::guards::shown_words_are_exported;
 use crate::stack::round_trips::coding::{decode_list, encode_list_reverse};
@@ -29,7 +29,6 @@ pub fn decode_lent_words<
 ) -> Option<Vec<M::Symbol>>
 where
     M::Probability: WordOf<Word>,
-    requires { IsSizes Word.BITS State.BITS }
     ensures back { (symbols : List M.Symbol) (before : AnsState) → IsValid Word.BITS State.BITS coder.old.state →
         EncodesAll Word.BITS State.BITS (items_of record { precision = PRECISION; table = M.table model.now } symbols)
         before coder.old.state → length symbols ≡ amt →
@@ -65,7 +64,6 @@ pub fn list_from_lent_words<
 ) -> Option<(Vec<M::Symbol>, Vec<M::Symbol>)>
 where
     M::Probability: WordOf<Word>,
-    requires { IsSizes Word.BITS State.BITS }
     ensures { IsValid Word.BITS State.BITS coder.old.state →
         IfSome result (λ back. (back.0.items ≡ symbols.now) × (back.1.items ≡ symbols.now) × (coder.new.state ≡ coder.old.state)) }
 {

@@ -1,7 +1,6 @@
 //! Symbols that have a model each, and come back from the words that a coder exports.
 
 ghost use Rattle.std.specs.Prelude.{◌≡◌, length, IfSome};
-ghost use Rattle.constriction_base.specs.Steps.{IsSizes};
 ghost use Rattle.constriction_stack.specs.Ans.{IsValid};
 
 use crate::stack::round_trips::coding::{decode_pairs, encode_pairs_reverse};
@@ -31,8 +30,7 @@ where
     M::Probability: WordOf<Word>,
     Backend::ReadError: Drop,
     Backend::WriteError: Drop,
-    requires sizes { IsSizes Word.BITS State.BITS }
-    requires a_model_each { length symbols.now ≡ length models.now }
+    requires { length symbols.now ≡ length models.now }
     ensures { IsValid Word.BITS State.BITS coder.state →
         IfSome result (λ back. (back.0.items ≡ symbols.now) × (back.1.state ≡ coder.state)) }
 {

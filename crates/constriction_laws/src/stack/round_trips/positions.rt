@@ -1,7 +1,6 @@
 //! Symbols that come back from recorded positions.
 
 ghost use Rattle.std.specs.Prelude.{◌≡◌, IfSome};
-ghost use Rattle.constriction_base.specs.Steps.{IsSizes};
 ghost use Rattle.constriction_stack.specs.Ans.{IsValid};
 
 use crate::stack::positions::symbols_before_a_position;
@@ -28,19 +27,16 @@ pub fn list_before_a_position<
 ) -> Option<Vec<M::Symbol>>
 where
     M::Probability: WordOf<Word>,
-    requires { IsSizes Word.BITS State.BITS }
     ensures { IsValid Word.BITS State.BITS coder.old.state → IfSome result (λ again. again.items ≡ before.now) }
 {
     let Ok(()) = encode_list_reverse(coder, before, model) else {
         return None;
     };
     let position = coder.pos();
-    let _below = coder.bulk();
     let Ok(()) = encode_list_reverse(coder, since, model) else {
         return None;
     };
     let mut decoder = coder.as_seekable_decoder();
-    let _all = decoder.bulk();
     let Ok(()) = decoder.seek(position) else {
         return None;
     };

@@ -7,7 +7,7 @@ use constriction_stack::coder::AnsCoder;
 use constriction_words::{BitArray, WordOf};
 use std::alloc::Global;
 
-/// The words that `iter_compressed` gives of a coder are those that `into_compressed` then answers, over a
+/// The words that `iter_compressed` gives of a coder are those that `into_compressed` then returns, over a
 /// backend that lends its words in the order in which they were written.
 pub fn words_shown_and_given<
     Word: WordOf<State>,

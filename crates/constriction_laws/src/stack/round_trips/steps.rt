@@ -1,7 +1,6 @@
 //! One symbol, and a coder with nothing done to it: there and back.
 
 ghost use Rattle.std.specs.Prelude.{◌≡◌, IfSome};
-ghost use Rattle.constriction_base.specs.Steps.{IsSizes};
 ghost use Rattle.constriction_stack.specs.Ans.{IsValid};
 
 use crate::stack::steps::decode_undoes_encode;
@@ -50,7 +49,6 @@ pub fn export_and_import<
 where
     Backend::ReadError: Drop,
     Backend::WriteError: Drop,
-    requires { IsSizes Word.BITS State.BITS }
     ensures { IsValid Word.BITS State.BITS coder.state →
         IfSome result (λ again. again.state ≡ coder.state) }
 {

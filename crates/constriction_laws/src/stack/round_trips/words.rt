@@ -4,7 +4,8 @@ ghost use Rattle.std.specs.Prelude.{◌≡◌, List, length, map, reverse, IfSom
 ghost use Rattle.constriction_base.specs.Steps.{IsSizes};
 ghost use Rattle.constriction_stack.specs.Ans.{AnsState, IsValid, exported, empty};
 ghost use Rattle.constriction_laws.specs.Readings.{TellsItems};
-ghost use Rattle.constriction_laws.specs.Symbols.{EncodesAll, items_of};
+ghost use Rattle.constriction_stack.specs.Symbols.{EncodesAll};
+ghost use Rattle.constriction_base.specs.Models.{items_of};
 
 use crate::stack::readings::{items_are_words, symbols_come_back_by_reads};
 use crate::stack::round_trips::coding::{decode_list, encode_list_reverse};
@@ -15,7 +16,6 @@ use constriction_base::iterators::FallibleIteratorReadWords;
 use constriction_base::model::{DecoderModel, EncoderModel, EntropyModel};
 use constriction_base::reverse::Reverse;
 use constriction_stack::coder::AnsCoder;
-use constriction_stream::coder::Code;
 use constriction_words::{BitArray, WordOf};
 use std::alloc::Global;
 
@@ -38,7 +38,6 @@ where
     M::Probability: WordOf<Word>,
     Backend::ReadError: Drop,
     Backend::WriteError: Drop,
-    requires { IsSizes Word.BITS State.BITS }
     ensures { IsValid Word.BITS State.BITS coder.state →
         IfSome result (λ back. (back.0.items ≡ symbols.now) × (back.1.state ≡ coder.state)) }
 {
@@ -162,8 +161,6 @@ where
     >::from_reversed_compressed_iter(items) else {
         return None;
     };
-    // The law asks that the head fits its type.
-    let _head = decoder.state();
     items_are_words::<Word, ReadError, Iter>();
     symbols_come_back_by_reads::<M::Symbol, Word, FallibleIteratorReadWords<Iter>>();
     decode_list(alloc, &mut decoder, amt, model)

@@ -1,4 +1,4 @@
-use Rattle.std.specs.Prelude.{◌%◌, ◌-◌, ◌^◌, [], ◌∷◌, ◌++◌, drop, map}
+use Rattle.std.specs.Prelude.{◌%◌, ◌^◌, [], ◌∷◌, ◌++◌, map}
 use Rattle.std.proofs.Common.{arith, ◌∙◌, ap, refl, inr, append-nil}
 use Rattle.constriction_base.specs.Digits.{fixed_digits}
 use Rattle.constriction_stack.proofs.BinaryForms.{fixed_less}

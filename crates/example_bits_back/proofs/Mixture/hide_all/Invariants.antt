@@ -1,9 +1,10 @@
-use Rattle.std.proofs.Common.{reverse, take}
-use Rattle.constriction.specs.Ans.{IsValid}
-use Rattle.example_bits_back.specs.Hiding.{HidesAll}
+use Rattle.std.proofs.Common.{take}
+use Rattle.constriction.specs.Steps.{InTurn}
+use Rattle.constriction.specs.stack.Ans.{IsValid}
+use Rattle.example_bits_back.specs.Hiding.{Hides}
 use Rattle.example_bits_back.proofs.Mixture.hide_all.Given as goal
 
--- the symbols before the place are hidden
+-- the symbols before the place are hidden, in a valid state
 abbrev pub invariant-symbols : goal.invariant-symbols
 invariant-symbols l =
-    IsValid 32 64 l.fn.coder.state → HidesAll l.self (reverse (take l.symbol-index l.symbols)) l.fn.coder.state l.coder.state
+    IsValid 32 64 l.fn.coder.state → InTurn (Hides l.self) (take l.symbol-index l.symbols) l.fn.coder.state l.coder.state × IsValid 32 64 l.coder.state

@@ -1,6 +1,7 @@
-use Rattle.std.proofs.Common.{◌≡◌, ℕ, List, length}
-use Rattle.constriction.specs.Ans.{AnsState, IsValid}
-use Rattle.example_bits_back.specs.Hiding.{HidesAll}
+use Rattle.std.proofs.Common.{◌≡◌, ℕ, List, length, reverse}
+use Rattle.constriction.specs.stack.Ans.{AnsState, IsValid}
+use Rattle.constriction.specs.Steps.{InTurn}
+use Rattle.example_bits_back.specs.Hiding.{Hides}
 use Rattle.example_bits_back.proofs.Runs.{Revealed}
 use Rattle.example_bits_back.proofs.Mixture.reveal_all.Given as goal
 
@@ -9,5 +10,5 @@ abbrev pub invariant-symbols : goal.invariant-symbols
 invariant-symbols l = record {
   counted : length l.symbols.items ≡ l.counter;
   revealed : (hidden : List ℕ) (before : AnsState) → length hidden ≡ l.count → IsValid 32 64 before
-      → HidesAll l.self hidden before l.fn.coder.state → Revealed l.self hidden l.symbols.items before l.coder.state;
+      → InTurn (Hides l.self) hidden before l.fn.coder.state → Revealed l.self (reverse hidden) l.symbols.items before l.coder.state;
 }

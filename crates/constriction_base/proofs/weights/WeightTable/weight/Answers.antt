@@ -1,6 +1,6 @@
 use Rattle.std.proofs.Common.{◌≡◌, ℕ, ◌+◌, ◌-◌, ◌^◌, map, length, get_or, refl, ap, arith}
 use Rattle.std.proofs.lemmas.List.{length-map}
-use Rattle.constriction_base.specs.Entries.{weight_at, ends_inside, ends_at}
+use Rattle.constriction_base.specs.laws.Weights.{weight_at, ends_inside, ends_at}
 use Rattle.std.proofs.Common.{lit<}
 use Rattle.constriction_base.proofs.weights.WeightTable.weight.Goals as goal
 

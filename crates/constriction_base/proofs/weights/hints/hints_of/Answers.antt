@@ -2,7 +2,7 @@ use Rattle.std.proofs.Common.{◌≡◌, ℕ, ◌∷◌, [], ◌+◌, ◌-◌, �
 use Rattle.std.proofs.Math.Nat.{mod-eq_of_lt, mul-le-mul_right}
 use Rattle.std.proofs.Math.Pow.{pow_mono}
 use Rattle.std.proofs.lemmas.List.{length-map}
-use Rattle.constriction_base.specs.Entries.{ends_at}
+use Rattle.constriction_base.specs.laws.Weights.{ends_at}
 use Rattle.constriction_base.specs.Hints.{AreHints, IsHint}
 use Rattle.constriction_base.proofs.HintLemmas.{hints_push, hint_of, none_above}
 use Rattle.constriction_base.proofs.Results.{none_made}

@@ -3,8 +3,8 @@ use Rattle.constriction_bench.specs.Equal.{equal_has, equal_unknown}
 use Rattle.constriction_bench.proofs.Powers.{below_power, not_below_power, moved_fits, same_in_word}
 use Rattle.constriction_bench.proofs.flat.FlatEncoderModel.left_cumulative_and_probability.Goals as goal
 
-pub returns-then-symbol-self-ne0-clause-unknown : goal.returns-then-symbol-self-ne0-clause-unknown
-returns-then-symbol-self-ne0-clause-unknown g c =
+pub returns-then-symbol-self-ne0-clause-impossible : goal.returns-then-symbol-self-ne0-clause-unknown
+returns-then-symbol-self-ne0-clause-impossible g c =
     let flat = c.args.self.now in
     λ left p has. equal_unknown flat.bits flat.shift _ left p (not_below_power c.args.symbol.now flat.bits c.if-symbol-self-ne0.true) has
 

@@ -25,7 +25,7 @@ returns-clause-ok c =
       few = c.in_ok-count.ensures.ok.1;
       total = rw c.as_slice.ensures.value at c.in_ok-table.ensures.total;
       high = rw own at (c.in-Ok.ensures.high tt);
-      popped = rw (c.in_ok-table.ensures.ok, c.as_slice.ensures.value, imported, own) at c.in_ok-symbols.ensures.ok;
+      decoded = rw (c.in_ok-table.ensures.ok, c.as_slice.ensures.value, imported, own) at c.in_ok-symbols.ensures.ok;
       counted = c.in_ok-symbols.ensures.counted;
       printed = rw c.as_slice-2.ensures.value at c.in_ok-line_of_numbers.ensures;
     }

@@ -15,7 +15,7 @@ returns-clause-ok c =
       weights_line = ap (numbers_of (2 ^ 32 - 1)) (sym c.split_line.ensures.first) ∙ c.in_ok-weights.ensures.ok ∙ ap Some (map-id c.in_ok-weights.weights.items);
       symbols_line = ap (numbers_of (2 ^ 64 - 1)) (sym (c.split_line-2.ensures.first ∙ ap first_line c.split_line.ensures.rest)) ∙ c.in_ok-symbols.ensures.ok ∙ ap Some (map-id c.in_ok-symbols.symbols.items);
       total = rw c.as_slice.ensures.value at c.in_ok-table.ensures.total;
-      pushed = rw (c.in_ok-table.ensures.ok, c.as_slice.ensures.value, c.as_slice-2.ensures.value) at encoded.1;
+      encoded = rw (c.in_ok-table.ensures.ok, c.as_slice.ensures.value, c.as_slice-2.ensures.value) at encoded.1;
       words_of_state = sym (map-reverse (λ word. word % 2 ^ 32) c.in_ok-words.words.items) ∙ encoded.2;
       printed = rw c.as_slice-3.ensures.value at c.in_ok-line_of_words.ensures;
     }

@@ -1,7 +1,7 @@
 use Rattle.std.proofs.Common.{◌∙◌}
 use Rattle.std.specs.Prelude.{reverse}
 use Rattle.std.proofs.lemmas.List.{length-reverse, reverse-reverse}
-use Rattle.constriction_laws.proofs.ListCalls.{some_weaker}
+use Rattle.constriction_laws.proofs.ListsGiven.{some_weaker}
 use Rattle.constriction_laws.proofs.callers.iterators.list_from_an_iterator.Goals as goal
 
 pub returns : goal.returns

@@ -1,7 +1,7 @@
 use Rattle.std.proofs.Common.{arith, rules}
 use Rattle.std.proofs.Common.{inl, inr}
 use Rattle.constriction_stream.proofs.Outcomes.{refused_by}
-use Rattle.constriction_stack.specs.Steps.{EncodeCall}
+use Rattle.constriction_stack.specs.Ans.{EncodeCall}
 use Rattle.constriction_laws.proofs.callers.room.step_with_room.Goals as goal
 
 pub returns : goal.returns

@@ -1,6 +1,6 @@
 use Rattle.std.proofs.Common.{arith}
 use Rattle.constriction_stream.proofs.Outcomes.{refused_by}
-use Rattle.constriction_stack.specs.Steps.{EncodeCall}
+use Rattle.constriction_stack.specs.Ans.{EncodeCall}
 use Rattle.constriction_laws.proofs.callers.room.step_without_word.Goals as goal
 
 pub returns : goal.returns

@@ -1,7 +1,7 @@
 use Rattle.std.specs.Prelude.{ℕ, ◌+◌, ◌-◌, ◌/◌, ◌%◌, ◌≤◌, ◌^◌, length, nat_lt, true, false, Bool, if◌then◌else◌, List, ◌∷◌}
 use Rattle.std.proofs.Common.{arith, ap, inl, inr}
 use Rattle.constriction_stream.proofs.Outcomes.{ok_by, refused_by}
-use Rattle.constriction_stack.specs.Steps.{EncodeCall}
+use Rattle.constriction_stack.specs.Ans.{EncodeCall}
 use Rattle.constriction_laws.proofs.callers.room.two_steps_on_cursor.Goals as goal
 
 -- a push writes one word at most

@@ -2,9 +2,10 @@ use Rattle.std.proofs.Common.{◌≡◌, ℕ, List, [], ◌∷◌, refl, sym, ap
 use Rattle.std.specs.Prelude.{reverse, map}
 use Rattle.constriction_base.specs.Steps.{IsSizes}
 use Rattle.constriction_stack.specs.Ans.{AnsState, IsValid, filled, exported, empty}
-use Rattle.constriction_laws.specs.Symbols.{Model, IsModel, Item, Encodes, Decodes, EncodesAll, DecodesAll, AreModels, models}
-use Rattle.constriction_laws.proofs.ComingBack.{empty_valid}
-use Rattle.constriction_laws.proofs.ListCalls.{encode_of, decode_of}
+use Rattle.constriction_base.specs.Models.{Model, IsModel, Item, AreModels, models}
+use Rattle.constriction_stack.specs.Symbols.{Encodes, Decodes, EncodesAll, DecodesAll}
+use Rattle.constriction_laws.proofs.stack_coder.ComingBack.{empty_valid}
+use Rattle.constriction_laws.proofs.stack_coder.ListCalls.{encode_of, decode_of}
 use Rattle.constriction_laws.proofs.callers.round_trips.two_precisions.Goals as goal
 
 abbrev item : Model ℕ → ℕ → Item ℕ
@@ -37,8 +38,8 @@ returns g c =
     let imported = c.in-Ok-from_compressed.ensures.ok tt in
     let words = c.in-Ok-into_compressed.ensures.ok in
     let start : c.in-Ok-from_compressed.decoder.state ≡ filled 8 16 0 (exported 8 c.encode_symbol-2.new.self.state) = rw words at imported in
-    let three : Decodes 8 16 second c.in-Ok-decode_symbol.b_again c.in-Ok-from_compressed.decoder.state c.decode_symbol.new.self.state = (decode_of _ _ _ _ _ 8 16 second _ _ _ c.in-Ok-decode_symbol.ensures).0 tt in
-    let four : Decodes 8 16 first c.in-Ok-decode_symbol-2.a_again c.decode_symbol.new.self.state c.decode_symbol-2.new.self.state = (decode_of _ _ _ _ _ 8 16 first _ _ _ c.in-Ok-decode_symbol-2.ensures).0 tt in
+    let three : Decodes 8 16 second c.in-Ok-decode_symbol.b_again c.in-Ok-from_compressed.decoder.state c.decode_symbol.new.self.state = (decode_of _ _ _ _ _ 8 16 second _ _ _ c.in-Ok-decode_symbol.ensures.step).0 tt in
+    let four : Decodes 8 16 first c.in-Ok-decode_symbol-2.a_again c.decode_symbol.new.self.state c.decode_symbol-2.new.self.state = (decode_of _ _ _ _ _ 8 16 first _ _ _ c.in-Ok-decode_symbol-2.ensures.step).0 tt in
     let sizes : IsSizes 8 16 = record { some_bits = lit≤ tt; two_words = lit≤ tt; whole = refl } in
     let law : Only 8 16 = λ items others state last ms h k e. c.symbols_come_back.ensures.only 8 16 items others state last sizes ms h k e in
     let back = two_back 8 16 c.args.a c.args.b c.in-Ok-decode_symbol-2.a_again c.in-Ok-decode_symbol.b_again first second

@@ -1,5 +1,5 @@
 use Rattle.constriction_stack.proofs.BinaryForms.{binary_import}
-use Rattle.constriction_laws.proofs.Exports.{binary_words_fit}
+use Rattle.constriction_laws.proofs.stack_coder.Exports.{binary_words_fit}
 use Rattle.constriction_laws.proofs.stack.binary.binary_import_of_export.Goals as goal
 
 pub returns-clause-state : goal.returns-clause-state

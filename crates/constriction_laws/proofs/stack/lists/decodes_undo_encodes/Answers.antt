@@ -1,6 +1,6 @@
-use Rattle.constriction_laws.specs.Undone.{Sizes}
+use Rattle.constriction_laws.specs.stack.Undone.{Sizes}
 use Rattle.constriction_laws.proofs.Undoing.{all_free}
-use Rattle.constriction_laws.proofs.ComingBack.{decodes_only}
+use Rattle.constriction_laws.proofs.stack_coder.ComingBack.{decodes_only}
 use Rattle.constriction_laws.proofs.stack.lists.decodes_undo_encodes.Goals as goal
 
 pub returns-clause-back : goal.returns-clause-back

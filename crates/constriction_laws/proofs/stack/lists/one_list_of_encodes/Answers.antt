@@ -1,4 +1,4 @@
-use Rattle.constriction_laws.proofs.ComingBack.{encodes_exist, encodes_unique}
+use Rattle.constriction_laws.proofs.stack_coder.ComingBack.{encodes_exist, encodes_unique}
 use Rattle.constriction_laws.proofs.stack.lists.one_list_of_encodes.Goals as goal
 
 pub returns-clause-exists : goal.returns-clause-exists

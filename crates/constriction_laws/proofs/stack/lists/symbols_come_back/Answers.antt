@@ -1,8 +1,8 @@
 use Rattle.std.proofs.Common.{subst}
 use Rattle.constriction_stack.specs.Ans.{AnsState, empty}
 use Rattle.constriction_stack.proofs.Importing.{import_export, exported_high}
-use Rattle.constriction_laws.specs.Symbols.{DecodesAll}
-use Rattle.constriction_laws.proofs.ComingBack.{encodes_exist, encoded_all_valid, empty_valid}
+use Rattle.constriction_stack.specs.Symbols.{DecodesAll}
+use Rattle.constriction_laws.proofs.stack_coder.ComingBack.{encodes_exist, encoded_all_valid, empty_valid}
 use Rattle.constriction_laws.proofs.stack.lists.symbols_come_back.Goals as goal
 
 pub returns-clause-encoded : goal.returns-clause-encoded

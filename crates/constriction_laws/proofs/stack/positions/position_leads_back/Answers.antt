@@ -1,5 +1,5 @@
 use Rattle.constriction_stack.proofs.PositionsKept.{sought_back, held_less}
-use Rattle.constriction_laws.proofs.Seeking.{encodes_grow}
+use Rattle.constriction_laws.proofs.stack_coder.Seeking.{encodes_grow}
 use Rattle.constriction_laws.proofs.stack.positions.position_leads_back.Goals as goal
 
 pub returns-clause-grows : goal.returns-clause-grows

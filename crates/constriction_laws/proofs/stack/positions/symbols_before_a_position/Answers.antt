@@ -3,9 +3,9 @@ use Rattle.std.specs.Prelude.{reverse}
 use Rattle.constriction_stack.specs.Ans.{AnsState}
 use Rattle.constriction_stack.proofs.Importing.{import_export}
 use Rattle.constriction_stack.proofs.PositionsKept.{sought_back}
-use Rattle.constriction_laws.specs.Symbols.{DecodesAll}
-use Rattle.constriction_laws.proofs.ComingBack.{encoded_all_valid}
-use Rattle.constriction_laws.proofs.Seeking.{encodes_grow}
+use Rattle.constriction_stack.specs.Symbols.{DecodesAll}
+use Rattle.constriction_laws.proofs.stack_coder.ComingBack.{encoded_all_valid}
+use Rattle.constriction_laws.proofs.stack_coder.Seeking.{encodes_grow}
 use Rattle.constriction_laws.proofs.stack.positions.symbols_before_a_position.Goals as goal
 
 pub returns-clause-decoded : goal.returns-clause-decoded

@@ -1,4 +1,4 @@
-use Rattle.constriction_laws.proofs.Readings.{decode_told, decodes_told}
+use Rattle.constriction_laws.proofs.stack_coder.Readings.{decode_told, decodes_told}
 use Rattle.constriction_laws.proofs.stack.readings.decodes_are_words.Goals as goal
 
 pub returns-clause-one : goal.returns-clause-one

@@ -1,4 +1,4 @@
-use Rattle.constriction_laws.proofs.Readings.{item_read}
+use Rattle.constriction_laws.proofs.stack_coder.Readings.{item_read}
 use Rattle.constriction_laws.proofs.stack.readings.items_are_words.Goals as goal
 
 pub returns : goal.returns

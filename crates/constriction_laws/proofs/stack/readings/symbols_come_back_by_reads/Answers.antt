@@ -1,7 +1,7 @@
 use Rattle.std.proofs.Common.{◌≡◌, ℕ, List, sym, ap, ◌∙◌, subst}
 use Rattle.constriction_stack.specs.Ans.{AnsState, filled, exported}
-use Rattle.constriction_laws.specs.Readings.{told}
-use Rattle.constriction_laws.specs.Symbols.{DecodesAll}
+use Rattle.constriction_laws.specs.stack.Readings.{told}
+use Rattle.constriction_stack.specs.Symbols.{DecodesAll}
 use Rattle.constriction_laws.proofs.stack.readings.symbols_come_back_by_reads.Goals as goal
 
 pub returns : goal.returns

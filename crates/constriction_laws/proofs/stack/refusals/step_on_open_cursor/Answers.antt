@@ -1,8 +1,8 @@
 use Rattle.std.proofs.Common.{◌≡◌, ◌-◌, length, take, inl, inr}
 use Rattle.std.specs.Prelude.{reverse}
 use Rattle.constriction_base.specs.declared.errors.BoundedWriteError.TheVariants.{OutOfSpace}
-use Rattle.constriction_stack.specs.Steps.{EncodeCall}
-use Rattle.constriction_laws.proofs.ListCalls.{some_both}
+use Rattle.constriction_stack.specs.Ans.{EncodeCall}
+use Rattle.constriction_laws.proofs.ListsGiven.{some_both}
 use Rattle.constriction_laws.proofs.HavingRoom.{only_impossible}
 use Rattle.constriction_laws.proofs.stack.refusals.step_on_open_cursor.Goals as goal
 

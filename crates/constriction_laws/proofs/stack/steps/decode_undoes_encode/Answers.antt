@@ -1,5 +1,5 @@
-use Rattle.constriction_laws.specs.Undone.{decode_back}
-use Rattle.constriction_laws.proofs.Choosing.{decode_only}
+use Rattle.constriction_laws.specs.stack.Undone.{decode_back}
+use Rattle.constriction_laws.proofs.stack_coder.Choosing.{decode_only}
 use Rattle.constriction_laws.proofs.stack.steps.decode_undoes_encode.Goals as goal
 
 pub returns-clause-back : goal.returns-clause-back

@@ -1,5 +1,5 @@
-use Rattle.constriction_laws.specs.Undone.{encode_back, decoded_valid}
-use Rattle.constriction_laws.proofs.Choosing.{encode_only}
+use Rattle.constriction_laws.specs.stack.Undone.{encode_back, decoded_valid}
+use Rattle.constriction_laws.proofs.stack_coder.Choosing.{encode_only}
 use Rattle.constriction_laws.proofs.stack.steps.encode_undoes_decode.Goals as goal
 
 pub returns-clause-back : goal.returns-clause-back

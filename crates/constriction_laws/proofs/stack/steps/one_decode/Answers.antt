@@ -1,4 +1,4 @@
-use Rattle.constriction_laws.proofs.Choosing.{decode_exists, decode_unique}
+use Rattle.constriction_laws.proofs.stack_coder.Choosing.{decode_exists, decode_unique}
 use Rattle.constriction_laws.proofs.stack.steps.one_decode.Goals as goal
 
 pub returns-clause-exists : goal.returns-clause-exists

@@ -1,4 +1,4 @@
-use Rattle.constriction_laws.proofs.Choosing.{encode_exists, encode_unique}
+use Rattle.constriction_laws.proofs.stack_coder.Choosing.{encode_exists, encode_unique}
 use Rattle.constriction_laws.proofs.stack.steps.one_encode.Goals as goal
 
 pub returns-clause-exists : goal.returns-clause-exists

@@ -1,5 +1,5 @@
 use Rattle.constriction_stack.proofs.Importing.{import_export, exported_high}
-use Rattle.constriction_laws.proofs.Exports.{exported_words}
+use Rattle.constriction_laws.proofs.stack_coder.Exports.{exported_words}
 use Rattle.constriction_laws.proofs.stack.words.import_of_export.Goals as goal
 
 pub returns-clause-state : goal.returns-clause-state

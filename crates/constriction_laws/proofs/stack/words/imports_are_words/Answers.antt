@@ -1,4 +1,4 @@
-use Rattle.constriction_laws.proofs.Readings.{filled_words}
+use Rattle.constriction_laws.proofs.stack_coder.Readings.{filled_words}
 use Rattle.constriction_laws.proofs.stack.words.imports_are_words.Goals as goal
 
 pub returns : goal.returns

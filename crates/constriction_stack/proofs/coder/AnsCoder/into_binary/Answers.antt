@@ -1,4 +1,4 @@
-use Rattle.std.specs.Prelude.{◌≡◌, [], Ok, map}
+use Rattle.std.specs.Prelude.{◌≡◌, [], Ok}
 use Rattle.std.proofs.Common.{ap, inl, inr, refl}
 use Rattle.std.proofs.lemmas.Bool.{false≢true}
 use Rattle.constriction_stack.proofs.BinaryForms.{no_words_of_one, one_is_binary}

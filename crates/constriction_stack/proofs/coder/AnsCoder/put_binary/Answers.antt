@@ -1,4 +1,4 @@
-use Rattle.std.specs.Prelude.{◌≡◌, ℕ, List, map}
+use Rattle.std.specs.Prelude.{◌≡◌, List, map}
 use Rattle.std.proofs.Common.{ap, inl, inr, refl, sym}
 use Rattle.constriction_stack.specs.Ans.{AnsState}
 use Rattle.constriction_stack.proofs.Guards.{shown_binary, taken_off}
@@ -25,8 +25,8 @@ returns-clause-frontend g c = rw (← c.self.view_is) (λ is m i. absurd cc, λ 
 pub returns-in-Err-clause-frontend : goal.returns-in-Err-clause-frontend
 returns-in-Err-clause-frontend g c = rw (← c.self.view_is) (λ is m i. absurd cc, λ none. absurd (none c.in-Some.count (c.in-Some.ensures.some _)))
 
-pub returns-in-Err-clause-left : goal.returns-in-Err-clause-left
-returns-in-Err-clause-left g c =
+pub returns-in-Err-clause-taken_back : goal.returns-in-Err-clause-taken_back
+returns-in-Err-clause-taken_back g c =
     let number = g.Word.BitArray.number in
     let head = g.State.BitArray.number c.self.inside.state in
     let state : List g.row.Word.Denot → AnsState = λ ws. record { head = head; words = map number ws } in

@@ -1,4 +1,4 @@
-use Rattle.std.specs.Prelude.{ℕ, List, map}
+use Rattle.std.specs.Prelude.{List, map}
 use Rattle.std.proofs.Common.{ap, inl, inr, refl, sym}
 use Rattle.constriction_stack.specs.Ans.{AnsState}
 use Rattle.constriction_stack.proofs.Guards.{shown_compressed, partly_compressed, taken_off}
@@ -16,8 +16,8 @@ pub returns-clause-back : goal.returns-clause-back
 returns-clause-back g c =
     rw (← c.self.view_is) (sym (taken_off g.Word.BitArray.number (g.State.BitArray.number c.self.inside.state) c.count_of_words-count.result (g.Backend.Holds.words c.show_words.new.bulk) (g.Backend.Holds.words c.self.inside.bulk) (sym c.in-Ok.ensures.ok.1)))
 
-pub returns-in-Err-clause-left : goal.returns-in-Err-clause-left
-returns-in-Err-clause-left g c =
+pub returns-in-Err-clause-kept : goal.returns-in-Err-clause-kept
+returns-in-Err-clause-kept g c =
     let w = g.Word.BitArray.BITS in
     let number = g.Word.BitArray.number in
     let head = g.State.BitArray.number c.self.inside.state in

@@ -11,8 +11,8 @@ loop-symbol-preserved g c =
       StepsAll-more (λ old symbol result new. EncodesSymbol g.Self.Encode.encodes g.Self.Encode.is_impossible_symbol g.row.PRECISION (g.M.EntropyModel.table c.args.model) (g.S.Lent.lent symbol) old result new)
           c.args.self.now c.loop-symbol.yielded c.loop-symbol.self c.in-Some.symbol c.encode_symbol.new.self
           c.loop-symbol.invariant.2 (rw c.lend.ensures at c.in-Ok.ensures.step),
-      omega (arith, on.2, c.encode_symbol.ensures.left, c.loop-symbol.invariant.3),
-      omega (arith, on.2, c.encode_symbol.ensures.left, c.loop-symbol.invariant.4),
+      omega (arith, on.2, c.encode_symbol.ensures.fewer_left, c.loop-symbol.invariant.3),
+      omega (arith, on.2, c.encode_symbol.ensures.fewer_left, c.loop-symbol.invariant.4),
     )
 
 pub loop-symbol-init : goal.loop-symbol-init
@@ -30,7 +30,7 @@ returns g c = record {
     c.loop-symbol.invariant.2,
     (refl, (c.next.new.self, (c.loop-symbol.symbol-iterator, c.loop-symbol.yielded_by, c.in-None.ensures.steps))),
   );
-  left = λ count most. omega (arith, most c.into_iter-symbol-iterator.result c.into_iter-symbol-iterator.ensures.into_iter_gives, c.loop-symbol.invariant.4);
+  fewer_left = λ count most. omega (arith, most c.into_iter-symbol-iterator.result c.into_iter-symbol-iterator.ensures.into_iter_gives, c.loop-symbol.invariant.4);
 }
 
 pub returns-in-Err : goal.returns-in-Err
@@ -43,5 +43,5 @@ returns-in-Err g c = record {
     c.loop-symbol.invariant.2,
     (c.in-Some.symbol, c.next.new.self, (c.loop-symbol.symbol-iterator, c.loop-symbol.yielded_by, c.in-Some.ensures.steps), rw c.lend.ensures at c.in-Err.ensures.step),
   );
-  left = λ count most. omega (arith, most c.into_iter-symbol-iterator.result c.into_iter-symbol-iterator.ensures.into_iter_gives, (c.in-Some.ensures.goes.on c.loop-symbol.invariant.1).2, c.encode_symbol.ensures.left, c.loop-symbol.invariant.4);
+  fewer_left = λ count most. omega (arith, most c.into_iter-symbol-iterator.result c.into_iter-symbol-iterator.ensures.into_iter_gives, (c.in-Some.ensures.goes.on c.loop-symbol.invariant.1).2, c.encode_symbol.ensures.fewer_left, c.loop-symbol.invariant.4);
 }

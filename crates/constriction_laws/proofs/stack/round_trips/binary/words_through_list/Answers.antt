@@ -2,10 +2,11 @@ use Rattle.std.proofs.Common.{◌∙◌, ap, subst, arith, map}
 use Rattle.std.specs.Prelude.{reverse}
 use Rattle.constriction_stack.specs.Binary.{binary_state, binary_words}
 use Rattle.constriction_stack.proofs.BinaryForms.{binary_valid}
-use Rattle.constriction_laws.specs.Symbols.{Model, IsModel, EncodesAll, DecodesAll, item_of, items_of}
-use Rattle.constriction_laws.proofs.ComingBack.{map-reverse}
-use Rattle.constriction_laws.proofs.ListCalls.{words_fit}
-use Rattle.constriction_laws.proofs.SameModel.{are_models}
+use Rattle.constriction_base.specs.Models.{Model, IsModel, item_of, items_of}
+use Rattle.constriction_stack.specs.Symbols.{EncodesAll, DecodesAll}
+use Rattle.constriction_laws.proofs.stack_coder.ComingBack.{map-reverse}
+use Rattle.constriction_laws.proofs.ListsGiven.{words_fit}
+use Rattle.constriction_laws.proofs.stack_coder.SameModel.{are_models}
 use Rattle.constriction_laws.proofs.stack.round_trips.binary.words_through_list.Goals as goal
 
 pub returns : goal.returns

@@ -1,6 +1,7 @@
 use Rattle.std.proofs.Common.{◌∙◌, sym, arith}
-use Rattle.constriction_laws.specs.Symbols.{Model, IsModel, item_of}
-use Rattle.constriction_laws.proofs.ListCalls.{decodes_of, back_of, some_weaker, some_both}
+use Rattle.constriction_base.specs.Models.{Model, IsModel, item_of}
+use Rattle.constriction_laws.proofs.ListsGiven.{some_weaker, some_both}
+use Rattle.constriction_laws.proofs.stack_coder.ListCalls.{decodes_of, back_of}
 use Rattle.constriction_laws.proofs.stack.round_trips.coding.decode_list.Goals as goal
 
 pub returns-clause-decoded : goal.returns-clause-decoded

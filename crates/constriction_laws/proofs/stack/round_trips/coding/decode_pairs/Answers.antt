@@ -1,8 +1,9 @@
 use Rattle.std.proofs.Common.{arith}
 use Rattle.std.specs.List.{zip}
-use Rattle.constriction_laws.specs.Symbols.{item_of}
-use Rattle.constriction_laws.proofs.ListCalls.{decodes_of, some_weaker, some_both}
-use Rattle.constriction_laws.proofs.PairCalls.{pairs_back}
+use Rattle.constriction_base.specs.Models.{item_of}
+use Rattle.constriction_laws.proofs.ListsGiven.{some_weaker, some_both}
+use Rattle.constriction_laws.proofs.stack_coder.ListCalls.{decodes_of}
+use Rattle.constriction_laws.proofs.stack_coder.PairCalls.{pairs_back}
 use Rattle.constriction_laws.proofs.stack.round_trips.coding.decode_pairs.Goals as goal
 
 pub returns-clause-decoded : goal.returns-clause-decoded

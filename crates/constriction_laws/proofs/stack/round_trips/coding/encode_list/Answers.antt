@@ -1,8 +1,9 @@
 use Rattle.std.proofs.Common.{map, subst}
 use Rattle.std.proofs.lemmas.Result.{MatchResult-weaker}
 use Rattle.std.proofs.lemmas.Iterator.{items_from_drains, YieldsList-from_slice}
-use Rattle.constriction_laws.specs.Symbols.{Model, EncodesAll, items_of, item_of}
-use Rattle.constriction_laws.proofs.ListCalls.{encodes_of}
+use Rattle.constriction_base.specs.Models.{Model, items_of, item_of}
+use Rattle.constriction_stack.specs.Symbols.{EncodesAll}
+use Rattle.constriction_laws.proofs.stack_coder.ListCalls.{encodes_of}
 use Rattle.constriction_laws.proofs.stack.round_trips.coding.encode_list.Goals as goal
 
 pub returns : goal.returns

@@ -1,8 +1,10 @@
 use Rattle.std.proofs.Common.{◌≡◌, subst, map}
 use Rattle.std.specs.Prelude.{reverse}
 use Rattle.std.proofs.lemmas.Result.{MatchResult-weaker}
-use Rattle.constriction_laws.specs.Symbols.{Model, EncodesAll, items_of, item_of}
-use Rattle.constriction_laws.proofs.ListCalls.{all_from_back, encodes_of}
+use Rattle.constriction_base.specs.Models.{Model, items_of, item_of}
+use Rattle.constriction_stack.specs.Symbols.{EncodesAll}
+use Rattle.constriction_laws.proofs.ListsGiven.{all_from_back}
+use Rattle.constriction_laws.proofs.stack_coder.ListCalls.{encodes_of}
 use Rattle.constriction_laws.proofs.stack.round_trips.coding.encode_list_reverse.Goals as goal
 
 pub returns : goal.returns

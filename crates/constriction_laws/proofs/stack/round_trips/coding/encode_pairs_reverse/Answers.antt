@@ -4,10 +4,11 @@ use Rattle.std.specs.List.{zip}
 use Rattle.std.specs.Iterator.Adapters.{zip_first, zip_second}
 use Rattle.std.specs.Slice.Iter.{iter_rest}
 use Rattle.std.proofs.lemmas.Result.{MatchResult-weaker}
-use Rattle.constriction_laws.specs.Symbols.{Item, EncodesAll, item_of}
-use Rattle.constriction_laws.proofs.ComingBack.{map-reverse}
-use Rattle.constriction_laws.proofs.ListCalls.{encodes_of}
-use Rattle.constriction_laws.proofs.PairCalls.{all_pairs_from_back}
+use Rattle.constriction_base.specs.Models.{Item, item_of}
+use Rattle.constriction_stack.specs.Symbols.{EncodesAll}
+use Rattle.constriction_laws.proofs.stack_coder.ComingBack.{map-reverse}
+use Rattle.constriction_laws.proofs.stack_coder.ListCalls.{encodes_of}
+use Rattle.constriction_laws.proofs.stack_coder.PairCalls.{all_pairs_from_back}
 use Rattle.constriction_laws.proofs.stack.round_trips.coding.encode_pairs_reverse.Goals as goal
 
 pub returns : goal.returns

@@ -1,7 +1,8 @@
 use Rattle.std.proofs.Common.{◌∙◌, sym, subst}
 use Rattle.std.specs.Prelude.{reverse}
 use Rattle.std.proofs.lemmas.List.{length-reverse, reverse-reverse}
-use Rattle.constriction_laws.specs.Symbols.{Model, EncodesAll, items_of}
+use Rattle.constriction_base.specs.Models.{Model, items_of}
+use Rattle.constriction_stack.specs.Symbols.{EncodesAll}
 use Rattle.constriction_laws.proofs.stack.round_trips.decoders.list_into_seekable_decoder.Goals as goal
 
 pub returns : goal.returns

@@ -1,8 +1,9 @@
 use Rattle.std.proofs.Common.{◌∙◌, ap, sym, subst}
 use Rattle.std.specs.Prelude.{reverse}
 use Rattle.constriction_stack.specs.Ans.{filled}
-use Rattle.constriction_laws.specs.Symbols.{EncodesAll, pairs_of}
-use Rattle.constriction_laws.proofs.ComingBack.{encoded_all_valid}
+use Rattle.constriction_stack.specs.Symbols.{EncodesAll}
+use Rattle.constriction_base.specs.Models.{pairs_of}
+use Rattle.constriction_laws.proofs.stack_coder.ComingBack.{encoded_all_valid}
 use Rattle.constriction_laws.proofs.stack.round_trips.pairs.pairs_through_words.Goals as goal
 
 pub returns : goal.returns
@@ -15,6 +16,6 @@ returns g c = λ valid.
     let coded = c.in-Ok.ensures valid in
     let full = encoded_all_valid w s items c.args.coder.state state valid coded in
     let imported = c.in-Ok-from_compressed.ensures.ok g.met.Backend.WriteWords.knows_words ∙ ap (λ ws. filled w s 0 ws) c.in-Ok-into_compressed.ensures.ok
-    ∙ c.import_of_export.ensures.state w s state c.requires.sizes full in
+    ∙ c.import_of_export.ensures.state w s state c.in-Ok-into_compressed.ensures.coder.sizes full in
     c.in_ok-again.ensures.back g.met.Backend.WriteWords.knows_words symbols c.args.coder.state
-    (subst (λ x. EncodesAll w s items c.args.coder.state x) (sym imported) coded) c.requires.a_model_each
+    (subst (λ x. EncodesAll w s items c.args.coder.state x) (sym imported) coded) c.requires

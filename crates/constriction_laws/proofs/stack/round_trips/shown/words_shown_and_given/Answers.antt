@@ -2,7 +2,7 @@ use Rattle.std.proofs.Common.{◌≡◌, ◌∙◌, ℕ, List, ◌++◌, map, sy
 use Rattle.std.specs.Prelude.{reverse}
 use Rattle.std.proofs.lemmas.List.{append-nil, reverse-reverse}
 use Rattle.constriction_stack.specs.Ans.{exported}
-use Rattle.constriction_laws.proofs.ComingBack.{map-reverse}
+use Rattle.constriction_laws.proofs.stack_coder.ComingBack.{map-reverse}
 use Rattle.constriction_laws.proofs.stack.round_trips.shown.words_shown_and_given.Goals as goal
 
 pub returns : goal.returns

@@ -1,9 +1,9 @@
-use Rattle.std.proofs.Common.{◌^◌, ◌<◌, subst, arith}
+use Rattle.std.proofs.Common.{arith}
 use Rattle.std.specs.Prelude.{false}
 use Rattle.constriction_laws.specs.Readings.{words_left}
-use Rattle.constriction_laws.specs.Symbols.{Model, IsModel, items_of}
-use Rattle.constriction_laws.proofs.SameModel.{are_models, models_turned, symbols_turned}
-use Rattle.constriction_laws.proofs.ListCalls.{some_both}
+use Rattle.constriction_base.specs.Models.{Model, IsModel, items_of}
+use Rattle.constriction_laws.proofs.stack_coder.SameModel.{are_models, models_turned, symbols_turned}
+use Rattle.constriction_laws.proofs.ListsGiven.{some_both}
 use Rattle.constriction_laws.proofs.stack.round_trips.words.list_from_items.Goals as goal
 
 pub returns : goal.returns
@@ -13,9 +13,8 @@ returns g c = λ words symbols state tells coded same count.
     let sized = g.met.M.EntropyModel.sized c.args.model.now in
     let model : Model g.row.M-Symbol.Denot = record { precision = g.row.PRECISION; table = g.M.EntropyModel.table c.args.model.now } in
     let lawful : IsModel w model = record { some_bits = sized.0; within_word = omega (arith, sized.1, g.met.M.Probability.WordOf.width_law); lawful = g.M.EntropyModel.lawful c.args.model.now } in
-    let fits : c.in-Ok.decoder.state.head < 2 ^ s = subst (λ n. n < 2 ^ s) c.state-head.ensures (g.met.State.BitArray.number_law c.state-head.result) in
     some_both c.decode_list.result c.decode_list.ensures.count c.decode_list.ensures.read (λ again many read.
     (let turned = models_turned model symbols again.items (omega (arith, many, count)) in
     let back = c.symbols_come_back_by_reads.ensures (words_left words) w s (items_of model symbols) (items_of model again.items) state (c.args.items, false) c.in-Ok.decoder c.decode_list.new.coder
-    c.requires.sizes (are_models w model symbols lawful) (c.items_are_words.ensures words tells) coded same c.in-Ok.ensures.reads fits read turned in
+    c.requires.sizes (are_models w model symbols lawful) (c.items_are_words.ensures words tells) coded same c.in-Ok.ensures.reads c.in-Ok.ensures.coder.head_fits read turned in
     symbols_turned model symbols again.items back.0))

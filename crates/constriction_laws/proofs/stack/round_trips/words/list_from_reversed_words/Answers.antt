@@ -1,8 +1,9 @@
 use Rattle.std.proofs.Common.{◌∙◌, ap, sym, subst}
 use Rattle.constriction_stack.specs.Ans.{filled, empty}
-use Rattle.constriction_laws.specs.Symbols.{Model, EncodesAll, items_of}
-use Rattle.constriction_laws.proofs.ComingBack.{encoded_all_valid, empty_valid}
-use Rattle.constriction_laws.proofs.ListCalls.{some_weaker}
+use Rattle.constriction_base.specs.Models.{Model, items_of}
+use Rattle.constriction_stack.specs.Symbols.{EncodesAll}
+use Rattle.constriction_laws.proofs.stack_coder.ComingBack.{encoded_all_valid, empty_valid}
+use Rattle.constriction_laws.proofs.ListsGiven.{some_weaker}
 use Rattle.constriction_laws.proofs.stack.round_trips.words.list_from_reversed_words.Goals as goal
 
 pub returns : goal.returns

@@ -2,8 +2,9 @@ use Rattle.std.proofs.Common.{◌∙◌, ap, sym, subst}
 use Rattle.std.specs.Prelude.{reverse}
 use Rattle.std.proofs.lemmas.List.{length-reverse, reverse-reverse}
 use Rattle.constriction_stack.specs.Ans.{filled}
-use Rattle.constriction_laws.specs.Symbols.{Model, EncodesAll, items_of}
-use Rattle.constriction_laws.proofs.ComingBack.{encoded_all_valid}
+use Rattle.constriction_base.specs.Models.{Model, items_of}
+use Rattle.constriction_stack.specs.Symbols.{EncodesAll}
+use Rattle.constriction_laws.proofs.stack_coder.ComingBack.{encoded_all_valid}
 use Rattle.constriction_laws.proofs.stack.round_trips.words.list_through_words.Goals as goal
 
 pub returns : goal.returns
@@ -16,7 +17,7 @@ returns g c = λ valid.
     let coded = c.in-Ok.ensures valid in
     let full = encoded_all_valid w s (items_of model (reverse symbols)) c.args.coder.state state valid coded in
     let imported = c.in-Ok-from_compressed.ensures.ok g.met.Backend.WriteWords.knows_words ∙ ap (λ ws. filled w s 0 ws) c.in-Ok-into_compressed.ensures.ok
-    ∙ c.import_of_export.ensures.state w s state c.requires full in
+    ∙ c.import_of_export.ensures.state w s state c.in-Ok-into_compressed.ensures.coder.sizes full in
     let back = c.in_ok-again.ensures.back g.met.Backend.WriteWords.knows_words (reverse symbols) c.args.coder.state
     (subst (λ x. EncodesAll w s (items_of model (reverse symbols)) c.args.coder.state x) (sym imported) coded) (length-reverse symbols) in
     (back.0 ∙ reverse-reverse symbols, back.1)

@@ -1,8 +1,9 @@
 use Rattle.std.proofs.Common.{sym, subst}
 use Rattle.std.specs.Prelude.{reverse}
 use Rattle.constriction_stack.specs.Ans.{IsValid}
-use Rattle.constriction_laws.specs.Symbols.{Model, EncodesAll, items_of}
-use Rattle.constriction_laws.proofs.ComingBack.{empty_valid}
+use Rattle.constriction_base.specs.Models.{Model, items_of}
+use Rattle.constriction_stack.specs.Symbols.{EncodesAll}
+use Rattle.constriction_laws.proofs.stack_coder.ComingBack.{empty_valid}
 use Rattle.constriction_laws.proofs.stack.round_trips.words.words_of_list.Goals as goal
 
 pub returns : goal.returns

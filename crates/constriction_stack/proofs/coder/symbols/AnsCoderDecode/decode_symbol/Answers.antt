@@ -1,6 +1,6 @@
 use Rattle.std.specs.Prelude.{◌≡◌, ℕ, ◌%◌, ◌^◌, ◌≤◌, Ok, Err}
 use Rattle.std.proofs.Common.{arith, ◌∙◌, sym, refl, inr}
-use Rattle.constriction_base.specs.Entries.{in_range}
+use Rattle.constriction_base.proofs.Entries.{in_range}
 use Rattle.constriction_stack.proofs.Coders.{is_coder}
 use Rattle.constriction_base.proofs.Heads.{low_in_word}
 use Rattle.constriction_stack.proofs.coder.symbols.AnsCoderDecode.decode_symbol.Goals as goal
@@ -20,25 +20,27 @@ returns-in-Ok g c =
     let quantile = quantile_is g.Word.BitArray.BITS g.M.Probability.BitArray.BITS g.row.PRECISION (g.State.BitArray.number c.self.inside.state) _
     (omega (arith, sized.1, g.met.M.Probability.WordOf.width_law)) sized.1 (rw (c.narrow.ensures, c.low_bits.ensures) at c.narrow-quantile.ensures) in
     let covers = c.quantile_function-symbol.ensures.covers in
-    rw (← c.self.view_is) (
-      _,
-      _,
-      c.quantile_function-symbol.ensures.found,
-      (
-        Ok tt,
-        record {
-          before = is_coder _ _ _ _ _ _ c.self.invariant (g.met.State.BitArray.number_law _);
-          after = is_coder _ _ _ _ _ _ c.self.invariant (g.met.State.BitArray.number_law _);
-          holds = record { from = rw quantile at covers.0; below = rw quantile at covers.1 };
-          popped = λ list. sym (rw (c.popped_head-head.ensures, c.widen-2.ensures, c.widen.ensures, c.widen-4.ensures, c.widen-3.ensures, c.from_nonzero-p.ensures) at c.in-Ok.ensures.list list);
-          refilled = rw (c.popped_head-head.ensures, c.widen-2.ensures, c.widen.ensures, c.widen-4.ensures, c.widen-3.ensures, c.from_nonzero-p.ensures) at c.in-Ok.ensures.reads;
-          head = tt;
-          kept = tt;
-          error = tt;
-        },
-        refl,
-      ),
-    )
+    record {
+      step = rw (← c.self.view_is) (
+        _,
+        _,
+        c.quantile_function-symbol.ensures.found,
+        (
+          Ok tt,
+          record {
+            before = is_coder _ _ _ _ _ _ c.self.invariant (g.met.State.BitArray.number_law _);
+            after = is_coder _ _ _ _ _ _ c.self.invariant (g.met.State.BitArray.number_law _);
+            holds = record { from = rw quantile at covers.0; below = rw quantile at covers.1 };
+            popped = λ list. sym (rw (c.popped_head-head.ensures, c.widen-2.ensures, c.widen.ensures, c.widen-4.ensures, c.widen-3.ensures, c.from_nonzero-p.ensures) at c.in-Ok.ensures.list list);
+            refilled = rw (c.popped_head-head.ensures, c.widen-2.ensures, c.widen.ensures, c.widen-4.ensures, c.widen-3.ensures, c.from_nonzero-p.ensures) at c.in-Ok.ensures.reads;
+            head = tt;
+            kept = tt;
+            error = tt;
+          },
+          refl,
+        ),
+      );
+    }
 
 pub returns : goal.returns
 returns g c =
@@ -46,23 +48,27 @@ returns g c =
     let quantile = quantile_is g.Word.BitArray.BITS g.M.Probability.BitArray.BITS g.row.PRECISION (g.State.BitArray.number c.self.inside.state) _
     (omega (arith, sized.1, g.met.M.Probability.WordOf.width_law)) sized.1 (rw (c.narrow.ensures, c.low_bits.ensures) at c.narrow-quantile.ensures) in
     let covers = c.quantile_function-symbol.ensures.covers in
-    rw (← c.self.view_is) (inr (
-      _,
-      _,
-      _,
-      c.quantile_function-symbol.ensures.found,
-      (
-        Err c.in-Err.error,
-        record {
-          before = is_coder _ _ _ _ _ _ c.self.invariant (g.met.State.BitArray.number_law _);
-          after = is_coder _ _ _ _ _ _ c.self.invariant (g.met.State.BitArray.number_law _);
-          holds = record { from = rw quantile at covers.0; below = rw quantile at covers.1 };
-          popped = tt;
-          refilled = tt;
-          head = refl;
-          kept = λ list. rw (c.in-Err.ensures.list list) refl;
-          error = rw (c.popped_head-head.ensures, c.widen-2.ensures, c.widen.ensures, c.widen-4.ensures, c.widen-3.ensures, c.from_nonzero-p.ensures) at c.in-Err.ensures.reads;
-        },
-        refl,
-      ),
-    ))
+    record {
+      step = rw (← c.self.view_is) (inr (
+        _,
+        (
+          _,
+          _,
+          c.quantile_function-symbol.ensures.found,
+          (
+            Err c.in-Err.error,
+            record {
+              before = is_coder _ _ _ _ _ _ c.self.invariant (g.met.State.BitArray.number_law _);
+              after = is_coder _ _ _ _ _ _ c.self.invariant (g.met.State.BitArray.number_law _);
+              holds = record { from = rw quantile at covers.0; below = rw quantile at covers.1 };
+              popped = tt;
+              refilled = tt;
+              head = refl;
+              kept = λ list. rw (c.in-Err.ensures.list list) refl;
+              error = rw (c.popped_head-head.ensures, c.widen-2.ensures, c.widen.ensures, c.widen-4.ensures, c.widen-3.ensures, c.from_nonzero-p.ensures) at c.in-Err.ensures.reads;
+            },
+            refl,
+          ),
+        ),
+      ));
+    }

@@ -1,7 +1,7 @@
 use Rattle.std.specs.Prelude.{⊤}
 use Rattle.std.proofs.Common.{◌∙◌, sym, inl, inr}
 use Rattle.constriction_stream.proofs.Outcomes.{room_unless}
-use Rattle.constriction_stack.specs.Steps.{EncodeCall}
+use Rattle.constriction_stack.specs.Ans.{EncodeCall}
 use Rattle.constriction_stack.proofs.coder.symbols.AnsCoderEncode.maybe_full.Goals as goal
 
 pub returns-clause-room : goal.returns-clause-room

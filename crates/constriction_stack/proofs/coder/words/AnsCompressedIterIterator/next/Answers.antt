@@ -1,4 +1,4 @@
-use Rattle.std.proofs.Common.{arith, ◌∙◌, sym}
+use Rattle.std.proofs.Common.{◌∙◌, sym}
 use Rattle.constriction_stack.proofs.WordsShown.{next_shown, one_less}
 use Rattle.constriction_base.proofs.Exporting.{some_of}
 use Rattle.constriction_stack.proofs.coder.words.AnsCompressedIterIterator.next.Goals as goal

@@ -14,7 +14,7 @@ returns-in-Err g c = record {
     c.loop-symbol.invariant.2,
     ((c.in-Some.symbol, c.in-Some.model), rev_source c.next.new.self, (rev_source c.loop-symbol.symbol-iterator, Yields-back g.I.IntoIter.DoubleEndedIterator.next_back_gives _ _ _ c.loop-symbol.yielded_by, c.in-Some.ensures.steps), rw c.lend.ensures at c.in-Err.ensures.step),
   );
-  left = λ count most. omega (arith, most (rev_source c.into_iter-symbol-iterator.result) (rw (c.into_iter-symbol-iterator.ensures.into_iter_gives, c.rev-symbol-items.ensures.source) c.into_iter.ensures.into_iter_gives), (c.in-Some.ensures.goes.on c.loop-symbol.invariant.1).2, c.encode_symbol.ensures.left, c.loop-symbol.invariant.4);
+  fewer_left = λ count most. omega (arith, most (rev_source c.into_iter-symbol-iterator.result) (rw (c.into_iter-symbol-iterator.ensures.into_iter_gives, c.rev-symbol-items.ensures.source) c.into_iter.ensures.into_iter_gives), (c.in-Some.ensures.goes.on c.loop-symbol.invariant.1).2, c.encode_symbol.ensures.fewer_left, c.loop-symbol.invariant.4);
 }
 
 pub returns : goal.returns
@@ -27,7 +27,7 @@ returns g c = record {
     c.loop-symbol.invariant.2,
     (refl, (rev_source c.next.new.self, (rev_source c.loop-symbol.symbol-iterator, Yields-back g.I.IntoIter.DoubleEndedIterator.next_back_gives _ _ _ c.loop-symbol.yielded_by, c.in-None.ensures.steps))),
   );
-  left = λ count most. omega (arith, most (rev_source c.into_iter-symbol-iterator.result) (rw (c.into_iter-symbol-iterator.ensures.into_iter_gives, c.rev-symbol-items.ensures.source) c.into_iter.ensures.into_iter_gives), c.loop-symbol.invariant.4);
+  fewer_left = λ count most. omega (arith, most (rev_source c.into_iter-symbol-iterator.result) (rw (c.into_iter-symbol-iterator.ensures.into_iter_gives, c.rev-symbol-items.ensures.source) c.into_iter.ensures.into_iter_gives), c.loop-symbol.invariant.4);
 }
 
 pub loop-symbol-preserved : goal.loop-symbol-preserved
@@ -38,8 +38,8 @@ loop-symbol-preserved g c =
       StepsAll-more (EncodesPair g.Self.Encode.encodes g.Self.Encode.is_impossible_symbol g.row.PRECISION g.M.EntropyModel.table g.S.Lent.lent)
           c.args.self.now c.loop-symbol.yielded c.loop-symbol.self (c.in-Some.symbol, c.in-Some.model) c.encode_symbol.new.self
           c.loop-symbol.invariant.2 (rw c.lend.ensures at c.in-Ok.ensures.step),
-      λ counts. omega (arith, on.2, c.encode_symbol.ensures.left, c.loop-symbol.invariant.3 counts),
-      omega (arith, on.2, c.encode_symbol.ensures.left, c.loop-symbol.invariant.4),
+      λ counts. omega (arith, on.2, c.encode_symbol.ensures.fewer_left, c.loop-symbol.invariant.3 counts),
+      omega (arith, on.2, c.encode_symbol.ensures.fewer_left, c.loop-symbol.invariant.4),
     )
 
 pub loop-symbol-init : goal.loop-symbol-init

@@ -15,7 +15,7 @@ returns-in-Err g c = record {
     c.loop-symbol_and_model.invariant.2,
     (c.in-Some.symbol_and_model, rev_source c.next.new.self, (rev_source c.loop-symbol_and_model.symbol_and_model-iterator, Yields-back g.I.IntoIter.DoubleEndedIterator.next_back_gives _ _ _ c.loop-symbol_and_model.yielded_by, c.in-Some.ensures.steps), rw c.in-Err.is (refl, refl)),
   );
-  left = λ count most. omega (arith, most (rev_source c.into_iter-symbol_and_model-iterator.result) (rw (c.into_iter-symbol_and_model-iterator.ensures.into_iter_gives, c.rev-symbol_and_model-items.ensures.source) c.into_iter.ensures.into_iter_gives), c.loop-symbol_and_model.invariant.4);
+  fewer_left = λ count most. omega (arith, most (rev_source c.into_iter-symbol_and_model-iterator.result) (rw (c.into_iter-symbol_and_model-iterator.ensures.into_iter_gives, c.rev-symbol_and_model-items.ensures.source) c.into_iter.ensures.into_iter_gives), c.loop-symbol_and_model.invariant.4);
 }
 
 pub returns-in-Err-encode_symbol : goal.returns-in-Err-encode_symbol
@@ -28,7 +28,7 @@ returns-in-Err-encode_symbol g c = record {
     c.loop-symbol_and_model.invariant.2,
     (c.in-Some.symbol_and_model, rev_source c.next.new.self, (rev_source c.loop-symbol_and_model.symbol_and_model-iterator, Yields-back g.I.IntoIter.DoubleEndedIterator.next_back_gives _ _ _ c.loop-symbol_and_model.yielded_by, c.in-Some.ensures.steps), rw c.in-Ok.is (Err c.in-Err-encode_symbol.error, rw c.lend.ensures at c.in-Err-encode_symbol.ensures.step, refl)),
   );
-  left = λ count most. omega (arith, most (rev_source c.into_iter-symbol_and_model-iterator.result) (rw (c.into_iter-symbol_and_model-iterator.ensures.into_iter_gives, c.rev-symbol_and_model-items.ensures.source) c.into_iter.ensures.into_iter_gives), (c.in-Some.ensures.goes.on c.loop-symbol_and_model.invariant.1).2, c.encode_symbol.ensures.left, c.loop-symbol_and_model.invariant.4);
+  fewer_left = λ count most. omega (arith, most (rev_source c.into_iter-symbol_and_model-iterator.result) (rw (c.into_iter-symbol_and_model-iterator.ensures.into_iter_gives, c.rev-symbol_and_model-items.ensures.source) c.into_iter.ensures.into_iter_gives), (c.in-Some.ensures.goes.on c.loop-symbol_and_model.invariant.1).2, c.encode_symbol.ensures.fewer_left, c.loop-symbol_and_model.invariant.4);
 }
 
 pub returns : goal.returns
@@ -41,7 +41,7 @@ returns g c = record {
     c.loop-symbol_and_model.invariant.2,
     (refl, (rev_source c.next.new.self, (rev_source c.loop-symbol_and_model.symbol_and_model-iterator, Yields-back g.I.IntoIter.DoubleEndedIterator.next_back_gives _ _ _ c.loop-symbol_and_model.yielded_by, c.in-None.ensures.steps))),
   );
-  left = λ count most. omega (arith, most (rev_source c.into_iter-symbol_and_model-iterator.result) (rw (c.into_iter-symbol_and_model-iterator.ensures.into_iter_gives, c.rev-symbol_and_model-items.ensures.source) c.into_iter.ensures.into_iter_gives), c.loop-symbol_and_model.invariant.4);
+  fewer_left = λ count most. omega (arith, most (rev_source c.into_iter-symbol_and_model-iterator.result) (rw (c.into_iter-symbol_and_model-iterator.ensures.into_iter_gives, c.rev-symbol_and_model-items.ensures.source) c.into_iter.ensures.into_iter_gives), c.loop-symbol_and_model.invariant.4);
 }
 
 pub loop-symbol_and_model-preserved : goal.loop-symbol_and_model-preserved
@@ -52,8 +52,8 @@ loop-symbol_and_model-preserved g c =
       StepsAll-more (TriesItem (EncodesPair g.Self.Encode.encodes g.Self.Encode.is_impossible_symbol g.row.PRECISION g.M.EntropyModel.table g.S.Lent.lent))
           c.args.self.now c.loop-symbol_and_model.yielded c.loop-symbol_and_model.self c.in-Some.symbol_and_model c.encode_symbol.new.self
           c.loop-symbol_and_model.invariant.2 (rw c.in-Ok.is (Ok tt, rw c.lend.ensures at c.in-Ok-encode_symbol.ensures.step, refl)),
-      λ counts. omega (arith, on.2, c.encode_symbol.ensures.left, c.loop-symbol_and_model.invariant.3 counts),
-      omega (arith, on.2, c.encode_symbol.ensures.left, c.loop-symbol_and_model.invariant.4),
+      λ counts. omega (arith, on.2, c.encode_symbol.ensures.fewer_left, c.loop-symbol_and_model.invariant.3 counts),
+      omega (arith, on.2, c.encode_symbol.ensures.fewer_left, c.loop-symbol_and_model.invariant.4),
     )
 
 pub loop-symbol_and_model-init : goal.loop-symbol_and_model-init

@@ -1,4 +1,0 @@
--- Words that a guard shows on a coder's backend, and takes off again.
-pub use Rattle.constriction_stack.specs.Guards.{without, LeftByRefusal}
-pub use Rattle.constriction_stack.specs.Guarded.{lender, written}
-pub use Rattle.constriction_base.specs.Readings.{NeverRefused}

@@ -1,0 +1,9 @@
+pub mod Bits
+pub mod Walks
+pub mod Windows
+pub mod Sizes
+pub mod Taking
+pub mod Chains
+pub mod Outcomes
+pub mod Ending
+pub mod Isolation

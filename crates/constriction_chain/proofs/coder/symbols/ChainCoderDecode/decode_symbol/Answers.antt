@@ -1,0 +1,53 @@
+use Rattle.std.proofs.Common.{rules, arith, inr}
+use Rattle.constriction_base.specs.Entries.{in_range}
+use Rattle.constriction_chain.proofs.Outcomes.{decoded, undecoded}
+use Rattle.constriction_chain.proofs.Sizes.{narrowed}
+use Rattle.constriction_chain.proofs.Taking.{covered}
+use Rattle.constriction_chain.proofs.coder.symbols.ChainCoderDecode.decode_symbol.Goals as goal
+
+pub quantile_function-symbol-requires : goal.quantile_function-symbol-requires
+quantile_function-symbol-requires g c =
+    let below = c.in-Ok.ensures.below in
+    rw (c.narrow.ensures, narrowed _ _ _ below (g.met.M.EntropyModel.sized c.args.model).1) below
+
+pub keep-requires-clause-covers : goal.keep-requires-clause-covers
+keep-requires-clause-covers g c =
+    let covers = covered _ _ _ _ _ _ c.in-Ok.ensures.below (g.met.M.EntropyModel.sized c.args.model).1 c.narrow.ensures c.quantile_function-symbol.ensures.covers in
+    rw (c.widen-left.ensures, c.widen-p.ensures, c.from_nonzero.ensures) covers
+
+pub keep-requires-clause-few : goal.keep-requires-clause-few
+keep-requires-clause-few g c =
+    let within = in_range _ _ _ _ _ _ (g.M.EntropyModel.lawful c.args.model).follow c.quantile_function-symbol.ensures.found in
+    rw (c.widen-p.ensures, c.from_nonzero.ensures) (omega (arith, within.2))
+
+pub of-self-inside-requires : goal.of-self-inside-requires
+of-self-inside-requires g c = (search rules, (c.parts-r.ensures.sized, (c.in-Ok.ensures.some, c.in-Ok-keep.ensures.window)))
+
+pub returns-in-Ok-keep : goal.returns-in-Ok-keep
+returns-in-Ok-keep g c =
+    let taken = c.in-Ok.ensures in
+    let covers = covered _ _ _ _ _ _ taken.below (g.met.M.EntropyModel.sized c.args.model).1 c.narrow.ensures c.quantile_function-symbol.ensures.covers in
+    let kept = rw (c.widen-left.ensures, c.widen-p.ensures, c.from_nonzero.ensures, c.parts-r.ensures.is) at c.in-Ok-keep.ensures in
+    rw (← c.self.view_is, c.of-self-inside.ensures) (record {
+      step = (
+        _,
+        _,
+        c.quantile_function-symbol.ensures.found,
+        decoded _ _ _ _ _ _ _ _ _ _ g.met.Word.BitArray.number_law _ _ _ _ _ _ _ _ _ _ _ covers.0 covers.1 (g.met.Word.BitArray.number_law _) taken kept,
+      );
+    })
+
+pub returns : goal.returns
+returns g c =
+    let taken = c.in-Ok.ensures in
+    let covers = covered _ _ _ _ _ _ taken.below (g.met.M.EntropyModel.sized c.args.model).1 c.narrow.ensures c.quantile_function-symbol.ensures.covers in
+    let lost = rw (c.widen-left.ensures, c.widen-p.ensures, c.from_nonzero.ensures, c.parts-r.ensures.is) at c.in-Err-keep.ensures in
+    rw (← c.self.view_is) (record {
+      step = inr (
+        _,
+        _,
+        _,
+        c.quantile_function-symbol.ensures.found,
+        undecoded _ _ _ _ _ _ _ _ g.met.R.WriteWords.room_law _ _ g.met.Word.BitArray.number_law _ _ _ _ _ _ _ _ _ _ _ covers.0 covers.1 taken lost,
+      );
+    })

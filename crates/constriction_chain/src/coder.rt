@@ -1,0 +1,96 @@
+//! The coder: what it holds.
+//!
+//! - [`symbols`]: the two steps, `encode_symbol` and `decode_symbol`.
+//! - [`precision`]: changes of the precision.
+//! - [`words`]: coders from words, and the words of a coder.
+
+pub mod precision;
+pub mod symbols;
+pub mod words;
+
+ghost use Rattle.constriction_chain.specs.Chain.{ChainValue, IsChainCoder, value_of};
+ghost use Rattle.std.specs.Prelude.{IsTrue, ◌↔◌, ◌≡◌};
+
+use crate::heads::ChainCoderHeads;
+use constriction_base::backends::{Holds, Stack};
+use constriction_stream::coder::Code;
+use constriction_words::{BitArray, WordOf};
+use std::marker::Model;
+
+/// A coder whose symbols come from bits of the compressed words alone, each under its own model: what a
+/// decode leaves of its quantile goes to the remainders, of which an encode takes it back.
+///
+/// Contracts see a `ChainValue`: the state (the two heads and the words of both backends), and the
+/// backends.
+#[derive(Drop)]
+pub struct ChainCoder<
+    Word: WordOf<State>,
+    State: BitArray,
+    CompressedBackend: Holds<Word, Stack>,
+    RemaindersBackend: Holds<Word, Stack>,
+    const PRECISION: usize,
+> {
+    compressed: CompressedBackend,
+    remainders: RemaindersBackend,
+    heads: ChainCoderHeads<Word, State, PRECISION>,
+}
+
+/// A coder of words of 32 bits and remainders' heads of 64, for 24 bits of precision.
+pub type DefaultChainCoder = ChainCoder<u32, u64, Vec<u32>, Vec<u32>, 24>;
+
+/// A coder of words of 16 bits and remainders' heads of 32, for 12 bits of precision.
+pub type SmallChainCoder = ChainCoder<u16, u32, Vec<u16>, Vec<u16>, 12>;
+
+impl<
+    Word: WordOf<State>,
+    State: BitArray,
+    CompressedBackend: Holds<Word, Stack>,
+    RemaindersBackend: Holds<Word, Stack>,
+    const PRECISION: usize,
+> Model for ChainCoder<Word, State, CompressedBackend, RemaindersBackend, PRECISION> {
+    ghost Value = { ChainValue CompressedBackend RemaindersBackend };
+
+    ghost view = { λ c. value_of Word.number CompressedBackend.words RemaindersBackend.words
+        (Word.number c.heads.0) (State.number c.heads.1) c.compressed c.remainders };
+
+    ghost invariant = { λ _. Unit {0} };
+}
+
+impl<
+    Word: WordOf<State>,
+    State: BitArray,
+    C: Holds<Word, Stack>,
+    R: Holds<Word, Stack>,
+    const PRECISION: usize,
+> Code for ChainCoder<Word, State, C, R, PRECISION> {
+    type Word = Word;
+
+    type State = ChainCoderHeads<Word, State, PRECISION>;
+
+    ghost shows = { λ coder heads. (Word.number heads.0 ≡ coder.state.h) × (State.number heads.1 ≡ coder.state.r)
+        × IsChainCoder Word.number C.words R.words Word.BITS State.BITS PRECISION coder };
+
+    /// The two heads.
+    #[inline]
+    fn state(&self) -> ChainCoderHeads<Word, State, PRECISION> {
+        let _ = self.heads.parts();
+        self.heads
+    }
+}
+
+impl<
+    Word: WordOf<State>,
+    State: BitArray,
+    C: Holds<Word, Stack>,
+    R: Holds<Word, Stack>,
+    const PRECISION: usize,
+> ChainCoder<Word, State, C, R, PRECISION> {
+    /// Whether no bits are left over of the words that were decoded from. Then the remainders' side alone tells
+    /// what is to be exported.
+    #[inline]
+    pub fn is_whole(&self) -> bool
+        ensures value { IsTrue result ↔ (self.now.state.h ≡ 1) }
+    {
+        self.heads.is_whole()
+    }
+}

@@ -1,0 +1,115 @@
+//! A decode in two halves, between which the model is asked, and an encode, on the heads and the backends of a
+//! coder.
+
+ghost use Rattle.constriction_base.specs.Steps.{Step};
+ghost use Rattle.constriction_base.specs.Tables.{Covers};
+ghost use Rattle.constriction_base.specs.Windows.{IsInWindow};
+ghost use Rattle.constriction_chain.specs.Chain.{ChainValue, IsSized, least, value_of};
+ghost use Rattle.constriction_chain.specs.Steps.{EncodeCall, Halted, Kept, NotKept, Took};
+ghost use Rattle.std.specs.Prelude.{Err, MatchResult, Ok, ◌+◌, ◌<◌, ◌^◌, ◌≡◌, ◌≤◌};
+
+use crate::errors::{BackendError, DecoderError, EncoderError, EncoderFrontendError};
+use crate::heads::ChainCoderHeads;
+use crate::steps::{gain, give_quantile, prepare_for_quantile, regain, take_quantile};
+use constriction_base::backends::{Holds, ReadWords, Stack, WriteWords};
+use constriction_base::errors::CoderError;
+use constriction_words::{BitArray, WordOf};
+
+/// The next quantile, and the head of the compressed words without it.
+#[inline]
+pub fn take<
+    Word: WordOf<State>,
+    State: BitArray,
+    C: ReadWords<Word, Stack>,
+    R: WriteWords<Word>,
+    const PRECISION: usize,
+>(
+    compressed: &mut C,
+    remainders: &mut R,
+    heads: ChainCoderHeads<Word, State, PRECISION>,
+) -> Result<(Word, Word), DecoderError<C::ReadError, R::WriteError>>
+    ensures { MatchResult result
+        (λ found. Took Word.number C.is_list C.words R.words C.reads R.write_fails R.room R.makes_room Word.BITS State.BITS PRECISION
+        (value_of Word.number C.words R.words (Word.number heads.0) (State.number heads.1) compressed.old remainders.old)
+        (Word.number found.0) (Word.number found.1)
+        (value_of Word.number C.words R.words (Word.number heads.0) (State.number heads.1) compressed.new remainders.new))
+        (λ e. Halted Word.number C.is_list C.words R.words C.reads R.prepare_fails Word.BITS State.BITS PRECISION
+        (value_of Word.number C.words R.words (Word.number heads.0) (State.number heads.1) compressed.old remainders.old)
+        e (value_of Word.number C.words R.words (Word.number heads.0) (State.number heads.1) compressed.new remainders.new)) }
+{
+    let (h, _) = heads.parts();
+    take_quantile(compressed, remainders, h, PRECISION as u32)
+}
+
+/// Leaves the place of a quantile in an interval to the remainders. Returns their head after it.
+#[inline]
+pub fn keep<Word: WordOf<State>, State: BitArray, R: WriteWords<Word>>(
+    remainders: &mut R,
+    r: State,
+    quantile: Word,
+    left: Word,
+    p: Word,
+    precision: u32,
+) -> Result<State, R::WriteError>
+    requires sized { IsSized Word.BITS State.BITS precision }
+    requires window { IsInWindow Word.BITS (least Word.BITS State.BITS precision) (State.number r) }
+    requires covers { Covers (Word.number left) (Word.number p) (Word.number quantile) }
+    requires few { Word.number p ≤ 2 ^ precision }
+    ensures { MatchResult result
+        (λ new. Kept Word.number R.words R.room Word.BITS State.BITS
+        record { precision = precision; left = Word.number left; p = Word.number p }
+        (Word.number quantile) (State.number r) remainders.old (State.number new) remainders.new)
+        (λ e. NotKept R.words R.write_fails Word.BITS State.BITS
+        record { precision = precision; left = Word.number left; p = Word.number p }
+        (Word.number quantile) (State.number r) remainders.old e remainders.new) }
+{
+    let t = quantile.minus(left).widen();
+    match gain::<Word, State, R>(remainders, r, p.widen(), t, precision) {
+        Ok(r) => Ok(r),
+        Err(error) => Err(error),
+    }
+}
+
+/// Puts a quantile of an interval back, that which the remainders tell. Returns both heads after it.
+#[inline]
+pub fn give<Word: WordOf<State>, State: BitArray, C: WriteWords<Word>, R: ReadWords<Word, Stack>>(
+    compressed: &mut C,
+    remainders: &mut R,
+    heads: (Word, State),
+    left: Word,
+    p: Word,
+    precision: u32,
+) -> Result<(Word, State), EncoderError<C::WriteError, R::ReadError>>
+    requires sized { IsSized Word.BITS State.BITS precision }
+    requires head { 0 < Word.number heads.0 }
+    requires window { IsInWindow Word.BITS (least Word.BITS State.BITS precision) (State.number heads.1) }
+    requires some { 0 < Word.number p }
+    requires total { Word.number left + Word.number p ≤ 2 ^ precision }
+    ensures { MatchResult result
+        (λ new. EncodeCall Word.number R.is_list C.words R.words R.reads C.prepare_fails C.write_fails C.room C.makes_room
+        Word.BITS State.BITS
+        (value_of Word.number C.words R.words (Word.number heads.0) (State.number heads.1) compressed.old remainders.old)
+        record { precision = precision; left = Word.number left; p = Word.number p } (Ok tt)
+        (value_of Word.number C.words R.words (Word.number new.0) (State.number new.1) compressed.new remainders.new))
+        (λ e. EncodeCall Word.number R.is_list C.words R.words R.reads C.prepare_fails C.write_fails C.room C.makes_room
+        Word.BITS State.BITS
+        (value_of Word.number C.words R.words (Word.number heads.0) (State.number heads.1) compressed.old remainders.old)
+        record { precision = precision; left = Word.number left; p = Word.number p } (Err e)
+        (value_of Word.number C.words R.words (Word.number heads.0) (State.number heads.1) compressed.new remainders.new)) }
+{
+    let (h, r) = heads;
+    let p: State = p.widen();
+    if let Err(error) = prepare_for_quantile(compressed, h, precision) {
+        return Err(CoderError::Backend(BackendError::Compressed(error)));
+    }
+    let v = match regain::<Word, State, R>(remainders, r, p, precision) {
+        Ok(Some(v)) => v,
+        Ok(None) => return Err(CoderError::Frontend(EncoderFrontendError::OutOfRemainders)),
+        Err(error) => return Err(CoderError::Backend(BackendError::Remainders(error))),
+    };
+    let quantile = left.plus(Word::narrow(v.remainder(p)));
+    match give_quantile(compressed, h, quantile, precision) {
+        Ok(h) => Ok((h, v.quotient(p))),
+        Err(error) => Err(CoderError::Backend(BackendError::Compressed(error))),
+    }
+}

@@ -1,0 +1,212 @@
+//! The parts of a step, each on one side of the coder.
+
+ghost use Rattle.std.specs.Prelude.{◌≡◌, ◌⊎◌, ◌+◌, ◌-◌, ◌*◌, ◌/◌, ◌%◌, ◌^◌, ◌<◌, ◌≤◌, length, map, None, Ok, Err, IfOk, IfErr, OnErr, OnOk, MatchBool, MatchOption, MatchResult};
+ghost use Rattle.constriction_base.specs.Windows.{IsInWindow};
+ghost use Rattle.constriction_chain.specs.Walk.{IsQuantile, NeedsWord, OwesWord};
+ghost use Rattle.constriction_chain.specs.Chain.{IsSized, IsBroughtBelow, least};
+ghost use Rattle.constriction_chain.specs.Steps.{Taken, Halts, RegainedBy};
+
+use crate::errors::{BackendError, DecoderError, DecoderFrontendError};
+use constriction_base::backends::{Holds, ReadWords, Stack, WriteWords};
+use constriction_base::errors::CoderError;
+use constriction_words::{BitArray, WordOf};
+
+/// Whether a quantile has to come from a word.
+#[inline]
+fn needs_word<Word: BitArray>(h: Word, precision: u32) -> bool
+    requires { precision ≤ Word.BITS }
+    ensures { MatchBool result (NeedsWord Word.BITS precision (Word.number h))
+        ((precision < Word.BITS) × (2 ^ precision ≤ Word.number h)) }
+{
+    precision == Word::BITS || h.shifted_right(precision).is_nothing()
+}
+
+/// A word's quantile, and the head with the word's other bits.
+#[inline]
+fn from_word<Word: BitArray>(h: Word, word: Word, precision: u32) -> (Word, Word)
+    requires sized { (1 ≤ precision) × (precision ≤ Word.BITS) }
+    requires few { NeedsWord Word.BITS precision (Word.number h) }
+    ensures quantile { Word.number result.0 ≡ Word.number word % 2 ^ precision }
+    ensures head { Word.number result.1
+        ≡ Word.number h * 2 ^ (Word.BITS - precision) + Word.number word / 2 ^ precision }
+{
+    if precision == Word::BITS {
+        return (word, h);
+    }
+    let others = word.shifted_right(precision);
+    (
+        word.low_bits(precision),
+        h.shifted_left(Word::BITS - precision).plus(others),
+    )
+}
+
+/// The next quantile, and the head after it. Where it needs a word, the other backend is first asked
+/// for room for one.
+#[inline]
+pub fn take_quantile<Word: BitArray, C: ReadWords<Word, Stack>, R: WriteWords<Word>>(
+    compressed: &mut C,
+    remainders: &mut R,
+    h: Word,
+    precision: u32,
+) -> Result<(Word, Word), DecoderError<C::ReadError, R::WriteError>>
+    requires sized { (1 ≤ precision) × (precision ≤ Word.BITS) }
+    requires some { 0 < Word.number h }
+    ensures { MatchResult result
+        (λ found. Taken Word.number C.is_list C.words C.reads R.words R.write_fails R.room R.makes_room
+        Word.BITS precision (Word.number h) compressed.old remainders.old (Word.number found.0) (Word.number found.1) compressed.new remainders.new)
+        (λ e. Halts C.reads R.prepare_fails Word.BITS precision (Word.number h) compressed.old remainders.old e compressed.new
+        × (R.words remainders.new ≡ R.words remainders.old)
+        × (C.is_list → C.words compressed.new ≡ C.words compressed.old)) }
+{
+    if !needs_word(h, precision) {
+        return Ok((h.low_bits(precision), h.shifted_right(precision)));
+    }
+    if let Err(error) = remainders.prepare(1) {
+        return Err(CoderError::Backend(BackendError::Remainders(error)));
+    }
+    match compressed.read() {
+        Ok(Some(word)) => Ok(from_word(h, word, precision)),
+        Ok(None) => Err(CoderError::Frontend(DecoderFrontendError::OutOfCompressedData)),
+        Err(error) => Err(CoderError::Backend(BackendError::Compressed(error))),
+    }
+}
+
+/// The number of the remainders with a place in an interval, brought back into its window.
+#[inline]
+pub fn gain<Word: WordOf<State>, State: BitArray, R: WriteWords<Word>>(
+    remainders: &mut R,
+    r: State,
+    p: State,
+    t: State,
+    precision: u32,
+) -> Result<State, R::WriteError>
+    requires sized { IsSized Word.BITS State.BITS precision }
+    requires window { IsInWindow Word.BITS (least Word.BITS State.BITS precision) (State.number r) }
+    requires inside { State.number t < State.number p }
+    requires few { State.number p ≤ 2 ^ precision }
+    ensures ok { IfOk result (λ x. IsBroughtBelow Word.BITS (least Word.BITS State.BITS precision)
+        (State.number r * State.number p + State.number t) (map Word.number (R.words remainders.old))
+        (State.number x) (map Word.number (R.words remainders.new))) }
+    ensures window { IfOk result (λ x. IsInWindow Word.BITS (least Word.BITS State.BITS precision) (State.number x)) }
+    ensures err { IfErr result (λ e. R.write_fails remainders.old e
+        × (least Word.BITS State.BITS precision * 2 ^ Word.BITS ≤ State.number r * State.number p + State.number t)) }
+    ensures kept { OnErr result (R.words remainders.new ≡ R.words remainders.old) }
+    ensures room { OnOk result (R.room remainders.old + length (R.words remainders.old) ≤ R.room remainders.new + length (R.words remainders.new)) }
+{
+    let gained = r.times(p).plus(t);
+    if gained.shifted_right(State::BITS - precision).is_nothing() {
+        return Ok(gained);
+    }
+    match remainders.write(Word::narrow(gained)) {
+        Ok(()) => Ok(gained.shifted_right(Word::BITS)),
+        Err(error) => Err(error),
+    }
+}
+
+/// Whether a quantile makes a head too long, so that a word is written.
+#[inline]
+fn owes_word<Word: BitArray>(h: Word, precision: u32) -> bool
+    requires { (1 ≤ precision) × (precision ≤ Word.BITS) }
+    ensures { MatchBool result (OwesWord Word.BITS precision (Word.number h))
+        ((precision < Word.BITS) × (Word.number h < 2 ^ (Word.BITS - precision))) }
+{
+    precision == Word::BITS || !h.shifted_right(Word::BITS - precision).is_nothing()
+}
+
+/// Asks for room for the word that a quantile makes, where it makes one.
+#[inline]
+pub fn prepare_for_quantile<Word: BitArray, C: WriteWords<Word>>(
+    compressed: &mut C,
+    h: Word,
+    precision: u32,
+) -> Result<(), C::WriteError>
+    requires { (1 ≤ precision) × (precision ≤ Word.BITS) }
+    ensures ok { IfOk result (λ _. (C.makes_room → OwesWord Word.BITS precision (Word.number h) → 0 < C.room compressed.new)
+        × ((e : C.WriteError) → C.write_fails compressed.new e → C.write_fails compressed.old e)
+        × ((OwesWord Word.BITS precision (Word.number h) → ⊥) → compressed.new ≡ compressed.old)
+        × (C.room compressed.old ≤ C.room compressed.new)) }
+    ensures err { IfErr result (λ e. OwesWord Word.BITS precision (Word.number h) × C.prepare_fails compressed.old 1 e) }
+    ensures words { C.words compressed.new ≡ C.words compressed.old }
+{
+    if owes_word(h, precision) {
+        compressed.prepare(1)
+    } else {
+        Ok(())
+    }
+}
+
+/// The head with a quantile below it, of which a full head writes a word.
+#[inline]
+pub fn give_quantile<Word: BitArray, C: WriteWords<Word>>(
+    compressed: &mut C,
+    h: Word,
+    quantile: Word,
+    precision: u32,
+) -> Result<Word, C::WriteError>
+    requires sized { (1 ≤ precision) × (precision ≤ Word.BITS) }
+    requires some { 0 < Word.number h }
+    requires below { Word.number quantile < 2 ^ precision }
+    ensures ok { IfOk result (λ x. IsQuantile Word.BITS precision (Word.number x) (map Word.number (C.words compressed.new))
+        (Word.number quantile) (Word.number h) (map Word.number (C.words compressed.old))
+        × ((OwesWord Word.BITS precision (Word.number h) → ⊥) → compressed.new ≡ compressed.old)
+        × (C.room compressed.old + length (C.words compressed.old) ≤ C.room compressed.new + length (C.words compressed.new))) }
+    ensures some { IfOk result (λ x. 0 < Word.number x) }
+    ensures err { IfErr result (λ e. OwesWord Word.BITS precision (Word.number h) × C.write_fails compressed.old e) }
+    ensures kept { OnErr result (C.words compressed.new ≡ C.words compressed.old) }
+{
+    if !owes_word(h, precision) {
+        return Ok(h.shifted_left(precision).plus(quantile));
+    }
+    if precision == Word::BITS {
+        compressed.write(quantile)?;
+        return Ok(h);
+    }
+    let others = h.low_bits(Word::BITS - precision);
+    let word = others.shifted_left(precision).plus(quantile);
+    compressed.write(word)?;
+    Ok(h.shifted_right(Word::BITS - precision))
+}
+
+/// Whether the number of the remainders is too short for an interval, so that a word is needed.
+#[inline]
+fn is_short<Word: BitArray, State: BitArray>(r: State, p: State, precision: u32) -> bool
+    requires { IsSized Word.BITS State.BITS precision }
+    ensures { MatchBool result (State.number r < State.number p * least Word.BITS State.BITS precision)
+        (State.number p * least Word.BITS State.BITS precision ≤ State.number r) }
+{
+    r.shifted_right(State::BITS - Word::BITS - precision)
+        .is_below(p)
+}
+
+/// The number of the remainders, with a word below where an interval needs one; none where no word is left.
+#[inline]
+pub fn regain<Word: WordOf<State>, State: BitArray, R: ReadWords<Word, Stack>>(
+    remainders: &mut R,
+    r: State,
+    p: State,
+    precision: u32,
+) -> Result<Option<State>, R::ReadError>
+    requires sized { IsSized Word.BITS State.BITS precision }
+    requires window { IsInWindow Word.BITS (least Word.BITS State.BITS precision) (State.number r) }
+    requires some { 0 < State.number p }
+    requires few { State.number p ≤ 2 ^ precision }
+    ensures { MatchResult result (λ found. MatchOption found
+        ((State.number r < State.number p * least Word.BITS State.BITS precision) × R.reads remainders.old (Ok None) remainders.new
+        × (R.is_list → R.words remainders.new ≡ R.words remainders.old))
+        (λ v. RegainedBy Word.number R.reads Word.BITS (State.number p * least Word.BITS State.BITS precision)
+        (State.number r) remainders.old (State.number v) remainders.new
+        × (R.is_list → IsBroughtBelow Word.BITS (least Word.BITS State.BITS precision)
+        (State.number v) (map Word.number (R.words remainders.new)) (State.number r) (map Word.number (R.words remainders.old)))
+        × IsInWindow Word.BITS (least Word.BITS State.BITS precision) (State.number v / State.number p)))
+        (λ e. (State.number r < State.number p * least Word.BITS State.BITS precision) × R.reads remainders.old (Err e) remainders.new
+        × (R.is_list → R.words remainders.new ≡ R.words remainders.old)) }
+{
+    if !is_short::<Word, State>(r, p, precision) {
+        return Ok(Some(r));
+    }
+    match remainders.read() {
+        Ok(Some(word)) => Ok(Some(r.shifted_left(Word::BITS).plus(word.widen()))),
+        Ok(None) => Ok(None),
+        Err(error) => Err(error),
+    }
+}

@@ -1,0 +1,8 @@
+pub mod Choosing
+pub mod ComingBack
+pub mod Exports
+pub mod ListCalls
+pub mod PairCalls
+pub mod Readings
+pub mod SameModel
+pub mod Seeking

@@ -1,0 +1,16 @@
+pub mod Fits
+pub mod Carry
+pub mod Runs
+pub mod Parts
+pub mod Begun
+pub mod Seals
+pub mod Encoders
+pub mod Decoders
+pub mod Pointing
+pub mod Beginning
+pub mod Exhausted
+pub mod Cuts
+pub mod WordsRead
+pub mod Narrowing
+pub mod ReadingRuns
+pub mod SealedRuns

@@ -1,0 +1,252 @@
+-- Sealed words as digits. Lists of words have the last word first.
+use Rattle.std.proofs.Common.{◌≡◌, ◌↔◌, ℕ, zero, suc, ◌+◌, ◌-◌, ◌*◌, ◌/◌, ◌%◌, ◌^◌, ◌<◌, ◌≤◌, ◌==◌, Bool, true, false, IsTrue, if◌then◌else◌, List, [], ◌∷◌, ◌++◌, map, replicate, reverse, length, refl, sym, ap, ◌∙◌, arith, inl, inr, append_assoc, pow_pos, mod-lt, mod-eq_of_lt, div-lt_iff_lt-mul, le-div_iff_mul-le, div-mul-le_self, mul-le-mul_left, eq-eqb, ne_eqb, append-nil, mul-div_cancel, length-append}
+use native.Mathlib.Nat.{add-mul-div_right, lt-div-mul-add}
+use Rattle.std.proofs.lemmas.Bool.{cases_lt}
+use Rattle.std.proofs.lemmas.List.{reverse-append, length-reverse, length-map}
+use Rattle.std.proofs.lemmas.Nat.{div-mul-add, mod-mul-add}
+use Rattle.constriction_base.specs.Steps.{AreWords}
+use Rattle.constriction_queue.specs.Range.{sealed}
+use Rattle.constriction_base.specs.Digits.{fixed_digits}
+use Rattle.std.specs.Int.NonZero.{non_zero_usize_get}
+use Rattle.constriction_queue.specs.declared.situation.EncoderSituation.{EncoderSituation}
+use Rattle.constriction_queue.specs.declared.situation.EncoderSituation.TheVariants.{Normal, Inverted}
+use Rattle.constriction_queue.specs.Encoder.{number_of, words_held, run_of, IsCarried, held_of, PartsFit, CanCarry}
+use Rattle.constriction_queue.proofs.Begun.{held_few}
+use Rattle.constriction_queue.proofs.Fits.{pow-split}
+use Rattle.constriction_queue.proofs.Carry.{carry_held, length-held, not_less, less, wraps, pred_times}
+use Rattle.constriction_queue.proofs.Parts.{top_is}
+
+-- ---- words below the base
+pub words_of_numbers : {X : Type 0} (number : X → ℕ) (w : ℕ) (law : (x : X) → number x < 2 ^ w) (xs : List X) → AreWords w (map number xs)
+words_of_numbers number w law [] = tt
+words_of_numbers number w law (x ∷ xs) = (law x, words_of_numbers number w law xs)
+
+words_after : (w x k : ℕ) (ws : List ℕ) → x < 2 ^ w → AreWords w ws → AreWords w (replicate k x ++ ws)
+words_after w x zero ws h all = all
+words_after w x (suc k) ws h all = (h, words_after w x k ws h all)
+
+pub words_held_fit : (w x count first : ℕ) (ws : List ℕ) → x < 2 ^ w → first < 2 ^ w → AreWords w ws → AreWords w (words_held x count first ++ ws)
+words_held_fit w x count first ws h f all = rw append_assoc (words_after w x (count - 1) (first ∷ ws) h (f, all))
+
+-- held words that are let go
+pub carried_held : (w count first : ℕ) (carry : Bool) (held ws : List ℕ) → first + 1 < 2 ^ w → AreWords w ws
+    → held ≡ words_held (if carry then 0 else 2 ^ w - 1) count (if carry then first + 1 else first)
+    → IsCarried w carry (words_held (2 ^ w - 1) count first ++ ws) (held ++ ws)
+carried_held w count first true held ws fits all is = record {
+  number = rw is (carry_held (2 ^ w) count first ws (pow_pos w));
+  len = rw is (length-held 0 (2 ^ w - 1) count (first + 1) first ws);
+  fit = rw is (words_held_fit w 0 count (first + 1) ws (pow_pos w) fits all);
+}
+carried_held w count first false held ws fits all is = record {
+  number = rw is (omega arith);
+  len = rw is refl;
+  fit = rw is (words_held_fit w (2 ^ w - 1) count first ws (omega (arith, pow_pos w)) (omega arith) all);
+}
+
+pub carried_none : (w : ℕ) (carry : Bool) (ws : List ℕ) → AreWords w ws → carry ≡ false → IsCarried w carry ws ws
+carried_none w true ws all off = absurd (cc)
+carried_none w false ws all off = record { number = omega arith; len = refl; fit = all }
+
+-- ---- digits
+pub digits_of_words : (w : ℕ) (ws : List ℕ) → AreWords w ws → fixed_digits (2 ^ w) (length ws) (number_of (2 ^ w) ws) ≡ reverse ws
+digits_of_words w [] all = refl
+digits_of_words w (x ∷ ws) all =
+    let b : ℕ = 2 ^ w in
+    let n : ℕ = number_of b ws in
+    let high : (n * b + x) / b ≡ n = div-mul-add n b x all.0 in
+    let low : (n * b + x) % b ≡ x = mod-mul-add n b x all.0 in
+    ap (λ k. fixed_digits b (length ws) k ++ ((n * b + x) % b ∷ [])) high
+    ∙ (ap (λ d. fixed_digits b (length ws) n ++ (d ∷ [])) low
+    ∙ (ap (λ (ds : List ℕ). ds ++ (x ∷ [])) (digits_of_words w ws all.1) ∙ sym (reverse-append (x ∷ []) ws)))
+
+-- the words with a carry, and the point's top word, are the digits of the seal's number
+pub seal_digits : (w c t : ℕ) (carry : Bool) (ws vs : List ℕ) → IsCarried w carry ws vs → t < 2 ^ w
+    → number_of (2 ^ w) vs * 2 ^ w + t ≡ c → fixed_digits (2 ^ w) (suc (length ws)) c ≡ reverse (t ∷ vs)
+seal_digits w c t carry ws vs h small is =
+    rw (← is, ← h.len) (digits_of_words w (t ∷ vs) (small, h.fit))
+
+-- ---- the point, over numbers: it is the low end and q - 1, and t is its top word
+ceil_split : (n l q b : ℕ) → 0 < q → (n * (q * b) + l + (q - 1)) / q ≡ n * b + (l + (q - 1)) / q
+ceil_split n l q b h =
+    let same : n * (q * b) + l + (q - 1) ≡ (l + (q - 1)) + n * b * q = omega arith in
+    ap (λ x. x / q) same ∙ add-mul-div_right (l + (q - 1)) (n * b) h ∙ omega arith
+
+floor_split : (n l r q b : ℕ) → 0 < q → (n * (q * b) + l + r) / q ≡ n * b + (l + r) / q
+floor_split n l r q b h =
+    let same : n * (q * b) + l + r ≡ (l + r) + n * b * q = omega arith in
+    ap (λ x. x / q) same ∙ add-mul-div_right (l + r) (n * b) h ∙ omega arith
+
+-- the number, with the carry and without
+pub seal_number_is : (n k l b q point t : ℕ) (carry : Bool) → 0 < q → 0 < b → l < q * b → k ≡ n + (if carry then 1 else 0)
+    → point ≡ (l + (q - 1)) % (q * b) → (IsTrue carry ↔ (point < l)) → t ≡ point / q
+    → k * b + t ≡ (n * (q * b) + l + (q - 1)) / q
+seal_number_is n k l b q point t true hq hb fits k_is point_is wrapped t_is =
+    let ends : q * 1 ≤ q * b = mul-le-mul_left q hb in
+    let back : point + q * b ≡ l + (q - 1) = rw point_is (less l (q - 1) (q * b) fits (omega arith) (rw (← point_is) (wrapped.0 refl))) in
+    let same : l + (q - 1) ≡ point + b * q = omega arith in
+    let high : (l + (q - 1)) / q ≡ point / q + b = ap (λ x. x / q) same ∙ add-mul-div_right point b hq in
+    rw (ceil_split n l q b hq, high, k_is, t_is) (omega arith)
+seal_number_is n k l b q point t false hq hb fits k_is point_is wrapped t_is =
+    let ends : q * 1 ≤ q * b = mul-le-mul_left q hb in
+    let above : l ≤ point = elim (cases_lt point l) [
+      | inl low ↦ absurd (let no = wrapped.1 low in cc)
+      | inr high ↦ high
+    ] in
+    let same : point ≡ l + (q - 1) = point_is ∙ not_less l (q - 1) (q * b) fits (omega arith) (rw (← point_is) above) in
+    rw (ceil_split n l q b hq, t_is, same, k_is) (omega arith)
+
+-- ---- the zero word: the top word of the high end is the point's
+-- where the interval doesn't reach over the end
+same_normal : (n l r q b k t u : ℕ) → 0 < q → k ≡ n → u ≡ (l + r) / q → ((n * (q * b) + l + r) / q ≡ k * b + t) ↔ (u ≡ t)
+same_normal n l r q b k t u hq k_is u_is =
+    let high : (n * (q * b) + l + r) / q ≡ n * b + u = rw u_is (floor_split n l r q b hq) in
+    (λ e. omega (arith, k_is, ap (λ x. x * b) k_is), λ e. high ∙ rw (k_is, e) refl)
+
+-- where it does, and the point's sum wrapped
+same_carried : (n l r q b k t u : ℕ) → 0 < q → k ≡ n + 1 → (l + r) / q ≡ u + b → ((n * (q * b) + l + r) / q ≡ k * b + t) ↔ (u ≡ t)
+same_carried n l r q b k t u hq k_is u_is =
+    let high : (n * (q * b) + l + r) / q ≡ n * b + (u + b) = rw (← u_is) (floor_split n l r q b hq) in
+    let times : k * b ≡ n * b + b = ap (λ x. x * b) k_is ∙ omega arith in
+    (λ e. omega arith, λ e. omega arith)
+
+-- where it does, and that sum did not: neither is so
+differ : (n l r q b k t u : ℕ) → 0 < q → 0 < b → r < q * b → k ≡ n → (l + r) / q ≡ u + b → t ≡ (l + (q - 1)) / q → t < b
+    → ((n * (q * b) + l + r) / q ≡ k * b + t) ↔ (u ≡ t)
+differ n l r q b k t u hq hb short k_is u_is t_is t_fits =
+    let high : (n * (q * b) + l + r) / q ≡ n * b + (u + b) = rw (← u_is) (floor_split n l r q b hq) in
+    let times : k * b ≡ n * b = ap (λ x. x * b) k_is in
+    let floor : (l + r) / q * q ≤ l + r = div-mul-le_self (l + r) q in
+    let floor_u : (u + b) * q ≤ l + r = rw (← u_is) floor in
+    let ceil : l + (q - 1) < (l + (q - 1)) / q * q + q = lt-div-mul-add hq in
+    let ceil_t : l + (q - 1) < t * q + q = rw t_is ceil in
+    (λ e. absurd (omega arith), λ e. absurd (let m : u * q ≡ t * q = ap (λ x. x * q) e in omega arith))
+
+-- a test as a Bool
+pub test_is : (a b : ℕ) (zero : Bool) → (IsTrue zero ↔ (a ≡ b)) → (a == b) ≡ zero
+test_is a b true h = eq-eqb a b (h.0 refl)
+test_is a b false h = ne_eqb a b (λ e. let no = h.1 e in cc)
+
+-- the top word of a sum that is a state, or reaches over the end
+high_normal : (w s l r : ℕ) → w ≤ s → l + r < 2 ^ s → (l + r) % 2 ^ s / 2 ^ (s - w) % 2 ^ w ≡ (l + r) / 2 ^ (s - w)
+high_normal w s l r wide fits = rw (mod-eq_of_lt fits) (top_is w s (l + r) wide fits)
+
+high_over : (w s l r u : ℕ) → w ≤ s → l < 2 ^ s → r < 2 ^ s → 2 ^ s ≤ l + r → u ≡ (l + r) % 2 ^ s / 2 ^ (s - w) % 2 ^ w → (l + r) / 2 ^ (s - w) ≡ u + 2 ^ w
+high_over w s l r u wide lf rf over u_is =
+    let q : ℕ = 2 ^ (s - w) in
+    let b : ℕ = 2 ^ w in
+    let split : q * b ≡ 2 ^ s = pow-split s w wide in
+    let back : (l + r) % 2 ^ s + 2 ^ s ≡ l + r = wraps l r (2 ^ s) lf rf over in
+    let top : u ≡ (l + r) % 2 ^ s / q = u_is ∙ top_is w s ((l + r) % 2 ^ s) wide (mod-lt (l + r) (pow_pos s)) in
+    let same : l + r ≡ (l + r) % 2 ^ s + b * q = omega arith in
+    ap (λ x. x / q) same ∙ add-mul-div_right ((l + r) % 2 ^ s) b (pow_pos (s - w)) ∙ rw top refl
+
+-- the top words are one exactly where the interval ends before the next multiple of q
+same_top : (w s n k l r point t u : ℕ) (carry : Bool) → w ≤ s → l < 2 ^ s → r + 1 < 2 ^ s → 2 ^ (s - w) ≤ r
+    → k ≡ n + (if carry then 1 else 0) → point ≡ (l + (2 ^ (s - w) - 1)) % 2 ^ s → (IsTrue carry ↔ (point < l)) → t < 2 ^ w → t ≡ point / 2 ^ (s - w)
+    → u ≡ (l + r) % 2 ^ s / 2 ^ (s - w) % 2 ^ w
+    → ((n * (2 ^ (s - w) * 2 ^ w) + l + r) / 2 ^ (s - w) ≡ k * 2 ^ w + t) ↔ (u ≡ t)
+same_top w s n k l r point t u true wide lf rf long k_is point_is wrapped small t_is u_is =
+    let q : ℕ = 2 ^ (s - w) in
+    let below : point < l = wrapped.0 refl in
+    elim (cases_lt (l + r) (2 ^ s)) [
+      | inl low ↦ absurd (let fits : l + (q - 1) < 2 ^ s = omega arith in let same : point ≡ l + (q - 1) = point_is ∙ mod-eq_of_lt fits in omega arith)
+      | inr over ↦ same_carried n l r q (2 ^ w) k t u (pow_pos (s - w)) k_is (high_over w s l r u wide lf (omega arith) over u_is)
+    ]
+same_top w s n k l r point t u false wide lf rf long k_is point_is wrapped small t_is u_is =
+    let q : ℕ = 2 ^ (s - w) in
+    let b : ℕ = 2 ^ w in
+    let split : q * b ≡ 2 ^ s = pow-split s w wide in
+    let above : l ≤ point = elim (cases_lt point l) [
+      | inl low ↦ absurd (let off = wrapped.1 low in cc)
+      | inr high ↦ high
+    ] in
+    let same : point ≡ l + (q - 1) = point_is ∙ not_less l (q - 1) (2 ^ s) lf (omega arith) (rw (← point_is) above) in
+    let k_same : k ≡ n = omega arith in
+    elim (cases_lt (l + r) (2 ^ s)) [
+      | inl low ↦ same_normal n l r q b k t u (pow_pos (s - w)) k_same (u_is ∙ high_normal w s l r wide low)
+      | inr over ↦ differ n l r q b k t u (pow_pos (s - w)) (pow_pos w) (rw split (omega arith)) k_same (high_over w s l r u wide lf (omega arith) over u_is) (t_is ∙ ap (λ x. x / q) same) small
+    ]
+
+tail_is : (ends : Bool) (ws : List ℕ) → reverse ((if ends then 0 ∷ [] else []) ++ ws) ≡ reverse ws ++ (if ends then 0 ∷ [] else [])
+tail_is true ws = reverse-append (0 ∷ []) ws
+tail_is false ws = sym (append-nil (reverse ws))
+
+-- ---- a seal of an encoder
+pub sealed_run : (w s l r point t u : ℕ) (carry ends : Bool) (ws vs : List ℕ) → w ≤ s
+    → l < 2 ^ s → r + 1 < 2 ^ s → 2 ^ (s - w) ≤ r
+    → IsCarried w carry ws vs
+    → point ≡ (l + (2 ^ (s - w) - 1)) % 2 ^ s → (IsTrue carry ↔ (point < l)) → t ≡ point / 2 ^ (s - w) % 2 ^ w
+    → u ≡ (l + r) % 2 ^ s / 2 ^ (s - w) % 2 ^ w → (IsTrue ends ↔ (u ≡ t))
+    → reverse ((if ends then 0 ∷ [] else []) ++ (t ∷ vs)) ≡ sealed w s (run_of w s ws l r)
+sealed_run w s l r point t u carry ends ws vs wide lf rf long into point_is wrapped t_is u_is ends_is =
+    let q : ℕ = 2 ^ (s - w) in
+    let b : ℕ = 2 ^ w in
+    let n : ℕ = number_of b ws in
+    let k : ℕ = number_of b vs in
+    let split : q * b ≡ 2 ^ s = pow-split s w wide in
+    let point_fits : point < 2 ^ s = rw point_is (mod-lt (l + (q - 1)) (pow_pos s)) in
+    let top : t ≡ point / q = t_is ∙ top_is w s point wide point_fits in
+    let small : t < b = rw t_is (mod-lt (point / q) (pow_pos w)) in
+    let number : k * b + t ≡ (n * 2 ^ s + l + (q - 1)) / q =
+    rw (← split) (seal_number_is n k l b q point t carry (pow_pos (s - w)) (pow_pos w) (rw split lf) into.number (rw split point_is) wrapped top) in
+    let digits = seal_digits w ((n * 2 ^ s + l + (q - 1)) / q) t carry ws vs into small number in
+    let tops : ((n * 2 ^ s + l + r) / q ≡ k * b + t) ↔ (u ≡ t) = rw split at (same_top w s n k l r point t u carry wide lf rf long into.number point_is wrapped small top u_is) in
+    let test : ((n * 2 ^ s + l + r) / q == (n * 2 ^ s + l + (q - 1)) / q) ≡ ends =
+    test_is ((n * 2 ^ s + l + r) / q) ((n * 2 ^ s + l + (q - 1)) / q) ends (λ h. tops.1 (ends_is.0 h) ∙ number, λ e. ends_is.1 (tops.0 (e ∙ sym number))) in
+    let coded : (r == 2 ^ s - 1) ≡ false = ne_eqb r (2 ^ s - 1) (λ e. absurd (omega arith)) in
+    rw (coded, test, digits) (tail_is ends (t ∷ vs))
+
+-- nothing was coded: the words are as they are
+pub sealed_start : (w s l r : ℕ) (ws : List ℕ) → AreWords w ws → l + r < 2 ^ s → r + 1 ≡ 2 ^ s → reverse ws ≡ sealed w s (run_of w s ws l r)
+sealed_start w s l r ws all fits whole =
+    let coded : (r == 2 ^ s - 1) ≡ true = eq-eqb r (2 ^ s - 1) (omega arith) in
+    let none : number_of (2 ^ w) ws * 2 ^ s + l ≡ number_of (2 ^ w) ws * 2 ^ s = omega arith in
+    let number : (number_of (2 ^ w) ws * 2 ^ s + l) / 2 ^ s ≡ number_of (2 ^ w) ws = ap (λ x. x / 2 ^ s) none ∙ mul-div_cancel (number_of (2 ^ w) ws) (pow_pos s) in
+    rw (coded, number) (sym (digits_of_words w ws all))
+
+-- ---- what a situation allows
+pub ones_below : (w s x : ℕ) → w ≤ s → x + 1 ≡ 2 ^ s → x / 2 ^ w ≡ 2 ^ (s - w) - 1
+ones_below w s x wide is =
+    let q : ℕ = 2 ^ (s - w) in
+    let b : ℕ = 2 ^ w in
+    let split : q * b ≡ 2 ^ s = pow-split s w wide in
+    let one : (q - 1) * b + b ≡ q * b = pred_times (q - 1) q b (omega (arith, pow_pos (s - w))) in
+    let low : q - 1 ≤ x / b = (le-div_iff_mul-le (pow_pos w)).1 (omega (arith, pow_pos w)) in
+    let high : x / b < q = (div-lt_iff_lt-mul (pow_pos w)).1 (omega arith) in
+    omega arith
+
+pub can_carry : {Word : Type 0} (number : Word → ℕ) (w s : ℕ) (situation : EncoderSituation Word) (l r point : ℕ) (carry : Bool)
+    → PartsFit number w s situation l r → 2 ^ (s - w) ≤ r → point ≡ (l + (2 ^ (s - w) - 1)) % 2 ^ s → (IsTrue carry ↔ (point < l)) → CanCarry number w situation carry
+can_carry number w s Normal l r point true fit long point_is wrapped =
+    let fits : l + (2 ^ (s - w) - 1) < 2 ^ s = omega arith in
+    let same : point ≡ l + (2 ^ (s - w) - 1) = point_is ∙ mod-eq_of_lt fits in
+    let below : point < l = wrapped.0 refl in
+    absurd (omega arith)
+can_carry number w s Normal l r point false fit long point_is wrapped = refl
+can_carry number w s (Inverted count first) l r point carry fit long point_is wrapped = fit.1
+
+pub held_few_of : {Word : Type 0} (number : Word → ℕ) (w s : ℕ) (situation : EncoderSituation Word) (l r : ℕ)
+    → PartsFit number w s situation l r → length (held_of number w situation) + 2 < 2 ^ 64
+held_few_of number w s Normal l r fit = omega arith
+held_few_of number w s (Inverted count first) l r fit = held_few (2 ^ w - 1) (non_zero_usize_get count) (number first) fit.3
+
+-- the greatest range: nothing is held
+pub held_start : {Word : Type 0} (number : Word → ℕ) (w s : ℕ) (situation : EncoderSituation Word) (l r : ℕ)
+    → PartsFit number w s situation l r → r + 1 ≡ 2 ^ s → (held_of number w situation ≡ []) × (l + r < 2 ^ s)
+held_start number w s Normal l r fit whole = (refl, fit)
+held_start number w s (Inverted count first) l r fit whole = absurd (let small = fit.2 in omega arith)
+
+pub greatest_range : (r x m : ℕ) → r < m → x + 1 ≡ m → (r < x → ⊥) → r + 1 ≡ m
+greatest_range r x m fits is never = elim (cases_lt r x) [
+  | inl low ↦ absurd (never low)
+  | inr high ↦ omega arith
+]
+
+pub lesser_range : (r x m : ℕ) → x + 1 ≡ m → r < x → r + 1 < m
+lesser_range r x m is less = omega arith
+
+pub count_is : {X : Type 0} (number : X → ℕ) (owed : List ℕ) (ws : List X) (all : List ℕ) → reverse (owed ++ map number ws) ≡ all → length ws + length owed ≡ length all
+count_is number owed ws all is =
+    let len = ap length is in
+    let front = length-reverse (owed ++ map number ws) ∙ length-append owed (map number ws) in
+    omega (arith, len, front, length-map ws number)

@@ -1,0 +1,86 @@
+use Rattle.std.specs.Prelude.{◌≡◌, Ok, Err}
+use Rattle.std.proofs.Common.{arith, refl, ◌∙◌, sym, inl, inr}
+use Rattle.constriction_base.proofs.Heads.{large_of_shr, small_of_shr}
+use Rattle.constriction_base.proofs.Entering.{entry_is_step}
+use Rattle.constriction_queue.proofs.Decoders.{is_decoder}
+use Rattle.constriction_queue.proofs.Pointing.{low_in_word}
+use Rattle.constriction_queue.proofs.decoder.symbols.RangeDecoderDecode.decode_symbol.Goals as goal
+
+pub quantile_at-quotient-requires-clause-precise : goal.quantile_at-quotient-requires-clause-precise
+quantile_at-quotient-requires-clause-precise g c = omega (arith, (g.met.M.EntropyModel.sized c.args.model).1, g.met.M.Probability.WordOf.width_law)
+
+pub narrowed_by_reading-requires-clause-step : goal.narrowed_by_reading-requires-clause-step
+narrowed_by_reading-requires-clause-step g c =
+    rw (c.widen-left.ensures, c.widen.ensures, c.widen-p.ensures, c.widen-2.ensures, c.from_nonzero-p.ensures)
+    (entry_is_step _ _ _ _ _ _ _ (g.M.EntropyModel.lawful c.args.model) c.quantile_function-symbol.ensures.found (g.met.M.EntropyModel.sized c.args.model) g.met.M.Probability.WordOf.width_law)
+
+pub returns-then-not-is_nothing-clause-step : goal.returns-then-not-is_nothing-clause-step
+returns-then-not-is_nothing-clause-step g c =
+    let large = large_of_shr _ _ (λ e. let off = c.if-not-is_nothing.ensures.1 (c.shifted_right.ensures ∙ e) in cc) in
+    rw (← c.self.view_is) (inl (refl, rw c.quantile_at-quotient.ensures at large, refl))
+
+pub returns-then-not-is_nothing-clause-variant : goal.returns-then-not-is_nothing-clause-variant
+returns-then-not-is_nothing-clause-variant g c =
+    let large = large_of_shr _ _ (λ e. let off = c.if-not-is_nothing.ensures.1 (c.shifted_right.ensures ∙ e) in cc) in
+    rw (← c.self.view_is) (λ _. rw c.quantile_at-quotient.ensures at large, λ _. refl)
+
+pub returns-in-Ok-clause-step : goal.returns-in-Ok-clause-step
+returns-in-Ok-clause-step g c =
+    let sized = g.met.M.EntropyModel.sized c.args.model in
+    let small = small_of_shr _ _ (sym c.shifted_right.ensures ∙ c.if-not-is_nothing.ensures.0 refl) in
+    let quantile = (rw c.narrow.ensures at c.narrow-quantile.ensures) ∙ low_in_word _ _ _ _ small (omega (arith, sized.1, g.met.M.Probability.WordOf.width_law)) sized.1 ∙ c.quantile_at-quotient.ensures in
+    let covers = c.quantile_function-symbol.ensures.covers in
+    rw (← c.self.view_is) (
+      _,
+      _,
+      c.quantile_function-symbol.ensures.found,
+      (Ok tt, record {
+        before = is_decoder g.Word.BitArray.number g.Backend.Holds.words _ _ _ _ _ _ c.self.invariant c.self.inside.state.wide (g.met.State.BitArray.number_law _) (g.met.State.BitArray.number_law _) (g.met.State.BitArray.number_law _);
+        after = is_decoder g.Word.BitArray.number g.Backend.Holds.words _ _ _ _ _ _ c.self.invariant c.in-Ok.state.wide (g.met.State.BitArray.number_law _) (g.met.State.BitArray.number_law _) (g.met.State.BitArray.number_law _);
+        from = rw quantile at covers.0;
+        below = rw quantile at covers.1;
+        read = λ list. rw (c.widen-left.ensures, c.widen.ensures, c.widen-p.ensures, c.widen-2.ensures, c.from_nonzero-p.ensures) at c.in-Ok.ensures.list list;
+        lower = tt;
+        range = tt;
+        point = tt;
+        kept = λ _. tt;
+        error = tt;
+      }, refl),
+    )
+
+pub returns-in-Ok-clause-variant : goal.returns-in-Ok-clause-variant
+returns-in-Ok-clause-variant g c =
+    let small = rw c.quantile_at-quotient.ensures at (small_of_shr _ _ (sym c.shifted_right.ensures ∙ c.if-not-is_nothing.ensures.0 refl)) in
+    rw (← c.self.view_is) (λ e. absurd (cc), λ h. absurd (omega arith))
+
+pub returns-clause-step : goal.returns-clause-step
+returns-clause-step g c =
+    let sized = g.met.M.EntropyModel.sized c.args.model in
+    let small = small_of_shr _ _ (sym c.shifted_right.ensures ∙ c.if-not-is_nothing.ensures.0 refl) in
+    let quantile = (rw c.narrow.ensures at c.narrow-quantile.ensures) ∙ low_in_word _ _ _ _ small (omega (arith, sized.1, g.met.M.Probability.WordOf.width_law)) sized.1 ∙ c.quantile_at-quotient.ensures in
+    let covers = c.quantile_function-symbol.ensures.covers in
+    rw (← c.self.view_is) (inr (
+      _,
+      (_, _, c.quantile_function-symbol.ensures.found,
+      (
+        Err c.in-Err.error,
+        record {
+          before = is_decoder g.Word.BitArray.number g.Backend.Holds.words _ _ _ _ _ _ c.self.invariant c.self.inside.state.wide (g.met.State.BitArray.number_law _) (g.met.State.BitArray.number_law _) (g.met.State.BitArray.number_law _);
+          after = is_decoder g.Word.BitArray.number g.Backend.Holds.words _ _ _ _ _ _ c.self.invariant c.self.inside.state.wide (g.met.State.BitArray.number_law _) (g.met.State.BitArray.number_law _) (g.met.State.BitArray.number_law _);
+          from = rw quantile at covers.0;
+          below = rw quantile at covers.1;
+          read = tt;
+          lower = refl;
+          range = refl;
+          point = refl;
+          kept = λ list. rw (c.in-Err.ensures.kept list) refl;
+          error = rw (c.widen-p.ensures, c.widen-2.ensures, c.from_nonzero-p.ensures) at c.in-Err.ensures.err;
+        },
+        refl,
+      )),
+    ))
+
+pub returns-clause-variant : goal.returns-clause-variant
+returns-clause-variant g c =
+    let small = rw c.quantile_at-quotient.ensures at (small_of_shr _ _ (sym c.shifted_right.ensures ∙ c.if-not-is_nothing.ensures.0 refl)) in
+    rw (← c.self.view_is) (λ e. absurd (cc), λ h. absurd (omega arith))

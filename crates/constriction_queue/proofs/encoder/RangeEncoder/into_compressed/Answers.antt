@@ -1,0 +1,27 @@
+use Rattle.std.proofs.Common.{map, ap, inl, inr}
+use Rattle.constriction_queue.specs.Encoder.{owed_of}
+use Rattle.constriction_queue.proofs.Seals.{words_of_numbers}
+use Rattle.constriction_queue.proofs.encoder.RangeEncoder.into_compressed.Goals as goal
+
+pub returns-in-Ok-clause-ok : goal.returns-in-Ok-clause-ok
+returns-in-Ok-clause-ok g c =
+    let number = g.Word.BitArray.number in
+    let words = g.Backend.Holds.words c.self.inside.bulk in
+    rw (c.in-Ok.ensures.ok, ← c.self.view_is)
+    (c.sealing-seal.ensures.words (map number words) (words_of_numbers number _ g.met.Word.BitArray.number_law words))
+
+pub returns-in-Err-clause-err : goal.returns-in-Err-clause-err
+returns-in-Err-clause-err g c =
+    let number = g.Word.BitArray.number in
+    let words = g.Backend.Holds.words c.self.inside.bulk in
+    let seal = c.sealing-seal.result in
+    let all = c.sealing-seal.ensures.words (map number words) (words_of_numbers number _ g.met.Word.BitArray.number_law words) in
+    rw (← c.self.view_is) (
+      owed_of number seal.held seal.point seal.zero,
+      all,
+      c.in-Err.ensures.short,
+      elim c.in-Err.ensures.err [
+        | inl room ↦ inl room
+        | inr write ↦ inr (write.0, (write.1.0, write.1.1, rw (ap (map number) write.1.2) c.in-Err.ensures.begun))
+      ],
+    )

@@ -1,0 +1,18 @@
+use Rattle.std.specs.Prelude.{◌≡◌, ◌++◌, length, map}
+use Rattle.std.proofs.Common.{arith, refl}
+use Rattle.constriction_queue.specs.Encoder.{held_of}
+use Rattle.constriction_queue.proofs.Encoders.{low_is, moves_are}
+use Rattle.constriction_queue.proofs.encoder.positions.RangeEncoderPos.pos.Goals as goal
+
+pub returns : goal.returns
+returns g c =
+    let number = g.Word.BitArray.number in
+    let words = g.Backend.Holds.words c.self.inside.bulk in
+    let held = held_of number g.Word.BitArray.BITS c.self.inside.situation in
+    let place = g.met.Backend.CountsWords.count_law c.self.inside.bulk c.pos.result c.pos.ensures in
+    let count : c.held.result ≡ length held = rw (← c.self.view_is) at c.held.ensures in
+    rw (← c.self.view_is) record {
+      place_is = omega (arith, place, count, moves_are number held words);
+      lower_is = low_is g.Word.BitArray.BITS g.State.BitArray.BITS _ (g.State.BitArray.number c.self.inside.state.range) (held ++ map number words) (g.met.State.BitArray.number_law _);
+      range_is = refl;
+    }

@@ -1,0 +1,46 @@
+use Rattle.std.proofs.Common.{arith, refl, ◌∙◌, sym}
+use Rattle.constriction_base.proofs.Heads.{large_of_shr, small_of_shr}
+use Rattle.constriction_queue.proofs.Parts.{lower_fits, range_fits}
+use Rattle.constriction_queue.proofs.Pointing.{at_long, at_short, point_room}
+use Rattle.constriction_queue.proofs.reading.refilled.Goals as goal
+
+pub long-requires : goal.long-requires
+long-requires g c =
+    let is = rw (c.BITS.ensures, c.BITS-2.ensures) at c.shifted_right.ensures in
+    large_of_shr _ _ (λ e. let off = c.if-not-is_nothing.ensures.1 (is ∙ e) in cc)
+
+pub shifted_left-lower-requires-clause-fits : goal.shifted_left-lower-requires-clause-fits
+shifted_left-lower-requires-clause-fits g c =
+    rw (c.low_bits.ensures, c.BITS.ensures, c.BITS-2.ensures, c.BITS-3.ensures) (lower_fits _ _ _ (omega arith))
+
+pub shifted_left-range-requires-clause-fits : goal.shifted_left-range-requires-clause-fits
+shifted_left-range-requires-clause-fits g c =
+    let is = rw (c.BITS.ensures, c.BITS-2.ensures) at c.shifted_right.ensures in
+    let short = small_of_shr _ _ (sym is ∙ c.if-not-is_nothing.ensures.0 refl) in
+    let fits = range_fits g.Word.BitArray.BITS g.State.BitArray.BITS _ (omega arith) (omega (arith, g.met.Word.BitArray.bits_law)) short in
+    rw c.BITS-4.ensures (omega arith)
+
+pub shifted_left-requires-clause-fits : goal.shifted_left-requires-clause-fits
+shifted_left-requires-clause-fits g c =
+    rw (c.low_bits-2.ensures, c.BITS.ensures, c.BITS-2.ensures, c.BITS-5.ensures) (lower_fits _ _ _ (omega arith))
+
+pub plus-point-requires : goal.plus-point-requires
+plus-point-requires g c =
+    rw (c.shifted_left.ensures, c.low_bits-2.ensures, c.BITS.ensures, c.BITS-2.ensures, c.BITS-5.ensures, c.widen.ensures)
+    (point_room g.Word.BitArray.BITS g.State.BitArray.BITS _ _ (omega arith) (g.met.Word.BitArray.number_law _))
+
+pub returns-then-not-is_nothing-clause-list : goal.returns-then-not-is_nothing-clause-list
+returns-then-not-is_nothing-clause-list g c list ws r h =
+    let is = rw (c.BITS.ensures, c.BITS-2.ensures) at c.shifted_right.ensures in
+    let long = large_of_shr _ _ (λ e. let off = c.if-not-is_nothing.ensures.1 (is ∙ e) in cc) in
+    rw (c.long.ensures.lower, c.long.ensures.range) (at_long _ _ ws r _ _ _ _ long h)
+
+pub returns-clause-list : goal.returns-clause-list
+returns-clause-list g c list ws r h =
+    let is = rw (c.BITS.ensures, c.BITS-2.ensures) at c.shifted_right.ensures in
+    let short = small_of_shr _ _ (sym is ∙ c.if-not-is_nothing.ensures.0 refl) in
+    let lower = rw (c.low_bits.ensures, c.BITS.ensures, c.BITS-2.ensures, c.BITS-3.ensures) at c.shifted_left-lower.ensures in
+    let range = rw c.BITS-4.ensures at c.shifted_left-range.ensures in
+    let point = rw (c.shifted_left.ensures, c.low_bits-2.ensures, c.BITS.ensures, c.BITS-2.ensures, c.BITS-5.ensures, c.widen.ensures) at c.plus-point.ensures in
+    rw (c.long-2.ensures.lower, c.long-2.ensures.range)
+    (at_short _ _ ws r _ _ _ _ _ _ _ _ _ (omega arith) (g.met.Word.BitArray.number_law _) short lower range point (c.in-Ok.ensures.word list) (c.in-Ok.ensures.rest list) h)

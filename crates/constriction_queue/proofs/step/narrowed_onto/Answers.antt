@@ -1,0 +1,80 @@
+use Rattle.std.proofs.Common.{◌++◌, map, arith, ap, refl, sym, ◌∙◌, append_assoc, inl, inr}
+use Rattle.constriction_queue.specs.Range.{grown}
+use Rattle.constriction_queue.specs.Encoder.{released_of, word_of}
+use Rattle.constriction_queue.proofs.Encoders.{is_encoder, owed_are_words}
+use Rattle.constriction_queue.proofs.Fits.{cut_wide}
+use Rattle.constriction_queue.proofs.step.narrowed_onto.Goals as goal
+
+pub grow-after-requires-clause-wide : goal.grow-after-requires-clause-wide
+grow-after-requires-clause-wide g c =
+    rw c.narrowed-part.ensures.range (cut_wide _ _ _ _ _ c.requires.step.within_word c.requires.sizes.two_words c.requires.step.not_empty c.args.state.wide)
+
+pub returns-in-Ok-clause-ok : goal.returns-in-Ok-clause-ok
+returns-in-Ok-clause-ok g c =
+    let number = g.Word.BitArray.number in
+    let words = map number (g.Backend.Holds.words c.args.bulk.now) in
+    let released = released_of number c.narrowed-part.result.released in
+    let top = word_of number c.grow-after.result.top in
+    let all = c.grow-after.ensures.run (released ++ words) ∙ ap (grown g.Word.BitArray.BITS g.State.BitArray.BITS) (c.narrowed-part.ensures.run words) in
+    let is = rw (sym (append_assoc top released words)) at all in
+    record {
+      before = is_encoder number g.Backend.Holds.words _ _ _ _ _ c.args.situation c.requires.sizes c.requires.fit c.args.state.wide (g.met.State.BitArray.number_law _) (g.met.State.BitArray.number_law _);
+      after = is_encoder number g.Backend.Holds.words _ _ _ _ _ c.grow-after.result.situation c.requires.sizes c.grow-after.ensures.fit c.grow-after.result.state.wide (g.met.State.BitArray.number_law _) (g.met.State.BitArray.number_law _);
+      narrowed = rw c.in-Ok.ensures.ok is;
+      written = record {
+        owed = top ++ released;
+        owes = record {
+          are_words = owed_are_words number _ g.met.Word.BitArray.number_law c.narrowed-part.result.released c.grow-after.result.top;
+          lower_fits = g.met.State.BitArray.number_law _;
+          situation = c.grow-after.result.situation;
+          lower = _;
+          range = _;
+          fits = c.grow-after.ensures.fit;
+          is = is;
+        };
+        words = c.in-Ok.ensures.ok;
+        room_used = c.in-Ok.ensures.room;
+        untouched = c.in-Ok.ensures.untouched;
+      };
+      held = omega (arith, c.grow-after.ensures.held, c.narrowed-part.ensures.held);
+      heads = tt;
+      kept = λ _. tt;
+      error = tt;
+    }
+
+pub returns-in-Err-clause-err : goal.returns-in-Err-clause-err
+returns-in-Err-clause-err g c =
+    let number = g.Word.BitArray.number in
+    let words = map number (g.Backend.Holds.words c.args.bulk.now) in
+    let released = released_of number c.narrowed-part.result.released in
+    let top = word_of number c.grow-after.result.top in
+    let all = c.grow-after.ensures.run (released ++ words) ∙ ap (grown g.Word.BitArray.BITS g.State.BitArray.BITS) (c.narrowed-part.ensures.run words) in
+    let is = rw (sym (append_assoc top released words)) at all in
+    record {
+      before = is_encoder number g.Backend.Holds.words _ _ _ _ _ c.args.situation c.requires.sizes c.requires.fit c.args.state.wide (g.met.State.BitArray.number_law _) (g.met.State.BitArray.number_law _);
+      after = is_encoder number g.Backend.Holds.words _ _ _ _ _ c.args.situation c.requires.sizes c.requires.fit c.args.state.wide (g.met.State.BitArray.number_law _) (g.met.State.BitArray.number_law _);
+      narrowed = tt;
+      written = tt;
+      held = omega arith;
+      heads = record { held = refl; lower = refl; range = refl };
+      kept = λ makes. ap (map number) (c.in-Err.ensures.kept makes);
+      error = record {
+        owed = top ++ released;
+        owes = record {
+          are_words = owed_are_words number _ g.met.Word.BitArray.number_law c.narrowed-part.result.released c.grow-after.result.top;
+          lower_fits = g.met.State.BitArray.number_law _;
+          situation = c.grow-after.result.situation;
+          lower = _;
+          range = _;
+          fits = c.grow-after.ensures.fit;
+          is = is;
+        };
+        begun = c.in-Err.ensures.begun;
+        short = c.in-Err.ensures.short;
+        error = elim c.in-Err.ensures.err [
+          | inl room ↦ inl room
+          | inr write ↦ inr (write.0, (write.1.0, write.1.1, ap (map number) write.1.2))
+        ];
+        one = λ none. c.in-Err.ensures.one (c.narrowed-part.ensures.none none);
+      };
+    }

@@ -1,0 +1,67 @@
+//! Decoders that go to positions: how many words stand before, and the interval.
+
+ghost use Rattle.std.specs.Prelude.{◌≡◌, ◌⊎◌, ◌/◌, ◌^◌, ℕ, Err};
+ghost use Rattle.constriction_queue.specs.States.{lower_of, range_of};
+ghost use Rattle.constriction_queue.specs.Decoder.{HasPoint};
+
+use crate::decoder::RangeDecoder;
+use crate::reading::read_point;
+use crate::state::RangeCoderState;
+use constriction_base::backends::{Holds, PosSeek, Queue, ReadWords, Seek};
+use constriction_words::{BitArray, WordOf};
+
+impl<Word: WordOf<State>, State: BitArray, Backend: Holds<Word, Queue> + PosSeek> PosSeek
+    for RangeDecoder<Word, State, Backend> {
+    /// The backend's position, and the interval.
+    type Position = (Backend::Position, RangeCoderState<Word, State>);
+}
+
+impl<Word: WordOf<State>, State: BitArray, Backend: ReadWords<Word, Queue> + Seek> Seek
+    for RangeDecoder<Word, State, Backend>
+where
+    Backend::ReadError: Drop,
+{
+    ghost can_seek = { λ decoder position. Backend.can_seek decoder.bulk position.0 };
+
+    // The backend can't go there, or a read was refused there.
+    ghost seek_fails = { λ decoder position. Backend.seek_fails decoder.bulk position.0
+        ⊎ ((moved last rest : Backend) × (e : Backend.ReadError) × Backend.sought decoder.bulk position.0 moved × Backend.reads last (Err e) rest) };
+
+    ghost sought = { λ old position new. (new.lower ≡ lower_of position.1) × (new.range ≡ range_of position.1)
+        × ((moved : Backend) × Backend.sought old.bulk position.0 moved
+        × HasPoint Word.number Backend.words Backend.is_list Word.BITS State.BITS moved new.point new.bulk) };
+
+    ghost stays = { λ old position new. (new.lower ≡ old.lower) × (new.range ≡ old.range) × (new.point ≡ old.point)
+        × (Backend.stays old.bulk position.0 new.bulk
+        ⊎ ((moved last : Backend) × (e : Backend.ReadError) × Backend.sought old.bulk position.0 moved × Backend.reads last (Err e) new.bulk)) };
+
+    /// Goes to a position that an encoder recorded: the interval that was recorded, over the words that the
+    /// backend holds at its position, of which it reads as many as a state has.
+    ///
+    /// # Errors
+    /// `Err(())` where the backend can't go to its position, or refuses a read. The interval and the point
+    /// stay.
+    ///
+    /// ```
+    /// encoder.encode_symbol(&1, &table)?;
+    /// let position = encoder.pos();
+    /// encoder.encode_symbol(&3, &table)?;
+    /// let mut decoder = DefaultRangeDecoder::from_compressed(encoder.into_compressed()?)?;
+    /// decoder.seek(position); // Ok(())
+    /// decoder.decode_symbol(&table)?; // 3
+    /// ```
+    fn seek(
+        &mut self,
+        position: (Backend::Position, RangeCoderState<Word, State>),
+    ) -> Result<(), ()> {
+        let (place, state) = position;
+        self.bulk.seek(place)?;
+        let point = match read_point::<Word, State, Backend>(&mut self.bulk) {
+            Ok(point) => point,
+            Err(_) => return Err(()),
+        };
+        self.state = state;
+        self.point = point;
+        Ok(())
+    }
+}

@@ -1,0 +1,120 @@
+//! The step: the next symbol is taken.
+
+ghost use Rattle.std.specs.Prelude.{◌≡◌, ◌↔◌, ◌≤◌, ◌^◌, Err, IsTrue};
+ghost use Rattle.std.specs.Bool.{OnFalse};
+ghost use Rattle.constriction_base.specs.Steps.{Step};
+ghost use Rattle.constriction_base.specs.declared.errors.CoderError.TheVariants as coder_error;
+ghost use Rattle.constriction_queue.specs.declared.decoder.symbols.DecoderFrontendError.TheVariants as frontend_error;
+ghost use Rattle.constriction_stream.specs.Symbols.{ByBackend, DecodesSymbol, GoesOn};
+ghost use Rattle.constriction_queue.specs.States.{lower_of, range_of};
+ghost use Rattle.constriction_queue.specs.Decoder.{quantile_read, MayBeExhausted};
+ghost use Rattle.constriction_queue.specs.Calls.{DecodeCall};
+
+use crate::decoder::RangeDecoder;
+use crate::reading::{ends_here, narrowed_by_reading, quantile_at};
+use crate::state::RangeCoderState;
+use constriction_base::backends::{Holds, Queue, ReadWords};
+use constriction_base::errors::CoderError;
+use constriction_base::model::{DecoderModel, EntropyModel};
+use constriction_stream::coder::Code;
+use constriction_stream::decoding::Decode;
+use constriction_words::{BitArray, WordOf};
+use thiserror::Error;
+
+/// Why a decoder itself refuses a step.
+#[derive(Debug, Clone, Copy, PartialEq, Eq, Error)]
+pub enum DecoderFrontendError {
+    /// The words hold no symbol of the model.
+    #[error("Tried to decode from compressed data that is invalid for the employed entropy model.")]
+    InvalidData,
+}
+
+impl<Word: WordOf<State>, State: BitArray, Backend: Holds<Word, Queue>> Code
+    for RangeDecoder<Word, State, Backend> {
+    type Word = Word;
+
+    type State = RangeCoderState<Word, State>;
+
+    ghost shows = { λ decoder state. (lower_of state ≡ decoder.lower) × (range_of state ≡ decoder.range) };
+
+    /// The interval.
+    #[inline]
+    fn state(&self) -> RangeCoderState<Word, State> {
+        self.state
+    }
+}
+
+impl<
+    Word: WordOf<State>,
+    State: BitArray,
+    Backend: ReadWords<Word, Queue>,
+    const PRECISION: usize,
+> Decode<PRECISION> for RangeDecoder<Word, State, Backend> {
+    type FrontendError = DecoderFrontendError;
+
+    type BackendError = Backend::ReadError;
+
+    ghost decodes = { ByBackend (DecodeCall Word.number Backend.words Backend.is_list Backend.reads Word.BITS State.BITS) };
+
+    ghost halts = { λ old error new. (error ≡ coder_error.Frontend frontend_error.InvalidData)
+        × (2 ^ PRECISION ≤ quantile_read State.BITS PRECISION old) × (new ≡ old) };
+
+    ghost has_data = { λ decoder. MayBeExhausted Word.BITS State.BITS Backend.seems_exhausted decoder → ⊥ };
+
+    ghost is_end_of_data = { λ _. ⊥ };
+
+    /// Takes the next symbol, under a model of `PRECISION` bits, which are those of a word at most.
+    ///
+    /// It reads one word at most. Where no word is left, it goes on with zero words.
+    ///
+    /// # Errors
+    /// - `Frontend(InvalidData)` exactly where the words hold no symbol of a model of the precision.
+    ///   Nothing changed.
+    /// - `Backend(error)` only where a word had to be read and the read answered that error. The
+    ///   interval and the point are as before, and so are the words of a backend that knows them.
+    #[inline]
+    fn decode_symbol<M>(
+        &mut self,
+        model: M,
+    ) -> Result<M::Symbol, CoderError<DecoderFrontendError, Backend::ReadError>>
+    where
+        M: DecoderModel<PRECISION>,
+        M::Probability: WordOf<Word>,
+        ensures step { DecodesSymbol (⟦<RangeDecoder<Word, State, Backend> as Decode<PRECISION>>⟧.decodes)
+            (⟦<RangeDecoder<Word, State, Backend> as Decode<PRECISION>>⟧.halts)
+            PRECISION (M.table model) self.old result self.new }
+        ensures variant { (result ≡ Err (coder_error.Frontend frontend_error.InvalidData))
+            ↔ (2 ^ PRECISION ≤ quantile_read State.BITS PRECISION self.old) }
+    {
+        let precision = PRECISION as u32;
+        let quotient = quantile_at(self.state, self.point, precision);
+        if !quotient.shifted_right(precision).is_nothing() {
+            return Err(CoderError::Frontend(DecoderFrontendError::InvalidData));
+        }
+        let quantile = M::Probability::narrow(Word::narrow(quotient));
+        let (symbol, left, p) = model.quantile_function(quantile);
+        let p = M::Probability::from_nonzero(p);
+        let (left, p) = (left.widen().widen(), p.widen().widen());
+        match narrowed_by_reading(&mut self.bulk, self.state, self.point, left, p, precision) {
+            Ok((state, point)) => {
+                self.state = state;
+                self.point = point;
+                Ok(symbol)
+            }
+            Err(error) => Err(CoderError::Backend(error)),
+        }
+    }
+
+    /// Whether the words may have ended: the backend's are used up as far as it knows, and the point lies
+    /// where a seal puts it, or no symbol was decoded.
+    #[inline]
+    fn maybe_exhausted(&self) -> bool
+        ensures value { IsTrue result ↔ MayBeExhausted Word.BITS State.BITS Backend.seems_exhausted self.now }
+        ensures data { OnFalse result (⟦<RangeDecoder<Word, State, Backend> as Decode<PRECISION>>⟧.has_data self.now) }
+        ensures goes_on { OnFalse result (GoesOn (⟦<RangeDecoder<Word, State, Backend> as Decode<PRECISION>>⟧.decodes)
+            (⟦<RangeDecoder<Word, State, Backend> as Decode<PRECISION>>⟧.halts)
+            (⟦<RangeDecoder<Word, State, Backend> as Decode<PRECISION>>⟧.is_end_of_data) self.now) }
+    {
+        self.bulk.maybe_exhausted() && ends_here(self.state, self.point)
+    }
+}

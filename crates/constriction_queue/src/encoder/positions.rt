@@ -1,0 +1,58 @@
+//! Where an encoder stands: how many words were written and are held, and the interval.
+
+ghost use Rattle.std.specs.Prelude.{◌≡◌, ◌↔◌, ◌<◌, ◌^◌, length, IsTrue};
+ghost use Rattle.constriction_queue.specs.States.{lower_of, range_of, IsPosition};
+ghost use Rattle.constriction_queue.specs.Encoder.{run_by};
+
+use crate::encoder::RangeEncoder;
+use crate::situation::EncoderSituation;
+use crate::state::RangeCoderState;
+use constriction_base::backends::{CountsWords, Holds, Pos, PosSeek, Stack};
+use constriction_words::{BitArray, WordOf};
+
+impl<Word: WordOf<State>, State: BitArray, Backend: Holds<Word, Stack> + PosSeek> PosSeek
+    for RangeEncoder<Word, State, Backend> {
+    /// How many words were written and are held, and the interval.
+    type Position = (Backend::Position, RangeCoderState<Word, State>);
+}
+
+impl<Word: WordOf<State>, State: BitArray, Backend: CountsWords<Word>> Pos
+    for RangeEncoder<Word, State, Backend> {
+    ghost stands_at = { λ encoder position.
+        IsPosition State.BITS (run_by Word.BITS State.BITS encoder) position.0 (lower_of position.1) (range_of position.1) };
+
+    ghost can_tell = { λ encoder. (run_by Word.BITS State.BITS encoder).moves < 2 ^ 64 };
+
+    /// How many words were written and are held, and the interval. A decoder of the words that the encoder
+    /// exports later goes there by `seek`.
+    ///
+    /// The number of these words must be a `usize`, see [`RangeEncoder::pos_fits`].
+    fn pos(&self) -> (usize, RangeCoderState<Word, State>) {
+        (self.bulk.pos() + self.held(), self.state)
+    }
+}
+
+impl<Word: WordOf<State>, State: BitArray, Backend: CountsWords<Word>> RangeEncoder<
+    Word,
+    State,
+    Backend,
+> {
+    /// How many words are held.
+    #[inline]
+    fn held(&self) -> usize
+        ensures { result ≡ length self.now.held }
+    {
+        match self.situation {
+            EncoderSituation::Normal => 0,
+            EncoderSituation::Inverted(count, _) => count.get(),
+        }
+    }
+
+    /// Whether the number of words written and held is a `usize`. Then `pos` can be asked for.
+    pub fn pos_fits(&self) -> bool
+        ensures { IsTrue result ↔ ((run_by Word.BITS State.BITS self.now).moves < 2 ^ 64) }
+    {
+        let place = self.bulk.pos();
+        self.held() <= usize::MAX - place
+    }
+}

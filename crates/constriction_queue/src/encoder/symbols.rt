@@ -1,0 +1,137 @@
+//! The step: a symbol is put behind the others. Lists of symbols are put by the trait `Encode`.
+
+ghost use Rattle.std.specs.Prelude.{◌≡◌, ◌+◌, ◌≤◌, ◌<◌, []};
+ghost use Rattle.std.specs.Bool.{OnFalse};
+ghost use Rattle.constriction_base.specs.Steps.{Step};
+ghost use Rattle.constriction_base.specs.declared.errors.DefaultEncoderFrontendError.TheVariants.{ImpossibleSymbol};
+ghost use Rattle.constriction_stream.specs.Symbols.{ByBackend, EncodesSymbol, HasRoom, IsBackendError, never_frontend};
+ghost use Rattle.constriction_queue.specs.States.{lower_of, range_of};
+ghost use Rattle.constriction_queue.specs.Encoder.{left_to_encode};
+ghost use Rattle.constriction_queue.specs.Calls.{EncodeCall};
+
+use crate::encoder::RangeEncoder;
+use crate::situation::EncoderSituation;
+use crate::state::RangeCoderState;
+use crate::step::narrowed_onto;
+use constriction_base::backends::{Holds, Stack, WriteWords};
+use constriction_base::errors::{CoderError, DefaultEncoderError, DefaultEncoderFrontendError};
+use constriction_base::model::{EncoderModel, EntropyModel};
+use constriction_stream::coder::Code;
+use constriction_stream::encoding::Encode;
+use constriction_words::{BitArray, WordOf};
+
+impl<Word: WordOf<State>, State: BitArray, Backend: Holds<Word, Stack>> Code
+    for RangeEncoder<Word, State, Backend> {
+    type Word = Word;
+
+    type State = RangeCoderState<Word, State>;
+
+    ghost shows = { λ encoder state. (lower_of state ≡ encoder.lower) × (range_of state ≡ encoder.range) };
+
+    /// The interval.
+    #[inline]
+    fn state(&self) -> RangeCoderState<Word, State> {
+        self.state
+    }
+}
+
+impl<
+    Word: WordOf<State>,
+    State: BitArray,
+    Backend: WriteWords<Word>,
+    const PRECISION: usize,
+> Encode<PRECISION> for RangeEncoder<Word, State, Backend> {
+    type FrontendError = DefaultEncoderFrontendError;
+
+    type BackendError = Backend::WriteError;
+
+    ghost encodes = { ByBackend (EncodeCall Word.number Backend.words Word.BITS State.BITS
+        Backend.room Backend.makes_room Backend.prepare_fails Backend.write_fails) };
+
+    ghost is_impossible_symbol = { λ error. error ≡ ImpossibleSymbol };
+
+    ghost counts_symbols = { Unit {0} };
+
+    ghost symbols_left = { left_to_encode };
+
+    ghost is_lack_of_room = { λ error. IsBackendError error Backend.is_lack_of_room };
+
+    ghost tells_room = { λ encoder. encoder.held ≡ [] };
+
+    ghost never_impossible = { λ old step e new impossible step_gives. never_frontend step_gives.0 e step_gives.2 };
+
+    ghost never_full = { λ e impossible lack. lack };
+
+    /// How many more symbols the encoder can be asked to encode: the words that it holds back, which a step
+    /// makes one more at most, and those of a seal, 16 at most, are counted in a `usize`.
+    #[inline]
+    fn symbols_left(&self) -> usize {
+        match self.situation {
+            EncoderSituation::Normal => usize::MAX - 17,
+            EncoderSituation::Inverted(count, _) => usize::MAX - 17 - count.get(),
+        }
+    }
+
+    /// Puts a symbol behind the others, under a model of `PRECISION` bits, which are those of a word at
+    /// most.
+    ///
+    /// It asks the backend for room for the words that it has to write, where there are any, and only
+    /// then writes them. It sets its interval last.
+    ///
+    /// # Errors
+    /// - `Frontend(ImpossibleSymbol)` exactly where the model doesn't know the symbol. Nothing
+    ///   changed.
+    /// - `Backend(error)` only where words had to be written, and the backend refused room for them, or
+    ///   a write. The interval and the held words are as before, and the backend holds a beginning of the
+    ///   words; over a vector it holds what it held.
+    #[inline]
+    fn encode_symbol<M>(
+        &mut self,
+        symbol: &M::Symbol,
+        model: M,
+    ) -> Result<(), DefaultEncoderError<Backend::WriteError>>
+    where
+        M: EncoderModel<PRECISION>,
+        M::Probability: WordOf<Word>,
+        requires { ⟦<RangeEncoder<Word, State, Backend> as Encode<PRECISION>>⟧.counts_symbols
+            → 0 < ⟦<RangeEncoder<Word, State, Backend> as Encode<PRECISION>>⟧.symbols_left self.old }
+        ensures step { EncodesSymbol (⟦<RangeEncoder<Word, State, Backend> as Encode<PRECISION>>⟧.encodes)
+            (⟦<RangeEncoder<Word, State, Backend> as Encode<PRECISION>>⟧.is_impossible_symbol)
+            PRECISION (M.table model) symbol.now self.old result self.new }
+        ensures left { ⟦<RangeEncoder<Word, State, Backend> as Encode<PRECISION>>⟧.symbols_left self.old
+            ≤ ⟦<RangeEncoder<Word, State, Backend> as Encode<PRECISION>>⟧.symbols_left self.new + 1 }
+    {
+        let Some((left, p)) = model.left_cumulative_and_probability(symbol) else {
+            return Err(CoderError::Frontend(DefaultEncoderFrontendError::ImpossibleSymbol));
+        };
+        let p = M::Probability::from_nonzero(p);
+        let (left, p) = (left.widen().widen(), p.widen().widen());
+        match narrowed_onto(
+            &mut self.bulk,
+            self.state,
+            self.situation,
+            left,
+            p,
+            PRECISION as u32,
+        ) {
+            Ok((state, situation)) => {
+                self.state = state;
+                self.situation = situation;
+                Ok(())
+            }
+            Err(refusal) => Err(CoderError::Backend(refusal)),
+        }
+    }
+
+    /// Whether the backend may be full. Where no words are held back, false promises that the next step
+    /// isn't refused for lack of room: it writes one word at most.
+    #[inline]
+    fn maybe_full(&self) -> bool
+        ensures value { result ≡ Backend.seems_full self.now.bulk }
+        ensures room { OnFalse result (⟦<RangeEncoder<Word, State, Backend> as Encode<PRECISION>>⟧.tells_room self.now
+            → HasRoom (⟦<RangeEncoder<Word, State, Backend> as Encode<PRECISION>>⟧.encodes)
+            (⟦<RangeEncoder<Word, State, Backend> as Encode<PRECISION>>⟧.is_lack_of_room) self.now) }
+    {
+        self.bulk.maybe_full()
+    }
+}

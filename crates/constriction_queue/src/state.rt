@@ -1,0 +1,129 @@
+//! The interval of a range coder.
+
+ghost use Rattle.std.specs.Prelude.{◌≡◌, ◌↔◌, ◌+◌, ◌-◌, ◌*◌, ◌<◌, ◌≤◌, ◌^◌, IfOk, IsOk};
+
+use constriction_words::{BitArray, WordOf};
+use std::alloc::AllocError;
+use std::marker::PhantomData;
+
+/// An interval of states: where it begins, and how long it is, which is never below two to (the bits of
+/// `State` - the bits of `Word`).
+///
+/// Contracts see it by `lower_of` and `range_of`.
+///
+/// ```
+/// RangeCoderState::<u8, u16>::new(0, 256) // Ok: 256 is two to the 8
+/// RangeCoderState::<u8, u16>::new(0, 255) // Err(())
+/// ```
+#[derive(Drop, Copy, Debug, PartialEq, Eq, Hash)]
+pub struct RangeCoderState<Word: WordOf<State>, State: BitArray> {
+    lower: State,
+    range: State,
+    phantom: PhantomData<Word>,
+    ghost wide: { 2 ^ (State.BITS - Word.BITS) ≤ State.number range },
+}
+
+impl<Word: WordOf<State>, State: BitArray> Clone for RangeCoderState<Word, State> {
+    fn clone(&self) -> Result<Self, AllocError> {
+        Ok(*self)
+    }
+}
+
+/// A number that isn't 0 as one that cannot be.
+#[inline]
+fn nonzero<State: BitArray>(number: State) -> State::NonZero
+    requires { 0 < State.number number }
+    ensures { State.nonzero_number result ≡ State.number number }
+{
+    match number.to_nonzero() {
+        Some(nonzero) => nonzero,
+        None => unreachable!(),
+    }
+}
+
+impl<Word: WordOf<State>, State: BitArray> Default for RangeCoderState<Word, State> {
+    ghost use Rattle.constriction_queue.specs.States.{lower_of, range_of};
+
+    ghost is_default = { λ state. (lower_of state ≡ 0) × (range_of state + 1 ≡ 2 ^ State.BITS) };
+
+    /// All states but the last, as before the first symbol.
+    fn default() -> Self {
+        RangeCoderState::start()
+    }
+}
+
+impl<Word: WordOf<State>, State: BitArray> RangeCoderState<Word, State> {
+    ghost use Rattle.constriction_queue.specs.States.{lower_of, range_of};
+
+    /// The interval from `lower`, of `range` states.
+    ///
+    /// # Errors
+    /// `Err(())` exactly where `range` is below two to (the bits of `State` - the bits of `Word`). `lower` is
+    /// free: the interval may reach over the greatest state, and goes on at 0 then.
+    pub fn new(lower: State, range: State) -> Result<Self, ()>
+        ensures variant { IsOk result ↔ (2 ^ (State.BITS - Word.BITS) ≤ State.number range) }
+        ensures lower { IfOk result (λ state. lower_of state ≡ State.number lower) }
+        ensures range { IfOk result (λ state. range_of state ≡ State.number range) }
+    {
+        if range.shifted_right(State::BITS - Word::BITS).is_nothing() {
+            return Err(());
+        }
+        Ok(RangeCoderState {
+            lower,
+            range,
+            phantom: PhantomData,
+        })
+    }
+
+    /// An interval that is long enough.
+    #[inline]
+    pub(crate) fn long(lower: State, range: State) -> Self
+        requires { 2 ^ (State.BITS - Word.BITS) ≤ State.number range }
+        ensures lower { lower_of result ≡ State.number lower }
+        ensures range { range_of result ≡ State.number range }
+    {
+        RangeCoderState {
+            lower,
+            range,
+            phantom: PhantomData,
+        }
+    }
+
+    /// All states but the last.
+    #[inline]
+    pub(crate) fn start() -> Self
+        ensures lower { lower_of result ≡ 0 }
+        ensures range { range_of result + 1 ≡ 2 ^ State.BITS }
+    {
+        RangeCoderState {
+            lower: State::nothing(),
+            range: State::greatest(),
+            phantom: PhantomData,
+        }
+    }
+
+    /// Where the interval begins.
+    #[inline]
+    pub fn lower(&self) -> State
+        ensures { State.number result ≡ lower_of self.now }
+    {
+        self.lower
+    }
+
+    /// How long it is.
+    #[inline]
+    pub fn range(&self) -> State::NonZero
+        ensures { State.nonzero_number result ≡ range_of self.now }
+    {
+        nonzero(self.range)
+    }
+
+    /// How long it is, as a state.
+    #[inline]
+    pub(crate) fn length(&self) -> State
+        ensures number { State.number result ≡ range_of self.now }
+        ensures wide { 2 ^ (State.BITS - Word.BITS) ≤ State.number result }
+    {
+        self.range
+    }
+}

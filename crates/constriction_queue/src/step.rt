@@ -1,0 +1,198 @@
+//! One step of an encoder, as numbers: what it writes, and what is left.
+
+ghost use Rattle.std.specs.Prelude.{◌≡◌, ◌↔◌, ◌+◌, ◌-◌, ◌*◌, ◌<◌, ◌≤◌, ◌^◌, ◌/◌, ◌++◌, ◌∷◌, [], ℕ, List, IsTrue, None, Some, Ok, Err, IfOk, IfErr, length, map, if◌then◌else◌};
+ghost use Rattle.std.specs.Int.NonZero.{non_zero_usize_get};
+ghost use Rattle.constriction_base.specs.Steps.{Step, IsStep, IsSizes};
+ghost use Rattle.constriction_queue.specs.Range.{cut, grown};
+ghost use Rattle.constriction_queue.specs.States.{lower_of, range_of};
+ghost use Rattle.constriction_queue.specs.Encoder.{encoder_of, held_of, released_of, word_of, words_held, run_of, PartsFit, HasPlace};
+ghost use Rattle.constriction_queue.specs.Calls.{EncodeCall};
+
+use crate::situation::{EncoderSituation, HeldWords, nonzero_count};
+use crate::state::RangeCoderState;
+use crate::writing::write_step;
+use constriction_base::backends::{Holds, Stack, WriteWords};
+use constriction_words::{BitArray, WordOf};
+use std::num::NonZeroUsize;
+
+/// Whether an interval reaches over the end of the states.
+#[inline]
+pub fn reaches_over<State: BitArray>(lower: State, range: State) -> bool
+    ensures { IsTrue result ↔ (2 ^ State.BITS ≤ State.number lower + State.number range) }
+{
+    State::greatest().minus(lower).is_below(range)
+}
+
+/// The held words, after a carry into them if there is one.
+#[inline]
+pub fn carried<Word: BitArray>(count: NonZeroUsize, first: Word, carry: bool) -> HeldWords<Word>
+    requires { Word.number first + 1 < 2 ^ Word.BITS }
+    ensures { released_of Word.number (Some result) ≡ words_held (if carry then 0 else 2 ^ Word.BITS - 1) (non_zero_usize_get count) (if carry then Word.number first + 1 else Word.number first) }
+{
+    if carry {
+        HeldWords {
+            count,
+            first: first.plus(Word::unit()),
+            others: Word::nothing(),
+        }
+    } else {
+        HeldWords {
+            count,
+            first,
+            others: Word::greatest(),
+        }
+    }
+}
+
+/// The part of an interval, and the held words that it lets go.
+#[derive(Drop)]
+pub struct Part<Word, State> {
+    pub lower: State,
+    pub range: State,
+    pub situation: EncoderSituation<Word>,
+    pub released: Option<HeldWords<Word>>,
+}
+
+/// The part of an interval that belongs to a symbol.
+#[inline]
+pub fn narrowed<Word: WordOf<State>, State: BitArray>(
+    state: RangeCoderState<Word, State>,
+    situation: EncoderSituation<Word>,
+    left: State,
+    p: State,
+    precision: u32,
+) -> Part<Word, State>
+    requires precise { precision < State.BITS }
+    requires total { State.number left + State.number p ≤ 2 ^ precision }
+    requires fit { PartsFit Word.number Word.BITS State.BITS situation (lower_of state) (range_of state) }
+    ensures fit { PartsFit Word.number Word.BITS State.BITS result.situation (State.number result.lower) (State.number result.range) }
+    ensures place { HasPlace situation → HasPlace result.situation }
+    ensures few { length (released_of Word.number result.released) + 2 < 2 ^ 64 }
+    ensures held { length (held_of Word.number Word.BITS result.situation) ≤ length (held_of Word.number Word.BITS situation) }
+    ensures none { held_of Word.number Word.BITS situation ≡ [] → result.released ≡ None }
+    ensures range { State.number result.range ≡ range_of state / 2 ^ precision * State.number p }
+    ensures run { (words : List ℕ) →
+        run_of Word.BITS State.BITS (held_of Word.number Word.BITS result.situation ++ (released_of Word.number result.released ++ words)) (State.number result.lower) (State.number result.range)
+        ≡ cut (record { precision = precision; left = State.number left; p = State.number p }) (run_of Word.BITS State.BITS (held_of Word.number Word.BITS situation ++ words) (lower_of state) (range_of state)) }
+{
+    let scale = state.length().shifted_right(precision);
+    let range = scale.times(p);
+    let lower = state.lower().wrapping_plus(scale.times(left));
+    match situation {
+        EncoderSituation::Normal => Part {
+            lower,
+            range,
+            situation: EncoderSituation::Normal,
+            released: None,
+        },
+        EncoderSituation::Inverted(count, first) => {
+            if reaches_over(lower, range) {
+                return Part {
+                    lower,
+                    range,
+                    situation: EncoderSituation::Inverted(count, first),
+                    released: None,
+                };
+            }
+            Part {
+                lower,
+                range,
+                situation: EncoderSituation::Normal,
+                released: Some(carried(count, first, lower.is_below(state.lower()))),
+            }
+        }
+    }
+}
+
+/// What a shift leaves: an interval that is long enough, and a word that left it and isn't held.
+#[derive(Drop)]
+pub struct Shifted<Word: WordOf<State>, State: BitArray> {
+    pub state: RangeCoderState<Word, State>,
+    pub situation: EncoderSituation<Word>,
+    pub top: Option<Word>,
+}
+
+/// An interval that grows by a word if it is short.
+#[inline]
+pub fn grow<Word: WordOf<State>, State: BitArray>(
+    lower: State,
+    range: State,
+    situation: EncoderSituation<Word>,
+) -> Shifted<Word, State>
+    requires sized { 2 * Word.BITS ≤ State.BITS }
+    requires wide { 2 ^ (State.BITS - Word.BITS) ≤ State.number range * 2 ^ Word.BITS }
+    requires fit { PartsFit Word.number Word.BITS State.BITS situation (State.number lower) (State.number range) }
+    requires place { HasPlace situation }
+    ensures fit { PartsFit Word.number Word.BITS State.BITS result.situation (lower_of result.state) (range_of result.state) }
+    ensures held { length (held_of Word.number Word.BITS result.situation) ≤ length (held_of Word.number Word.BITS situation) + 1 }
+    ensures run { (words : List ℕ) →
+        run_of Word.BITS State.BITS (held_of Word.number Word.BITS result.situation ++ (word_of Word.number result.top ++ words)) (lower_of result.state) (range_of result.state)
+        ≡ grown Word.BITS State.BITS (run_of Word.BITS State.BITS (held_of Word.number Word.BITS situation ++ words) (State.number lower) (State.number range)) }
+{
+    let below = State::BITS - Word::BITS;
+    if !range.shifted_right(below).is_nothing() {
+        return Shifted {
+            state: RangeCoderState::long(lower, range),
+            situation,
+            top: None,
+        };
+    }
+    let top = Word::narrow(lower.shifted_right(below));
+    let lower = lower.low_bits(below).shifted_left(Word::BITS);
+    let range = range.shifted_left(Word::BITS);
+    let state = RangeCoderState::long(lower, range);
+    match situation {
+        EncoderSituation::Inverted(count, first) => Shifted {
+            state,
+            situation: EncoderSituation::Inverted(nonzero_count(count.get() + 1), first),
+            top: None,
+        },
+        EncoderSituation::Normal => {
+            if reaches_over(lower, range) {
+                Shifted {
+                    state,
+                    situation: EncoderSituation::Inverted(nonzero_count(1), top),
+                    top: None,
+                }
+            } else {
+                Shifted {
+                    state,
+                    situation: EncoderSituation::Normal,
+                    top: Some(top),
+                }
+            }
+        }
+    }
+}
+
+/// An encoder's interval and situation after a step, whose words are written.
+#[inline]
+pub fn narrowed_onto<Word: WordOf<State>, State: BitArray, Backend: WriteWords<Word>>(
+    bulk: &mut Backend,
+    state: RangeCoderState<Word, State>,
+    situation: EncoderSituation<Word>,
+    left: State,
+    p: State,
+    precision: u32,
+) -> Result<(RangeCoderState<Word, State>, EncoderSituation<Word>), Backend::WriteError>
+    requires sizes { IsSizes Word.BITS State.BITS }
+    requires step { IsStep Word.BITS record { precision = precision; left = State.number left; p = State.number p } }
+    requires fit { PartsFit Word.number Word.BITS State.BITS situation (lower_of state) (range_of state) }
+    requires place { HasPlace situation }
+    ensures ok { IfOk result (λ after. EncodeCall Word.number Backend.words Word.BITS State.BITS Backend.room Backend.makes_room Backend.prepare_fails Backend.write_fails
+        (encoder_of Word.number Backend.words Word.BITS (lower_of state) (range_of state) bulk.old situation)
+        record { precision = precision; left = State.number left; p = State.number p } (Ok tt)
+        (encoder_of Word.number Backend.words Word.BITS (lower_of after.0) (range_of after.0) bulk.new after.1)) }
+    ensures fit { IfOk result (λ after. PartsFit Word.number Word.BITS State.BITS after.1 (lower_of after.0) (range_of after.0)) }
+    ensures err { IfErr result (λ e. EncodeCall Word.number Backend.words Word.BITS State.BITS Backend.room Backend.makes_room Backend.prepare_fails Backend.write_fails
+        (encoder_of Word.number Backend.words Word.BITS (lower_of state) (range_of state) bulk.old situation)
+        record { precision = precision; left = State.number left; p = State.number p } (Err e)
+        (encoder_of Word.number Backend.words Word.BITS (lower_of state) (range_of state) bulk.new situation)) }
+{
+    let part = narrowed(state, situation, left, p, precision);
+    let after = grow(part.lower, part.range, part.situation);
+    match write_step(bulk, part.released, after.top) {
+        Ok(()) => Ok((after.state, after.situation)),
+        Err(refusal) => Err(refusal),
+    }
+}

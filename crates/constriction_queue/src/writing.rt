@@ -1,0 +1,182 @@
+//! Words that are owed to a backend.
+
+ghost use Rattle.std.specs.Prelude.{◌≡◌, ◌+◌, ◌-◌, ◌<◌, ◌≤◌, ◌^◌, ◌++◌, ◌∷◌, ◌⊎◌, [], ℕ, List, None, Some, length, map, OnOk, OnErr, IfErr, IsOk};
+ghost use Rattle.std.specs.Int.NonZero.{non_zero_usize_get};
+ghost use Rattle.constriction_queue.specs.Encoder.{released_of, word_of, words_held, owed_of};
+ghost use Rattle.constriction_queue.specs.Writing.{IsBegun};
+
+use crate::situation::HeldWords;
+use constriction_base::backends::{Holds, Stack, WriteWords};
+use constriction_words::BitArray;
+
+/// Writes words that are held no longer.
+fn write_held<Word: BitArray, Backend: WriteWords<Word>>(
+    bulk: &mut Backend,
+    held: HeldWords<Word>,
+) -> Result<(), Backend::WriteError>
+    ensures ok { OnOk result (map Word.number (Backend.words bulk.new) ≡ words_held (Word.number held.others) (non_zero_usize_get held.count) (Word.number held.first) ++ map Word.number (Backend.words bulk.old)) }
+    ensures room { OnOk result (Backend.room bulk.old ≤ Backend.room bulk.new + non_zero_usize_get held.count) }
+    ensures begun { OnErr result (IsBegun (words_held (Word.number held.others) (non_zero_usize_get held.count) (Word.number held.first)) (map Word.number (Backend.words bulk.old)) (map Word.number (Backend.words bulk.new))) }
+    ensures short { OnErr result (Backend.room bulk.old < non_zero_usize_get held.count) }
+    ensures err { IfErr result (λ e. (last : Backend) × Backend.write_fails last e × (Backend.words last ≡ Backend.words bulk.new)) }
+{
+    match bulk.write(held.first) {
+        Ok(()) => {}
+        Err(error) => return Err(error),
+    }
+    for i in 1..held.count.get() {
+        match bulk.write(held.others) {
+            Ok(()) => {}
+            Err(error) => return Err(error),
+        }
+    }
+    Ok(())
+}
+
+/// The same, if there are any.
+fn write_released<Word: BitArray, Backend: WriteWords<Word>>(
+    bulk: &mut Backend,
+    held: Option<HeldWords<Word>>,
+) -> Result<(), Backend::WriteError>
+    ensures ok { OnOk result (map Word.number (Backend.words bulk.new) ≡ released_of Word.number held ++ map Word.number (Backend.words bulk.old)) }
+    ensures room { OnOk result (Backend.room bulk.old ≤ Backend.room bulk.new + length (released_of Word.number held)) }
+    ensures begun { OnErr result (IsBegun (released_of Word.number held) (map Word.number (Backend.words bulk.old)) (map Word.number (Backend.words bulk.new))) }
+    ensures short { OnErr result (Backend.room bulk.old < length (released_of Word.number held)) }
+    ensures err { IfErr result (λ e. (last : Backend) × Backend.write_fails last e × (Backend.words last ≡ Backend.words bulk.new)) }
+{
+    match held {
+        Some(held) => write_held(bulk, held),
+        None => Ok(()),
+    }
+}
+
+/// Writes a word, if there is one.
+#[inline]
+fn write_word<Word: BitArray, Backend: WriteWords<Word>>(
+    bulk: &mut Backend,
+    word: Option<Word>,
+) -> Result<(), Backend::WriteError>
+    ensures ok { OnOk result (map Word.number (Backend.words bulk.new) ≡ word_of Word.number word ++ map Word.number (Backend.words bulk.old)) }
+    ensures room { OnOk result (Backend.room bulk.old ≤ Backend.room bulk.new + length (word_of Word.number word)) }
+    ensures begun { OnErr result (IsBegun (word_of Word.number word) (map Word.number (Backend.words bulk.old)) (map Word.number (Backend.words bulk.new))) }
+    ensures short { OnErr result (Backend.room bulk.old < length (word_of Word.number word)) }
+    ensures err { IfErr result (λ e. (last : Backend) × Backend.write_fails last e × (Backend.words last ≡ Backend.words bulk.new)) }
+{
+    match word {
+        Some(word) => match bulk.write(word) {
+            Ok(()) => Ok(()),
+            Err(error) => Err(error),
+        },
+        None => Ok(()),
+    }
+}
+
+/// How many words these are.
+#[inline]
+fn held_count<Word: BitArray>(held: &Option<HeldWords<Word>>) -> usize
+    ensures { result ≡ length (released_of Word.number held.now) }
+{
+    match held {
+        Some(held) => held.count.get(),
+        None => 0,
+    }
+}
+
+#[inline]
+fn word_count<Word: BitArray>(word: &Option<Word>) -> usize
+    ensures count { result ≡ length (word_of Word.number word.now) }
+    ensures few { result ≤ 1 }
+{
+    match word {
+        Some(_) => 1,
+        None => 0,
+    }
+}
+
+/// How many words are owed.
+#[inline]
+pub fn owed_count<Word: BitArray>(
+    held: &Option<HeldWords<Word>>,
+    top: &Option<Word>,
+    last: &Option<Word>,
+) -> usize
+    requires { length (released_of Word.number held.now) + 2 < 2 ^ 64 }
+    ensures { result ≡ length (owed_of Word.number held.now top.now last.now) }
+{
+    held_count(held) + word_count(top) + word_count(last)
+}
+
+/// Writes held words, then one, then another. Room for all of them is asked for first, where there is
+/// any of them.
+pub fn write_owed<Word: BitArray, Backend: WriteWords<Word>>(
+    bulk: &mut Backend,
+    held: Option<HeldWords<Word>>,
+    top: Option<Word>,
+    last: Option<Word>,
+) -> Result<(), Backend::WriteError>
+    requires { length (released_of Word.number held) + 2 < 2 ^ 64 }
+    ensures ok { OnOk result (map Word.number (Backend.words bulk.new) ≡ owed_of Word.number held top last ++ map Word.number (Backend.words bulk.old)) }
+    ensures room { OnOk result (Backend.room bulk.old ≤ Backend.room bulk.new + length (owed_of Word.number held top last)) }
+    ensures untouched { OnOk result (owed_of Word.number held top last ≡ [] → bulk.new ≡ bulk.old) }
+    ensures begun { OnErr result (IsBegun (owed_of Word.number held top last) (map Word.number (Backend.words bulk.old)) (map Word.number (Backend.words bulk.new))) }
+    ensures short { OnErr result (Backend.room bulk.old < length (owed_of Word.number held top last)) }
+    ensures kept { Backend.makes_room → OnErr result (Backend.words bulk.new ≡ Backend.words bulk.old) }
+    ensures err { IfErr result (λ e. Backend.prepare_fails bulk.old (length (owed_of Word.number held top last)) e
+        ⊎ ((Backend.makes_room → ⊥) × ((last : Backend) × Backend.write_fails last e × (Backend.words last ≡ Backend.words bulk.new)))) }
+{
+    let count = owed_count(&held, &top, &last);
+    if count == 0 {
+        return Ok(());
+    }
+    match bulk.prepare(count) {
+        Ok(()) => {}
+        Err(error) => return Err(error),
+    }
+    match write_released(bulk, held) {
+        Ok(()) => {}
+        Err(error) => return Err(error),
+    }
+    match write_word(bulk, top) {
+        Ok(()) => {}
+        Err(error) => return Err(error),
+    }
+    write_word(bulk, last)
+}
+
+/// The same of what a step owes. Where no held words are let go, this is one word at most.
+#[inline]
+pub fn write_step<Word: BitArray, Backend: WriteWords<Word>>(
+    bulk: &mut Backend,
+    held: Option<HeldWords<Word>>,
+    top: Option<Word>,
+) -> Result<(), Backend::WriteError>
+    requires { length (released_of Word.number held) + 2 < 2 ^ 64 }
+    ensures ok { OnOk result (map Word.number (Backend.words bulk.new) ≡ owed_of Word.number held top None ++ map Word.number (Backend.words bulk.old)) }
+    ensures room { OnOk result (Backend.room bulk.old ≤ Backend.room bulk.new + length (owed_of Word.number held top None)) }
+    ensures untouched { OnOk result (owed_of Word.number held top None ≡ [] → bulk.new ≡ bulk.old) }
+    ensures begun { OnErr result (IsBegun (owed_of Word.number held top None) (map Word.number (Backend.words bulk.old)) (map Word.number (Backend.words bulk.new))) }
+    ensures short { OnErr result (Backend.room bulk.old < length (owed_of Word.number held top None)) }
+    ensures kept { Backend.makes_room → OnErr result (Backend.words bulk.new ≡ Backend.words bulk.old) }
+    ensures err { IfErr result (λ e. Backend.prepare_fails bulk.old (length (owed_of Word.number held top None)) e
+        ⊎ ((Backend.makes_room → ⊥) × ((last : Backend) × Backend.write_fails last e × (Backend.words last ≡ Backend.words bulk.new)))) }
+    ensures one { held ≡ None → IfErr result (λ e. Backend.prepare_fails bulk.old 1 e
+        ⊎ ((Backend.makes_room → ⊥) × Backend.write_fails bulk.old e)) }
+{
+    if let Some(held) = held {
+        return match write_owed(bulk, Some(held), top, None) {
+            Ok(()) => Ok(()),
+            Err(error) => Err(error),
+        };
+    }
+    let Some(word) = top else {
+        return Ok(());
+    };
+    match bulk.prepare(1) {
+        Ok(()) => {}
+        Err(error) => return Err(error),
+    }
+    match bulk.write(word) {
+        Ok(()) => Ok(()),
+        Err(error) => Err(error),
+    }
+}
