@@ -1,0 +1,16 @@
+use Rattle.std.proofs.Common.{◌≤◌, reverse}
+use Rattle.constriction_symbol.specs.Bits.{bits_of}
+use Rattle.constriction_symbol.specs.Codewords.{Emits}
+use Rattle.constriction_symbol.proofs.emitting.emit_down.Given as goal
+
+-- what the calls still to come make of the bits that are left, all calls make of all bits
+abbrev pub invariant-bits : goal.invariant-bits
+invariant-bits g l = record {
+  callable : goal.F-IsAlwaysCallable g l.emit;
+  within : l.left ≤ g.Word.BitArray.BITS;
+  all : (r : _) (last : _) → Emits g.F.FnMut l.emit (reverse (bits_of l.left (g.Word.BitArray.number l.word))) r last
+      → Emits g.F.FnMut l.fn.emit (reverse (bits_of l.count (g.Word.BitArray.number l.word))) r last;
+}
+
+abbrev pub decreases-bits : goal.decreases-bits
+decreases-bits g l = l.left

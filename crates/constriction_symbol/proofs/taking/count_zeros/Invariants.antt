@@ -1,0 +1,16 @@
+use Rattle.std.proofs.Common.{◌≤◌, ◌+◌, ◌-◌, false, replicate}
+use Rattle.std.specs.Iterator.{IsFinite}
+use Rattle.constriction_symbol.specs.Codewords.{GivesBits}
+use Rattle.constriction_symbol.proofs.taking.count_zeros.Given as goal
+
+-- so many zeros were taken
+abbrev pub invariant-zeros : goal.invariant-zeros
+invariant-zeros g l = record {
+  can : g.I.Iterator.can_next l.source;
+  finite : IsFinite (g.I.Iterator.remaining l.fn.source) → IsFinite (g.I.Iterator.remaining l.source);
+  within : l.count ≤ l.most + 1;
+  taken : GivesBits g.I.Iterator.next_gives l.fn.source (replicate l.count false) l.source;
+}
+
+abbrev pub decreases-zeros : goal.decreases-zeros
+decreases-zeros g l = l.most + 1 - l.count

@@ -1,0 +1,20 @@
+use Rattle.std.proofs.Common.{◌≡◌, ◌≤◌, ◌+◌, ◌*◌, ◌^◌, Bool, List, length}
+use Rattle.std.specs.Iterator.{IsFinite}
+use Rattle.constriction_symbol.specs.Codewords.{GivesBits}
+use Rattle.constriction_symbol.specs.Golomb.{number_after}
+use Rattle.constriction_symbol.proofs.taking.read_bits.Given as goal
+
+-- these bits were taken
+abbrev pub invariant-bits : goal.invariant-bits
+invariant-bits g l = record {
+  can : g.I.Iterator.can_next l.source;
+  finite : IsFinite (g.I.Iterator.remaining l.fn.source) → IsFinite (g.I.Iterator.remaining l.source);
+  fits : (g.N.BitArray.number l.number + 1) * 2 ^ l.left ≤ 2 ^ g.N.BitArray.BITS;
+  taken : List Bool;
+  len : length taken + l.left ≡ l.count;
+  value : g.N.BitArray.number l.number ≡ number_after (g.N.BitArray.number l.fn.start) taken;
+  gives : GivesBits g.I.Iterator.next_gives l.fn.source taken l.source;
+}
+
+abbrev pub decreases-bits : goal.decreases-bits
+decreases-bits g l = l.left

@@ -1,0 +1,10 @@
+use Rattle.constriction_stream.specs.Lists.{StepsAll}
+use Rattle.constriction_symbol.specs.Codewords.{WritesSymbol}
+use Rattle.constriction_symbol.proofs.writing.WriteBitStream.encode_iid_symbols.Given as goal
+
+-- the codewords of the items that came were written
+abbrev pub invariant-loop-symbol : goal.invariant-loop-symbol
+invariant-loop-symbol g l =
+    (goal.iterator-loop-symbol g).can_next l.symbol-iterator
+    × (goal.iterator-loop-symbol g).is_finite l.symbol-iterator
+    × StepsAll (WritesSymbol g.Self.WriteBitStream.bits g.Self.WriteBitStream.bit_fails (λ symbol e. g.S.BitOrder.chosen (g.C.EncoderCodebook.prefix_wants l.codebook symbol) (g.C.EncoderCodebook.suffix_wants l.codebook symbol) × ((a : _) × g.Self.WriteError.From.from_gives a e)) (g.C.Codebook.codeword l.codebook) g.S.BitOrder.form g.L.Lent.lent) l.initial.self l.yielded l.self

@@ -1,0 +1,95 @@
+-- Codewords: what a codebook emits, what a stream of bits then holds, and what a codebook reads.
+use Rattle.std.specs.Prelude.{◌≡◌, Bool, List, [], ◌∷◌, ◌++◌, ◌⊎◌, Option, Some, None, Result, Ok, Err, map}
+use Rattle.std.specs.Iterator.{Yields}
+use Rattle.std.specs.Fn.{Mut, Called}
+use Rattle.constriction_base.specs.declared.errors.CoderError.{CoderError}
+use Rattle.constriction_base.specs.declared.errors.CoderError.TheVariants.{Frontend, Backend}
+use Rattle.constriction_base.specs.declared.errors.DefaultEncoderFrontendError.{DefaultEncoderFrontendError}
+use Rattle.constriction_base.specs.declared.errors.DefaultEncoderFrontendError.TheVariants.{ImpossibleSymbol}
+use Rattle.constriction_symbol.specs.declared.codebooks.SymbolCodeError.{SymbolCodeError}
+use Rattle.constriction_symbol.specs.declared.codebooks.SymbolCodeError.TheVariants.{OutOfCompressedData, InvalidCodeword}
+
+-- what encoding a symbol answers where calls of the emitter answer E
+abbrev pub Answer : Type 0 → Type 0
+Answer E = Result (Unit {0}) (CoderError DefaultEncoderFrontendError E)
+
+-- f is called at each bit in order, up to and with the first call that is refused; f is then `last`
+abbrev pub Emits : {F E : Type 0} → Mut F (Bool × Unit {0}) (Result (Unit {0}) E) → F → List Bool → Answer E → F → Type 0
+Emits g f [] r last = (r ≡ Ok tt) × (f ≡ last)
+Emits {F} {E} g f (b ∷ bs) r last =
+    ((next : F) × Called g f (b, tt) (Ok tt) next × Emits g next bs r last) ⊎ ((e : E) × Called g f (b, tt) (Err e) last × (r ≡ Err (Backend e)))
+
+-- the bits of a codeword are emitted; or none is, where the symbol has no codeword, or memory was wanted
+abbrev pub EmitsCodeword : {F E : Type 0} → Mut F (Bool × Unit {0}) (Result (Unit {0}) E) → (E → Type 0) → F → Option (List Bool) → Answer E → F → Type 0
+EmitsCodeword g wants f None r last = (r ≡ Err (Frontend ImpossibleSymbol)) × (f ≡ last)
+EmitsCodeword {F} {E} g wants f (Some bits) r last = Emits g f bits r last ⊎ ((e : E) × wants e × (r ≡ Err (Backend e)) × (f ≡ last))
+
+-- new is old and then a beginning of bs
+abbrev pub IsBeginning : List Bool → List Bool → List Bool → Type 0
+IsBeginning old bs new = (front : List Bool) × (back : List Bool) × (bs ≡ front ++ back) × (new ≡ old ++ front)
+
+-- a stream of bits has a codeword more; or it has a beginning of it, as the stream at which the next bit was
+-- refused; or it is as before, where memory was wanted
+abbrev pub Writes : {C E : Type 0} → (C → List Bool) → (C → E → Type 0) → (E → Type 0) → C → List Bool → Answer E → C → Type 0
+Writes bits fails wants old code (Ok _) new = bits new ≡ bits old ++ code
+Writes bits fails wants old code (Err (Frontend _)) new = ⊥
+Writes {C} bits fails wants old code (Err (Backend e)) new =
+    (IsBeginning (bits old) code (bits new) × (refused : C) × (bits refused ≡ bits new) × fails refused e)
+    ⊎ (wants e × (bits new ≡ bits old))
+
+-- the same of a symbol, which may have no codeword
+abbrev pub WritesCodeword : {C E : Type 0} → (C → List Bool) → (C → E → Type 0) → (E → Type 0) → C → Option (List Bool) → Answer E → C → Type 0
+WritesCodeword bits fails wants old None r new = (r ≡ Err (Frontend ImpossibleSymbol)) × (bits new ≡ bits old)
+WritesCodeword bits fails wants old (Some code) r new = Writes bits fails wants old code r new
+
+-- the form of a codeword, where there is one
+abbrev pub formed : (List Bool → List Bool) → Option (List Bool) → Option (List Bool)
+formed form None = None
+formed form (Some bits) = Some (form bits)
+
+-- the same of a symbol that is lent and its codebook; and of a symbol that is lent
+abbrev pub WritesPair : {C L K S E : Type 0} → (C → List Bool) → (C → E → Type 0) → (K → S → E → Type 0) → (K → S → Option (List Bool)) → (List Bool → List Bool) → (L → S) → C → L × K → Answer E → C → Type 0
+WritesPair bits fails wants codeword form lent old pair r new =
+    WritesCodeword bits fails (wants pair.1 (lent pair.0)) old (formed form (codeword pair.1 (lent pair.0))) r new
+
+abbrev pub WritesSymbol : {C L S E : Type 0} → (C → List Bool) → (C → E → Type 0) → (S → E → Type 0) → (S → Option (List Bool)) → (List Bool → List Bool) → (L → S) → C → L → Answer E → C → Type 0
+WritesSymbol bits fails wants codeword form lent old item r new =
+    WritesCodeword bits fails (wants (lent item)) old (formed form (codeword (lent item))) r new
+
+-- none of the codewords begins the bits
+abbrev pub NoneBegins : {S : Type 0} → (S → Option (List Bool)) → List Bool → Type 0
+NoneBegins {S} codeword bits = (symbol : S) (code tail : List Bool) → codeword symbol ≡ Some code → bits ≡ code ++ tail → ⊥
+
+-- none of the codewords begins the bits, whatever follows them
+abbrev pub NoneFits : {S : Type 0} → (S → Option (List Bool)) → List Bool → Type 0
+NoneFits codeword bits = (rest : List Bool) → NoneBegins codeword (bits ++ rest)
+
+abbrev pub as_item : {E : Type 0} → Bool → Result Bool E
+as_item b = Ok b
+
+-- so many bits come from an iterator of Results of bits, in order
+abbrev pub GivesBits : {I E : Type 0} → (I → Option (Result Bool E) → I → Type 0) → I → List Bool → I → Type 0
+GivesBits {E = E} next old bits new = Yields next old (map (as_item {E = E}) bits) new
+
+-- the bits come, and then the iterator ends
+abbrev pub EndsAfter : {I E : Type 0} → (I → Option (Result Bool E) → I → Type 0) → I → List Bool → I → Type 0
+EndsAfter {I} next old bits new = (last : I) × GivesBits next old bits last × next last None new
+
+-- the bits come, and then an error of the iterator
+abbrev pub FailsAfter : {I E : Type 0} → (I → Option (Result Bool E) → I → Type 0) → I → List Bool → E → I → Type 0
+FailsAfter {I} next old bits e new = (last : I) × GivesBits next old bits last × next last (Some (Err e)) new
+
+-- the bits end, or their source answers an error, after bits of which this holds
+abbrev pub StopsWithin : {I V E : Type 0} → (I → Option (Result Bool E) → I → Type 0) → (List Bool → Type 0) → I → CoderError (SymbolCodeError V) E → I → Type 0
+StopsWithin next reads_on old (Frontend OutOfCompressedData) new = (bits : List Bool) × reads_on bits × EndsAfter next old bits new
+StopsWithin next reads_on old (Frontend (InvalidCodeword e)) new = ⊥
+StopsWithin next reads_on old (Backend e) new = (bits : List Bool) × reads_on bits × FailsAfter next old bits e new
+
+-- the bits of a codeword are read, and its symbol is the answer; or the bits end, or their source answers an error,
+-- where reading would go on; or the bits that were read are those of no codeword
+abbrev pub ReadsSymbol : {I S V E : Type 0} → (I → Option (Result Bool E) → I → Type 0) → (S → Option (List Bool)) → (List Bool → Type 0) → (List Bool → V → Type 0)
+    → I → Result S (CoderError (SymbolCodeError V) E) → I → Type 0
+ReadsSymbol next codeword reads_on is_invalid old (Ok symbol) new = (bits : List Bool) × (codeword symbol ≡ Some bits) × GivesBits next old bits new
+ReadsSymbol next codeword reads_on is_invalid old (Err (Frontend OutOfCompressedData)) new = (bits : List Bool) × reads_on bits × EndsAfter next old bits new
+ReadsSymbol next codeword reads_on is_invalid old (Err (Frontend (InvalidCodeword e))) new = (bits : List Bool) × is_invalid bits e × GivesBits next old bits new
+ReadsSymbol next codeword reads_on is_invalid old (Err (Backend e)) new = (bits : List Bool) × reads_on bits × FailsAfter next old bits e new

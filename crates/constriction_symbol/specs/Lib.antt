@@ -1,0 +1,4 @@
+pub mod Bits
+pub mod Codewords
+pub mod Golomb
+pub mod GolombLaws

@@ -1,0 +1,110 @@
+//! The same bits for reading.
+
+ghost use Rattle.constriction_symbol.specs.Bits.{PadsTo};
+ghost use Rattle.std.specs.Prelude.{IfErr, IfOk, [], ◌≡◌};
+
+use crate::coder::{QueueEncoder, StackCoder, SymbolCoder};
+use crate::queue::QueueDecoder;
+use constriction_base::backends::{
+    AsReadWords, BothWays, Holds, IntoReadWords, Queue, Stack, WriteWords, written_to_queue,
+};
+use constriction_words::BitArray;
+use std::marker::PhantomData;
+
+impl<
+    Word: BitArray,
+    B: WriteWords<Word> + IntoReadWords<Word, Queue> + BothWays<Word>,
+> QueueEncoder<Word, B> {
+    /// The bits from the first to the last, and behind them zeros to a whole word.
+    ///
+    /// # Errors
+    /// Where there are bits outside the backend, and the backend refuses to write their word. The coder is gone then.
+    pub fn into_decoder(self) -> Result<QueueDecoder<Word, B::IntoReadWords>, B::WriteError>
+    where
+        B: Drop,
+        ensures bits { IfOk result (λ decoder. PadsTo Word.BITS self.bits decoder.bits) }
+        ensures err { IfErr result (λ e. (self.last ≡ [] → ⊥) × B.write_fails self.backend e) }
+    {
+        match self.into_compressed() {
+            Ok(words) => Ok(QueueDecoder::from_compressed(written_to_queue(words))),
+            Err(error) => Err(error),
+        }
+    }
+
+    /// The same as an iterator, which gives the zeros too.
+    ///
+    /// # Errors
+    /// Those of [`QueueEncoder::into_decoder`].
+    pub fn into_overshooting_iter(
+        self,
+    ) -> Result<QueueDecoder<Word, B::IntoReadWords>, B::WriteError>
+    where
+        B: Drop,
+        ensures bits { IfOk result (λ decoder. PadsTo Word.BITS self.bits decoder.bits) }
+        ensures err { IfErr result (λ e. (self.last ≡ [] → ⊥) × B.write_fails self.backend e) }
+    {
+        self.into_decoder()
+    }
+}
+
+impl<Word: BitArray, B: IntoReadWords<Word, Stack>> StackCoder<Word, B> {
+    /// The same bits over a backend for reading.
+    pub fn into_decoder(self) -> StackCoder<Word, B::IntoReadWords>
+        ensures bits { result.bits ≡ self.bits }
+        ensures last { result.last ≡ self.last }
+        ensures place { B.becomes self.backend result.backend }
+    {
+        let SymbolCoder {
+            backend,
+            last,
+            semantics: _,
+        } = self;
+        SymbolCoder {
+            backend: backend.into_read_words(),
+            last,
+            semantics: PhantomData,
+        }
+    }
+
+    /// The same as an iterator: the bits from the last to the first.
+    pub fn into_iterator(self) -> StackCoder<Word, B::IntoReadWords>
+        ensures bits { result.bits ≡ self.bits }
+        ensures last { result.last ≡ self.last }
+        ensures place { B.becomes self.backend result.backend }
+    {
+        self.into_decoder()
+    }
+}
+
+impl<Word: BitArray, B: Holds<Word, Stack>> StackCoder<Word, B> {
+    /// The same bits over borrowed words, for reading.
+    ///
+    /// ```
+    /// let mut decoder = coder.as_decoder();
+    /// decoder.decode_symbol(&codebook)?; // what was written last; `coder` still holds it
+    /// ```
+    pub fn as_decoder<'a>(&'a self) -> StackCoder<Word, B::AsReadWords>
+    where
+        B: AsReadWords<'a, Word, Stack>,
+        ensures bits { result.bits ≡ self.now.bits }
+        ensures last { result.last ≡ self.now.last }
+        ensures place { B.becomes self.now.backend result.backend }
+    {
+        SymbolCoder {
+            backend: self.backend.as_read_words(),
+            last: self.last.copied(),
+            semantics: PhantomData,
+        }
+    }
+
+    /// The same as an iterator: the bits from the last to the first.
+    pub fn iter<'a>(&'a self) -> StackCoder<Word, B::AsReadWords>
+    where
+        B: AsReadWords<'a, Word, Stack>,
+        ensures bits { result.bits ≡ self.now.bits }
+        ensures last { result.last ≡ self.now.last }
+        ensures place { B.becomes self.now.backend result.backend }
+    {
+        self.as_decoder()
+    }
+}

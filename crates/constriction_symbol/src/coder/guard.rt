@@ -1,0 +1,1 @@
+//! The words of a coder that is used again.

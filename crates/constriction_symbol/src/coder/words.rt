@@ -1,0 +1,125 @@
+//! Words from a coder, and a coder from words.
+
+ghost use Rattle.constriction_base.specs.declared.errors.CoderError.TheVariants as coder_error;
+ghost use Rattle.constriction_symbol.specs.Bits.{ClosingFails, HasStackWords, IsQueueWords, IsStackWords, TopWord, bits_of_words};
+ghost use Rattle.std.specs.Prelude.{Err, IfErr, IfOk, None, Ok, Some, [], map, reverse, ◌∷◌, ◌≡◌, ◌⊎◌};
+
+use crate::coder::{QueueEncoder, StackCoder, SymbolCoder};
+use crate::steps::put_last;
+use crate::word_bits::WordBits;
+use constriction_base::backends::{Holds, ReadWords, Stack, WriteWords};
+use constriction_base::errors::CoderError;
+use constriction_words::BitArray;
+use std::marker::PhantomData;
+
+impl<Word: BitArray, B: WriteWords<Word>> StackCoder<Word, B> {
+    /// The words of the bits: one more bit that is set ends them, and then come zeros to a whole word. So those of no
+    /// bits are one word, 1.
+    ///
+    /// # Errors
+    /// Where the backend refuses to write the last word, or a full word before it. The coder is gone then.
+    pub fn into_compressed(self) -> Result<B, B::WriteError>
+    where
+        B: Drop,
+        ensures ok { IfOk result (λ all. IsStackWords Word.BITS self.bits (map Word.number (reverse (B.words all)))) }
+        ensures err { IfErr result (λ e. ClosingFails Word.BITS Word.number B.words B.write_fails self.last self.backend e) }
+    {
+        let SymbolCoder {
+            mut backend,
+            mut last,
+            semantics: _,
+        } = self;
+        match put_last(&mut backend, &mut last, true) {
+            Ok(()) => {}
+            Err(error) => return Err(error),
+        }
+        match backend.write(last.word()) {
+            Ok(()) => Ok(backend),
+            Err(error) => Err(error),
+        }
+    }
+}
+
+impl<Word: BitArray, B: ReadWords<Word, Stack>> StackCoder<Word, B> {
+    /// The coder whose words these are, as [`StackCoder::into_compressed`] gives them. Of no words it is a coder without
+    /// bits. The highest set bit of the last word ends the bits.
+    ///
+    /// # Errors
+    /// - `Frontend(backend)` exactly where the last word is zero, which was then read.
+    /// - `Backend(error)` where the read of the last word is refused. The backend is gone then.
+    pub fn from_compressed(mut compressed: B) -> Result<Self, CoderError<B, B::ReadError>>
+    where
+        B: Drop,
+        ensures ok { B.is_list → IfOk result (λ new. HasStackWords Word.BITS new.bits (map Word.number (reverse (B.words compressed)))) }
+        ensures reads { IfOk result (λ new.
+            ((new.last ≡ []) × B.reads compressed (Ok None) new.backend)
+            ⊎ ((word : Word) × TopWord Word.BITS new.last (Word.number word) × B.reads compressed (Ok (Some word)) new.backend)) }
+        ensures frontend { (rest : B) → result ≡ Err (coder_error.Frontend rest) →
+            (word : Word) × (Word.number word ≡ 0) × B.reads compressed (Ok (Some word)) rest
+            × (B.is_list → B.words compressed ≡ word ∷ B.words rest) }
+        ensures err { (e : B.ReadError) → result ≡ Err (coder_error.Backend e) → (rest : B) × B.reads compressed (Err e) rest }
+    {
+        let word = match compressed.read() {
+            Err(error) => return Err(CoderError::Backend(error)),
+            Ok(None) => {
+                return Ok(SymbolCoder {
+                    backend: compressed,
+                    last: WordBits::none(),
+                    semantics: PhantomData,
+                });
+            }
+            Ok(Some(word)) => word,
+        };
+        let Some(last) = WordBits::below_highest(word) else {
+            return Err(CoderError::Frontend(compressed));
+        };
+        Ok(SymbolCoder {
+            backend: compressed,
+            last,
+            semantics: PhantomData,
+        })
+    }
+}
+
+impl<Word: BitArray, B: WriteWords<Word>> QueueEncoder<Word, B> {
+    /// The words of the bits, the last one with zeros above its bits. Those of no bits are none.
+    ///
+    /// # Errors
+    /// Where there are bits outside the backend, and the backend refuses to write their word. The coder is gone then.
+    pub fn into_compressed(self) -> Result<B, B::WriteError>
+    where
+        B: Drop,
+        ensures ok { IfOk result (λ all. IsQueueWords Word.BITS self.bits (map Word.number (reverse (B.words all)))) }
+        ensures whole { self.last ≡ [] → result ≡ Ok self.backend }
+        ensures err { IfErr result (λ e. (self.last ≡ [] → ⊥) × B.write_fails self.backend e) }
+    {
+        let SymbolCoder {
+            mut backend,
+            last,
+            semantics: _,
+        } = self;
+        if last.is_empty() {
+            return Ok(backend);
+        }
+        match backend.write(last.word()) {
+            Ok(()) => Ok(backend),
+            Err(error) => Err(error),
+        }
+    }
+}
+
+impl<Word: BitArray, B: Holds<Word, Stack>> QueueEncoder<Word, B> {
+    /// The coder of all bits of a backend's words. It takes no bit for padding: those of a coder that was no whole word
+    /// stay in it.
+    pub fn from_compressed(compressed: B) -> Self
+        ensures bits { result.bits ≡ bits_of_words Word.BITS (map Word.number (reverse (B.words compressed))) }
+        ensures last { result.last ≡ [] }
+        ensures backend { result.backend ≡ compressed }
+    {
+        SymbolCoder {
+            backend: compressed,
+            last: WordBits::none(),
+            semantics: PhantomData,
+        }
+    }
+}

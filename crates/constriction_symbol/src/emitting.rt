@@ -1,0 +1,104 @@
+//! Bits of words, and zeros, handed to an emitter.
+
+ghost use Rattle.std.specs.Prelude.{◌≡◌, ◌+◌, ◌<◌, ◌≤◌, ◌^◌, ◌∷◌, ◌++◌, true, false, List, [], replicate, reverse};
+ghost use Rattle.constriction_symbol.specs.Bits.{bits_of};
+ghost use Rattle.constriction_symbol.specs.Codewords.{Emits};
+
+use constriction_base::errors::{CoderError, DefaultEncoderError};
+use constriction_words::BitArray;
+
+/// Emits so many zeros.
+pub fn emit_zeros<E, F: FnMut(bool) -> Result<(), E>>(
+    count: u32,
+    emit: &mut F,
+) -> Result<(), DefaultEncoderError<E>>
+    requires { F.IsAlwaysCallable emit.old }
+    ensures still { F.IsAlwaysCallable emit.new }
+    ensures run { Emits F.FnMut emit.old (replicate count false) result emit.new }
+{
+    for _index in 0..count {
+        match emit(false) {
+            Ok(()) => {}
+            Err(error) => return Err(CoderError::Backend(error)),
+        }
+    }
+    Ok(())
+}
+
+/// Emits the lowest bits of a word, the highest of them first.
+pub fn emit_down<Word: BitArray, E, F: FnMut(bool) -> Result<(), E>>(
+    word: Word,
+    count: u32,
+    emit: &mut F,
+) -> Result<(), DefaultEncoderError<E>>
+    requires callable { F.IsAlwaysCallable emit.old }
+    requires within { count ≤ Word.BITS }
+    ensures still { F.IsAlwaysCallable emit.new }
+    ensures run { Emits F.FnMut emit.old (reverse (bits_of count (Word.number word))) result emit.new }
+{
+    let mut left = count;
+    'bits: while left > 0 {
+        left -= 1;
+        match emit(!word.shifted_right(left).low_bits(1).is_nothing()) {
+            Ok(()) => {}
+            Err(error) => return Err(CoderError::Backend(error)),
+        }
+    }
+    Ok(())
+}
+
+/// Emits the lowest bits of a word, the lowest of them first.
+pub fn emit_up<Word: BitArray, E, F: FnMut(bool) -> Result<(), E>>(
+    word: Word,
+    count: u32,
+    emit: &mut F,
+) -> Result<(), DefaultEncoderError<E>>
+    requires { F.IsAlwaysCallable emit.old }
+    ensures still { F.IsAlwaysCallable emit.new }
+    ensures run { Emits F.FnMut emit.old (bits_of count (Word.number word)) result emit.new }
+{
+    let mut rest = word;
+    for _index in 0..count {
+        match emit(!rest.low_bits(1).is_nothing()) {
+            Ok(()) => {}
+            Err(error) => return Err(CoderError::Backend(error)),
+        }
+        rest = rest.shifted_right(1);
+    }
+    Ok(())
+}
+
+/// Emits so many zeros, a bit that is set, and as many zeros again.
+pub fn emit_lone<E, F: FnMut(bool) -> Result<(), E>>(
+    count: u32,
+    emit: &mut F,
+) -> Result<(), DefaultEncoderError<E>>
+    requires { F.IsAlwaysCallable emit.old }
+    ensures still { F.IsAlwaysCallable emit.new }
+    ensures run { Emits F.FnMut emit.old (replicate count false ++ true ∷ replicate count false) result emit.new }
+{
+    match emit_zeros(count, emit) {
+        Ok(()) => {}
+        Err(error) => return Err(error),
+    }
+    match emit_bit(true, emit) {
+        Ok(()) => {}
+        Err(error) => return Err(error),
+    }
+    emit_zeros(count, emit)
+}
+
+/// Emits one bit.
+pub fn emit_bit<E, F: FnMut(bool) -> Result<(), E>>(
+    bit: bool,
+    emit: &mut F,
+) -> Result<(), DefaultEncoderError<E>>
+    requires { F.IsAlwaysCallable emit.old }
+    ensures still { F.IsAlwaysCallable emit.new }
+    ensures run { Emits F.FnMut emit.old (bit ∷ []) result emit.new }
+{
+    match emit(bit) {
+        Ok(()) => Ok(()),
+        Err(error) => Err(CoderError::Backend(error)),
+    }
+}

@@ -1,0 +1,182 @@
+//! Exp-Golomb codewords of numbers.
+
+ghost use Rattle.constriction_symbol.specs.Bits.{bits_of};
+ghost use Rattle.constriction_symbol.specs.Codewords.{Emits};
+ghost use Rattle.constriction_symbol.specs.Golomb.{IsInvalid, ReadsOn, golomb};
+ghost use Rattle.constriction_symbol.specs.GolombLaws.{known_invalid, known_on, known_prefix_free};
+ghost use Rattle.std.specs.Prelude.{Some, false, replicate, reverse, ◌+◌, ◌++◌, ◌-◌, ◌<◌, ◌^◌, ◌≡◌, ◌≤◌};
+
+use crate::codebooks::{Codebook, DecoderCodebook, EncoderCodebook, SymbolCodeError};
+use crate::emitting::{emit_down, emit_lone, emit_up, emit_zeros};
+use crate::taking::{Refusal, count_zeros, read_bits};
+use constriction_base::errors::{CoderError, DefaultEncoderError};
+use constriction_words::BitArray;
+use std::alloc::AllocError;
+use std::marker::PhantomData;
+use thiserror::Error;
+
+/// The Exp-Golomb codewords of the numbers of `N`, all of which have one.
+///
+/// The codeword of a number is the number after it, in binary without leading zeros and the highest bit first, behind
+/// as many zeros as it has bits, less one. So 0 is `1`, 1 is `010`, 5 is `00110`; and the greatest number of so many
+/// bits is as many zeros, a one, and as many zeros again.
+#[derive(Debug, Clone, Drop)]
+pub struct ExpGolomb<N: BitArray> {
+    number: PhantomData<N>,
+}
+
+impl<N: BitArray> ExpGolomb<N> {
+    /// The codebook, which has no parts.
+    pub fn new() -> Self {
+        ExpGolomb {
+            number: PhantomData,
+        }
+    }
+}
+
+impl<N: BitArray> Default for ExpGolomb<N> {
+    fn default() -> Self {
+        Self::new()
+    }
+}
+
+impl<N: BitArray> Codebook for ExpGolomb<N> {
+    type Symbol = N;
+
+    ghost codeword = { λ _ n. Some (golomb (N.number n)) };
+
+    ghost is_same = { λ _ m n. N.number m ≡ N.number n };
+
+    ghost prefix_law = { λ c m n bits tail first second. known_prefix_free (N.number m) (N.number n) bits tail first second };
+}
+
+/// Emits the codeword of a number below the greatest, of which this is the one after it.
+#[inline]
+fn emit_number<N: BitArray, E, F: FnMut(bool) -> Result<(), E>>(
+    after: N,
+    emit: &mut F,
+) -> Result<(), DefaultEncoderError<E>>
+    requires callable { F.IsAlwaysCallable emit.old }
+    requires some { 0 < N.number after }
+    ensures { Emits F.FnMut emit.old (golomb (N.number after - 1)) result emit.new }
+{
+    let length = after.bit_length();
+    if 2 * length - 1 <= N::BITS {
+        return emit_down(after, 2 * length - 1, emit);
+    }
+    match emit_zeros(length - 1, emit) {
+        Ok(()) => {}
+        Err(error) => return Err(error),
+    }
+    emit_down(after, length, emit)
+}
+
+/// The same, from the last bit to the first.
+#[inline]
+fn emit_number_turned<N: BitArray, E, F: FnMut(bool) -> Result<(), E>>(
+    after: N,
+    emit: &mut F,
+) -> Result<(), DefaultEncoderError<E>>
+    requires callable { F.IsAlwaysCallable emit.old }
+    requires some { 0 < N.number after }
+    ensures { Emits F.FnMut emit.old (reverse (golomb (N.number after - 1))) result emit.new }
+{
+    let length = after.bit_length();
+    if 2 * length - 1 <= N::BITS {
+        return emit_up(after, 2 * length - 1, emit);
+    }
+    match emit_up(after, length, emit) {
+        Ok(()) => {}
+        Err(error) => return Err(error),
+    }
+    emit_zeros(length - 1, emit)
+}
+
+impl<N: BitArray> EncoderCodebook for ExpGolomb<N> {
+    ghost prefix_wants = { λ _ _. ⊥ };
+
+    ghost suffix_wants = { λ _ _. ⊥ };
+
+    /// Emits the codeword from the first bit to the last. It takes no memory.
+    #[inline]
+    fn encode_symbol_prefix<E: From<AllocError>, F: FnMut(bool) -> Result<(), E>>(
+        &self,
+        symbol: &N,
+        emit: &mut F,
+    ) -> Result<(), DefaultEncoderError<E>> {
+        if symbol.is_below(N::greatest()) {
+            emit_number(symbol.plus(N::unit()), emit)
+        } else {
+            emit_lone(N::BITS, emit)
+        }
+    }
+
+    /// Emits the codeword from the last bit to the first. It takes no memory.
+    #[inline]
+    fn encode_symbol_suffix<E: From<AllocError>, F: FnMut(bool) -> Result<(), E>>(
+        &self,
+        symbol: &N,
+        emit: &mut F,
+    ) -> Result<(), DefaultEncoderError<E>> {
+        if symbol.is_below(N::greatest()) {
+            emit_number_turned(symbol.plus(N::unit()), emit)
+        } else {
+            emit_lone(N::BITS, emit)
+        }
+    }
+}
+
+/// No number has a codeword that begins with the bits that were read.
+#[derive(Debug, Clone, PartialEq, Eq, Drop, Error)]
+#[error("Invalid Exp-Golomb codeword.")]
+pub struct InvalidCodeword;
+
+impl<N: BitArray> DecoderCodebook for ExpGolomb<N> {
+    type InvalidCodeword = InvalidCodeword;
+
+    ghost reads_on = { λ _ bits. ReadsOn N.BITS bits };
+
+    ghost is_invalid = { λ _ bits _. IsInvalid N.BITS bits };
+
+    ghost on_law = { λ c bits on n code tail. known_on N.BITS (N.number n) bits code tail on };
+
+    ghost invalid_law = { λ c bits e invalid rest n code tail. known_invalid N.BITS (N.number n) bits rest code tail (N.number_law n) invalid };
+
+    /// Takes the bits of a codeword, and returns its number. With `B` for the bits of `N`:
+    ///
+    /// # Errors
+    /// After each of them the bits that were read stay read.
+    /// - `Frontend(InvalidCodeword(..))` exactly where the bits begin with `B + 1` zeros, which are read; or with `B`
+    ///   zeros, a one and `B` bits of which one is set, which are read.
+    /// - `Frontend(OutOfCompressedData)` exactly where the bits end before, and within a codeword.
+    /// - `Backend(error)` where the source returns this error in place of a bit that is asked for.
+    #[inline]
+    fn decode_symbol<E, I: Iterator<Item = Result<bool, E>>>(
+        &self,
+        source: &mut I,
+    ) -> Result<N, Refusal<InvalidCodeword, E>> {
+        let count = match count_zeros(source, N::BITS) {
+            Err(error) => return Err(error),
+            Ok(None) => return Err(CoderError::Frontend(SymbolCodeError::InvalidCodeword(
+                InvalidCodeword,
+            ))),
+            Ok(Some(count)) => count,
+        };
+        if count < N::BITS {
+            return match read_bits(source, N::unit(), count) {
+                Err(error) => Err(error),
+                Ok(after) => Ok(after.minus(N::unit())),
+            };
+        }
+        match read_bits(source, N::nothing(), count) {
+            Err(error) => Err(error),
+            Ok(tail) => {
+                if tail.is_nothing() {
+                    Ok(N::greatest())
+                } else {
+                    Err(CoderError::Frontend(SymbolCodeError::InvalidCodeword(InvalidCodeword)))
+                }
+            }
+        }
+    }
+}

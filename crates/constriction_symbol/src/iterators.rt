@@ -1,0 +1,112 @@
+//! Iterators over the symbols that a stream of bits gives, and over a codebook that is used again and again.
+
+ghost use Rattle.constriction_stream.specs.Lists.{AnswersNext};
+ghost use Rattle.constriction_symbol.specs.Codewords.{ReadsSymbol};
+ghost use Rattle.std.specs.Prelude.{IfSome, None, Some, MatchOption, ◌+◌, ◌≡◌};
+ghost use Rattle.std.specs.Iterator.{UpTo, at_most};
+ghost use Rattle.std.specs.Iterator.SizeHint.{IsWithinCount};
+
+use crate::codebooks::{Codebook, DecoderCodebook, SymbolCodeError};
+use crate::reading::ReadBitStream;
+use constriction_base::backends::Semantics;
+use constriction_base::errors::CoderError;
+use std::marker::PhantomData;
+
+/// Reads a symbol by each of the codebooks, as it is asked for it. It gives one answer for each, and goes on after an
+/// error. Where it is dropped, the stream stands after the symbols that were taken.
+#[derive(Debug, Drop)]
+pub struct DecodeSymbols<'a, Stream, I, S: Semantics> {
+    /// The stream, which stands after the symbols that were taken.
+    pub bit_stream: &'a mut Stream,
+    /// The codebooks of the symbols that come next.
+    pub codebooks: I,
+    /// The order in which the stream is read.
+    pub semantics: PhantomData<S>,
+}
+
+impl<Stream, I, C, S: Semantics> Iterator for DecodeSymbols<'_, Stream, I, S>
+where
+    Stream: ReadBitStream<S>,
+    C: DecoderCodebook,
+    I: Iterator<Item = C>,
+{
+    type Item = Result<
+        C::Symbol,
+        CoderError<SymbolCodeError<C::InvalidCodeword>, Stream::ReadError>,
+    >;
+
+    ghost can_next = { λ old. I.can_next old.codebooks };
+
+    ghost next_gives = { λ old result new. (new.bit_stream.ghost_name ≡ old.bit_stream.ghost_name)
+        × AnswersNext (λ stream codebook answer after. ReadsSymbol Stream.gives (C.codeword codebook) (C.reads_on codebook) (C.is_invalid codebook) stream answer after)
+        I.next_gives old.codebooks old.bit_stream.now result new.codebooks new.bit_stream.now };
+
+    ghost remaining = { λ old. I.remaining old.codebooks };
+
+    fn next(
+        &mut self,
+    ) -> Option<
+        Result<C::Symbol, CoderError<SymbolCodeError<C::InvalidCodeword>, Stream::ReadError>>,
+    > {
+        match self.codebooks.next() {
+            Some(codebook) => Some(self.bit_stream.decode_symbol(codebook)),
+            None => None,
+        }
+    }
+
+    fn size_hint(&self) -> (usize, Option<usize>) {
+        self.codebooks.size_hint()
+    }
+}
+
+impl<Stream, I, C, S: Semantics> ExactSizeIterator for DecodeSymbols<'_, Stream, I, S>
+where
+    Stream: ReadBitStream<S>,
+    C: DecoderCodebook,
+    I: ExactSizeIterator<Item = C>,
+{
+    fn len(&self) -> usize {
+        self.codebooks.len()
+    }
+}
+
+/// The same codebook, a number of times.
+#[derive(Debug, Drop)]
+pub struct RepeatCodebook<'a, C> {
+    /// The codebook.
+    pub codebook: &'a C,
+    /// How many times it still comes.
+    pub amt: usize,
+}
+
+impl<'a, C> Iterator for RepeatCodebook<'a, C> {
+    type Item = &'a C;
+
+    ghost next_gives = { λ old result new. (new.codebook.now ≡ old.codebook.now)
+        × MatchOption result ((old.amt ≡ 0) × (new.amt ≡ 0)) (λ codebook. (codebook.now ≡ old.codebook.now) × (old.amt ≡ new.amt + 1)) };
+
+    ghost remaining = { λ old. at_most old.amt };
+
+    fn next(&mut self) -> Option<&'a C> {
+        if self.amt != 0 {
+            self.amt -= 1;
+            Some(self.codebook)
+        } else {
+            None
+        }
+    }
+
+    fn size_hint(&self) -> (usize, Option<usize>)
+        ensures lower { IsWithinCount result.0 (at_most self.now.amt) }
+        ensures upper { IfSome result.1 (UpTo (at_most self.now.amt)) }
+        ensures exact { result ≡ (self.now.amt, Some self.now.amt) }
+    {
+        (self.amt, Some(self.amt))
+    }
+}
+
+impl<C> ExactSizeIterator for RepeatCodebook<'_, C> {
+    fn len(&self) -> usize {
+        self.amt
+    }
+}

@@ -1,0 +1,88 @@
+//! The bits of words, the first one first.
+
+ghost use Rattle.constriction_base.specs.Iterators.{item_of};
+ghost use Rattle.constriction_symbol.specs.Bits.{AreZeros, BitsValue, TakesBit, bits_behind, bits_of_words};
+ghost use Rattle.std.specs.Prelude.{IsTrue, [], map, ◌↔◌, ◌≡◌};
+
+use crate::steps::take_first;
+use crate::word_bits::WordBits;
+use constriction_base::backends::{Holds, Queue, ReadWords};
+use constriction_base::cursor::Cursor;
+use constriction_words::BitArray;
+use std::marker::Model;
+
+/// The bits of a backend's words, those of a word from the lowest up.
+///
+/// Contracts see a `BitsValue`: all bits that are left, those of them whose word was read, and the backend.
+#[derive(Drop)]
+pub struct QueueDecoder<Word: BitArray, B: Holds<Word, Queue>> {
+    backend: B,
+    last: WordBits<Word>,
+}
+
+/// The bits of words of 32 bits.
+pub type DefaultQueueDecoder<B = Cursor<u32, Vec<u32>>> = QueueDecoder<u32, B>;
+
+impl<Word: BitArray, B: Holds<Word, Queue>> Model for QueueDecoder<Word, B> {
+    ghost use Rattle.constriction_symbol.specs.Bits.{BitsValue, bits_behind};
+
+    ghost Value = { BitsValue B };
+
+    ghost view = { λ c. record {
+      bits = bits_behind Word.BITS Word.number c.last (B.words c.backend);
+      last = c.last;
+      backend = c.backend;
+    } };
+}
+
+impl<Word: BitArray, B: ReadWords<Word, Queue>> QueueDecoder<Word, B> {
+    /// All bits of a backend's words.
+    pub fn from_compressed(compressed: B) -> Self
+        ensures bits { result.bits ≡ bits_of_words Word.BITS (map Word.number (B.words compressed)) }
+        ensures last { result.last ≡ [] }
+        ensures backend { result.backend ≡ compressed }
+    {
+        QueueDecoder {
+            backend: compressed,
+            last: WordBits::none(),
+        }
+    }
+
+    /// Takes the first bit, or returns `None` where there is none, which changes nothing. Only where no bit of a word that
+    /// was read is left it reads the next word.
+    ///
+    /// # Errors
+    /// Where the backend refuses that read. The bits of a backend that knows its words are as before.
+    #[inline]
+    pub fn read_bit(&mut self) -> Result<Option<bool>, B::ReadError>
+        ensures { TakesBit Word.BITS Word.number B.is_list B.reads self.old (item_of result) self.new }
+    {
+        take_first(&mut self.backend, &mut self.last)
+    }
+
+    /// Whether the bits that are left of the word that was read last are zeros, as those behind the last codeword, and the
+    /// backend may be exhausted.
+    pub fn maybe_exhausted(&self) -> bool
+        ensures { IsTrue result ↔ (AreZeros self.now.last × IsTrue (B.seems_exhausted self.now.backend)) }
+    {
+        self.last.is_zeros() && self.backend.maybe_exhausted()
+    }
+}
+
+/// The bits from the first to the last. It goes on after an error of the backend.
+impl<Word: BitArray, B: ReadWords<Word, Queue> + Drop> Iterator for QueueDecoder<Word, B> {
+    type Item = Result<bool, B::ReadError>;
+
+    ghost use Rattle.constriction_symbol.specs.Bits.{TakesBit};
+
+    ghost next_gives = { TakesBit Word.BITS Word.number B.is_list B.reads };
+
+    #[inline]
+    fn next(&mut self) -> Option<Result<bool, B::ReadError>> {
+        match self.read_bit() {
+            Ok(Some(bit)) => Some(Ok(bit)),
+            Ok(None) => None,
+            Err(error) => Some(Err(error)),
+        }
+    }
+}

@@ -1,0 +1,146 @@
+//! Streams of bits, from which symbols are read by their codewords.
+
+ghost use Rattle.constriction_symbol.specs.Bits.{GivesBit, PopsBit, TakesBit};
+ghost use Rattle.constriction_symbol.specs.Codewords.{ReadsSymbol};
+ghost use Rattle.constriction_base.specs.Iterators.{item_of};
+ghost use Rattle.std.specs.Prelude.{Bool, List, Option, Result, reverse, ◌≡◌};
+
+use crate::codebooks::{Codebook, DecoderCodebook, SymbolCodeError};
+use crate::coder::{StackCoder, SymbolCoder};
+use crate::iterators::{DecodeSymbols, RepeatCodebook};
+use crate::queue::QueueDecoder;
+use constriction_base::backends::{Queue, ReadWords, Semantics, Stack};
+use constriction_base::errors::CoderError;
+use constriction_words::BitArray;
+use std::marker::PhantomData;
+
+/// A stream of bits that are read one after another, and symbols by their codewords.
+///
+/// An implementation chooses freely which bits it lists, what a read may return and leave, and whether it knows its bits;
+/// the clauses and the law tie these to the calls.
+pub trait ReadBitStream<S: Semantics> {
+    type ReadError;
+
+    /// The bits that the next reads give, in their order. It means nothing where `is_list` fails.
+    ghost unread: { Self → List Bool };
+
+    /// The stream knows the bits that it holds.
+    ghost is_list: { Type 0 };
+
+    /// What the next read of a bit may give, and what it leaves.
+    ghost gives: { Self → Option (Result Bool Self.ReadError) → Self → Type 0 };
+
+    /// Takes the next bit, or returns `None` where there is none.
+    ///
+    /// # Errors
+    /// Where what holds the bits refuses to give them. A stream that knows its bits keeps them.
+    fn read_bit(&mut self) -> Result<Option<bool>, Self::ReadError>
+        ensures { gives self.old (item_of result) self.new };
+
+    /// Takes the bits of a codeword, and returns its symbol.
+    ///
+    /// # Errors
+    /// After each of them the bits that were read stay read.
+    /// - `Frontend(OutOfCompressedData)` where the bits end and no codeword begins them.
+    /// - `Frontend(InvalidCodeword(error))` where no codeword begins with the bits that were read.
+    /// - `Backend(error)` where the read of a bit is refused.
+    fn decode_symbol<C: DecoderCodebook>(
+        &mut self,
+        codebook: C,
+    ) -> Result<C::Symbol, CoderError<SymbolCodeError<C::InvalidCodeword>, Self::ReadError>>
+        ensures { ReadsSymbol gives (C.codeword codebook) (C.reads_on codebook) (C.is_invalid codebook) self.old result self.new };
+
+    /// Reads a symbol by each of the codebooks, as the iterator is asked for it. It doesn't end at an error.
+    final fn decode_symbols<I>(&mut self, codebooks: I) -> DecodeSymbols<'_, Self, I::IntoIter, S>
+    where
+        Self: Sized,
+        I: IntoIterator,
+        ensures same_reference { result.bit_stream.ghost_name ≡ self.entry.ghost_name }
+        ensures stream { result.bit_stream.now ≡ self.old }
+        ensures codebooks { I.into_iter_gives codebooks result.codebooks }
+    {
+        DecodeSymbols {
+            bit_stream: self,
+            codebooks: codebooks.into_iter(),
+            semantics: PhantomData,
+        }
+    }
+
+    /// Reads `amt` symbols, all by one codebook, as the iterator is asked for them. It doesn't end at an error.
+    final fn decode_iid_symbols<'a, C>(
+        &'a mut self,
+        amt: usize,
+        codebook: &'a C,
+    ) -> DecodeSymbols<'a, Self, RepeatCodebook<'a, C>, S>
+    where
+        Self: Sized,
+        C: DecoderCodebook,
+        ensures same_reference { result.bit_stream.ghost_name ≡ self.entry.ghost_name }
+        ensures stream { result.bit_stream.now ≡ self.old }
+        ensures codebook { result.codebooks.codebook.now ≡ codebook.now }
+        ensures amt { result.codebooks.amt ≡ amt }
+    {
+        DecodeSymbols {
+            bit_stream: self,
+            codebooks: RepeatCodebook { codebook, amt },
+            semantics: PhantomData,
+        }
+    }
+
+    // What a read gives is the next of the bits.
+    ghost list_law: { is_list → (old : Self) (item : Option (Result Bool Self.ReadError)) (new : Self) → gives old item new → GivesBit (unread old) item (unread new) };
+}
+
+impl<Word: BitArray, B: ReadWords<Word, Stack> + Drop> ReadBitStream<Stack>
+    for StackCoder<Word, B> {
+    type ReadError = B::ReadError;
+
+    ghost unread = { λ c. reverse c.bits };
+
+    ghost is_list = { B.is_list };
+
+    ghost gives = { PopsBit Word.BITS Word.number B.is_list B.reads };
+
+    /// Takes the last bit off. Only where no bit of the last word is left it reads a word from the backend.
+    #[inline]
+    fn read_bit(&mut self) -> Result<Option<bool>, B::ReadError> {
+        SymbolCoder::<Word, Stack, B>::read_bit(self)
+    }
+
+    #[inline]
+    fn decode_symbol<C: DecoderCodebook>(
+        &mut self,
+        codebook: C,
+    ) -> Result<C::Symbol, CoderError<SymbolCodeError<C::InvalidCodeword>, B::ReadError>> {
+        codebook.decode_symbol(self)
+    }
+
+    ghost list_law = { λ known old item new given. given.1 known };
+}
+
+impl<Word: BitArray, B: ReadWords<Word, Queue> + Drop> ReadBitStream<Queue>
+    for QueueDecoder<Word, B> {
+    type ReadError = B::ReadError;
+
+    ghost unread = { λ c. c.bits };
+
+    ghost is_list = { B.is_list };
+
+    ghost gives = { TakesBit Word.BITS Word.number B.is_list B.reads };
+
+    /// Takes the first bit. Only where no bit of a word that was read is left it reads the next word.
+    #[inline]
+    fn read_bit(&mut self) -> Result<Option<bool>, B::ReadError> {
+        QueueDecoder::<Word, B>::read_bit(self)
+    }
+
+    #[inline]
+    fn decode_symbol<C: DecoderCodebook>(
+        &mut self,
+        codebook: C,
+    ) -> Result<C::Symbol, CoderError<SymbolCodeError<C::InvalidCodeword>, B::ReadError>> {
+        codebook.decode_symbol(self)
+    }
+
+    ghost list_law = { λ known old item new given. given.1 known };
+}

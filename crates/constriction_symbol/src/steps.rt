@@ -1,0 +1,77 @@
+//! A bit more and a bit less in words, of which those of one lie outside the backend.
+
+ghost use Rattle.constriction_base.specs.Iterators.{item_of};
+ghost use Rattle.constriction_symbol.specs.Bits.{GivesBit, PutsLast, TakesFirst, TakesLast, bits_above, bits_behind};
+ghost use Rattle.std.specs.Prelude.{reverse};
+
+use crate::word_bits::WordBits;
+use constriction_base::backends::{Queue, ReadWords, Stack, WriteWords};
+use constriction_words::BitArray;
+
+/// Puts a bit behind those of the last word. Where that is full, it is written first, and the bit begins the next.
+#[inline]
+pub fn put_last<Word: BitArray, B: WriteWords<Word>>(
+    backend: &mut B,
+    last: &mut WordBits<Word>,
+    bit: bool,
+) -> Result<(), B::WriteError>
+    ensures { PutsLast Word.BITS Word.number B.words B.write_fails last.old backend.old bit result last.new backend.new }
+{
+    if last.is_full() {
+        match backend.write(last.word()) {
+            Ok(()) => {}
+            Err(error) => return Err(error),
+        }
+        *last = WordBits::none();
+        last.push(bit);
+        return Ok(());
+    }
+    last.push(bit);
+    Ok(())
+}
+
+/// Takes the last bit off those of the last word. Where there are none, the next word is read first.
+#[inline]
+pub fn take_last<Word: BitArray, B: ReadWords<Word, Stack>>(
+    backend: &mut B,
+    last: &mut WordBits<Word>,
+) -> Result<Option<bool>, B::ReadError>
+    ensures takes { TakesLast Word.BITS Word.number B.reads last.old backend.old (item_of result) last.new backend.new }
+    ensures bits { B.is_list → GivesBit (reverse (bits_above Word.BITS Word.number (B.words backend.old) last.old))
+        (item_of result) (reverse (bits_above Word.BITS Word.number (B.words backend.new) last.new)) }
+{
+    if last.is_empty() {
+        match backend.read() {
+            Err(error) => return Err(error),
+            Ok(None) => return Ok(None),
+            Ok(Some(word)) => {
+                *last = WordBits::all(word);
+                return Ok(Some(last.pop()));
+            }
+        }
+    }
+    Ok(Some(last.pop()))
+}
+
+/// Takes the first bit off those of the word that is read now. Where there are none, the next word is read first.
+#[inline]
+pub fn take_first<Word: BitArray, B: ReadWords<Word, Queue>>(
+    backend: &mut B,
+    last: &mut WordBits<Word>,
+) -> Result<Option<bool>, B::ReadError>
+    ensures takes { TakesFirst Word.BITS Word.number B.reads last.old backend.old (item_of result) last.new backend.new }
+    ensures bits { B.is_list → GivesBit (bits_behind Word.BITS Word.number last.old (B.words backend.old))
+        (item_of result) (bits_behind Word.BITS Word.number last.new (B.words backend.new)) }
+{
+    if last.is_empty() {
+        match backend.read() {
+            Err(error) => return Err(error),
+            Ok(None) => return Ok(None),
+            Ok(Some(word)) => {
+                *last = WordBits::all(word);
+                return Ok(Some(last.take_first()));
+            }
+        }
+    }
+    Ok(Some(last.take_first()))
+}

@@ -1,0 +1,96 @@
+//! Bits from an iterator of Results of bits.
+
+ghost use Rattle.constriction_symbol.specs.Codewords.{GivesBits, StopsWithin};
+ghost use Rattle.constriction_symbol.specs.Golomb.{number_after};
+ghost use Rattle.std.specs.Iterator.{IsFinite};
+ghost use Rattle.std.specs.Prelude.{Bool, IfErr, IfOk, List, MatchOption, OnOk, [], false, length, replicate, true, ℕ, ◌*◌, ◌+◌, ◌++◌, ◌<◌, ◌^◌, ◌∷◌, ◌≡◌, ◌≤◌};
+
+use crate::codebooks::SymbolCodeError;
+use constriction_base::errors::CoderError;
+use constriction_words::BitArray;
+
+/// Why a codebook reads no symbol.
+pub type Refusal<V, E> = CoderError<SymbolCodeError<V>, E>;
+
+/// The next bit.
+#[inline]
+pub fn next_bit<V, E, I: Iterator<Item = Result<bool, E>>>(
+    source: &mut I,
+) -> Result<bool, Refusal<V, E>>
+    requires { I.can_next source.old }
+    ensures can { OnOk result (I.can_next source.new) }
+    ensures finite { IsFinite (I.remaining source.old) → OnOk result (IsFinite (I.remaining source.new)) }
+    ensures bit { IfOk result (λ bit. GivesBits I.next_gives source.old (bit ∷ []) source.new) }
+    ensures stops { IfErr result (λ e. StopsWithin I.next_gives (λ bits. bits ≡ []) source.old e source.new) }
+{
+    match source.next() {
+        None => Err(CoderError::Frontend(SymbolCodeError::OutOfCompressedData)),
+        Some(Err(error)) => Err(CoderError::Backend(error)),
+        Some(Ok(bit)) => Ok(bit),
+    }
+}
+
+/// Takes zeros up to the first bit that is set, which is taken too, and returns how many they are. `None` where there
+/// are more than `most`, of which one more was taken.
+#[inline]
+pub fn count_zeros<V, E, I: Iterator<Item = Result<bool, E>>>(
+    source: &mut I,
+    most: u32,
+) -> Result<Option<u32>, Refusal<V, E>>
+    requires can { I.can_next source.old }
+    requires fits { most < 1000 }
+    ensures can { OnOk result (I.can_next source.new) }
+    ensures finite { IsFinite (I.remaining source.old) → OnOk result (IsFinite (I.remaining source.new)) }
+    ensures zeros { IfOk result (λ found. MatchOption found
+        (GivesBits I.next_gives source.old (replicate (most + 1) false) source.new)
+        (λ count. (count ≤ most) × GivesBits I.next_gives source.old (replicate count false ++ true ∷ []) source.new)) }
+    ensures stops { IfErr result (λ e. StopsWithin I.next_gives (λ bits. (count : ℕ) × (count ≤ most) × (bits ≡ replicate count false))
+        source.old e source.new) }
+{
+    let mut count = 0u32;
+    'zeros: while count <= most {
+        match next_bit(source) {
+            Err(error) => return Err(error),
+            Ok(true) => return Ok(Some(count)),
+            Ok(false) => count += 1,
+        }
+    }
+    Ok(None)
+}
+
+/// Takes so many bits, the highest first, below those of a number.
+#[inline]
+pub fn read_bits<V, N: BitArray, E, I: Iterator<Item = Result<bool, E>>>(
+    source: &mut I,
+    start: N,
+    count: u32,
+) -> Result<N, Refusal<V, E>>
+    requires can { I.can_next source.old }
+    requires fits { (N.number start + 1) * 2 ^ count ≤ 2 ^ N.BITS }
+    ensures can { OnOk result (I.can_next source.new) }
+    ensures finite { IsFinite (I.remaining source.old) → OnOk result (IsFinite (I.remaining source.new)) }
+    ensures bits { IfOk result (λ n. (bits : List Bool) × (length bits ≡ count)
+        × (N.number n ≡ number_after (N.number start) bits) × GivesBits I.next_gives source.old bits source.new) }
+    ensures stops { IfErr result (λ e. StopsWithin I.next_gives (λ bits. length bits < count) source.old e source.new) }
+{
+    let mut number = start;
+    let mut left = count;
+    'bits: while left > 0 {
+        match next_bit(source) {
+            Err(error) => return Err(error),
+            Ok(bit) => number = doubled(number, bit),
+        }
+        left -= 1;
+    }
+    Ok(number)
+}
+
+/// Twice the number, and one more where the bit is set.
+#[inline]
+fn doubled<N: BitArray>(number: N, bit: bool) -> N
+    requires { 2 * N.number number + 1 < 2 ^ N.BITS }
+    ensures { N.number result ≡ number_after (N.number number) (bit ∷ []) }
+{
+    let twice = number.plus(number);
+    if bit { twice.plus(N::unit()) } else { twice }
+}

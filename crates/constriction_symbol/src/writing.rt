@@ -1,0 +1,205 @@
+//! Streams of bits, to which the codewords of symbols are written.
+
+ghost use Rattle.constriction_symbol.specs.Bits.{PutsBit};
+ghost use Rattle.constriction_stream.specs.Lists.{StepsUntilFault};
+ghost use Rattle.constriction_symbol.specs.Codewords.{WritesCodeword, WritesPair, WritesSymbol, formed};
+ghost use Rattle.std.specs.Iterator.{IsFiniteIterable};
+ghost use Rattle.std.specs.Prelude.{Bool, IfErr, List, length, reverse, ◌≡◌};
+
+use crate::codebooks::{BitOrder, Codebook, EncoderCodebook};
+use crate::coder::{StackCoder, SymbolCoder};
+use constriction_base::backends::{Stack, WriteWords};
+use constriction_base::errors::DefaultEncoderError;
+use constriction_stream::encoding::Lent;
+use constriction_words::BitArray;
+use std::alloc::AllocError;
+
+/// A stream of bits that grows: bits can be put behind the others, and so the codewords of symbols, in prefix form where
+/// it is read as a queue and in suffix form where it is read as a stack.
+///
+/// An implementation chooses freely which bits it holds, and which error the next write of a bit may return; the clauses
+/// tie both to the calls.
+pub trait WriteBitStream<S: BitOrder> {
+    type WriteError: From<AllocError>;
+
+    /// The bits, in the order of writing.
+    ghost bits: { Self → List Bool };
+
+    /// Which error the next write of a bit may return.
+    ghost bit_fails: { Self → Self.WriteError → Type 0 };
+
+    /// Puts a bit behind the others.
+    ///
+    /// # Errors
+    /// Where there is no room for it. The bits are as before.
+    fn write_bit(&mut self, bit: bool) -> Result<(), Self::WriteError>
+        ensures bits { PutsBit (bits self.old) bit result (bits self.new) }
+        ensures err { IfErr result (λ e. bit_fails self.old e) };
+
+    /// Writes the codeword of a symbol.
+    ///
+    /// # Errors
+    /// - `Frontend(ImpossibleSymbol)` exactly where the symbol has no codeword. No bit was written.
+    /// - `Backend(error)` where the write of a bit is refused: a beginning of the codeword was written. Or where the
+    ///   codebook wants memory for the codeword and finds none: no bit was written.
+    fn encode_symbol<C: EncoderCodebook>(
+        &mut self,
+        symbol: &C::Symbol,
+        codebook: C,
+    ) -> Result<(), DefaultEncoderError<Self::WriteError>>
+    where
+        Self: Sized,
+        ensures { WritesCodeword bits bit_fails
+            (λ e. S.chosen (C.prefix_wants codebook symbol.now) (C.suffix_wants codebook symbol.now) × ((a : _) × Self.WriteError.from_gives a e))
+            self.old (formed S.form (C.codeword codebook symbol.now)) result self.new }
+    {
+        let mut push = |bit: bool| -> Result<(), Self::WriteError> { self.write_bit(bit) };
+        S::emit_symbol(&codebook, symbol, &mut push)
+    }
+
+    /// Writes the codewords of symbols in order, each by its own codebook, up to the first that is refused.
+    ///
+    /// # Errors
+    /// That of the first symbol that is refused. Before what it says stand exactly the codewords of the symbols before
+    /// it, and the items behind it aren't asked for.
+    ///
+    /// ```
+    /// encoder.encode_symbols([(&3u32, &golomb), (&0, &golomb)])?;
+    /// ```
+    final fn encode_symbols<L, C, I>(
+        &mut self,
+        symbols_and_codebooks: I,
+    ) -> Result<(), DefaultEncoderError<Self::WriteError>>
+    where
+        Self: Sized,
+        C: EncoderCodebook,
+        L: Lent<C::Symbol> + Drop,
+        I: IntoIterator<Item = (L, C)>,
+        I::IntoIter: Drop,
+        requires { IsFiniteIterable I.into_iter_gives I.IntoIter.can_next I.IntoIter.remaining symbols_and_codebooks }
+        ensures { StepsUntilFault (WritesPair bits bit_fails
+            (λ codebook symbol e. S.chosen (C.prefix_wants codebook symbol) (C.suffix_wants codebook symbol) × ((a : _) × Self.WriteError.from_gives a e))
+            C.codeword S.form L.lent)
+            (I.into_iter_gives symbols_and_codebooks) I.IntoIter.next_gives self.old result self.new }
+    {
+        for (symbol, codebook) in symbols_and_codebooks {
+            match self.encode_symbol(symbol.lend(), codebook) {
+                Ok(()) => {}
+                Err(error) => return Err(error),
+            }
+        }
+        Ok(())
+    }
+
+    /// Writes the codewords of symbols in order, all by one codebook, up to the first that is refused.
+    ///
+    /// # Errors
+    /// Those of [`WriteBitStream::encode_symbols`].
+    final fn encode_iid_symbols<L, C, I>(
+        &mut self,
+        symbols: I,
+        codebook: &C,
+    ) -> Result<(), DefaultEncoderError<Self::WriteError>>
+    where
+        Self: Sized,
+        C: EncoderCodebook,
+        L: Lent<C::Symbol> + Drop,
+        I: IntoIterator<Item = L>,
+        I::IntoIter: Drop,
+        requires { IsFiniteIterable I.into_iter_gives I.IntoIter.can_next I.IntoIter.remaining symbols }
+        ensures { StepsUntilFault (WritesSymbol bits bit_fails
+            (λ symbol e. S.chosen (C.prefix_wants codebook.now symbol) (C.suffix_wants codebook.now symbol) × ((a : _) × Self.WriteError.from_gives a e))
+            (C.codeword codebook.now) S.form L.lent)
+            (I.into_iter_gives symbols) I.IntoIter.next_gives self.old result self.new }
+    {
+        for symbol in symbols {
+            match self.encode_symbol(symbol.lend(), codebook) {
+                Ok(()) => {}
+                Err(error) => return Err(error),
+            }
+        }
+        Ok(())
+    }
+}
+
+impl<Word: BitArray, S: BitOrder, B: WriteWords<Word>> WriteBitStream<S> for SymbolCoder<Word, S, B>
+where
+    B::WriteError: From<AllocError>,
+{
+    type WriteError = B::WriteError;
+
+    ghost bits = { λ c. c.bits };
+
+    ghost bit_fails = { λ c e. (length c.last ≡ Word.BITS) × B.write_fails c.backend e };
+
+    /// Puts a bit behind the others. Only where the last word is full it writes a word to the backend.
+    #[inline]
+    fn write_bit(&mut self, bit: bool) -> Result<(), B::WriteError> {
+        SymbolCoder::<Word, S, B>::write_bit(self, bit)
+    }
+}
+
+impl<Word: BitArray, B: WriteWords<Word>> StackCoder<Word, B>
+where
+    B::WriteError: From<AllocError>,
+{
+    /// Writes the codewords of symbols from the last to the first, each by its own codebook, up to the first that is
+    /// refused. The coder then gives the symbols in the order of the list.
+    ///
+    /// # Errors
+    /// That of the first symbol that is refused. Before what it says stand exactly the codewords of the symbols behind
+    /// it, and the items before it aren't asked for.
+    pub fn encode_symbols_reverse<L, C, I>(
+        &mut self,
+        symbols_and_codebooks: I,
+    ) -> Result<(), DefaultEncoderError<B::WriteError>>
+    where
+        C: EncoderCodebook,
+        L: Lent<C::Symbol> + Drop,
+        I: IntoIterator<Item = (L, C)>,
+        I::IntoIter: DoubleEndedIterator + Drop,
+        requires { IsFiniteIterable I.into_iter_gives I.IntoIter.can_next_back I.IntoIter.remaining symbols_and_codebooks }
+        ensures { StepsUntilFault (WritesPair (⟦<StackCoder<Word, B> as WriteBitStream<Stack>>⟧.bits) (⟦<StackCoder<Word, B> as WriteBitStream<Stack>>⟧.bit_fails)
+            (λ codebook symbol e. C.suffix_wants codebook symbol × ((a : _) × B.WriteError.from_gives a e))
+            C.codeword (λ bits. reverse bits) L.lent)
+            (I.into_iter_gives symbols_and_codebooks) I.IntoIter.next_back_gives self.old result self.new }
+    {
+        for (symbol, codebook) in symbols_and_codebooks.into_iter().rev() {
+            match WriteBitStream::<Stack>::encode_symbol(self, symbol.lend(), codebook) {
+                Ok(()) => {}
+                Err(error) => return Err(error),
+            }
+        }
+        Ok(())
+    }
+
+    /// Writes the codewords of symbols from the last to the first, all by one codebook, up to the first that is refused.
+    /// The coder then gives the symbols in the order of the list.
+    ///
+    /// # Errors
+    /// Those of [`StackCoder::encode_symbols_reverse`].
+    pub fn encode_iid_symbols_reverse<L, C, I>(
+        &mut self,
+        symbols: I,
+        codebook: &C,
+    ) -> Result<(), DefaultEncoderError<B::WriteError>>
+    where
+        C: EncoderCodebook,
+        L: Lent<C::Symbol> + Drop,
+        I: IntoIterator<Item = L>,
+        I::IntoIter: DoubleEndedIterator + Drop,
+        requires { IsFiniteIterable I.into_iter_gives I.IntoIter.can_next_back I.IntoIter.remaining symbols }
+        ensures { StepsUntilFault (WritesSymbol (⟦<StackCoder<Word, B> as WriteBitStream<Stack>>⟧.bits) (⟦<StackCoder<Word, B> as WriteBitStream<Stack>>⟧.bit_fails)
+            (λ symbol e. C.suffix_wants codebook.now symbol × ((a : _) × B.WriteError.from_gives a e))
+            (C.codeword codebook.now) (λ bits. reverse bits) L.lent)
+            (I.into_iter_gives symbols) I.IntoIter.next_back_gives self.old result self.new }
+    {
+        for symbol in symbols.into_iter().rev() {
+            match WriteBitStream::<Stack>::encode_symbol(self, symbol.lend(), codebook) {
+                Ok(()) => {}
+                Err(error) => return Err(error),
+            }
+        }
+        Ok(())
+    }
+}
