@@ -22,6 +22,8 @@ mod codewords;
 #[cfg(test)]
 mod golomb;
 #[cfg(test)]
+mod lists;
+#[cfg(test)]
 mod memory;
 #[cfg(test)]
 mod rows;

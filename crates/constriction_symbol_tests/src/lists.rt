@@ -1,7 +1,7 @@
 //! Each list call, in order and in reverse, and where lists stop.
 
-use crate::codewords::{Put, Took, refusal_of};
 use crate::coders::{exports, exports_queue, word_queue};
+use crate::codewords::{Put, Took, refusal_of};
 use constriction_base::backends::{Queue, Semantics, Stack};
 use constriction_base::errors::{CoderError, DefaultEncoderError};
 use constriction_symbol::codebooks::{BitOrder, SymbolCodeError};
@@ -105,7 +105,8 @@ where
 {
     let codebook = ExpGolomb::<u8>::new();
     let mut given = stream.decode_symbols([&codebook, &codebook]);
-    given.size_hint() == (2, Some(2)) && matches!(given.next(), Some(Ok(found)) if found == first)
+    given.size_hint() == (2, Some(2))
+        && matches!(given.next(), Some(Ok(found)) if found == first)
         && matches!(given.next(), Some(Ok(found)) if found == second)
         && given.next().is_none()
 }
@@ -120,10 +121,17 @@ fn lists_in_a_queue(rt: HostRuntime) -> Result<(), Fail> {
     let words = [25u8, 64, 0, 192, 63, 66];
     let mut decoder = word_queue(words.as_slice());
     assert!(rt;
-        are_written && exports_queue(coder, &words)
-            && matches!(takes_list::<Queue, _>(&mut decoder, &[0, 5, 255]), Took::All)
+        are_written
+            && exports_queue(coder, &words)
+            && matches!(
+                takes_list::<Queue, _>(&mut decoder, &[0, 5, 255]),
+                Took::All
+            )
             && takes_two::<Queue, _>(&mut decoder, 254, 7)
-            && matches!(takes_list::<Queue, _>(&mut decoder, &[1, 0]), Took::OutOfData)
+            && matches!(
+                takes_list::<Queue, _>(&mut decoder, &[1, 0]),
+                Took::OutOfData
+            )
     );
     Ok(())
 }
@@ -135,13 +143,16 @@ fn lists_on_a_stack(rt: HostRuntime) -> Result<(), Fail> {
     let mut coder: StackCoder<u8> = StackCoder::new(rt.alloc());
     let are_written = matches!(puts_list::<Stack, _>(&mut coder, &[0, 5]), Put::Done)
         && matches!(puts_pairs::<Stack, _>(&mut coder, pairs), Put::Done);
-    let other = coder.clone()?;
-    assert!(rt;
-        are_written && exports(other, &[13, 64, 128, 127, 0, 66, 1])
-            && matches!(takes_list::<Stack, _>(&mut coder, &[1, 7, 254]), Took::All)
-            && takes_two::<Stack, _>(&mut coder, 255, 5)
-            && matches!(takes_list::<Stack, _>(&mut coder, &[0, 0]), Took::OutOfData)
-    );
+    let mut decoder = coder.as_decoder();
+    let are_read = matches!(
+        takes_list::<Stack, _>(&mut decoder, &[1, 7, 254]),
+        Took::All
+    ) && takes_two::<Stack, _>(&mut decoder, 255, 5)
+        && matches!(
+            takes_list::<Stack, _>(&mut decoder, &[0, 0]),
+            Took::OutOfData
+        );
+    assert!(rt; are_written && are_read && exports(coder, &[13, 64, 128, 127, 0, 66, 1]));
     Ok(())
 }
 
@@ -200,7 +211,8 @@ where
 fn iterators_are_dropped_early(rt: HostRuntime) {
     let mut decoder = word_queue([25u8, 64, 0, 192, 63, 66].as_slice());
     assert!(rt;
-        takes_one::<Queue, _>(&mut decoder, 0) && takes_one::<Queue, _>(&mut decoder, 5)
+        takes_one::<Queue, _>(&mut decoder, 0)
+            && takes_one::<Queue, _>(&mut decoder, 5)
             && matches!(takes_list::<Queue, _>(&mut decoder, &[255]), Took::All)
     );
 }

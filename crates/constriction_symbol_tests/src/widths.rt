@@ -175,8 +175,8 @@ fn numbers_of_u64_and_usize(rt: HostRuntime) {
             &stack
         ) && greatest_go::<usize>(
             rt.alloc(),
-            1000000000000000,
-            [usize::MAX - 1, usize::MAX],
+            &[1000000000000000, usize::MAX - 1, usize::MAX],
+            &[usize::MAX, usize::MAX - 1, 1000000000000000],
             &queue,
             &stack
         )
@@ -217,16 +217,8 @@ fn numbers_of_u128(rt: HostRuntime) {
     assert!(rt;
         greatest_go::<u128>(
             rt.alloc(),
-            &[
-                1000000000000000000000000000000,
-                u128::MAX - 1,
-                u128::MAX,
-            ],
-            &[
-                u128::MAX,
-                u128::MAX - 1,
-                1000000000000000000000000000000,
-            ],
+            &[1000000000000000000000000000000, u128::MAX - 1, u128::MAX,],
+            &[u128::MAX, u128::MAX - 1, 1000000000000000000000000000000,],
             &queue,
             &stack
         )
