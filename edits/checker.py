@@ -6,8 +6,11 @@ import subprocess
 
 FUNCTION = re.compile(r"fn (\S+): (.+)")
 GOAL = re.compile(r"note: src/\S+ it is not proved that .*?\(`([^`]+)`\)")
+LAW = re.compile(r"impl (\S+): not proved; antt refuses (.+?) in `")
 # A proof file that names what an edit took away says nothing about the contract, and nor does what cites such a proof.
 VANISHED = re.compile(r"has no field|is not in scope|has no `|was not admitted")
+# An error in the answer to a goal begins with the goal's name.
+ANSWER = re.compile(r"`([^`]+)`: (.*)")
 
 
 class Ran:
@@ -53,7 +56,18 @@ def blames(lines):
         if function:
             found += blame_of(*function.groups(), goals, lines)
             goals = []
+        impl = LAW.match(line)
+        if impl:
+            found.append(blame_of_members(impl[1], re.findall(r"`([^`]+)`", impl[2]), lines))
     return found
+
+
+def blame_of_members(name, members, lines):
+    """Returns the blame of an impl of which members are refused: laws, or a method whose own clauses no longer give the trait's. It is the
+    impl's own where the terms name what is there."""
+    errors = [it.partition(": error: ")[2] for it in lines if it.startswith("src/") and ": error: " in it]
+    telling = [it for it in errors if not VANISHED.search(it) and it.startswith(tuple(f"`{member}`" for member in members))]
+    return Blame(name, bool(telling), "law " + ", ".join(it.removesuffix("-value") for it in members))
 
 
 def blame_of(name, why, goals, lines):
@@ -64,7 +78,9 @@ def blame_of(name, why, goals, lines):
     if goals:
         return [Blame(name, True, "goal " + ", ".join(dict.fromkeys(goals)))]
     if telling:
-        return [Blame(name, True, "proof " + telling[0])]
+        answers = [it for it in map(ANSWER.fullmatch, telling) if it]
+        goals = ", ".join(dict.fromkeys(it[1] for it in answers))
+        return [Blame(name, True, f"proof {goals}: {answers[0][2]}" if answers else "proof " + telling[0])]
     if errors:
         return [Blame(name, False, "only its proof file names what the edit took away: " + errors[0])]
     return [] if why == "proved" else [Blame(name, False, why)]

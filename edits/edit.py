@@ -5,6 +5,7 @@ import os
 import re
 
 DECLARATION = re.compile(r"( *)(?:[a-z]+(?:\([^)]*\))? |extern \"C\" )*(?:fn|const) (\w+)")
+MEMBER = re.compile(r" *ghost (\w+) =")
 
 
 def read(path):
@@ -31,7 +32,8 @@ class BadEdit(ValueError):
 class Edit:
     """A file of edits: the names of the functions that it changes, and for each source the span that differs and its new text.
 
-    `is_apart` where it changes what no function holds, as an impl's header or a definition: then no line of the checker is about it alone."""
+    `is_apart` where it changes what no function holds, as an impl's header, a ghost member or a definition: then no line of the checker is
+    about it alone. A ghost member counts among the functions."""
 
     def __init__(self, path, crate_folder):
         self.path, self.name, self.folder = path, os.path.basename(path)[: -len(".edit")], crate_folder
@@ -42,7 +44,7 @@ class Edit:
             self.spans[file] = difference(read(f"{crate_folder}/{file}"), text)
         if self.name.partition(".")[0] not in self.functions or "." not in self.name:
             names = ", ".join(sorted(self.functions))
-            raise BadEdit(f"{path}: its name must be FUNCTION.what_is_wrong.edit, with a function that it changes: {names}")
+            raise BadEdit(f"{path}: its name must be FUNCTION.what_is_wrong.edit, with a function or ghost member that it changes: {names}")
 
     def edited_texts(self):
         """Returns the texts of the files that it changes, after all its pairs of lines."""
@@ -66,11 +68,11 @@ class Edit:
         text = texts.get(file) or read(f"{self.folder}/{file}")
         if not old or text.count(old) != 1:
             raise BadEdit(f"{self.path}: an 'old:' text is in {file} {text.count(old) if old else 0} times, and not once")
-        function = function_at(text.split("\n"), text[: text.index(old)].count("\n")) if file.startswith("src/") else ""
-        if function:
-            self.functions.add(function)
-        else:
-            self.is_apart = True
+        lines, number = text.split("\n"), text[: text.index(old)].count("\n")
+        function = function_at(lines, number) if file.startswith("src/") else ""
+        member = MEMBER.match(lines[number])
+        self.is_apart |= not function
+        self.functions.update([function] if function else [member[1]] if member else [])
         texts[file] = text.replace(old, new)
 
     def fits(self, other):

@@ -202,7 +202,7 @@ pub mod laws {
 
             pub mod lent_words {
                 pub use constriction_laws::stack::round_trips::lent_words::{
-                    decode_lent_words, list_from_lent_words,
+                    decode_lent_binary_words, decode_lent_words, list_from_lent_words,
                 };
             }
 

@@ -10,7 +10,7 @@ use crate::stack::round_trips::compressed::compressed_words_through_list;
 use crate::stack::round_trips::decoders::{
     list_as_decoder, list_into_decoder, list_into_seekable_decoder,
 };
-use crate::stack::round_trips::lent_words::list_from_lent_words;
+use crate::stack::round_trips::lent_words::{decode_lent_binary_words, list_from_lent_words};
 use crate::stack::round_trips::pairs::pairs_through_words;
 use crate::stack::round_trips::positions::list_before_a_position;
 use crate::stack::round_trips::shown::words_shown_and_given;
@@ -167,6 +167,25 @@ fn words_come_back(rt: HostRuntime) -> Result<(), Fail> {
         return Err(Fail::from("refused"));
     };
     assert_eq!(rt; again.as_slice(), [7u8, 0, 255, 0].as_slice());
+    Ok(())
+}
+
+/// The word 0 moves in below the 1, and makes the head 256. Its quantile is 0, so the symbol is 0; that leaves
+/// 255, below which the next word moves in: 65535. Its quantile is 255, so the symbol is 1, and so on.
+#[test]
+fn symbols_come_back_from_lent_binary_words(rt: HostRuntime) -> Result<(), Fail> {
+    let table = WeightTable::<u8, 8>::new(rt.alloc(), &[255, 1])?;
+    let mut words = Vec::new(rt.alloc());
+    words.extend_from_slice(&[7u8, 0, 255, 0])?;
+    let Ok(mut coder) = Small::from_binary(words) else {
+        return Err(Fail::from("refused"));
+    };
+    for _ in 0..2 {
+        let Some(lent) = decode_lent_binary_words(rt.alloc(), &mut coder, 3, &table) else {
+            return Err(Fail::from("refused"));
+        };
+        assert_eq!(rt; lent.as_slice(), [0usize, 1, 0].as_slice());
+    }
     Ok(())
 }
 

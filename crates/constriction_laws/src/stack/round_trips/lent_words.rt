@@ -1,4 +1,4 @@
-//! Symbols that come back from the words that a coder lends by a guard.
+//! Symbols that come back from the words that a coder lends by a guard, and coders that are as before then.
 
 ghost use Rattle.std.specs.Prelude.{◌≡◌, List, length, reverse, IfSome};
 ghost use Rattle.constriction_stack.specs.Ans.{AnsState, IsValid};
@@ -44,6 +44,39 @@ where
     ) else {
         return None;
     };
+    shown_words_are_exported();
+    decode_list(alloc, &mut decoder, amt, model)
+}
+
+/// Symbols from the words that a coder lends by `get_binary`. Those that were put on it come back, the last
+/// one first; and once the guard has gone, the coder is as before, also where something is refused.
+pub fn decode_lent_binary_words<
+    Word: WordOf<State>,
+    State: BitArray,
+    A: Allocator,
+    M: DecoderModel<PRECISION>,
+    const PRECISION: usize,
+>(
+    alloc: Global,
+    coder: &mut AnsCoder<Word, State, Vec<Word, A>>,
+    amt: usize,
+    model: &M,
+) -> Option<Vec<M::Symbol>>
+where
+    M::Probability: WordOf<Word>,
+    ensures back { (symbols : List M.Symbol) (before : AnsState) → IsValid Word.BITS State.BITS coder.old.state →
+        EncodesAll Word.BITS State.BITS (items_of record { precision = PRECISION; table = M.table model.now } symbols)
+        before coder.old.state → length symbols ≡ amt →
+        IfSome result (λ again. again.items ≡ reverse symbols) }
+    ensures kept { coder.new.state ≡ coder.old.state }
+{
+    let Ok(guard) = coder.get_binary() else {
+        return None;
+    };
+    let words = guard.backend();
+    let mut decoder = AnsCoder::<Word, State, Cursor<Word, &[Word]>>::from_binary_slice(
+        words.as_slice(),
+    );
     shown_words_are_exported();
     decode_list(alloc, &mut decoder, amt, model)
 }

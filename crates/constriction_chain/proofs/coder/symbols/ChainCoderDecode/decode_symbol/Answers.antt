@@ -1,5 +1,5 @@
 use Rattle.std.proofs.Common.{rules, arith, inr}
-use Rattle.constriction_base.specs.Entries.{in_range}
+use Rattle.constriction_base.proofs.Entries.{in_range}
 use Rattle.constriction_chain.proofs.Outcomes.{decoded, undecoded}
 use Rattle.constriction_chain.proofs.Sizes.{narrowed}
 use Rattle.constriction_chain.proofs.Taking.{covered}
@@ -45,9 +45,11 @@ returns g c =
     rw (← c.self.view_is) (record {
       step = inr (
         _,
-        _,
-        _,
-        c.quantile_function-symbol.ensures.found,
-        undecoded _ _ _ _ _ _ _ _ g.met.R.WriteWords.room_law _ _ g.met.Word.BitArray.number_law _ _ _ _ _ _ _ _ _ _ _ covers.0 covers.1 taken lost,
+        (
+          _,
+          _,
+          c.quantile_function-symbol.ensures.found,
+          undecoded _ _ _ _ _ _ _ _ g.met.R.WriteWords.room_law _ _ g.met.Word.BitArray.number_law _ _ _ _ _ _ _ _ _ _ _ covers.0 covers.1 taken lost,
+        ),
       );
     })

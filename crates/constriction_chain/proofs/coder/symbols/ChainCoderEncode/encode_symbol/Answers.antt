@@ -1,5 +1,5 @@
 use Rattle.std.proofs.Common.{rules, inl}
-use Rattle.constriction_base.specs.Entries.{in_range}
+use Rattle.constriction_base.proofs.Entries.{in_range}
 use Rattle.constriction_chain.proofs.coder.symbols.ChainCoderEncode.encode_symbol.Goals as goal
 
 pub give-requires-clause-some : goal.give-requires-clause-some
