@@ -67,7 +67,7 @@ fn texts_of_steps(rt: HostRuntime) {
 }
 
 /// What a change of the precision answers over a buffer.
-type Changing = ChangePrecisionError<Infallible, BoundedWriteError>;
+type Changing = ChangePrecisionError<BoundedWriteError, Infallible>;
 
 #[test]
 fn texts_of_changes(rt: HostRuntime) {

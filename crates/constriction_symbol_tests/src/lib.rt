@@ -20,6 +20,8 @@ mod coders;
 #[cfg(test)]
 mod codewords;
 #[cfg(test)]
+mod decoders;
+#[cfg(test)]
 mod golomb;
 #[cfg(test)]
 mod lists;
