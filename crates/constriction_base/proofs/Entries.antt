@@ -3,7 +3,7 @@ use Rattle.std.specs.Prelude.{sum}
 use Rattle.std.proofs.Common.{◌≡◌, ℕ, zero, suc, ◌+◌, ◌-◌, ◌<◌, ◌≤◌, List, [], ◌∷◌, inl, inr, length, get_or, take, sym, ◌∙◌, ap, subst, arith}
 use Rattle.std.proofs.lemmas.List.Sums.{sum_by-cons}
 use Rattle.constriction_base.specs.Tables.{Has, Impossible, Follow, AreDistinct, Covers, IsRising, table_from, table_of, weights_between}
-use Rattle.constriction_base.specs.laws.Weights.{has_only, follow_on, weight_at, length-weights_between, sum_between}
+use Rattle.constriction_base.specs.laws.Weights.{has_only, weight_at, length-weights_between}
 
 -- an entry lies in what is cut, and isn't empty
 pub in_range : {S : Type 0} (low high : ℕ) (es : List (S × ℕ × ℕ)) (s : S) (l p : ℕ) → Follow low es high → Has es s l p → (low ≤ l) × (0 < p) × (l + p ≤ high)
@@ -88,8 +88,3 @@ impossible starts high k z l p h =
 -- where an interval ends
 pub ends : (starts : List ℕ) (high k l w : ℕ) → IsRising starts high → k < length starts → l ≡ get_or starts k 0 → w ≡ get_or (weights_between starts high) k 0 → l + w ≡ get_or starts (suc k) high
 ends starts high k l w r h el e = omega (arith, weight_at starts high k h, r.rising k h)
-
--- no interval ends above high
-pub ends_below : (starts : List ℕ) (high k l w : ℕ) → IsRising starts high → k < length starts → l ≡ get_or starts k 0 → w ≡ get_or (weights_between starts high) k 0 → 0 < w → l + w ≤ high
-ends_below starts high k l w r h el e pos =
-    (in_range 0 high (table_of (weights_between starts high)) k l w (follow_on 0 0 high (weights_between starts high) (omega (arith, r.first, sum_between starts high r.rising (omega arith)))) (found starts high k l w r h el e pos)).2

@@ -1,23 +1,17 @@
 -- The words of a number, one at a time, and words that are read one at a time.
-use Rattle.std.specs.Prelude.{◌≡◌, ℕ, ◌+◌, ◌*◌, ◌/◌, ◌%◌, ◌^◌, ◌<◌, ◌≤◌, List, [], ◌∷◌, ◌++◌, length, map, Option, Some, Result, Ok}
+use Rattle.std.specs.Prelude.{◌≡◌, ℕ, ◌+◌, ◌*◌, ◌/◌, ◌%◌, ◌^◌, ◌<◌, ◌≤◌, List, [], ◌∷◌, ◌++◌, length, Option, Some, Result, Ok}
 use Rattle.std.proofs.Common.{arith, zero, suc, true, false, ◌∙◌, sym, ap, refl, append_assoc, pow_pos, mul-le-mul, mul-le-mul_right, subst}
-use Rattle.std.proofs.lemmas.Int.Digits.{digits_of_step, length-digits_of_step, length-digits_of-le, number_after_append}
+use Rattle.std.proofs.lemmas.Int.Digits.{digits_of_step, length-digits_of_step, length-digits_of-le}
 use Rattle.std.proofs.lemmas.Nat.{div-mul-add, mod-mul-add}
 use Rattle.std.proofs.Math.Nat.{mul-le-mul_left}
-use Rattle.std.proofs.lemmas.List.{map_push}
-use Rattle.std.specs.Int.Digits.{digits_of, number_from_digits}
+use Rattle.std.specs.Int.Digits.{digits_of}
 use native.Mathlib.Nat.{div-lt_self, pow-suc, pow-zero}
-use Rattle.constriction_base.specs.Readings.{Gives, Imports, BeginsHigh}
+use Rattle.constriction_base.specs.Readings.{Gives}
 
 -- what a test for 0 says
 pub some_of : (n : ℕ) → (n ≡ 0 → false ≡ true) → 0 < n
 some_of zero h = let no = h refl in absurd cc
 some_of (suc n) h = omega arith
-
--- a number that isn't above 0
-pub no_room : (n : ℕ) → (0 < n → ⊥) → n ≡ 0
-no_room zero h = refl
-no_room (suc n) h = absurd (h (omega arith))
 
 pub base_two : (w : ℕ) → 1 ≤ w → 2 ≤ 2 ^ w
 base_two zero h = absurd (omega arith)
@@ -71,34 +65,6 @@ digit_alone w v ws some pos fits =
 pub gives_push : {W E B : Type 0} (reads : B → Result (Option W) E → B → Type 0) (old between new : B) (ws : List W) (w : W) → Gives reads old ws between → reads between (Ok (Some w)) new → Gives reads old (ws ++ w ∷ []) new
 gives_push reads old between new [] w h r = (new, subst (λ from. reads from (Ok (Some w)) new) h r, refl)
 gives_push reads old between new (v ∷ ws) w h r = (h.0, h.1, gives_push reads h.0 between new ws w h.2 r)
-
--- a list that doesn't begin with zero goes on so
-high_push : (b d : ℕ) (ds : List ℕ) → 0 < number_from_digits b ds → BeginsHigh ds → BeginsHigh (ds ++ d ∷ [])
-high_push b d [] some h = absurd (omega arith)
-high_push b d (v ∷ vs) some h = h
-
--- one word more moves into a head
-pub imports_more : {W E B : Type 0} (number : W → ℕ) (reads : B → Result (Option W) E → B → Type 0) (w head new_head : ℕ) (old last new : B) (word : W) → Imports number reads w old head last → 0 < head
-    → reads last (Ok (Some word)) new → new_head ≡ head * 2 ^ w + number word → Imports number reads w old new_head new
-imports_more number reads w head new_head old last new word i some r is =
-    let b : ℕ = 2 ^ w in
-    let before : List ℕ = map number i.words in
-    let all : map number (i.words ++ word ∷ []) ≡ before ++ number word ∷ [] = map_push number i.words word in
-    record {
-      words = i.words ++ word ∷ [];
-      given = gives_push reads old last new i.words word i.given r;
-      high = rw all (high_push b (number word) before (rw (← i.is) some) i.high);
-      is = rw (all, number_after_append b 0 before (number word ∷ []), ← i.is) is;
-    }
-
-pub imports_first : {W E B : Type 0} (number : W → ℕ) (reads : B → Result (Option W) E → B → Type 0) (w head : ℕ) (old new : B) (word : W) → reads old (Ok (Some word)) new
-    → 0 < number word → head ≡ number word → Imports number reads w old head new
-imports_first number reads w head old new word r some is =
-    record { words = word ∷ []; given = (new, r, refl); high = some; is = omega (arith, is) }
-
--- no word has been read yet
-pub imports_none : {W E B : Type 0} (number : W → ℕ) (reads : B → Result (Option W) E → B → Type 0) (w : ℕ) (old : B) → Imports number reads w old 0 old
-imports_none number reads w old = record { words = []; given = refl; high = tt; is = refl }
 
 -- what each read keeps of a backend, all of them keep
 pub gives_keeps : {W E B A : Type 0} (seen : B → A) (reads : B → Result (Option W) E → B → Type 0) (old : B) (ws : List W) (new : B) → Gives reads old ws new

@@ -6,7 +6,6 @@ pub mod Turns
 pub mod Runs
 pub mod HintLemmas
 pub mod Worked
-pub mod WindowLemmas
 pub mod Entering
 pub mod Heads
 pub mod Sizes

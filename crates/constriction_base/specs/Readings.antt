@@ -1,6 +1,7 @@
 -- Words that the reads of a backend give, as coders take them.
 use Rattle.std.specs.Prelude.{◌≡◌, ℕ, ◌<◌, ◌^◌, ⊤, List, [], ◌∷◌, Option, Some, Result, Ok, Err, map}
 use Rattle.std.specs.Int.Digits.{number_from_digits}
+use Rattle.constriction_base.specs.Steps.{InTurn}
 
 -- no read of such a backend is ever refused
 abbrev pub NeverRefused : {W E B : Type 0} → (B → Result (Option W) E → B → Type 0) → Type 0
@@ -13,8 +14,7 @@ BeginsHigh (v ∷ vs) = 0 < v
 
 -- the words that reads gave one after another, and what they left
 abbrev pub Gives : {W E B : Type 0} → (B → Result (Option W) E → B → Type 0) → B → List W → B → Type 0
-Gives reads old [] new = new ≡ old
-Gives {W} {E} {B} reads old (w ∷ ws) new = (between : B) × reads old (Ok (Some w)) between × Gives reads between ws new
+Gives reads old words new = InTurn (λ word before after. reads before (Ok (Some word)) after) words old new
 
 -- words that reads gave, of which the first isn't 0, and the head that they make
 pub record Imports {W E B : Type 0} (number : W → ℕ) (reads : B → Result (Option W) E → B → Type 0) (w : ℕ) (old : B) (head : ℕ) (new : B) : Type 0 where

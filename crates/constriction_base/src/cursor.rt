@@ -1,6 +1,6 @@
 //! A buffer and a position in it.
 
-ghost use Rattle.std.specs.Prelude.{◌≡◌, ◌+◌, ◌-◌, ℕ, true, false, List, [], ◌∷◌, ◌++◌, ◌<◌, ◌≤◌, ◌==◌, Option, Result, Ok, Err, None, length, min, reverse, IsTrue, slice_set, take, drop};
+ghost use Rattle.std.specs.Prelude.{◌≡◌, ◌+◌, ◌-◌, ◌<◌, ◌≤◌, Result, Ok, length, min};
 ghost use Rattle.constriction_base.specs.Backends.{Place};
 
 use crate::backends::Words;

@@ -5,7 +5,7 @@
 //! interval, [`DecoderModel`] the interval that holds a quantile; both stand on [`EntropyModel`],
 //! whose laws say that the intervals are a table. A `&M` is a model wherever `M` is.
 
-ghost use Rattle.std.specs.Prelude.{◌≡◌, ℕ, ◌+◌, ◌^◌, ◌<◌, ◌≤◌, List, length, IfSome, IfNone};
+ghost use Rattle.std.specs.Prelude.{◌≡◌, ℕ, ◌^◌, ◌<◌, ◌≤◌, List, length, IfSome, IfNone};
 ghost use Rattle.constriction_base.specs.Tables.{Has, Impossible, IsTable, Covers};
 
 use constriction_words::BitArray;

@@ -1,7 +1,7 @@
 //! Borrowed words, as a buffer and as what turns into a cursor: as a stack at the end of the words, as a
 //! queue at their beginning.
 
-ghost use Rattle.std.specs.Prelude.{◌≡◌, List, length, reverse, take, drop};
+ghost use Rattle.std.specs.Prelude.{◌≡◌, length, reverse};
 ghost use Rattle.std.proofs.Common.{sym};
 ghost use Rattle.std.proofs.lemmas.List.{reverse-reverse};
 

@@ -3,7 +3,7 @@
 //! Its writes and `prepare` return want of memory, and nothing else; reading it never fails, takes no
 //! memory and keeps the capacity. Any allocator serves.
 
-ghost use Rattle.std.specs.Prelude.{◌≡◌, ◌+◌, ◌-◌, ℕ, true, false, List, [], ◌∷◌, ◌++◌, ◌<◌, ◌≤◌, ◌==◌, Option, Result, Ok, Err, None, length, reverse, IsTrue, vec_len, vec_capacity, slice_set, take};
+ghost use Rattle.std.specs.Prelude.{◌≡◌, ◌-◌, false, ◌<◌, ◌≤◌, ◌==◌, Option, Result, Ok, Err, reverse, vec_len, vec_capacity, take};
 ghost use Rattle.constriction_base.specs.Backends.{Reads};
 ghost use Rattle.constriction_base.specs.laws.Room.{no_room_left, room_for, at_length, within, words_counted};
 ghost use Rattle.std.proofs.Common.{sym};

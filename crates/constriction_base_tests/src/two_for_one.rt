@@ -1,6 +1,6 @@
 //! What the bounds alone say of a backend: a word is read, and two are written in its place.
 
-ghost use Rattle.std.specs.Prelude.{◌≡◌, ◌+◌, ◌-◌, ◌<◌, ◌≤◌, ◌∷◌, ◌⊎◌, [], ℕ, List, Option, Result, Ok, Err, Some, None, OnOk, OnErr, IfOk, IfErr, length, reverse, take, drop, vec_len, vec_capacity, slice_get};
+ghost use Rattle.std.specs.Prelude.{◌≡◌, ◌+◌, ◌-◌, ◌<◌, ◌≤◌, ◌∷◌, ◌⊎◌, Option, Result, Ok, Err, Some, None, OnOk, OnErr, IfOk, IfErr, length, reverse, take, drop, slice_get};
 ghost use Rattle.constriction_base_tests.specs.declared.two_for_one.Refusal.TheVariants as refusal;
 ghost use Rattle.constriction_base.specs.declared.errors.BoundedWriteError.TheVariants.{OutOfSpace};
 

@@ -56,16 +56,3 @@ pub same_nonzero : (top x y : ℕ) → x ≡ y → 0 < y → y ≤ top → (x - 
 same_nonzero top x y e some fits =
     let below : y - 1 < top = omega arith in
     rw (e, mod-eq_of_lt below) (omega arith)
-
--- one more symbol is listed
-pub listed_more : (P : ℕ → ℕ → Type 0) (symbols more : List ℕ) (n symbol : ℕ) → length symbols ≡ n → ((q : ℕ) → q < n → P (slice_index symbols q) q)
-    → more ≡ symbols ++ symbol ∷ [] → P symbol n → (length more ≡ n + 1) × ((q : ℕ) → q < n + 1 → P (slice_index more q) q)
-listed_more P symbols more n symbol len all is new = rw is (
-  omega (arith, length-append symbols (symbol ∷ []), len),
-  λ q h. elim (cases_lt q n) [
-    | inl below ↦ rw (get_or_append_left symbols (symbol ∷ []) 0 q (omega (arith, len, below))) (all q below)
-    | inr past ↦
-        let same : q ≡ n = omega arith in
-        rw (same, get_or_push symbols symbol 0 n len) new
-  ],
-)

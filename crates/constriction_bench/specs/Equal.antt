@@ -6,7 +6,7 @@ use Rattle.std.proofs.Math.ListN.{replicate}
 use Rattle.std.proofs.lemmas.Nat.{pow-add, pow_pos}
 use Rattle.std.proofs.lemmas.List.{length-replicate, take-replicate, get_or-replicate}
 use Rattle.std.proofs.lemmas.List.Folds.{sum_by-replicate}
-use Rattle.constriction_base.specs.Tables.{Has, IsTable, table_of, table_from}
+use Rattle.constriction_base.specs.Tables.{Has, Impossible, IsTable, table_of, table_from}
 use Rattle.constriction_base.specs.laws.Weights.{weights_make_table, has_only}
 use Rattle.constriction_base.proofs.Entries.{has_at}
 
@@ -32,9 +32,9 @@ equal_has bits shift k l p below left weight =
     has_at 0 0 k (replicate n w) k l p (omega (arith, length-replicate n w)) (omega arith) (omega arith) (omega (arith, before)) (weight ∙ sym (get_or-replicate n k w 0 below))
 
 -- there is no other symbol
-pub equal_unknown : (bits shift k l p : ℕ) → 2 ^ bits ≤ k → Has (equal_table bits shift) k l p → ⊥
+pub equal_impossible : (bits shift k : ℕ) → 2 ^ bits ≤ k → Impossible (equal_table bits shift) k
 unfolding equal_table
-equal_unknown bits shift k l p past has =
+equal_impossible bits shift k past l p has =
     let only = has_only 0 0 (replicate (2 ^ bits) (2 ^ shift)) k l p has in
     omega (arith, only.1, length-replicate (2 ^ bits) (2 ^ shift))
 

@@ -1,6 +1,6 @@
 //! A table that lists a symbol for each of 4096 equal parts of the quantiles.
 
-ghost use Rattle.std.specs.Prelude.{◌≡◌, ℕ, ◌+◌, ◌-◌, ◌*◌, ◌^◌, ◌<◌, ◌≤◌, ◌%◌, length, map, slice_index, IfSome};
+ghost use Rattle.std.specs.Prelude.{◌≡◌, ℕ, ◌+◌, ◌-◌, ◌*◌, ◌^◌, ◌<◌, ◌%◌, length, map, slice_index, IfSome};
 ghost use Rattle.constriction_base.specs.Tables.{table_of};
 ghost use Rattle.std.proofs.Common.{arith, rules};
 ghost use Rattle.constriction_bench.specs.Starts.{AreStarts, Begins};

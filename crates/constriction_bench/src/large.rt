@@ -1,7 +1,5 @@
 //! Cases at words of 32 bits, states of 64 bits and a precision of 24 bits.
 
-ghost use Rattle.std.specs.Prelude.{◌≡◌, ◌≤◌, length};
-
 use crate::bucket::BucketTable;
 use crate::flat::Flat;
 use crate::runs::{copy_out, decode_in, encode_out, reload_out};

@@ -1,6 +1,6 @@
 //! A table that lists the symbol of each quantile.
 
-ghost use Rattle.std.specs.Prelude.{◌≡◌, ℕ, ◌+◌, ◌-◌, ◌^◌, ◌<◌, ◌≤◌, ◌%◌, length, map, slice_index, IfSome};
+ghost use Rattle.std.specs.Prelude.{◌≡◌, ℕ, ◌+◌, ◌-◌, ◌^◌, ◌<◌, ◌%◌, length, map, slice_index, IfSome};
 ghost use Rattle.constriction_base.specs.Tables.{table_of};
 ghost use Rattle.std.proofs.Common.{arith, rules};
 ghost use Rattle.constriction_bench.specs.Starts.{AreStarts, Finds};

@@ -1,7 +1,5 @@
 //! Cases at words of 16 bits, states of 32 bits and a precision of 12 bits.
 
-ghost use Rattle.std.specs.Prelude.{◌≡◌, ◌≤◌, length};
-
 use crate::flat::Flat;
 use crate::lookup::LookupTable;
 use crate::runs::{copy_out, decode_in, encode_out, reload_out};

@@ -1,6 +1,6 @@
 //! Where the intervals of a model's symbols begin, as a list.
 
-ghost use Rattle.std.specs.Prelude.{◌≡◌, ◌-◌, ◌<◌, ◌≤◌, length, IfSome};
+ghost use Rattle.std.specs.Prelude.{◌-◌, ◌<◌, IfSome};
 ghost use Rattle.constriction_bench.specs.Starts.{AreStarts};
 
 use constriction_base::model::{EncoderModel, EntropyModel};

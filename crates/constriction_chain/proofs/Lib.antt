@@ -6,4 +6,5 @@ pub mod Taking
 pub mod Chains
 pub mod Outcomes
 pub mod Ending
+pub mod Moving
 pub mod Isolation

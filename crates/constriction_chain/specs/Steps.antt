@@ -9,6 +9,8 @@ use Rattle.constriction_chain.specs.Chain.{ChainState, ChainValue, IsBroughtBelo
 use Rattle.constriction_base.specs.Windows.{IsInWindow}
 use Rattle.constriction_chain.specs.declared.errors.BackendError.{BackendError}
 use Rattle.constriction_chain.specs.declared.errors.BackendError.TheVariants.{Compressed, Remainders}
+use Rattle.constriction_chain.specs.declared.errors.ChangePrecisionError.{ChangePrecisionError}
+use Rattle.constriction_chain.specs.declared.errors.ChangePrecisionError.TheVariants.{Increase, Decrease}
 use Rattle.constriction_chain.specs.declared.errors.DecoderFrontendError.{DecoderFrontendError}
 use Rattle.constriction_chain.specs.declared.errors.DecoderFrontendError.TheVariants.{OutOfCompressedData}
 use Rattle.constriction_chain.specs.declared.errors.EncoderFrontendError.{EncoderFrontendError}
@@ -233,3 +235,8 @@ LowerRefused {R = R} reads enough r old (Frontend OutOfRemainders) = (r < enough
 LowerRefused reads enough r old (Frontend ImpossibleSymbol) = ⊥
 LowerRefused reads enough r old (Backend (Compressed x)) = ⊥
 LowerRefused {R = R} reads enough r old (Backend (Remainders x)) = (r < enough) × ((new : R) × reads old (Err x) new)
+
+-- a change was refused: an increase to a greater precision, or a decrease to one that is no greater
+abbrev pub ChangeRefused : {W R E F : Type 0} → (R → Result (Option W) E → R → Type 0) → (R → F → Type 0) → ℕ → ℕ → ℕ → ℕ → ℕ → R → ChangePrecisionError F E → Type 0
+ChangeRefused reads write_fails end enough P N r old (Increase e) = (P < N) × RaiseRefused write_fails end r old e
+ChangeRefused reads write_fails end enough P N r old (Decrease e) = (N ≤ P) × LowerRefused reads enough r old e

@@ -3,8 +3,10 @@
 //! - [`symbols`]: the two steps, `encode_symbol` and `decode_symbol`.
 //! - [`precision`]: changes of the precision.
 //! - [`words`]: coders from words, and the words of a coder.
+//! - [`seeking`]: positions, and going to them.
 
 pub mod precision;
+pub mod seeking;
 pub mod symbols;
 pub mod words;
 
@@ -15,6 +17,7 @@ use crate::heads::ChainCoderHeads;
 use constriction_base::backends::{Holds, Stack};
 use constriction_stream::coder::Code;
 use constriction_words::{BitArray, WordOf};
+use std::alloc::AllocError;
 use std::marker::Model;
 
 /// A coder whose symbols come from bits of the compressed words alone, each under its own model: what a
@@ -22,7 +25,7 @@ use std::marker::Model;
 ///
 /// Contracts see a `ChainValue`: the state (the two heads and the words of both backends), and the
 /// backends.
-#[derive(Drop)]
+#[derive(Debug, Drop)]
 pub struct ChainCoder<
     Word: WordOf<State>,
     State: BitArray,
@@ -92,5 +95,31 @@ impl<
         ensures value { IsTrue result ↔ (self.now.state.h ≡ 1) }
     {
         self.heads.is_whole()
+    }
+}
+
+impl<
+    Word: WordOf<State>,
+    State: BitArray,
+    C: Holds<Word, Stack> + Clone + Drop,
+    R: Holds<Word, Stack> + Clone,
+    const PRECISION: usize,
+> Clone for ChainCoder<Word, State, C, R, PRECISION> {
+    ghost is_clone = { λ old new. C.is_clone old.compressed new.compressed × R.is_clone old.remainders new.remainders
+        × (new.state.h ≡ old.state.h) × (new.state.r ≡ old.state.r)
+        × IsChainCoder Word.number C.words R.words Word.BITS State.BITS PRECISION new };
+
+    ghost is_infallible = { λ coder. C.is_infallible coder.compressed × R.is_infallible coder.remainders };
+
+    /// The same heads over clones of the backends. It is refused only where one of these is.
+    fn clone(&self) -> Result<Self, AllocError> {
+        let _ = self.heads.parts();
+        let compressed = self.compressed.clone()?;
+        let remainders = self.remainders.clone()?;
+        Ok(ChainCoder {
+            compressed,
+            remainders,
+            heads: self.heads,
+        })
     }
 }

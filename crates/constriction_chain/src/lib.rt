@@ -26,9 +26,10 @@
 //! - [`laws`]: what holds of the definitions.
 //! - `halves`: a decode in two halves, and an encode, on the heads and the backends.
 //! - `steps`: the parts of a step, each on one side.
+//! - `moves`: words that move between the number of the remainders and a backend, as many as there are.
 //!
 //! Contracts cite the definitions of `specs/Walk.antt` (quantiles, as a walk on bits), `specs/Chain.antt` (states,
-//! steps, changes of the precision) and `specs/Steps.antt` (what a call over backends may answer and leave). They
+//! steps, changes of the precision), `specs/Words.antt` (words that coders are made of and written as) and `specs/Steps.antt` (what a call over backends may answer and leave). They
 //! speak of numbers and lists; words are listed in the order in which they are read.
 #![tactic(auto)]
 
@@ -37,10 +38,13 @@ pub mod errors;
 mod halves;
 pub mod heads;
 pub mod laws;
+mod moves;
 mod steps;
 
+pub use crate::coder::seeking::BackendPosition;
 pub use crate::coder::{ChainCoder, DefaultChainCoder, SmallChainCoder};
 pub use crate::errors::{
-    BackendError, DecoderError, DecoderFrontendError, EncoderError, EncoderFrontendError,
+    BackendError, ChangePrecisionError, DecoderError, DecoderFrontendError, EncoderError,
+    EncoderFrontendError,
 };
 pub use crate::heads::ChainCoderHeads;

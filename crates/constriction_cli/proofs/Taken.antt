@@ -1,13 +1,7 @@
 -- What a writer holds, write after write.
-use Rattle.std.proofs.Common.{ℕ, ◌+◌, ◌≤◌, Option, Some, None, List, [], ◌++◌, length, take, drop, ◌∙◌, ap, subst, sym, append_assoc, append-nil}
+use Rattle.std.proofs.Common.{ℕ, ◌+◌, Option, Some, None, List, ◌++◌, take, drop, ◌∙◌, ap, subst, sym, append_assoc}
 use Rattle.std.proofs.Math.Seq.{take-add}
-use Rattle.std.proofs.lemmas.List.{take_all}
 use Rattle.std.specs.Io.KnownBytes.{Appends, Keeps}
-
--- nothing was written
-pub appends-none : (known : Option (List ℕ)) → Appends known known []
-appends-none None = tt
-appends-none (Some xs) = sym (append-nil xs)
 
 -- two writes are one
 pub appends-two : (old between new : Option (List ℕ)) (first more : List ℕ) → Appends old between first → Appends between new more → Appends old new (first ++ more)
@@ -28,7 +22,3 @@ appends-kept (Some xs) (Some ys) (Some zs) bytes before after = after ∙ before
 pub appends-more : (old between new : Option (List ℕ)) (bytes : List ℕ) (count more : ℕ) → Appends old between (take count bytes) → Appends between new (take more (drop count bytes)) → Appends old new (take (count + more) bytes)
 appends-more old between new bytes count more before after =
     subst (Appends old new) (sym (take-add count more bytes)) (appends-two old between new (take count bytes) (take more (drop count bytes)) before after)
-
--- as many bytes as there are
-pub appends-all : (old new : Option (List ℕ)) (bytes : List ℕ) (count : ℕ) → length bytes ≤ count → Appends old new (take count bytes) → Appends old new bytes
-appends-all old new bytes count past before = subst (Appends old new) (take_all count bytes past) before

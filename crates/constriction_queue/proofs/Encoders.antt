@@ -1,12 +1,12 @@
 -- What is true of every encoder.
-use Rattle.std.proofs.Common.{◌≡◌, ℕ, ◌+◌, ◌-◌, ◌*◌, ◌%◌, ◌^◌, ◌<◌, ◌≤◌, List, [], ◌∷◌, ◌++◌, append-nil, Option, None, Some, length, length-append, map, refl, sym, ap, ◌∙◌, arith, mod-eq_of_lt}
+use Rattle.std.proofs.Common.{◌≡◌, ℕ, ◌+◌, ◌-◌, ◌*◌, ◌%◌, ◌^◌, ◌<◌, ◌≤◌, List, [], ◌++◌, append-nil, Option, None, Some, length, length-append, map, refl, sym, ap, ◌∙◌, arith, mod-eq_of_lt}
 use Rattle.std.proofs.lemmas.List.{length-map}
 use native.Mathlib.Nat.{add-mul-mod_self_right}
 use Rattle.std.specs.Int.NonZero.{non_zero_usize_get}
 use Rattle.constriction_base.specs.Steps.{IsSizes, AreWords}
 use Rattle.constriction_queue.specs.declared.situation.EncoderSituation.{EncoderSituation}
 use Rattle.constriction_queue.specs.declared.situation.HeldWords.{HeldWords}
-use Rattle.constriction_queue.specs.Encoder.{IsEncoder, PartsFit, encoder_of, number_of, released_of, run_of, word_of, words_held}
+use Rattle.constriction_queue.specs.Encoder.{IsEncoder, PartsFit, encoder_of, number_of, released_of, run_of, word_of}
 use Rattle.constriction_queue.proofs.Seals.{words_held_fit}
 
 -- the encoder of parts that fit

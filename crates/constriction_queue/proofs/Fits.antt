@@ -1,8 +1,7 @@
 -- What fits a state, over plain numbers.
 use Rattle.std.specs.Prelude.{◌≡◌, ℕ, ◌+◌, ◌-◌, ◌*◌, ◌/◌, ◌^◌, ◌≤◌, ◌<◌}
-use Rattle.std.proofs.Common.{arith, ◌∙◌, sym, ap, lit<, inl, inr}
-use Rattle.std.proofs.lemmas.Bool.{cases_lt}
-use Rattle.std.proofs.Math.Nat.{div-lt_iff_lt-mul, pow-le-pow_right}
+use Rattle.std.proofs.Common.{arith, ◌∙◌, sym, ap, lit<}
+use Rattle.std.proofs.Math.Nat.{pow-le-pow_right}
 use Rattle.std.proofs.lemmas.Nat.{pow_pos, pow-add, mul-le}
 use Rattle.std.proofs.Common.{le-div_iff_mul-le}
 

@@ -6,6 +6,8 @@ pub mod Begun
 pub mod Seals
 pub mod Encoders
 pub mod Decoders
+pub mod Showing
+pub mod Roomy
 pub mod Pointing
 pub mod Beginning
 pub mod Exhausted

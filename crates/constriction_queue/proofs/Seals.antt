@@ -1,5 +1,5 @@
 -- Sealed words as digits. Lists of words have the last word first.
-use Rattle.std.proofs.Common.{◌≡◌, ◌↔◌, ℕ, zero, suc, ◌+◌, ◌-◌, ◌*◌, ◌/◌, ◌%◌, ◌^◌, ◌<◌, ◌≤◌, ◌==◌, Bool, true, false, IsTrue, if◌then◌else◌, List, [], ◌∷◌, ◌++◌, map, replicate, reverse, length, refl, sym, ap, ◌∙◌, arith, inl, inr, append_assoc, pow_pos, mod-lt, mod-eq_of_lt, div-lt_iff_lt-mul, le-div_iff_mul-le, div-mul-le_self, mul-le-mul_left, eq-eqb, ne_eqb, append-nil, mul-div_cancel, length-append}
+use Rattle.std.proofs.Common.{◌≡◌, ◌↔◌, ℕ, zero, suc, ◌+◌, ◌-◌, ◌*◌, ◌/◌, ◌%◌, ◌^◌, ◌<◌, ◌≤◌, ◌==◌, Bool, true, false, IsTrue, if◌then◌else◌, List, [], ◌∷◌, ◌++◌, map, replicate, reverse, length, refl, sym, ap, ◌∙◌, arith, inl, inr, append_assoc, pow_pos, mod-lt, mod-eq_of_lt, div-lt_iff_lt-mul, le-div_iff_mul-le, div-mul-le_self, mul-le-mul_left, mul-le-mul_right, eq-eqb, ne_eqb, append-nil, mul-div_cancel, length-append}
 use native.Mathlib.Nat.{add-mul-div_right, lt-div-mul-add}
 use Rattle.std.proofs.lemmas.Bool.{cases_lt}
 use Rattle.std.proofs.lemmas.List.{reverse-append, length-reverse, length-map}
@@ -250,3 +250,19 @@ count_is number owed ws all is =
     let len = ap length is in
     let front = length-reverse (owed ++ map number ws) ∙ length-append owed (map number ws) in
     omega (arith, len, front, length-map ws number)
+
+-- ---- sizes
+
+-- there are no more words than bits
+pub words_within : (w n : ℕ) → 1 ≤ w → n ≤ w * n
+words_within w n some =
+    let more : 1 * n ≤ w * n = mul-le-mul_right n some in
+    omega (arith, more)
+
+-- the test of the words by a quotient
+pub fit_by_quotient : (w n : ℕ) → 1 ≤ w → (n ≤ 18446744073709551615 / w) ↔ (w * n < 2 ^ 64)
+fit_by_quotient w n some =
+    let top : 2 ^ 64 ≡ 18446744073709551616 = refl in (
+      λ h. let within : n * w ≤ 18446744073709551615 = (le-div_iff_mul-le some).0 h in omega (arith, within, top),
+      λ h. (le-div_iff_mul-le some).1 (omega (arith, h, top)),
+    )

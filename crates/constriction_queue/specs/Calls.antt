@@ -1,10 +1,12 @@
 -- What a call of a range coder may answer and leave, over a backend of which only its rules are known: what it holds,
 -- what a read may answer, and which errors a write and a `prepare` may answer.
-use Rattle.std.specs.Prelude.{◌≡◌, ℕ, ◌+◌, ◌<◌, ◌≤◌, ◌⊎◌, List, [], ◌∷◌, ◌++◌, Option, Some, None, Result, Ok, Err, length, map, OnOk, OnErr, IfErr}
+use Rattle.std.specs.Prelude.{◌≡◌, ℕ, ◌+◌, ◌<◌, ◌≤◌, ◌⊎◌, List, [], ◌++◌, Option, Result, Err, length, map, reverse, OnOk, OnErr, IfErr}
 use Rattle.constriction_base.specs.Steps.{Step}
+use Rattle.constriction_base.specs.declared.errors.ReadWriteError.{ReadWriteError}
+use Rattle.constriction_base.specs.declared.errors.ReadWriteError.TheVariants.{Read, Write}
 use Rattle.constriction_queue.specs.Range.{Run, IsAt, narrow}
-use Rattle.constriction_queue.specs.Encoder.{Encoder, IsEncoder, HasHeads, Owes, run_by}
-use Rattle.constriction_queue.specs.Decoder.{Decoder, IsDecoder, quantile_read, OwesRead}
+use Rattle.constriction_queue.specs.Encoder.{Encoder, IsEncoder, HasHeads, Owes, run_by, sealed_by}
+use Rattle.constriction_queue.specs.Decoder.{Decoder, IsDecoder, quantile_read, OwesRead, ReadsOn}
 use Rattle.constriction_queue.specs.Writing.{IsBegun}
 
 -- the words that a step owes were written
@@ -47,6 +49,20 @@ pub record EncodeCall {Word B E : Type 0} (number : Word → ℕ) (words_in : B 
   -- and comes only where words are owed, from the call of the backend that asks for them, or writes them
   pub error : IfErr answer (λ e. IsRefused number words_in w s room makes_room prepare_fails write_fails old step e new)
 
+-- a call of the backend was refused, for the words that an export owes: those held, and the seal
+pub record SealRefused {Word B E : Type 0} (number : Word → ℕ) (words_in : B → List Word) (w s : ℕ) (room : B → ℕ) (makes_room : Type 0) (prepare_fails : B → ℕ → E → Type 0) (write_fails : B → E → Type 0) (old : Encoder B) (e : E) : Type 0 where
+  pub owed : List ℕ
+  pub is : reverse (owed ++ old.words) ≡ sealed_by w s old
+  -- the backend had no room for all of them
+  pub short : room old.bulk < length owed
+  -- it said so before any was written; or, where asking for room makes none, a write was refused behind a beginning of them
+  pub error : prepare_fails old.bulk (length owed) e ⊎ ((makes_room → ⊥) × ((last : B) × write_fails last e × IsBegun owed old.words (map number (words_in last))))
+
+-- why an encoder didn't become a decoder: its words could not be sealed, or a read of the first of them was refused
+abbrev pub NoDecoder : {B R E : Type 0} {Word : Type 0} → (E → Type 0) → (B → Result (Option Word) R → B → Type 0) → ReadWriteError R E → Type 0
+NoDecoder {B} unsealed reads (Write e) = unsealed e
+NoDecoder {B} unsealed reads (Read e) = (last rest : B) × reads last (Err e) rest
+
 -- a decode at a step, of a decoder over a backend that knows its words (is_list) or whose reads tell them
 pub record DecodeCall {Word B E : Type 0} (number : Word → ℕ) (words_in : B → List Word) (is_list : Type 0) (reads : B → Result (Option Word) E → B → Type 0) (w s : ℕ) (old : Decoder B) (step : Step) (answer : Result (Unit {0}) E) (new : Decoder B) : Type 0 where
   -- before and after it is a decoder, whatever the answer
@@ -58,6 +74,8 @@ pub record DecodeCall {Word B E : Type 0} (number : Word → ℕ) (words_in : B 
   -- from each moment of reading words it goes to the next
   pub read : OnOk answer (is_list → (ws : List ℕ) (r : Run) → IsAt w s ws r old.lower old.range old.point old.words
       → IsAt w s ws (narrow w s step r) new.lower new.range new.point new.words)
+  -- and by the reads: one at most, and none where none is owed
+  pub by_reads : OnOk answer (ReadsOn number reads w s (narrow w s step) (OwesRead w s step old.range) old.bulk old.lower old.range old.point new.bulk new.lower new.range new.point)
   -- an error leaves the heads and the words
   pub lower : OnErr answer (new.lower ≡ old.lower)
   pub range : OnErr answer (new.range ≡ old.range)

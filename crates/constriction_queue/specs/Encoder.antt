@@ -43,6 +43,10 @@ abbrev pub encoder_of : {Word B : Type 0} → (Word → ℕ) → (B → List Wor
 encoder_of number words_in w lower range bulk situation =
     record { bulk = bulk; words = map number (words_in bulk); held = held_of number w situation; lower = lower; range = range }
 
+-- an encoder without symbols, behind the words of a backend
+abbrev pub begun_over : {Word B : Type 0} → (Word → ℕ) → (B → List Word) → ℕ → B → Encoder B
+begun_over number words_in s bulk = record { bulk = bulk; words = map number (words_in bulk); held = []; lower = 0; range = 2 ^ s - 1 }
+
 -- what is true of every encoder: its sizes are allowed, the words written are those of its backend, its interval is long
 -- enough and a state, and the words that it holds back fit the interval
 pub record IsEncoder {Word B : Type 0} (number : Word → ℕ) (words_in : B → List Word) (w s : ℕ) (e : Encoder B) : Type 0 where
@@ -106,6 +110,14 @@ word_of number (Some w) = number w ∷ []
 -- all that is owed at once: held words, then one, then another
 abbrev pub owed_of : {Word : Type 0} → (Word → ℕ) → Option (HeldWords Word) → Option Word → Option Word → List ℕ
 owed_of number released top last = word_of number last ++ (word_of number top ++ released_of number released)
+
+-- the same, the first one first
+abbrev pub first_held : {Word : Type 0} → (Word → ℕ) → Option (HeldWords Word) → List ℕ
+first_held number None = []
+first_held number (Some h) = number h.first ∷ replicate (non_zero_usize_get h.count - 1) (number h.others)
+
+abbrev pub first_owed : {Word : Type 0} → (Word → ℕ) → Option (HeldWords Word) → Option Word → Option Word → List ℕ
+first_owed number released top last = first_held number released ++ (word_of number top ++ word_of number last)
 
 -- these words are written by a step: with them, and with what is held then, the encoder means the step's run
 pub record Owes {Word B : Type 0} (number : Word → ℕ) (w s : ℕ) (step : Step) (old : Encoder B) (owed : List ℕ) : Type 0 where

@@ -1,7 +1,8 @@
 //! The decoder: what it holds.
 //!
 //! - [`symbols`]: the step, `decode_symbol`.
-//! - [`words`]: a decoder of words.
+//! - [`words`]: a decoder of words, and its parts.
+//! - [`seeking`]: going to positions.
 
 pub mod seeking;
 pub mod symbols;
@@ -16,13 +17,16 @@ use std::marker::Model;
 /// A queue of symbols that is read from words of the type `Word`, with an interval of states of the type
 /// `State`, which has a whole number of words, two at least.
 ///
+/// It narrows the encoder's intervals, and knows which of their parts a symbol belongs to by the words that it
+/// reads. Past the end of its words it reads zero words.
+///
 /// Contracts see a `Decoder`: the backend, the words that are left, the interval, and the point, which is
 /// the number of the words that were read last.
-#[derive(Drop)]
+#[derive(Debug, Drop)]
 pub struct RangeDecoder<Word: WordOf<State>, State: BitArray, Backend: Holds<Word, Queue>> {
-    bulk: Backend,
-    state: RangeCoderState<Word, State>,
-    point: State,
+    pub(crate) bulk: Backend,
+    pub(crate) state: RangeCoderState<Word, State>,
+    pub(crate) point: State,
 }
 
 /// A decoder of words of 32 bits and states of 64, for precisions up to 32.
@@ -33,14 +37,13 @@ pub type SmallRangeDecoder<Backend> = RangeDecoder<u16, u32, Backend>;
 
 impl<Word: WordOf<State>, State: BitArray, Backend: Holds<Word, Queue>> Model
     for RangeDecoder<Word, State, Backend> {
-    ghost use Rattle.std.specs.Prelude.{map};
     ghost use Rattle.constriction_base.specs.Steps.{IsSizes};
     ghost use Rattle.constriction_queue.specs.States.{lower_of, range_of};
-    ghost use Rattle.constriction_queue.specs.Decoder.{Decoder};
+    ghost use Rattle.constriction_queue.specs.Decoder.{Decoder, decoder_of};
 
     ghost Value = { Decoder Backend };
 
-    ghost view = { λ d. record { bulk = d.bulk; words = map Word.number (Backend.words d.bulk); lower = lower_of d.state; range = range_of d.state; point = State.number d.point } };
+    ghost view = { λ d. decoder_of Word.number Backend.words (lower_of d.state) (range_of d.state) (State.number d.point) d.bulk };
 
     ghost invariant = { λ _. IsSizes Word.BITS State.BITS };
 }

@@ -1,32 +1,50 @@
 //! The encoder: what it holds, and how it begins.
 //!
 //! - [`symbols`]: the step, `encode_symbol`.
-//! - [`compressed`]: the words of an encoder.
-//! - [`sizes`]: how many they are.
+//! - [`compressed`]: the words of an encoder, and how many they are.
+//! - [`guard`]: its words as a vector, for as long as they are looked at.
+//! - [`through_guard`]: a decoder of what an encoder holds, which keeps it.
+//! - [`decoders`]: a decoder of what an encoder holds.
+//! - [`positions`]: where an encoder stands.
 
 pub mod compressed;
 pub mod decoders;
+pub mod guard;
 pub mod positions;
-pub mod sizes;
 pub mod symbols;
+pub mod through_guard;
 
-ghost use Rattle.std.specs.Prelude.{◌≡◌, [], map};
+ghost use Rattle.std.specs.Prelude.{◌≡◌, ◌↔◌, [], map, IsTrue};
 ghost use Rattle.constriction_base.specs.Steps.{IsSizes};
 ghost use Rattle.constriction_queue.specs.Range.{start};
-ghost use Rattle.constriction_queue.specs.Encoder.{Encoder, run_by};
+ghost use Rattle.constriction_queue.specs.States.{lower_of, range_of};
+ghost use Rattle.constriction_queue.specs.Encoder.{Encoder, IsEncoder, PartsFit, begun_over, encoder_of, run_by};
 
 use crate::situation::EncoderSituation;
 use crate::state::RangeCoderState;
+use crate::step::reaches_over;
 use constriction_base::backends::{Holds, Stack};
 use constriction_words::{BitArray, WordOf};
-use std::alloc::{Allocator, Global};
+use std::alloc::{AllocError, Allocator, Global};
 use std::marker::Model;
 
 /// A queue of symbols over words of the type `Word`, with an interval of states of the type `State`,
 /// which has a whole number of words, two at least.
 ///
-/// Contracts see an `Encoder`: the backend, the words written and held, and the interval.
-#[derive(Drop)]
+/// It narrows an interval of states, symbol by symbol, and writes the words that all of the interval's
+/// states have in common. While the interval reaches over the greatest state a carry may still come, so
+/// words are held back then.
+///
+/// Contracts see an `Encoder`: the backend, the words written and held, and the interval. The run that it
+/// stands for (`run_by`) is one whole number that grows, with no words held back and no carries.
+///
+/// ```
+/// let mut encoder = DefaultRangeEncoder::new(alloc);
+/// encoder.encode_symbol(&1, &table)?;
+/// encoder.encode_symbol(&0, &table)?;
+/// let words = encoder.into_compressed()?; // a `Vec<u32>`
+/// ```
+#[derive(Debug, Drop)]
 pub struct RangeEncoder<
     Word: WordOf<State>,
     State: BitArray,
@@ -64,20 +82,18 @@ impl<Word: WordOf<State>, State: BitArray> RangeEncoder<Word, State, Vec<Word>> 
         requires { IsSizes Word.BITS State.BITS }
         ensures run { run_by Word.BITS State.BITS result ≡ start State.BITS }
         ensures held { result.held ≡ [] }
+        ensures coder { IsEncoder Word.number (⟦<Vec<Word> as Holds<Word, Stack>>⟧.words) Word.BITS State.BITS result }
     {
-        RangeEncoder {
-            bulk: Vec::new(alloc),
-            state: RangeCoderState::start(),
-            situation: EncoderSituation::Normal,
-        }
+        RangeEncoder::with_write_backend(Vec::new(alloc))
     }
 }
 
 impl<Word: WordOf<State>, State: BitArray, A: Allocator> RangeEncoder<Word, State, Vec<Word, A>> {
-    /// Takes everything out: the encoder is as a new one, but keeps its memory.
+    /// Takes everything out: the encoder is as a new one, but keeps its memory. No word stays held back.
     pub fn clear(&mut self)
         ensures run { run_by Word.BITS State.BITS self.new ≡ start State.BITS }
         ensures held { self.new.held ≡ [] }
+        ensures coder { IsEncoder Word.number (⟦<Vec<Word, A> as Holds<Word, Stack>>⟧.words) Word.BITS State.BITS self.new }
     {
         self.bulk.clear();
         self.state = RangeCoderState::start();
@@ -90,14 +106,14 @@ impl<Word: WordOf<State>, State: BitArray, Backend: Holds<Word, Stack>> RangeEnc
     State,
     Backend,
 > {
-    /// An encoder without symbols, which writes behind the words of a backend.
+    /// An encoder without symbols, which writes behind the words of a backend. These stay in front of its
+    /// own; where there are none, it is as a new one.
     #[inline]
     pub fn with_write_backend(bulk: Backend) -> Self
         requires { IsSizes Word.BITS State.BITS }
-        ensures bulk { result.bulk ≡ bulk }
-        ensures words { result.words ≡ map Word.number (Backend.words bulk) }
-        ensures held { result.held ≡ [] }
+        ensures parts { result ≡ begun_over Word.number Backend.words State.BITS bulk }
         ensures run { Backend.words bulk ≡ [] → run_by Word.BITS State.BITS result ≡ start State.BITS }
+        ensures coder { IsEncoder Word.number Backend.words Word.BITS State.BITS result }
     {
         RangeEncoder {
             bulk,
@@ -106,12 +122,92 @@ impl<Word: WordOf<State>, State: BitArray, Backend: Holds<Word, Stack>> RangeEnc
         }
     }
 
-    /// The backend, with the words that were written so far.
+    /// Whether words are held back exactly while the interval reaches over the greatest state, the first of
+    /// them isn't all ones, the interval isn't that of an encoder without symbols, and their number leaves
+    /// room for a seal in a `usize`. Then [`RangeEncoder::from_raw_parts`] can be asked for.
+    pub fn parts_fit(
+        state: RangeCoderState<Word, State>,
+        situation: EncoderSituation<Word>,
+    ) -> bool
+        ensures { IsTrue result ↔ PartsFit Word.number Word.BITS State.BITS situation (lower_of state) (range_of state) }
+    {
+        let over = reaches_over(state.lower(), state.length());
+        match situation {
+            EncoderSituation::Normal => !over,
+            EncoderSituation::Inverted(count, first) => {
+                if !over || !first.is_below(Word::greatest()) {
+                    return false;
+                }
+                if !state.length().is_below(State::greatest()) {
+                    return false;
+                }
+                count.get() <= usize::MAX - 17
+            }
+        }
+    }
+
+    /// The encoder of the words of a backend, an interval, and the words held back behind these words.
+    #[inline]
+    pub fn from_raw_parts(
+        bulk: Backend,
+        state: RangeCoderState<Word, State>,
+        situation: EncoderSituation<Word>,
+    ) -> Self
+        requires sizes { IsSizes Word.BITS State.BITS }
+        requires fit { PartsFit Word.number Word.BITS State.BITS situation (lower_of state) (range_of state) }
+        ensures parts { result ≡ encoder_of Word.number Backend.words Word.BITS (lower_of state) (range_of state) bulk situation }
+        ensures coder { IsEncoder Word.number Backend.words Word.BITS State.BITS result }
+    {
+        RangeEncoder {
+            bulk,
+            state,
+            situation,
+        }
+    }
+
+    /// The backend with the words that were written so far, the interval, and the words held back.
+    #[inline]
+    pub fn into_raw_parts(
+        self,
+    ) -> (Backend, RangeCoderState<Word, State>, EncoderSituation<Word>)
+        ensures parts { self ≡ encoder_of Word.number Backend.words Word.BITS (lower_of result.1) (range_of result.1) result.0 result.2 }
+        ensures fit { PartsFit Word.number Word.BITS State.BITS result.2 (lower_of result.1) (range_of result.1) }
+        ensures coder { IsEncoder Word.number Backend.words Word.BITS State.BITS self }
+    {
+        let RangeEncoder {
+            bulk,
+            state,
+            situation,
+        } = self;
+        (bulk, state, situation)
+    }
+
+    /// The backend, with the words that were written so far. Words held back aren't among them.
     #[inline]
     pub fn bulk(&self) -> &Backend
         ensures bulk { result.now ≡ self.now.bulk }
-        ensures words { map Word.number (Backend.words result.now) ≡ self.now.words }
+        ensures coder { IsEncoder Word.number Backend.words Word.BITS State.BITS self.now }
     {
         &self.bulk
+    }
+}
+
+impl<Word: WordOf<State>, State: BitArray, Backend: Holds<Word, Stack> + Clone> Clone
+    for RangeEncoder<Word, State, Backend> {
+    ghost is_clone = { λ old new. Backend.is_clone old.bulk new.bulk
+        × (new.held ≡ old.held) × (new.lower ≡ old.lower) × (new.range ≡ old.range)
+        × IsEncoder Word.number Backend.words Word.BITS State.BITS new };
+
+    ghost is_infallible = { λ encoder. Backend.is_infallible encoder.bulk };
+
+    /// The same interval and held words over a clone of the backend. It is refused only where the
+    /// backend's clone is.
+    fn clone(&self) -> Result<Self, AllocError> {
+        let bulk = self.bulk.clone()?;
+        Ok(RangeEncoder {
+            bulk,
+            state: self.state,
+            situation: self.situation,
+        })
     }
 }

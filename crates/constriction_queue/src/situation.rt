@@ -26,7 +26,7 @@ impl<Word> Default for EncoderSituation<Word> {
 }
 
 /// Words that are held no longer: so many, the first of them, and what all others are.
-#[derive(Drop, Clone, Copy)]
+#[derive(Drop, Debug, Clone, Copy)]
 pub struct HeldWords<Word> {
     pub count: NonZeroUsize,
     pub first: Word,

@@ -86,7 +86,7 @@ pub fn narrowed<Word: WordOf<State>, State: BitArray>(
             released: None,
         },
         EncoderSituation::Inverted(count, first) => {
-            if reaches_over(lower, range) {
+            if reaches_over::<State>(lower, range) {
                 return Part {
                     lower,
                     range,

@@ -50,11 +50,6 @@ binary_one w (suc m) n some from below =
     let large : 2 ^ 1 ≤ 2 ^ (suc m * w) = pow_le 1 (suc m * w) (omega (arith, bits)) in
     absurd (omega (arith, large))
 
--- a greater head has one
-pub binary_some : (w m n : ℕ) → n < 2 ^ (m * w + 1) → 2 ≤ n → 0 < m
-binary_some w zero n below large = let none : 0 * w + 1 ≡ 1 = omega arith in absurd (omega (arith, rw none at below))
-binary_some w (suc m) n below large = omega arith
-
 -- what a count of bits says
 pub binary_of_bits : (w m bits n : ℕ) → n < 2 ^ bits → 2 ^ bits ≤ 2 * n + 1 → bits ≡ m * w + 1 → (2 ^ (m * w) ≤ n) × (n < 2 ^ (m * w + 1))
 binary_of_bits w m bits n below least is =
@@ -147,9 +142,6 @@ after_split w n (v ∷ vs) =
     let here = after_split w (n * 2 ^ w + v) vs in
     let there = after_split w (0 * 2 ^ w + v) vs in
     omega (arith, here, there, ap (λ k. n * k) (power_more w (length vs)))
-
-pub binary_head : (w : ℕ) (ws : List ℕ) → number_from_digits_after (2 ^ w) 1 ws ≡ 2 ^ (length ws * w) + number_from_digits (2 ^ w) ws
-binary_head w ws = omega (arith, after_split w 1 ws)
 
 -- ---- what a count of bits tells of a head
 

@@ -12,7 +12,7 @@ pub mod symbols;
 pub mod words;
 
 ghost use Rattle.constriction_base.specs.Steps.{IsSizes};
-ghost use Rattle.constriction_stack.specs.Ans.{AnsState, AnsValue, IsCoder, empty, value_of};
+ghost use Rattle.constriction_stack.specs.Ans.{AnsValue, IsCoder, empty, value_of};
 ghost use Rattle.std.specs.Prelude.{IsTrue, [], map, ◌↔◌, ◌≡◌};
 
 use constriction_base::backends::{Holds, Stack, WriteWords};

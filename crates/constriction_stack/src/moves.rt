@@ -1,9 +1,9 @@
 //! Words that move between a head and a backend, as many as there are.
 
-ghost use Rattle.std.specs.Prelude.{◌≡◌, ◌-◌, ◌*◌, ◌^◌, ◌<◌, ◌⊎◌, ◌++◌, ℕ, List, drop, map, MatchResult, IsOk, OnOk, OnErr, IfErr, IfSome, IfNone};
-ghost use Rattle.constriction_base.specs.Digits.{fixed_digits, count_of_words};
+ghost use Rattle.std.specs.Prelude.{◌≡◌, ◌-◌, ◌^◌, ◌<◌, ◌⊎◌, ◌++◌, ℕ, List, drop, map, MatchResult, IsOk, OnOk, OnErr, IfErr, IfSome, IfNone};
+ghost use Rattle.constriction_base.specs.Digits.{fixed_digits};
 ghost use Rattle.constriction_base.specs.Steps.{IsSizes};
-ghost use Rattle.constriction_stack.specs.Ans.{AnsState, filled};
+ghost use Rattle.constriction_stack.specs.Ans.{filled};
 ghost use Rattle.constriction_stack.specs.Binary.{IsBinary, PartlyBinary, FilledFrom, RefusedFrom};
 
 use constriction_base::backends::{Holds, ReadWords, Stack, WriteWords};

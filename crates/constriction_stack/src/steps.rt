@@ -1,8 +1,8 @@
 //! The steps of a coder on its head and its backend.
 
 ghost use Rattle.std.specs.Prelude.{◌≡◌, ◌+◌, ◌-◌, ◌*◌, ◌/◌, ◌%◌, ◌^◌, ◌<◌, ◌≤◌, map, MatchResult, Ok, Err};
-ghost use Rattle.constriction_base.specs.Steps.{Step, IsStep, IsSizes};
-ghost use Rattle.constriction_stack.specs.Ans.{AnsState, AnsValue, RefillsBy, refilled, value_of, EncodeCall};
+ghost use Rattle.constriction_base.specs.Steps.{IsStep, IsSizes};
+ghost use Rattle.constriction_stack.specs.Ans.{RefillsBy, refilled, value_of, EncodeCall};
 
 use constriction_base::backends::{Holds, ReadWords, Stack, WriteWords};
 use constriction_words::{BitArray, WordOf};

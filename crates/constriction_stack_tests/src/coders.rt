@@ -14,7 +14,7 @@ use std::alloc::{Allocator, Global};
 pub type HeapCoder<'a> = AnsCoder<u8, u16, Vec<u8, &'a LocalHeap>>;
 
 /// A coder over a buffer.
-pub type CursorCoder<'a, State> = AnsCoder<u8, State, Cursor<u8, &'a mut [u8]>>;
+pub type CursorCoder<'a> = AnsCoder<u8, u16, Cursor<u8, &'a mut [u8]>>;
 
 /// A table of 8 bits. Where memory is refused, it is asked for once more.
 pub fn table_of(alloc: Global, weights: &[u8]) -> Result<WeightTable<u8, 8>, TableError> {
@@ -47,15 +47,6 @@ pub fn coder_in<A: Allocator>(alloc: A) -> AnsCoder<u8, u16, Vec<u8, A>> {
 }
 
 /// A coder that will write over a buffer, from its beginning.
-pub fn coder_over(buf: &mut [u8]) -> CursorCoder<'_, u16> {
+pub fn coder_over(buf: &mut [u8]) -> CursorCoder<'_> {
     AnsCoder::with_write_backend(Cursor::new_at_write_beginning(buf))
-}
-
-/// The same, with a head.
-pub fn coder_over_with<State: BitArray>(buf: &mut [u8], head: State) -> CursorCoder<'_, State>
-where
-    u8: WordOf<State>,
-    requires { IsSizes 8 State.BITS }
-{
-    AnsCoder::from_raw_parts(Cursor::new_at_write_beginning(buf), head)
 }

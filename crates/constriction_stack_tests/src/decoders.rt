@@ -1,20 +1,22 @@
 //! Decoders made through the coder traits, over words that they own or borrow.
 
+use crate::cases::{WIDE_WEIGHTS, small_does, wide_does};
 use crate::coders::{new_coder, table_of};
-use crate::expect::{gives, gives_all};
+use crate::expect::gives_all;
 use crate::put::Call;
-use crate::script::{Act, follows};
+use crate::script::Act;
+use constriction_base::backends::{ReadWords, Stack};
 use constriction_base::cursor::Cursor;
 use constriction_base::weights::WeightTable;
 use constriction_stack::{AnsCoder, DefaultAnsCoder};
 use constriction_stream::conversions::{AsDecoder, IntoDecoder};
 use constriction_words::{BitArray, WordOf};
-use std::alloc::AllocError;
 use std::test::Fail;
 
-/// Takes all symbols off through the decoder that borrows the words.
-fn through_borrowed<Word, State, Probability, const PRECISION: usize>(
-    coder: &AnsCoder<Word, State>,
+/// Takes all symbols off through the decoder that borrows the words, through the one that is made from
+/// a reference, and through the one that owns the words.
+fn gives_each_way<Word, State, Probability, const PRECISION: usize>(
+    coder: AnsCoder<Word, State>,
     table: &WeightTable<Probability, PRECISION>,
     symbols: &[usize],
 ) -> bool
@@ -23,26 +25,13 @@ where
     State: BitArray,
     Probability: WordOf<Word>,
 {
-    let mut borrowed = AsDecoder::<PRECISION>::as_decoder(coder);
-    gives_all(&mut borrowed, table, symbols)
+    let mut lent = AsDecoder::<PRECISION>::as_decoder(&coder);
+    let mut made = AnsCoder::<Word, State, Cursor<Word, &[Word]>>::from(&coder);
+    let is_given = gives_all(&mut lent, table, symbols) && gives_all(&mut made, table, symbols);
+    is_given && through_owned(coder, table, symbols)
 }
 
-/// Takes all symbols off through the decoder that is made from a reference.
-pub fn through_reference<Word, State, Probability, const PRECISION: usize>(
-    coder: &AnsCoder<Word, State>,
-    table: &WeightTable<Probability, PRECISION>,
-    symbols: &[usize],
-) -> bool
-where
-    Word: WordOf<State>,
-    State: BitArray,
-    Probability: WordOf<Word>,
-{
-    let mut borrowed = AnsCoder::<Word, State, Cursor<Word, &[Word]>>::from(coder);
-    gives(&mut borrowed, table, symbols)
-}
-
-/// Takes all symbols off through the decoder that owns the words.
+/// The last of the three.
 fn through_owned<Word, State, Probability, const PRECISION: usize>(
     coder: AnsCoder<Word, State>,
     table: &WeightTable<Probability, PRECISION>,
@@ -65,25 +54,21 @@ fn decoders_at_u8_and_u16(rt: HostRuntime) -> Result<(), Fail> {
     let mut coder: AnsCoder<u8, u16> = new_coder(rt.alloc());
     let symbols = [2usize, 0, 1];
     let acts = [Act::Done(Call::ListBack, &symbols), Act::Holds(511, &[0])];
-    let are_lent = follows(rt.alloc(), &mut coder, &table, AllocError, &acts)
-        && through_borrowed(&coder, &table, &symbols)
-        && through_reference(&coder, &table, &symbols);
-    assert!(rt; are_lent && through_owned(coder, &table, &symbols));
+    let is_put = small_does(rt.alloc(), &mut coder, &table, &acts);
+    assert!(rt; is_put && gives_each_way(coder, &table, &symbols));
     Ok(())
 }
 
 #[test]
 fn decoders_at_u32_and_u64(rt: HostRuntime) -> Result<(), Fail> {
-    let table = WeightTable::<u32, 24>::new(rt.alloc(), &[3, 2, 16777211])?;
+    let table = WeightTable::new(rt.alloc(), WIDE_WEIGHTS.as_slice())?;
     let mut coder: DefaultAnsCoder = new_coder(rt.alloc());
     let symbols = [0usize, 1, 1, 0, 1, 2, 0];
     let acts = [
         Act::Done(Call::ListBack, &symbols),
         Act::Holds(4003138579202049, &[2885681152, 16777220]),
     ];
-    let are_lent = follows(rt.alloc(), &mut coder, &table, AllocError, &acts)
-        && through_borrowed(&coder, &table, &symbols)
-        && through_reference(&coder, &table, &symbols);
-    assert!(rt; are_lent && through_owned(coder, &table, &symbols));
+    let is_put = wide_does(rt.alloc(), &mut coder, &table, &acts);
+    assert!(rt; is_put && gives_each_way(coder, &table, &symbols));
     Ok(())
 }

@@ -3,7 +3,7 @@
 ghost use Rattle.std.specs.Iterator.{IsFinite};
 ghost use Rattle.constriction_base.specs.Steps.{IsSizes};
 
-use constriction_base::backends::{Holds, Pos, PosSeek, ReadWords, Stack, WriteWords};
+use constriction_base::backends::{Holds, ReadWords, Stack, WriteWords};
 use constriction_base::weights::WeightTable;
 use constriction_stack::AnsCoder;
 use constriction_stream::coder::Code;
@@ -11,7 +11,7 @@ use constriction_stream::decoding::Decode;
 use constriction_stream::encoding::Encode;
 use constriction_stream::errors::TryCodingError;
 use constriction_words::{BitArray, WordOf};
-use std::alloc::Allocator;
+use std::alloc::{AllocError, Allocator, Global};
 
 /// Takes symbols off one by one, and compares each.
 pub fn gives<Word, State, Backend, Probability, const PRECISION: usize>(
@@ -51,27 +51,6 @@ where
     gives(coder, table, symbols) && coder.is_empty()
 }
 
-/// Takes lists of symbols off, and compares the head after each.
-pub fn gives_heads<Word, State, Backend, Probability, const PRECISION: usize>(
-    coder: &mut AnsCoder<Word, State, Backend>,
-    table: &WeightTable<Probability, PRECISION>,
-    lists: &[(&[usize], State)],
-) -> bool
-where
-    Word: WordOf<State>,
-    State: BitArray + PartialEq,
-    Backend: ReadWords<Word, Stack>,
-    Backend::ReadError: Drop,
-    Probability: WordOf<Word>,
-{
-    for (symbols, head) in lists {
-        if !gives(coder, table, symbols) || coder.state() != *head {
-            return false;
-        }
-    }
-    true
-}
-
 /// Compares all symbols that an iterator gives, and how many it says that there are.
 fn are_all<I, E>(given: I, symbols: &[usize]) -> bool
 where
@@ -93,21 +72,47 @@ where
     left.is_empty()
 }
 
-/// The first symbol that an iterator gives.
-fn first_of<I, E>(mut given: I) -> Option<usize>
+/// Whether this is the first symbol that an iterator gives.
+fn is_first<I, E>(mut given: I, symbol: usize) -> bool
 where
     I: Iterator<Item = Result<usize, E>> + Drop,
     E: Drop,
     requires { I.can_next given }
 {
-    match given.next() {
-        Some(Ok(symbol)) => Some(symbol),
-        _ => None,
-    }
+    matches!(given.next(), Some(Ok(found)) if found == symbol)
 }
 
-/// Takes symbols off by a list of tables, until there is none.
-pub fn gives_by_tables<Word, State, Backend, Probability, const PRECISION: usize>(
+/// So many times the same table.
+fn tables_of<'a, Probability: BitArray, const PRECISION: usize>(
+    alloc: Global,
+    table: &'a WeightTable<Probability, PRECISION>,
+    count: usize,
+) -> Result<Vec<&'a WeightTable<Probability, PRECISION>>, AllocError> {
+    let mut tables = Vec::new(alloc);
+    for _ in 0..count {
+        tables.push(table)?;
+    }
+    Ok(tables)
+}
+
+/// A table for each symbol, and the errors in their places.
+fn items_of<'a, Probability: BitArray, const PRECISION: usize>(
+    alloc: Global,
+    table: &'a WeightTable<Probability, PRECISION>,
+    answers: &[Result<usize, u8>],
+) -> Result<Vec<Result<&'a WeightTable<Probability, PRECISION>, u8>>, AllocError> {
+    let mut items = Vec::new(alloc);
+    for answer in answers {
+        items.push(match answer {
+            Ok(_) => Ok(table),
+            Err(error) => Err(*error),
+        })?;
+    }
+    Ok(items)
+}
+
+/// Takes symbols off by tables, until there is none.
+fn gives_by<Word, State, Backend, Probability, const PRECISION: usize>(
     coder: &mut AnsCoder<Word, State, Backend>,
     tables: Vec<&WeightTable<Probability, PRECISION>>,
     symbols: &[usize],
@@ -129,15 +134,37 @@ where
     given.next().is_none()
 }
 
-/// The same, where a table may be an error, which is answered in the place of a symbol.
-pub fn gives_by_items<Word, State, Probability, const PRECISION: usize>(
-    coder: &mut AnsCoder<Word, State>,
+/// The same by as many tables as there are symbols.
+pub fn gives_by_tables<Word, State, Backend, Probability, const PRECISION: usize>(
+    alloc: Global,
+    coder: &mut AnsCoder<Word, State, Backend>,
+    table: &WeightTable<Probability, PRECISION>,
+    symbols: &[usize],
+) -> bool
+where
+    Word: WordOf<State>,
+    State: BitArray,
+    Backend: ReadWords<Word, Stack>,
+    Backend::ReadError: Drop,
+    Probability: WordOf<Word>,
+{
+    match tables_of(alloc, table, symbols.len()) {
+        Ok(tables) => gives_by(coder, tables, symbols),
+        Err(AllocError) => false,
+    }
+}
+
+/// Takes symbols off by items, where a table may be an error, which is returned in the place of a symbol.
+fn answers_by<Word, State, Backend, Probability, const PRECISION: usize>(
+    coder: &mut AnsCoder<Word, State, Backend>,
     items: Vec<Result<&WeightTable<Probability, PRECISION>, u8>>,
     answers: &[Result<usize, u8>],
 ) -> bool
 where
     Word: WordOf<State>,
     State: BitArray,
+    Backend: ReadWords<Word, Stack>,
+    Backend::ReadError: Drop,
     Probability: WordOf<Word>,
 {
     let mut given = coder.try_decode_symbols(items);
@@ -157,6 +184,26 @@ where
     given.next().is_none()
 }
 
+/// The same by an item for each answer.
+pub fn gives_by_items<Word, State, Backend, Probability, const PRECISION: usize>(
+    alloc: Global,
+    coder: &mut AnsCoder<Word, State, Backend>,
+    table: &WeightTable<Probability, PRECISION>,
+    answers: &[Result<usize, u8>],
+) -> bool
+where
+    Word: WordOf<State>,
+    State: BitArray,
+    Backend: ReadWords<Word, Stack>,
+    Backend::ReadError: Drop,
+    Probability: WordOf<Word>,
+{
+    match items_of(alloc, table, answers) {
+        Ok(items) => answers_by(coder, items, answers),
+        Err(AllocError) => false,
+    }
+}
+
 /// Takes symbols off by one table.
 pub fn gives_list<Word, State, Backend, Probability, const PRECISION: usize>(
     coder: &mut AnsCoder<Word, State, Backend>,
@@ -173,18 +220,21 @@ where
     are_all(coder.decode_iid_symbols(symbols.len(), table), symbols)
 }
 
-/// The first of so many symbols by one table. The others aren't taken off.
-pub fn first_of_list<Word, State, Probability, const PRECISION: usize>(
-    coder: &mut AnsCoder<Word, State>,
+/// Takes the first of so many symbols off by one table, and compares it. The others are left.
+pub fn gives_first<Word, State, Backend, Probability, const PRECISION: usize>(
+    coder: &mut AnsCoder<Word, State, Backend>,
     table: &WeightTable<Probability, PRECISION>,
     count: usize,
-) -> Option<usize>
+    symbol: usize,
+) -> bool
 where
     Word: WordOf<State>,
     State: BitArray,
+    Backend: ReadWords<Word, Stack>,
+    Backend::ReadError: Drop,
     Probability: WordOf<Word>,
 {
-    first_of(coder.decode_iid_symbols(count, table))
+    is_first(coder.decode_iid_symbols(count, table), symbol)
 }
 
 /// Whether the next step may be refused for lack of room.
@@ -199,6 +249,19 @@ where
     Encode::<PRECISION>::maybe_full(coder)
 }
 
+/// Whether no step will be refused for lack of room, however many there are.
+pub fn has_no_limit<Word, State, Backend, const PRECISION: usize>(
+    coder: &AnsCoder<Word, State, Backend>,
+) -> bool
+where
+    Word: WordOf<State>,
+    State: BitArray,
+    Backend: WriteWords<Word>,
+{
+    !Encode::<PRECISION>::maybe_full(coder)
+        && Encode::<PRECISION>::symbols_left(coder) == usize::MAX
+}
+
 /// Whether all symbols may have been taken off.
 pub fn seems_exhausted<Word, State, Backend, const PRECISION: usize>(
     coder: &AnsCoder<Word, State, Backend>,
@@ -209,17 +272,6 @@ where
     Backend: ReadWords<Word, Stack>,
 {
     Decode::<PRECISION>::maybe_exhausted(coder)
-}
-
-/// Compares the place of the backend.
-pub fn bulk_at<Word, State, Backend>(coder: &AnsCoder<Word, State, Backend>, place: usize) -> bool
-where
-    Word: WordOf<State>,
-    State: BitArray,
-    Backend: Holds<Word, Stack> + Pos + PosSeek<Position = usize>,
-    requires { Backend.can_tell coder.now.backend }
-{
-    coder.bulk().pos() == place
 }
 
 /// Compares the head.
@@ -246,16 +298,6 @@ where
     coder.state() == head && coder.bulk().as_slice() == words
 }
 
-/// The backend and the head of a coder.
-pub fn parts_of<Word, State, Backend>(coder: AnsCoder<Word, State, Backend>) -> (Backend, State)
-where
-    Word: WordOf<State>,
-    State: BitArray,
-    Backend: Holds<Word, Stack>,
-{
-    coder.into_raw_parts()
-}
-
 /// The words that a coder exports.
 pub fn words_of<Word, State, Backend>(
     coder: AnsCoder<Word, State, Backend>,
@@ -266,51 +308,6 @@ where
     Backend: WriteWords<Word> + Drop,
 {
     coder.into_compressed()
-}
-
-/// The words that a coder exports in the binary form.
-pub fn binary_of<Word, State, Backend>(
-    coder: AnsCoder<Word, State, Backend>,
-) -> Result<Backend, Option<Backend::WriteError>>
-where
-    Word: WordOf<State>,
-    State: BitArray,
-    Backend: WriteWords<Word> + Drop,
-{
-    coder.into_binary()
-}
-
-/// Whether an export is refused.
-pub fn export_is_refused<Word, State, Backend>(coder: AnsCoder<Word, State, Backend>) -> bool
-where
-    Word: WordOf<State>,
-    State: BitArray,
-    Backend: WriteWords<Word> + Drop,
-    Backend::WriteError: Drop,
-{
-    coder.into_compressed().is_err()
-}
-
-/// Whether an export in the binary form is refused by the backend.
-pub fn binary_is_refused<Word, State, Backend>(coder: AnsCoder<Word, State, Backend>) -> bool
-where
-    Word: WordOf<State>,
-    State: BitArray,
-    Backend: WriteWords<Word> + Drop,
-    Backend::WriteError: Drop,
-{
-    matches!(coder.into_binary(), Err(Some(_)))
-}
-
-/// Whether an export in the binary form is done.
-pub fn binary_is_done<Word, State, Backend>(coder: AnsCoder<Word, State, Backend>) -> bool
-where
-    Word: WordOf<State>,
-    State: BitArray,
-    Backend: WriteWords<Word> + Drop,
-    Backend::WriteError: Drop,
-{
-    coder.into_binary().is_ok()
 }
 
 /// Compares the words that a coder exports.
@@ -325,23 +322,16 @@ where
     }
 }
 
-/// The words are those of no coder.
-#[derive(Debug, Drop)]
-pub struct WordsRefused;
-
-/// The coder whose words a backend holds.
+/// The coder whose words a backend holds, if there is one.
 pub fn coder_of<Word: WordOf<State>, State: BitArray, Backend>(
     words: Backend,
-) -> Result<AnsCoder<Word, State, Backend>, WordsRefused>
+) -> Option<AnsCoder<Word, State, Backend>>
 where
     Backend: ReadWords<Word, Stack> + Drop,
     Backend::ReadError: Drop,
     requires { IsSizes Word.BITS State.BITS }
 {
-    match AnsCoder::from_compressed(words) {
-        Ok(coder) => Ok(coder),
-        Err(_) => Err(WordsRefused),
-    }
+    AnsCoder::from_compressed(words).ok()
 }
 
 /// Imports words, and takes symbols off until the coder is empty.
@@ -359,7 +349,7 @@ where
     requires { IsSizes Word.BITS State.BITS }
 {
     match coder_of::<Word, State, Backend>(words) {
-        Ok(mut coder) => gives_all(&mut coder, table, symbols),
-        Err(_) => false,
+        Some(mut coder) => gives_all(&mut coder, table, symbols),
+        None => false,
     }
 }

@@ -13,9 +13,7 @@
 #![tactic(auto)]
 
 #[cfg(test)]
-mod backends;
-#[cfg(test)]
-mod binary;
+mod cases;
 #[cfg(test)]
 mod coders;
 #[cfg(test)]
@@ -23,25 +21,17 @@ mod decoders;
 #[cfg(test)]
 mod expect;
 #[cfg(test)]
-mod guards;
-#[cfg(test)]
 mod lists;
 #[cfg(test)]
 mod memory;
 #[cfg(test)]
 mod put;
 #[cfg(test)]
-mod readers;
-#[cfg(test)]
 mod refusals;
 #[cfg(test)]
 mod reversed_lists;
 #[cfg(test)]
 mod script;
-#[cfg(test)]
-mod seeking;
-#[cfg(test)]
-mod sizes;
 #[cfg(test)]
 mod steps;
 #[cfg(test)]

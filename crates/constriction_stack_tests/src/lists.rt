@@ -2,14 +2,12 @@
 
 ghost use Rattle.std.specs.Prelude.{◌≤◌};
 
-use crate::coders::{coder_over, new_coder, table_of};
-use crate::expect::{
-    coder_of, first_of_list, gives_all, gives_by_items, gives_by_tables, gives_list, has_head,
-    holds, seems_exhausted, seems_full,
-};
+use crate::cases::{WIDE_WEIGHTS, cursor_does, new_does, new_wide_does, small_does, wide_does};
+use crate::coders::{new_coder, table_of};
+use crate::expect::coder_of;
 use crate::put::{Call, Pair, Put, put_pairs, try_pairs};
-use crate::script::{Act, follows};
-use constriction_base::errors::BoundedWriteError;
+use crate::script::Act;
+use constriction_base::backends::WriteWords;
 use constriction_base::model::{DecoderModel, EncoderModel, EntropyModel};
 use constriction_base::weights::WeightTable;
 use constriction_stack::{AnsCoder, DefaultAnsCoder};
@@ -17,133 +15,131 @@ use constriction_stream::coder::Code;
 use constriction_stream::decoding::Decode;
 use constriction_stream::encoding::Encode;
 use constriction_words::{BitArray, WordOf};
-use std::alloc::AllocError;
+use std::alloc::Global;
 use std::test::Fail;
 
 /// An item of a list that may be faulty, at u8 and u16.
 type Item<'a> = Result<Pair<'a, u8, 8>, u8>;
 
-/// The symbols 1, 5 and 1, of which 5 is unknown.
-fn stops_at_unknown(coder: &mut AnsCoder<u8, u16>, table: &WeightTable<u8, 8>) -> bool {
+/// The symbols 1, 5 and 1 in an array, of which 5 is unknown.
+fn stops_at_unknown<Backend: WriteWords<u8>>(
+    coder: &mut AnsCoder<u8, u16, Backend>,
+    table: &WeightTable<u8, 8>,
+) -> bool
+where
+    Backend::WriteError: Drop,
+{
     matches!(
         put_pairs(coder, [(&1, table), (&5, table), (&1, table)]),
         Put::Unknown
-    ) && holds(coder, 255, &[])
+    )
 }
 
 #[test]
 fn list_stops_at_unknown(rt: HostRuntime) -> Result<(), Fail> {
     let table = table_of(rt.alloc(), &[255, 1])?;
     let mut coder = new_coder(rt.alloc());
-    assert!(rt; stops_at_unknown(&mut coder, &table));
+    assert!(rt;
+        stops_at_unknown(&mut coder, &table)
+            && small_does(rt.alloc(), &mut coder, &table, &[Act::Holds(255, &[])])
+    );
     Ok(())
 }
 
-/// An error between two symbols.
-fn stops_at_bad_model(coder: &mut AnsCoder<u8, u16>, table: &WeightTable<u8, 8>) -> bool {
+/// An array with an error between two symbols.
+fn stops_at_bad_model<Backend: WriteWords<u8>>(
+    coder: &mut AnsCoder<u8, u16, Backend>,
+    table: &WeightTable<u8, 8>,
+) -> bool
+where
+    Backend::WriteError: Drop,
+{
     let items: [Item<'_>; 3] = [Ok((&1, table)), Err(7), Ok((&1, table))];
-    matches!(try_pairs(coder, items), Put::BadModel(7)) && holds(coder, 255, &[])
+    matches!(try_pairs(coder, items), Put::BadModel(7))
 }
 
 #[test]
 fn list_stops_at_bad_model(rt: HostRuntime) -> Result<(), Fail> {
     let table = table_of(rt.alloc(), &[255, 1])?;
     let mut coder = new_coder(rt.alloc());
-    assert!(rt; stops_at_bad_model(&mut coder, &table));
-    Ok(())
-}
-
-#[test]
-fn iterator_goes_on(rt: HostRuntime) -> Result<(), Fail> {
-    let table = table_of(rt.alloc(), &[255, 1])?;
-    let mut coder: AnsCoder<u8, u16> = coder_of([255u8, 255, 255].to_vec(rt.alloc())?)?;
-    let items = [Ok(&table), Err(7u8), Ok(&table)].to_vec(rt.alloc())?;
     assert!(rt;
-        gives_by_items(&mut coder, items, &[Ok(1), Err(7), Ok(1)])
-            && gives_all(&mut coder, &table, &[1])
+        stops_at_bad_model(&mut coder, &table)
+            && small_does(rt.alloc(), &mut coder, &table, &[Act::Holds(255, &[])])
     );
     Ok(())
 }
 
-#[test]
-fn iterator_dropped_early(rt: HostRuntime) -> Result<(), Fail> {
-    let table = table_of(rt.alloc(), &[255, 1])?;
-    let mut coder: AnsCoder<u8, u16> = coder_of([255u8, 255, 255].to_vec(rt.alloc())?)?;
-    assert!(rt;
-        first_of_list(&mut coder, &table, 3) == Some(1) && gives_all(&mut coder, &table, &[1, 1])
-    );
-    Ok(())
+/// What a coder of the words 255, 255, 255 does, under weights of 255 and 1.
+fn imported_does(alloc: Global, acts: &[Act<'_, u8, u16>]) -> bool {
+    match (table_of(alloc, &[255, 1]), [255u8, 255, 255].to_vec(alloc)) {
+        (Ok(table), Ok(words)) => match coder_of(words) {
+            Some(mut coder) => small_does(alloc, &mut coder, &table, acts),
+            None => false,
+        },
+        _ => false,
+    }
 }
 
 #[test]
-fn lists_at_u8_and_u16(rt: HostRuntime) -> Result<(), Fail> {
-    let table = table_of(rt.alloc(), &[255, 1])?;
-    let mut coder: AnsCoder<u8, u16> = new_coder(rt.alloc());
-    let tables = [&table, &table].to_vec(rt.alloc())?;
+fn iterator_goes_on(rt: HostRuntime) {
+    let acts = [
+        Act::GivesByItems(&[Ok(1), Err(7), Ok(1)]),
+        Act::Gives(&[1]),
+        Act::Empty,
+    ];
+    assert!(rt; imported_does(rt.alloc(), &acts));
+}
+
+#[test]
+fn iterator_dropped_early(rt: HostRuntime) {
+    let acts = [Act::GivesFirst(3, 1), Act::Gives(&[1, 1]), Act::Empty];
+    assert!(rt; imported_does(rt.alloc(), &acts));
+}
+
+#[test]
+fn lists_at_u8_and_u16(rt: HostRuntime) {
     let acts = [
         Act::Done(Call::List, &[]),
         Act::Empty,
         Act::Done(Call::List, &[1, 0]),
         Act::Done(Call::Pairs, &[1]),
         Act::Done(Call::Items, &[1]),
+        Act::GivesByTables(&[1, 1]),
+        Act::GivesList(&[0, 1]),
+        Act::Empty,
     ];
-    assert!(rt;
-        follows(rt.alloc(), &mut coder, &table, AllocError, &acts)
-            && gives_by_tables(&mut coder, tables, &[1, 1])
-            && gives_list(&mut coder, &table, &[0, 1])
-            && coder.is_empty()
-    );
-    Ok(())
+    assert!(rt; new_does(rt.alloc(), &[255, 1], &acts));
 }
 
 /// The lists over a cursor with no room for a word: each stops at the step that owes one.
 #[test]
-fn lists_over_a_full_cursor(rt: HostRuntime) -> Result<(), Fail> {
-    let table = table_of(rt.alloc(), &[255, 1])?;
-    let tables = [&table, &table].to_vec(rt.alloc())?;
-    let mut buf = [0u8; 0];
-    let mut coder = coder_over(&mut buf);
+fn lists_over_a_full_cursor(rt: HostRuntime) {
     let acts = [
         Act::Done(Call::List, &[1]),
         Act::Refused(Call::Pairs, &[1, 1]),
         Act::Holds(65535, &[]),
         Act::Refused(Call::Items, &[1]),
         Act::Holds(65535, &[]),
+        Act::GivesByTables(&[1, 1]),
+        Act::GivesList(&[0, 0]),
     ];
-    assert!(rt;
-        follows(
-            rt.alloc(),
-            &mut coder,
-            &table,
-            BoundedWriteError::OutOfSpace,
-            &acts
-        ) && gives_by_tables(&mut coder, tables, &[1, 1])
-            && gives_list(&mut coder, &table, &[0, 0])
-    );
-    Ok(())
+    assert!(rt; cursor_does(rt.alloc(), &[255, 1], &mut [], &acts));
 }
 
 /// The symbols 1, 0 and 2, 0 by two lists, and back: heads 3, 16777216, 16777226 and
 /// 93825036976130, which owe no word.
 #[test]
-fn lists_of_pairs_at_u32_and_u64(rt: HostRuntime) -> Result<(), Fail> {
-    let table = WeightTable::<u32, 24>::new(rt.alloc(), &[3, 2, 16777211])?;
-    let mut coder: DefaultAnsCoder = new_coder(rt.alloc());
-    let tables = [&table, &table].to_vec(rt.alloc())?;
-    let items = [Ok(&table)].to_vec(rt.alloc())?;
+fn lists_of_pairs_at_u32_and_u64(rt: HostRuntime) {
     let acts = [
         Act::Done(Call::Pairs, &[1, 0]),
         Act::Holds(16777216, &[]),
         Act::Done(Call::Items, &[2, 0]),
         Act::Holds(93825036976130, &[]),
+        Act::GivesByTables(&[0, 2]),
+        Act::GivesByItems(&[Ok(0)]),
+        Act::Holds(3, &[]),
     ];
-    assert!(rt;
-        follows(rt.alloc(), &mut coder, &table, AllocError, &acts)
-            && gives_by_tables(&mut coder, tables, &[0, 2])
-            && gives_by_items(&mut coder, items, &[Ok(0)])
-            && holds(&coder, 3, &[])
-    );
-    Ok(())
+    assert!(rt; new_wide_does(rt.alloc(), &acts));
 }
 
 /// Puts two symbols on any coder and takes two off.
@@ -166,35 +162,35 @@ where
 }
 
 /// The symbols 1 and 1, by a filter, which doesn't know how many symbols it keeps.
-fn two_by_a_filter(coder: &mut DefaultAnsCoder, table: &WeightTable<u32, 24>) -> bool {
+fn two_by_a_filter<Backend: WriteWords<u32>>(
+    coder: &mut AnsCoder<u32, u64, Backend>,
+    table: &WeightTable<u32, 24>,
+) -> bool
+where
+    Backend::WriteError: Drop,
+{
     let odd = [1usize, 2, 1, 4];
     coder
         .encode_iid_symbols(odd.iter().filter(|symbol| **symbol == 1), table)
         .is_ok()
 }
 
-/// What the traits say of an empty coder.
-fn knows_no_limit(coder: &DefaultAnsCoder) -> bool {
-    !seems_full::<_, _, _, 24>(coder)
-        && seems_exhausted::<_, _, _, 24>(coder)
-        && Encode::<24>::symbols_left(coder) == usize::MAX
-}
-
 #[test]
 fn lists_at_u32_and_u64(rt: HostRuntime) -> Result<(), Fail> {
-    let table = WeightTable::<u32, 24>::new(rt.alloc(), &[3, 2, 16777211])?;
-    let mut coder = new_coder(rt.alloc());
-    let tables = [&table].to_vec(rt.alloc())?;
-    let items = [Ok(&table), Err(7u8)].to_vec(rt.alloc())?;
+    let table = WeightTable::new(rt.alloc(), WIDE_WEIGHTS.as_slice())?;
+    let mut coder: DefaultAnsCoder = new_coder(rt.alloc());
+    let acts = [
+        Act::Holds(16777220, &[]),
+        Act::GivesByTables(&[1]),
+        Act::GivesByItems(&[Ok(1), Err(7)]),
+        Act::Empty,
+    ];
     assert!(rt;
         two_by_a_filter(&mut coder, &table)
-            && has_head(&coder, 16777220)
-            && gives_by_tables(&mut coder, tables, &[1])
-            && gives_by_items(&mut coder, items, &[Ok(1), Err(7)])
-            && coder.is_empty()
+            && wide_does(rt.alloc(), &mut coder, &table, &acts)
             && two_through_the_bounds(&mut coder, &[0, 2], &table)
-            && coder.is_empty()
-            && knows_no_limit(&coder)
     );
+    let acts = [Act::Empty, Act::NoLimit, Act::Exhausted];
+    assert!(rt; wide_does(rt.alloc(), &mut coder, &table, &acts));
     Ok(())
 }

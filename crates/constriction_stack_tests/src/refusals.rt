@@ -1,33 +1,27 @@
-//! What is refused, and what it leaves.
+//! Steps that are refused, and what they leave.
 
-use crate::coders::{coder_over_with, coder_with, table_of};
-use crate::expect::{coder_of, export_is_refused, exports, gives_heads, has_head};
+use crate::cases::{cursor_does, made_does};
+use crate::coders::{coder_with, table_of};
+use crate::expect::{gives, has_head};
 use crate::put::Call;
-use crate::script::{Act, follows};
+use crate::script::Act;
 use constriction_base::backends::{ReadWords, Stack};
-use constriction_base::errors::{BoundedWriteError, CoderError};
+use constriction_base::errors::CoderError;
 use constriction_base::iterators::FallibleIteratorReadWords;
 use constriction_base::weights::WeightTable;
 use constriction_stack::AnsCoder;
 use constriction_stream::decoding::Decode;
-use std::alloc::{AllocError, Global};
 use std::test::Fail;
 
 #[test]
-fn an_unknown_symbol_changes_nothing(rt: HostRuntime) -> Result<(), Fail> {
-    let table = table_of(rt.alloc(), &[255, 1])?;
-    let mut coder = coder_with([7u8].to_vec(rt.alloc())?, 65535u16);
+fn an_unknown_symbol_changes_nothing(rt: HostRuntime) {
     let acts = [Act::Unknown(Call::Each, &[2]), Act::Holds(65535, &[7])];
-    assert!(rt; follows(rt.alloc(), &mut coder, &table, AllocError, &acts));
-    Ok(())
+    assert!(rt; made_does(rt.alloc(), &[255, 1], &[7], 65535, &acts));
 }
 
 /// A buffer of one word takes one, and no other.
 #[test]
-fn a_full_cursor_keeps_the_head(rt: HostRuntime) -> Result<(), Fail> {
-    let table = table_of(rt.alloc(), &[255, 1])?;
-    let mut buf = [0u8; 1];
-    let mut coder = coder_over_with(&mut buf, 0u16);
+fn a_full_cursor_keeps_the_head(rt: HostRuntime) {
     let acts = [
         Act::Steps(&[(1, 255), (1, 65535), (1, 65535)]),
         Act::Full,
@@ -36,16 +30,7 @@ fn a_full_cursor_keeps_the_head(rt: HostRuntime) -> Result<(), Fail> {
         Act::Gives(&[1, 1, 1]),
         Act::Exhausted,
     ];
-    assert!(rt;
-        follows(
-            rt.alloc(),
-            &mut coder,
-            &table,
-            BoundedWriteError::OutOfSpace,
-            &acts
-        )
-    );
-    Ok(())
+    assert!(rt; cursor_does(rt.alloc(), &[255, 1], &mut [0], &acts));
 }
 
 /// A decode whose read returns the error 3.
@@ -63,7 +48,8 @@ fn goes_after_a_read_error<Backend: ReadWords<u8, Stack, ReadError = u8>>(
 ) -> bool {
     read_is_refused(coder, table)
         && has_head(coder, 65535)
-        && gives_heads(coder, table, &[(&[1], 65535)])
+        && gives(coder, table, &[1])
+        && has_head(coder, 65535)
 }
 
 #[test]
@@ -76,34 +62,4 @@ fn a_read_error_keeps_the_head(rt: HostRuntime) -> Result<(), Fail> {
     );
     assert!(rt; goes_after_a_read_error(&mut coder, &table));
     Ok(())
-}
-
-#[test]
-fn a_read_error_ends_an_import(rt: HostRuntime) {
-    for answers in [[Err(3u8), Ok(1u8)], [Ok(1), Err(3)]] {
-        let words = FallibleIteratorReadWords::new(answers.into_iter());
-        assert!(rt; coder_of::<u8, u32, FallibleIteratorReadWords<_>>(words).is_err());
-    }
-}
-
-/// An export of the head 515, which asks for memory.
-fn exports_two_words(alloc: Global) -> bool {
-    exports(coder_with(Vec::<u8>::new(alloc), 515u16), &[3, 2])
-}
-
-/// Where memory is refused, it is asked for once more, so that this passes whichever allocation
-/// fails.
-#[test]
-fn an_export_finds_memory(rt: HostRuntime) {
-    assert!(rt; exports_two_words(rt.alloc()) || exports_two_words(rt.alloc()));
-}
-
-/// The words of an export have room, or it returns an error after those that had.
-#[test]
-fn a_refused_export(rt: HostRuntime) {
-    let mut one = [0u8; 1];
-    let is_refused = export_is_refused(coder_over_with(&mut one, 515u16));
-    let mut two = [0u8; 2];
-    let is_done = !export_is_refused(coder_over_with(&mut two, 515u16));
-    assert!(rt; is_refused && one == [3u8] && is_done && two == [3u8, 2]);
 }

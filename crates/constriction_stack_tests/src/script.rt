@@ -1,10 +1,12 @@
 //! What a test does with a coder, act by act, and what it expects of each.
 
-use crate::expect::{gives, has_head, seems_exhausted, seems_full};
+use crate::expect::{
+    gives, gives_by_items, gives_by_tables, gives_first, gives_list, has_head, has_no_limit,
+    seems_exhausted, seems_full,
+};
 use crate::put::{Call, Put, put_by, puts};
 use constriction_base::backends::{BoundedReadWords, ReadWords, Stack, Words, WriteWords};
 use constriction_base::cursor::Cursor;
-use constriction_base::errors::CoderError;
 use constriction_base::weights::WeightTable;
 use constriction_stack::AnsCoder;
 use constriction_words::{BitArray, WordOf};
@@ -42,79 +44,48 @@ pub enum Act<'a, Word, State> {
     Unknown(Call, &'a [usize]),
     /// A list stops for want of room.
     Refused(Call, &'a [usize]),
-    /// Symbols are taken off.
+    /// Symbols are taken off one by one.
     Gives(&'a [usize]),
+    /// Symbols are taken off by an iterator over one table.
+    GivesList(&'a [usize]),
+    /// The first of so many symbols is taken off by an iterator over one table, and no other.
+    GivesFirst(usize, usize),
+    /// Symbols are taken off by an iterator over a list of tables.
+    GivesByTables(&'a [usize]),
+    /// The same over a list in which an error stands for a table.
+    GivesByItems(&'a [Result<usize, u8>]),
     /// The head, and the words below it.
     Holds(State, &'a [Word]),
     /// The head is 0.
     Empty,
     /// The next step may be refused for lack of room.
     Full,
+    /// No step will be refused for lack of room.
+    NoLimit,
     /// All symbols may have been taken off.
     Exhausted,
-    /// A guard shows these words.
-    Shows(&'a [Word]),
-    /// A guard of the binary form shows these words.
-    ShowsBinary(&'a [Word]),
-    /// There is no room for the words of a guard.
-    ShowsNone,
-    /// There is no room for the words of a guard of the binary form.
-    ShowsNoneInBinary,
-    /// There is no binary form.
-    NoBinary,
 }
 
-/// Whether a guard shows these words; where it finds no room, what the backend returned.
-fn shown<Word, State, Backend>(
+/// Whether a coder gives what an act expects.
+fn gives_as<Word, State, Backend, Probability, const PRECISION: usize>(
+    alloc: Global,
     coder: &mut AnsCoder<Word, State, Backend>,
-    words: &[Word],
-) -> Result<bool, Backend::WriteError>
-where
-    Word: WordOf<State> + PartialEq,
-    State: BitArray,
-    Backend: WriteWords<Word> + ReadWords<Word, Stack> + Below<Word>,
-    Backend::ReadError: Drop,
-{
-    let guard = coder.get_compressed()?;
-    Ok(guard.backend().below() == words)
-}
-
-/// The same of the binary form.
-fn shown_in_binary<Word, State, Backend>(
-    coder: &mut AnsCoder<Word, State, Backend>,
-    words: &[Word],
-) -> Result<bool, CoderError<(), Backend::WriteError>>
-where
-    Word: WordOf<State> + PartialEq,
-    State: BitArray,
-    Backend: WriteWords<Word> + ReadWords<Word, Stack> + Below<Word>,
-    Backend::ReadError: Drop,
-{
-    let guard = coder.get_binary()?;
-    Ok(guard.backend().below() == words)
-}
-
-/// Whether guards do as an act expects.
-fn guard_does<Word, State, Backend>(
-    coder: &mut AnsCoder<Word, State, Backend>,
-    lack: &Backend::WriteError,
+    table: &WeightTable<Probability, PRECISION>,
     act: &Act<'_, Word, State>,
 ) -> bool
 where
-    Word: WordOf<State> + PartialEq,
+    Word: WordOf<State>,
     State: BitArray,
-    Backend: WriteWords<Word> + ReadWords<Word, Stack> + Below<Word>,
+    Backend: ReadWords<Word, Stack>,
     Backend::ReadError: Drop,
-    Backend::WriteError: Drop + PartialEq,
+    Probability: WordOf<Word>,
 {
     match act {
-        Act::Shows(words) => matches!(shown(coder, words), Ok(true)),
-        Act::ShowsNone => matches!(shown(coder, &[]), Err(error) if error == *lack),
-        Act::ShowsBinary(words) => matches!(shown_in_binary(coder, words), Ok(true)),
-        Act::ShowsNoneInBinary => {
-            matches!(shown_in_binary(coder, &[]), Err(CoderError::Backend(error)) if error == *lack)
-        }
-        Act::NoBinary => matches!(shown_in_binary(coder, &[]), Err(CoderError::Frontend(()))),
+        Act::Gives(symbols) => gives(coder, table, symbols),
+        Act::GivesList(symbols) => gives_list(coder, table, symbols),
+        Act::GivesFirst(count, symbol) => gives_first(coder, table, *count, *symbol),
+        Act::GivesByTables(symbols) => gives_by_tables(alloc, coder, table, symbols),
+        Act::GivesByItems(answers) => gives_by_items(alloc, coder, table, answers),
         _ => false,
     }
 }
@@ -146,12 +117,12 @@ where
         Act::Refused(call, symbols) => {
             matches!(put_by(alloc, coder, table, *call, symbols), Put::Refused(error) if error == *lack)
         }
-        Act::Gives(symbols) => gives(coder, table, symbols),
         Act::Holds(head, words) => has_head(coder, *head) && coder.bulk().below() == *words,
         Act::Empty => coder.is_empty(),
         Act::Full => seems_full::<_, _, _, PRECISION>(coder),
+        Act::NoLimit => has_no_limit::<_, _, _, PRECISION>(coder),
         Act::Exhausted => seems_exhausted::<_, _, _, PRECISION>(coder),
-        _ => guard_does(coder, lack, act),
+        _ => gives_as(alloc, coder, table, act),
     }
 }
 
@@ -160,7 +131,7 @@ pub fn follows<Word, State, Backend, Probability, const PRECISION: usize>(
     alloc: Global,
     coder: &mut AnsCoder<Word, State, Backend>,
     table: &WeightTable<Probability, PRECISION>,
-    lack: Backend::WriteError,
+    lack: &Backend::WriteError,
     acts: &[Act<'_, Word, State>],
 ) -> bool
 where
@@ -172,7 +143,7 @@ where
     Probability: WordOf<Word>,
 {
     for act in acts {
-        if !does(alloc, coder, table, &lack, act) {
+        if !does(alloc, coder, table, lack, act) {
             return false;
         }
     }

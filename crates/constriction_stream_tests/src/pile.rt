@@ -1,8 +1,7 @@
 //! The coder: a pile of quantiles, with room for so many.
 
-ghost use Rattle.std.specs.Prelude.{◌≡◌, ◌+◌, ◌-◌, ◌%◌, ◌<◌, ◌∷◌, ◌++◌, [], ℕ, length, vec_len, IsTrue, MatchResult, alloc_error, Result, Ok, ⊤};
+ghost use Rattle.std.specs.Prelude.{◌≡◌, ◌+◌, ◌-◌, ◌%◌, ◌<◌, ◌∷◌, ◌++◌, [], ℕ, vec_len, IsTrue, MatchResult, alloc_error, Result, Ok, ⊤};
 ghost use Rattle.std.specs.Bool.{OnFalse};
-ghost use Rattle.constriction_base.specs.Steps.{Step};
 ghost use Rattle.constriction_base.specs.Tables.{Covers};
 ghost use Rattle.constriction_base.specs.declared.errors.CoderError.{CoderError};
 ghost use Rattle.constriction_base.specs.declared.errors.CoderError.TheVariants as coder_error;

@@ -162,6 +162,11 @@ pub closing_fails : {W B E : Type 0} (w : ℕ) (number : W → ℕ) (words : B �
 closing_fails w number words fails last last' backend backend' bit e (inl (room, more, same)) refused = inl (rw same at refused)
 closing_fails w number words fails last last' backend backend' bit e (inr (full, more, follows)) refused = inr (full, backend', refused, follows)
 
+-- the full last word was written, and a bit begins the next
+pub bit_after_flush : (w : ℕ) {W : Type 0} (number : W → ℕ) (words words' : List W) (full : W) (last last' : List Bool) (bit : Bool) → bits_of w (number full) ≡ last → last' ≡ bit ∷ [] → words' ≡ full ∷ words
+    → bits_above w number words' last' ≡ bits_above w number words last ++ bit ∷ []
+bit_after_flush w number words words' full last last' bit has begun more = rw (begun, more, words_more w number words full, has) refl
+
 -- what putting a bit into the last word makes of all bits
 pub puts_bits : {W B E : Type 0} (w : ℕ) (number : W → ℕ) (words : B → List W) (fails : B → E → Type 0) (last last' : List Bool) (backend backend' : B) (bit : Bool) (r : Result (Unit {0}) E)
     → PutsLast w number words fails last backend bit r last' backend' → PutsBit (bits_above w number (words backend) last) bit r (bits_above w number (words backend') last')

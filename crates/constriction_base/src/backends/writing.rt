@@ -1,6 +1,6 @@
 //! Writing words.
 
-ghost use Rattle.std.specs.Prelude.{◌≡◌, ◌+◌, ℕ, Bool, false, List, ◌∷◌, ◌<◌, ◌≤◌, Result, OnOk, OnErr, IfErr};
+ghost use Rattle.std.specs.Prelude.{◌≡◌, ◌+◌, ℕ, Bool, false, ◌∷◌, ◌<◌, ◌≤◌, Result, OnOk, OnErr, IfErr};
 
 use crate::backends::reading::Holds;
 use crate::backends::semantics::Stack;

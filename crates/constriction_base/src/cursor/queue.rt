@@ -1,7 +1,7 @@
 //! A cursor as a queue: the words from the position on, the one at the position first.
 
-ghost use Rattle.std.specs.Prelude.{◌≡◌, ◌+◌, ◌-◌, ℕ, true, false, List, [], ◌∷◌, ◌++◌, ◌<◌, ◌≤◌, ◌==◌, Option, Result, Ok, Err, None, length, reverse, IsTrue, slice_set, take, drop};
-ghost use Rattle.constriction_base.specs.Backends.{Reads, Place};
+ghost use Rattle.std.specs.Prelude.{◌≡◌, ◌+◌, ◌-◌, ◌<◌, ◌==◌, Option, Result, Ok, None, length, drop};
+ghost use Rattle.constriction_base.specs.Backends.{Reads};
 
 use crate::backends::{BoundedReadWords, Holds, Queue, ReadWords, Words};
 use crate::cursor::Cursor;

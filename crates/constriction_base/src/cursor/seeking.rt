@@ -1,7 +1,6 @@
 //! The positions of a cursor, which are the numbers of words before them.
 
-ghost use Rattle.std.specs.Prelude.{◌≡◌, ◌+◌, ◌-◌, ℕ, true, false, List, [], ◌∷◌, ◌++◌, ◌<◌, ◌≤◌, ◌==◌, Option, Result, Ok, Err, None, length, reverse, IsTrue, slice_set, take, drop};
-ghost use Rattle.constriction_base.specs.Backends.{Reads, Place};
+ghost use Rattle.std.specs.Prelude.{◌≡◌, ◌+◌, ◌-◌, ◌<◌, ◌≤◌, Result, Ok, Err, length};
 ghost use Rattle.constriction_base.specs.laws.Room.{within, words_before};
 
 use crate::backends::{CountsWords, Pos, PosSeek, Seek, SeeksBack, Words};

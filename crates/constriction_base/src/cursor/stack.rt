@@ -1,7 +1,7 @@
 //! A cursor as a stack: the words before the position, the one right before it first.
 
-ghost use Rattle.std.specs.Prelude.{◌≡◌, ◌+◌, ◌-◌, ℕ, true, false, List, [], ◌∷◌, ◌++◌, ◌<◌, ◌≤◌, ◌==◌, Option, Result, Ok, Err, None, length, reverse, IsTrue, slice_set, take, drop};
-ghost use Rattle.constriction_base.specs.Backends.{Reads, Place};
+ghost use Rattle.std.specs.Prelude.{◌≡◌, ◌+◌, ◌-◌, ◌<◌, ◌==◌, Option, Result, Ok, None, reverse, take};
+ghost use Rattle.constriction_base.specs.Backends.{Reads};
 
 use crate::backends::{BoundedReadWords, Holds, ReadWords, Stack, Words};
 use crate::cursor::Cursor;

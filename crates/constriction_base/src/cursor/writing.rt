@@ -1,7 +1,6 @@
 //! Writing to a cursor, at the position, until the buffer ends.
 
-ghost use Rattle.std.specs.Prelude.{◌≡◌, ◌+◌, ◌-◌, ℕ, true, false, List, [], ◌∷◌, ◌++◌, ◌<◌, ◌≤◌, ◌==◌, Option, Result, Ok, Err, None, length, reverse, IsTrue, IsOk, OnOk, OnErr, IfErr, slice_set, take, drop};
-ghost use Rattle.constriction_base.specs.Backends.{Reads, Place};
+ghost use Rattle.std.specs.Prelude.{◌≡◌, ◌+◌, ◌-◌, ◌∷◌, ◌<◌, ◌≤◌, ◌==◌, Result, Ok, Err, length, reverse, IsOk, OnOk, OnErr, IfErr, slice_set, take};
 ghost use Rattle.constriction_base.specs.laws.Room.{no_room_at};
 ghost use Rattle.constriction_base.specs.declared.errors.BoundedWriteError.TheVariants.{OutOfSpace};
 

@@ -1,6 +1,6 @@
 //! Mutably borrowed words, as a buffer that can be written to.
 
-ghost use Rattle.std.specs.Prelude.{◌≡◌, ◌<◌, List, length, reverse, slice_set};
+ghost use Rattle.std.specs.Prelude.{◌<◌, reverse};
 
 use crate::backends::{Words, WordsMut};
 use constriction_words::BitArray;

@@ -1,7 +1,7 @@
 //! Vectors turn into cursors over themselves, and lend cursors over their words: as a stack at the end
 //! of the words, as a queue at their beginning.
 
-ghost use Rattle.std.specs.Prelude.{◌≡◌, List, length, reverse, take, drop};
+ghost use Rattle.std.specs.Prelude.{◌≡◌, length};
 
 use crate::backends::{
     AsReadWords, AsSeekReadWords, IntoReadWords, IntoSeekReadWords, Queue, Stack,

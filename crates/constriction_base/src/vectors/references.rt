@@ -1,6 +1,6 @@
 //! A borrowed vector of words, as a buffer and as what turns into a cursor over its words.
 
-ghost use Rattle.std.specs.Prelude.{◌≡◌, List, length, reverse, take, drop};
+ghost use Rattle.std.specs.Prelude.{◌≡◌, length, reverse};
 ghost use Rattle.std.proofs.Common.{sym};
 ghost use Rattle.std.proofs.lemmas.List.{reverse-reverse};
 

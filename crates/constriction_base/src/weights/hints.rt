@@ -1,7 +1,7 @@
 //! Where a search for a quantile's symbol begins and ends: hints by the quantile's high bits.
 
-ghost use Rattle.std.specs.Prelude.{◌≡◌, ◌+◌, ◌-◌, ◌*◌, ◌^◌, ◌<◌, ◌≤◌, ◌⊎◌, length, map, slice_index, OnOk, IfOk};
-ghost use Rattle.constriction_base.specs.Tables.{IsRising, end_of};
+ghost use Rattle.std.specs.Prelude.{◌≡◌, ◌+◌, ◌-◌, ◌*◌, ◌^◌, ◌<◌, ◌≤◌, ◌⊎◌, length, map, slice_index, IfOk};
+ghost use Rattle.constriction_base.specs.Tables.{IsRising};
 ghost use Rattle.constriction_base.specs.Hints.{AreHints};
 
 use constriction_words::BitArray;

@@ -1,7 +1,6 @@
 //! `ans-decode`: the words of an ANS coder to symbols.
 
-ghost use Rattle.std.specs.Prelude.{◌≡◌, ◌⊎◌, ◌<◌, ◌≤◌, ℕ, List, ◌∷◌, [], length, reverse, IfOk, IfErr, OnErr, IsErrOf};
-ghost use Rattle.constriction.specs.stack.Ans.{AnsState};
+ghost use Rattle.std.specs.Prelude.{◌≡◌, ◌⊎◌, ◌<◌, ◌≤◌, ℕ, List, ◌∷◌, [], length, IfOk, IfErr};
 ghost use Rattle.constriction.specs.Models.{items_of};
 ghost use Rattle.constriction.specs.stack.Symbols.{DecodesAll};
 ghost use Rattle.constriction_cli.specs.Coding.{of_24_bits};

@@ -18,10 +18,6 @@ pub decode_back : {S : Type 0} (w s : ℕ) (model : Model S) (symbol : S) (old n
     → Encodes w s model symbol old new → Decodes w s model symbol new old
 decode_back w s model symbol old new i = (i.0, i.1, i.2, (i.3.holds, sym i.3.back))
 
-pub encoded_valid : {S : Type 0} (w s : ℕ) (model : Model S) (symbol : S) (old new : AnsState)
-    → Encodes w s model symbol old new → IsValid w s new
-encoded_valid w s model symbol old new i = i.3.valid
-
 -- an encode undoes a decode from a valid state
 pub encode_back : {S : Type 0} (w s : ℕ) (model : Model S) (symbol : S) (old new : AnsState)
     → IsValid w s old → Decodes w s model symbol old new → Encodes w s model symbol new old

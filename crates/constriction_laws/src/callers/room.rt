@@ -37,7 +37,7 @@ pub fn step_with_room<M: EncoderModel<8, Probability = u8>>(
     coder.encode_symbol(symbol, model)
 }
 
-/// Over a cursor with room for a word a step is refused for an unknown symbol alone.
+/// Over a cursor with room for a word a step is refused for an impossible symbol alone.
 pub fn step_on_cursor<M: EncoderModel<8, Probability = u8>>(
     coder: &mut AnsCoder<u8, u16, Cursor<u8, Vec<u8>>>,
     symbol: &M::Symbol,
@@ -61,7 +61,7 @@ pub fn decode_on_cursor<M: DecoderModel<8, Probability = u8>>(
     }
 }
 
-/// Over a cursor with room for two words two steps are refused for an unknown symbol alone.
+/// Over a cursor with room for two words two steps are refused for an impossible symbol alone.
 pub fn two_steps_on_cursor<M: EncoderModel<8, Probability = u8>>(
     coder: &mut AnsCoder<u8, u16, Cursor<u8, Vec<u8>>>,
     symbol: &M::Symbol,

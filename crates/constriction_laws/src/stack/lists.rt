@@ -7,7 +7,7 @@ ghost use Rattle.std.specs.Prelude.{◌≡◌, ℕ, List, reverse, ⊤};
 ghost use Rattle.constriction_base.specs.Readings.{BeginsHigh};
 ghost use Rattle.constriction_base.specs.Steps.{Step, InTurn, IsSizes, AreSteps, AreWords};
 ghost use Rattle.constriction_stack.specs.Ans.{AnsState, IsValid, IsPush, IsPop, filled, exported, empty};
-ghost use Rattle.constriction_base.specs.Models.{Model, Item, IsModel, models, AreModels, AreKnown};
+ghost use Rattle.constriction_base.specs.Models.{Item, IsModel, models, AreModels, AreKnown};
 ghost use Rattle.constriction_stack.specs.Symbols.{Encodes, Decodes, EncodesAll, DecodesAll};
 ghost use Rattle.constriction_laws.specs.stack.Undone.{Sizes, decode_back, encode_back, decoded_valid};
 

@@ -1,6 +1,6 @@
 //! When a step of the stack coder is refused, and when it isn't.
 
-ghost use Rattle.std.specs.Prelude.{◌≡◌, ℕ, Err, IfErr, IfSome};
+ghost use Rattle.std.specs.Prelude.{◌≡◌, Err, IfErr, IfSome};
 ghost use Rattle.constriction_base.specs.Tables.{AtEntry, Impossible};
 ghost use Rattle.constriction_base.specs.declared.errors.CoderError.TheVariants as coder_error;
 ghost use Rattle.constriction_stack.specs.Ans.{OwesRead};

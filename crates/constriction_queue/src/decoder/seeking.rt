@@ -2,7 +2,7 @@
 
 ghost use Rattle.std.specs.Prelude.{◌≡◌, ◌⊎◌, ◌/◌, ◌^◌, ℕ, Err};
 ghost use Rattle.constriction_queue.specs.States.{lower_of, range_of};
-ghost use Rattle.constriction_queue.specs.Decoder.{HasPoint};
+ghost use Rattle.constriction_queue.specs.Decoder.{HasPoint, IsDecoder, ReadsPoint};
 
 use crate::decoder::RangeDecoder;
 use crate::reading::read_point;
@@ -29,7 +29,9 @@ where
 
     ghost sought = { λ old position new. (new.lower ≡ lower_of position.1) × (new.range ≡ range_of position.1)
         × ((moved : Backend) × Backend.sought old.bulk position.0 moved
-        × HasPoint Word.number Backend.words Backend.is_list Word.BITS State.BITS moved new.point new.bulk) };
+        × (Backend.is_list → HasPoint Word.number Backend.words Word.BITS State.BITS moved new.point new.bulk)
+        × ReadsPoint Word.number Backend.reads Word.BITS State.BITS moved new.point new.bulk)
+        × IsDecoder Word.number Backend.words Word.BITS State.BITS new };
 
     ghost stays = { λ old position new. (new.lower ≡ old.lower) × (new.range ≡ old.range) × (new.point ≡ old.point)
         × (Backend.stays old.bulk position.0 new.bulk

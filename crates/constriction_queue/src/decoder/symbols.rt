@@ -7,7 +7,7 @@ ghost use Rattle.constriction_base.specs.declared.errors.CoderError.TheVariants 
 ghost use Rattle.constriction_queue.specs.declared.decoder.symbols.DecoderFrontendError.TheVariants as frontend_error;
 ghost use Rattle.constriction_stream.specs.Symbols.{ByBackend, DecodesSymbol, GoesOn};
 ghost use Rattle.constriction_queue.specs.States.{lower_of, range_of};
-ghost use Rattle.constriction_queue.specs.Decoder.{quantile_read, MayBeExhausted};
+ghost use Rattle.constriction_queue.specs.Decoder.{IsDecoder, quantile_read, MayBeExhausted};
 ghost use Rattle.constriction_queue.specs.Calls.{DecodeCall};
 
 use crate::decoder::RangeDecoder;
@@ -35,7 +35,8 @@ impl<Word: WordOf<State>, State: BitArray, Backend: Holds<Word, Queue>> Code
 
     type State = RangeCoderState<Word, State>;
 
-    ghost shows = { λ decoder state. (lower_of state ≡ decoder.lower) × (range_of state ≡ decoder.range) };
+    ghost shows = { λ decoder state. (lower_of state ≡ decoder.lower) × (range_of state ≡ decoder.range)
+        × IsDecoder Word.number Backend.words Word.BITS State.BITS decoder };
 
     /// The interval.
     #[inline]

@@ -1,14 +1,17 @@
-//! A decoder of words.
+//! A decoder of words, and its parts.
 
-ghost use Rattle.std.specs.Prelude.{◌≡◌, List, map, Err, IfOk, IfErr};
+ghost use Rattle.std.specs.Prelude.{◌≡◌, ◌↔◌, ◌+◌, ◌-◌, ◌%◌, ◌<◌, ◌^◌, map, Err, IfOk, IfErr, IsOk};
 ghost use Rattle.constriction_base.specs.Steps.{IsSizes};
 ghost use Rattle.constriction_queue.specs.Range.{IsAt, start};
+ghost use Rattle.constriction_queue.specs.States.{lower_of, range_of};
+ghost use Rattle.constriction_queue.specs.Decoder.{BeginsOver, IsDecoder, decoder_of, distance};
 
 use crate::decoder::RangeDecoder;
 use crate::reading::read_point;
 use crate::state::RangeCoderState;
 use constriction_base::backends::{AsReadWords, Holds, IntoReadWords, Queue, ReadWords};
 use constriction_words::{BitArray, WordOf};
+use std::alloc::AllocError;
 
 impl<Word: WordOf<State>, State: BitArray, Backend: ReadWords<Word, Queue>> RangeDecoder<
     Word,
@@ -17,13 +20,16 @@ impl<Word: WordOf<State>, State: BitArray, Backend: ReadWords<Word, Queue>> Rang
 > {
     /// A decoder of a backend's words. It reads as many of them as a state has.
     ///
-    /// The error is that of a read.
+    /// # Errors
+    /// That of a read. The backend is gone then.
     pub fn with_backend(mut bulk: Backend) -> Result<Self, Backend::ReadError>
     where
         Backend: Drop,
         requires { IsSizes Word.BITS State.BITS }
         ensures ok { Backend.is_list → IfOk result (λ d. IsAt Word.BITS State.BITS (map Word.number (Backend.words bulk)) (start State.BITS) d.lower d.range d.point d.words) }
+        ensures reads { IfOk result (λ d. BeginsOver Word.number Backend.reads Word.BITS State.BITS bulk d) }
         ensures err { IfErr result (λ e. (last rest : Backend) × Backend.reads last (Err e) rest) }
+        ensures coder { IfOk result (λ d. IsDecoder Word.number Backend.words Word.BITS State.BITS d) }
     {
         match read_point::<Word, State, Backend>(&mut bulk) {
             Ok(point) => Ok(RangeDecoder {
@@ -37,7 +43,13 @@ impl<Word: WordOf<State>, State: BitArray, Backend: ReadWords<Word, Queue>> Rang
 
     /// A decoder of words, such as [`crate::RangeEncoder::into_compressed`] gives.
     ///
-    /// The error is that of a read.
+    /// # Errors
+    /// That of a read. A cursor answers none.
+    ///
+    /// ```
+    /// let mut decoder = DefaultRangeDecoder::from_compressed(words)?; // of a `Vec<u32>`
+    /// decoder.decode_symbol(&table)?; // what was encoded first
+    /// ```
     pub fn from_compressed<Buf: IntoReadWords<Word, Queue, IntoReadWords = Backend>>(
         compressed: Buf,
     ) -> Result<Self, Backend::ReadError>
@@ -45,8 +57,95 @@ impl<Word: WordOf<State>, State: BitArray, Backend: ReadWords<Word, Queue>> Rang
         Backend: Drop,
         requires { IsSizes Word.BITS State.BITS }
         ensures ok { Backend.is_list → IfOk result (λ d. IsAt Word.BITS State.BITS (map Word.number (Buf.words compressed)) (start State.BITS) d.lower d.range d.point d.words) }
+        ensures place { IfOk result (λ d. (first : Backend) × Buf.becomes compressed first × BeginsOver Word.number Backend.reads Word.BITS State.BITS first d) }
         ensures err { IfErr result (λ e. (last rest : Backend) × Backend.reads last (Err e) rest) }
+        ensures coder { IfOk result (λ d. IsDecoder Word.number Backend.words Word.BITS State.BITS d) }
     {
         Self::with_backend(compressed.into_read_words())
+    }
+
+    /// A decoder of borrowed words.
+    ///
+    /// # Errors
+    /// That of a read. A cursor answers none.
+    pub fn for_compressed<'a, Buf: AsReadWords<'a, Word, Queue, AsReadWords = Backend>>(
+        compressed: &'a Buf,
+    ) -> Result<Self, Backend::ReadError>
+    where
+        Backend: Drop,
+        requires { IsSizes Word.BITS State.BITS }
+        ensures ok { Backend.is_list → IfOk result (λ d. IsAt Word.BITS State.BITS (map Word.number (Buf.words compressed.now)) (start State.BITS) d.lower d.range d.point d.words) }
+        ensures place { IfOk result (λ d. (first : Backend) × Buf.becomes compressed.now first × BeginsOver Word.number Backend.reads Word.BITS State.BITS first d) }
+        ensures err { IfErr result (λ e. (last rest : Backend) × Backend.reads last (Err e) rest) }
+        ensures coder { IfOk result (λ d. IsDecoder Word.number Backend.words Word.BITS State.BITS d) }
+    {
+        Self::with_backend(compressed.as_read_words())
+    }
+}
+
+impl<Word: WordOf<State>, State: BitArray, Backend: Holds<Word, Queue>> RangeDecoder<
+    Word,
+    State,
+    Backend,
+> {
+    /// The decoder of the words that are left in a backend, an interval, and a point in it: the number of
+    /// the words that were read last, as many as a state has.
+    ///
+    /// # Errors
+    /// The backend, exactly where the point doesn't lie in the interval.
+    pub fn from_raw_parts(
+        bulk: Backend,
+        state: RangeCoderState<Word, State>,
+        point: State,
+    ) -> Result<Self, Backend>
+        requires { IsSizes Word.BITS State.BITS }
+        ensures variant { IsOk result ↔ (distance State.BITS (decoder_of Word.number Backend.words (lower_of state) (range_of state) (State.number point) bulk) < range_of state) }
+        ensures parts { IfOk result (λ d. d ≡ decoder_of Word.number Backend.words (lower_of state) (range_of state) (State.number point) bulk) }
+        ensures err { IfErr result (λ rest. rest ≡ bulk) }
+        ensures coder { IfOk result (λ d. IsDecoder Word.number Backend.words Word.BITS State.BITS d) }
+    {
+        if !point.wrapping_minus(state.lower()).is_below(state.length()) {
+            return Err(bulk);
+        }
+        Ok(RangeDecoder { bulk, state, point })
+    }
+
+    /// The backend with the words that are left, the interval, and the point.
+    #[inline]
+    pub fn into_raw_parts(self) -> (Backend, RangeCoderState<Word, State>, State)
+        ensures parts { self ≡ decoder_of Word.number Backend.words (lower_of result.1) (range_of result.1) (State.number result.2) result.0 }
+        ensures coder { IsDecoder Word.number Backend.words Word.BITS State.BITS self }
+    {
+        let RangeDecoder { bulk, state, point } = self;
+        (bulk, state, point)
+    }
+
+    /// The backend, with the words that are left. Those of the point aren't among them.
+    #[inline]
+    pub fn bulk(&self) -> &Backend
+        ensures bulk { result.now ≡ self.now.bulk }
+        ensures coder { IsDecoder Word.number Backend.words Word.BITS State.BITS self.now }
+    {
+        &self.bulk
+    }
+}
+
+impl<Word: WordOf<State>, State: BitArray, Backend: Holds<Word, Queue> + Clone> Clone
+    for RangeDecoder<Word, State, Backend> {
+    ghost is_clone = { λ old new. Backend.is_clone old.bulk new.bulk
+        × (new.lower ≡ old.lower) × (new.range ≡ old.range) × (new.point ≡ old.point)
+        × IsDecoder Word.number Backend.words Word.BITS State.BITS new };
+
+    ghost is_infallible = { λ decoder. Backend.is_infallible decoder.bulk };
+
+    /// The same interval and point over a clone of the backend. It is refused only where the backend's
+    /// clone is.
+    fn clone(&self) -> Result<Self, AllocError> {
+        let bulk = self.bulk.clone()?;
+        Ok(RangeDecoder {
+            bulk,
+            state: self.state,
+            point: self.point,
+        })
     }
 }

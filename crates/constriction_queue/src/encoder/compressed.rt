@@ -1,15 +1,15 @@
-//! The words of an encoder.
+//! The words of an encoder, and how many they are.
 
-ghost use Rattle.std.specs.Prelude.{◌≡◌, ◌⊎◌, ◌<◌, ◌++◌, [], ℕ, List, length, map, reverse, IfOk, IfErr, OnErr};
-ghost use Rattle.constriction_queue.specs.Range.{sealed};
-ghost use Rattle.constriction_queue.specs.Encoder.{run_by};
-ghost use Rattle.constriction_queue.specs.Writing.{IsBegun};
+ghost use Rattle.std.specs.Prelude.{◌≡◌, ◌↔◌, ◌+◌, ◌*◌, ◌^◌, [], length, map, reverse, IsTrue, IfOk, IfErr};
+ghost use Rattle.constriction_queue.specs.Encoder.{IsEncoder, SizesFit, sealed_by};
+ghost use Rattle.constriction_queue.specs.Calls.{SealRefused};
 
 use crate::encoder::RangeEncoder;
-use crate::seal::sealing;
-use crate::writing::write_owed;
-use constriction_base::backends::{Holds, Stack, WriteWords};
+use crate::seal::{Seal, sealing, without_first};
+use crate::writing::{owed_count, write_owed};
+use constriction_base::backends::{BoundedReadWords, Holds, Stack, Words, WriteWords};
 use constriction_words::{BitArray, WordOf};
+use std::marker::Model;
 
 impl<Word: WordOf<State>, State: BitArray, Backend: WriteWords<Word>> RangeEncoder<
     Word,
@@ -19,17 +19,16 @@ impl<Word: WordOf<State>, State: BitArray, Backend: WriteWords<Word>> RangeEncod
     /// The words of the encoder: those written and held, and a seal behind them, which is nothing where no
     /// symbol was encoded. It asks the backend for room for all that is missing.
     ///
-    /// Errors: what the backend answers where it has no room for them, or refuses to write one. The encoder
-    /// is gone then.
+    /// # Errors
+    /// What the backend answers where it has no room for them, or refuses to write one. The encoder is gone
+    /// then.
     pub fn into_compressed(self) -> Result<Backend, Backend::WriteError>
     where
         Backend: Drop,
-        ensures ok { IfOk result (λ all. reverse (map Word.number (Backend.words all)) ≡ sealed Word.BITS State.BITS (run_by Word.BITS State.BITS self)) }
-        ensures err { IfErr result (λ e. (owed : List ℕ)
-            × (reverse (owed ++ self.words) ≡ sealed Word.BITS State.BITS (run_by Word.BITS State.BITS self))
-            × (Backend.room self.bulk < length owed)
-            × (Backend.prepare_fails self.bulk (length owed) e
-            ⊎ ((Backend.makes_room → ⊥) × ((last : Backend) × Backend.write_fails last e × IsBegun owed self.words (map Word.number (Backend.words last)))))) }
+        ensures ok { IfOk result (λ all. reverse (map Word.number (Backend.words all)) ≡ sealed_by Word.BITS State.BITS self) }
+        ensures err { IfErr result (λ e. SealRefused Word.number Backend.words Word.BITS State.BITS
+            Backend.room Backend.makes_room Backend.prepare_fails Backend.write_fails self e) }
+        ensures coder { IsEncoder Word.number Backend.words Word.BITS State.BITS self }
     {
         let RangeEncoder {
             mut bulk,
@@ -40,6 +39,110 @@ impl<Word: WordOf<State>, State: BitArray, Backend: WriteWords<Word>> RangeEncod
         match write_owed(&mut bulk, seal.held, seal.point, seal.zero) {
             Ok(()) => Ok(bulk),
             Err(refusal) => Err(refusal),
+        }
+    }
+}
+
+impl<Word: WordOf<State>, State: BitArray, Backend: BoundedReadWords<Word, Stack>> RangeEncoder<
+    Word,
+    State,
+    Backend,
+> {
+    /// Whether the number of bits of the encoder's words is a `usize`. Then [`RangeEncoder::num_words`] and
+    /// [`RangeEncoder::num_bits`] can be asked for.
+    pub fn sizes_fit(&self) -> bool
+        ensures { IsTrue result ↔ SizesFit Word.BITS State.BITS self.now }
+    {
+        let seal = sealing(self.state, self.situation);
+        let owed = owed_count(&seal.held, &seal.point, &seal.zero);
+        let Some(words) = self.bulk.remaining().checked_add(owed) else {
+            return false;
+        };
+        words <= usize::MAX / Word::BITS as usize
+    }
+
+    /// The number of words that [`RangeEncoder::into_compressed`] gives.
+    pub fn num_words(&self) -> usize
+        requires { SizesFit Word.BITS State.BITS self.now }
+        ensures { result ≡ length (sealed_by Word.BITS State.BITS self.now) }
+    {
+        let seal = sealing(self.state, self.situation);
+        self.bulk.remaining() + owed_count(&seal.held, &seal.point, &seal.zero)
+    }
+
+    /// The number of bits of the words that [`RangeEncoder::into_compressed`] gives.
+    pub fn num_bits(&self) -> usize
+        requires { SizesFit Word.BITS State.BITS self.now }
+        ensures { result ≡ Word.BITS * length (sealed_by Word.BITS State.BITS self.now) }
+    {
+        Word::BITS as usize * self.num_words()
+    }
+
+    /// Whether no word was written, and no symbol encoded.
+    pub fn is_empty(&self) -> bool
+        ensures { IsTrue result ↔ ((self.now.range + 1 ≡ 2 ^ State.BITS) × (self.now.words ≡ [])) }
+    {
+        !self.state.length().is_below(State::greatest()) && self.bulk.remaining() == 0
+    }
+}
+
+/// The words of an encoder, in the order in which [`RangeEncoder::into_compressed`] gives them.
+/// [`RangeEncoder::iter_compressed`] makes it.
+///
+/// Contracts see the numbers of the words that are left.
+#[derive(Debug, Drop)]
+pub struct RangeCompressedIter<'a, Word: BitArray> {
+    below: &'a [Word],
+    seal: Seal<Word>,
+}
+
+impl<'a, Word: BitArray> Model for RangeCompressedIter<'a, Word> {
+    ghost use Rattle.std.specs.Prelude.{◌++◌, ◌+◌, ◌<◌, ◌^◌, ℕ, List, map, length};
+    ghost use Rattle.constriction_queue.specs.Encoder.{first_owed, released_of};
+
+    ghost Value = { List ℕ };
+
+    ghost view = { λ i. map Word.number i.below.now ++ first_owed Word.number i.seal.held i.seal.point i.seal.zero };
+
+    ghost invariant = { λ _. Unit {0} };
+}
+
+impl<'a, Word: BitArray> Iterator for RangeCompressedIter<'a, Word> {
+    type Item = Word;
+
+    ghost use Rattle.std.specs.Iterator.{YieldsFirstBy, at_most};
+    ghost use Rattle.std.specs.Prelude.{length};
+
+    ghost next_gives = { YieldsFirstBy Word.number (λ left. left) };
+
+    ghost remaining = { λ left. at_most (length left) };
+
+    fn next(&mut self) -> Option<Word> {
+        if let Some((first, rest)) = self.below.split_first() {
+            self.below = rest;
+            return Some(*first);
+        }
+        let (word, seal) = without_first(self.seal);
+        self.seal = seal;
+        word
+    }
+}
+
+impl<Word: WordOf<State>, State: BitArray, Backend: Holds<Word, Stack> + Words<Word>> RangeEncoder<
+    Word,
+    State,
+    Backend,
+> {
+    /// The words that [`RangeEncoder::into_compressed`] would give, the first one first: those that the
+    /// backend lends, those held, and the seal. The encoder stays as it is.
+    pub fn iter_compressed(&self) -> RangeCompressedIter<'_, Word>
+        // The backend lends its words in the order in which they were written.
+        ensures words { Backend.words self.now.bulk ≡ reverse (Backend.lent self.now.bulk) →
+            result ≡ sealed_by Word.BITS State.BITS self.now }
+    {
+        RangeCompressedIter {
+            below: self.bulk.words(),
+            seal: sealing(self.state, self.situation),
         }
     }
 }

@@ -1,13 +1,17 @@
-//! A decoder of what an encoder holds, as the coder traits ask for it.
+//! A decoder of what an encoder holds.
 
-ghost use Rattle.std.specs.Prelude.{◌≡◌, ◌⊎◌, ◌<◌, ◌++◌, ℕ, List, length, map, reverse, IfOk, IfErr, Err};
+ghost use Rattle.std.specs.Prelude.{◌≡◌, map, reverse, IfOk, IfErr, MatchResult};
 ghost use Rattle.constriction_base.specs.declared.errors.ReadWriteError.TheVariants as read_write;
-ghost use Rattle.constriction_queue.specs.Range.{IsAt, sealed, start};
-ghost use Rattle.constriction_queue.specs.Encoder.{run_by};
+ghost use Rattle.constriction_queue.specs.Range.{IsAt, start};
+ghost use Rattle.constriction_queue.specs.Encoder.{sealed_by};
+ghost use Rattle.constriction_queue.specs.Decoder.{BeginsOver, IsDecoder};
+ghost use Rattle.constriction_queue.specs.Calls.{SealRefused, NoDecoder};
 
 use crate::decoder::RangeDecoder;
 use crate::encoder::RangeEncoder;
-use constriction_base::backends::{Holds, IntoReadWords, Queue, ReadWords, Stack, WriteWords};
+use constriction_base::backends::{
+    BothWays, Holds, IntoReadWords, Queue, ReadWords, Stack, WriteWords, written_to_queue,
+};
 use constriction_base::errors::ReadWriteError;
 use constriction_stream::conversions::IntoDecoder;
 use constriction_words::{BitArray, WordOf};
@@ -15,12 +19,50 @@ use constriction_words::{BitArray, WordOf};
 impl<
     Word: WordOf<State>,
     State: BitArray,
-    Backend: WriteWords<Word> + IntoReadWords<Word, Queue> + Drop,
+    Backend: WriteWords<Word> + IntoReadWords<Word, Queue> + BothWays<Word> + Drop,
+> RangeEncoder<Word, State, Backend> {
+    /// A decoder of the words that [`RangeEncoder::into_compressed`] gives.
+    ///
+    /// # Errors
+    /// `Write(error)` where the backend has no room for the seal, or refuses to write it; `Read(error)`
+    /// where a read of the first words is refused. The encoder is gone then.
+    pub fn into_decoder(
+        self,
+    ) -> Result<
+        RangeDecoder<Word, State, Backend::IntoReadWords>,
+        ReadWriteError<
+            <Backend::IntoReadWords as ReadWords<Word, Queue>>::ReadError,
+            Backend::WriteError,
+        >,
+    >
+        ensures ok { ⟦<Backend::IntoReadWords as Holds<Word, Queue>>⟧.is_list → IfOk result (λ decoder.
+            IsAt Word.BITS State.BITS (sealed_by Word.BITS State.BITS self) (start State.BITS) decoder.lower decoder.range decoder.point decoder.words) }
+        ensures place { IfOk result (λ decoder. (all : Backend) × (reverse (map Word.number (⟦<Backend as Holds<Word, Stack>>⟧.words all)) ≡ sealed_by Word.BITS State.BITS self)
+            × (first : _) × Backend.becomes all first × BeginsOver Word.number (⟦<Backend::IntoReadWords as ReadWords<Word, Queue>>⟧.reads) Word.BITS State.BITS first decoder) }
+        ensures coder { IfOk result (λ decoder. IsDecoder Word.number (⟦<Backend::IntoReadWords as Holds<Word, Queue>>⟧.words) Word.BITS State.BITS decoder) }
+        ensures err { IfErr result (NoDecoder
+            (SealRefused Word.number (⟦<Backend as Holds<Word, Stack>>⟧.words) Word.BITS State.BITS Backend.room Backend.makes_room Backend.prepare_fails Backend.write_fails self)
+            (⟦<Backend::IntoReadWords as ReadWords<Word, Queue>>⟧.reads)) }
+    {
+        let all = match self.into_compressed() {
+            Ok(all) => all,
+            Err(error) => return Err(ReadWriteError::Write(error)),
+        };
+        match RangeDecoder::<Word, State, Backend::IntoReadWords>::with_backend(
+            written_to_queue(all),
+        ) {
+            Ok(decoder) => Ok(decoder),
+            Err(error) => Err(ReadWriteError::Read(error)),
+        }
+    }
+}
+
+impl<
+    Word: WordOf<State>,
+    State: BitArray,
+    Backend: WriteWords<Word> + IntoReadWords<Word, Queue> + BothWays<Word> + Drop,
     const PRECISION: usize,
-> IntoDecoder<PRECISION> for RangeEncoder<Word, State, Backend>
-where
-    Backend::IntoReadWords: Drop,
-{
+> IntoDecoder<PRECISION> for RangeEncoder<Word, State, Backend> {
     type IntoDecoder = RangeDecoder<Word, State, Backend::IntoReadWords>;
 
     type Error = ReadWriteError<
@@ -28,11 +70,15 @@ where
         Backend::WriteError,
     >;
 
-    ghost becomes = { λ encoder decoder. (all : Backend)
-        × (reverse (map Word.number (⟦<Backend as Holds<Word, Stack>>⟧.words all)) ≡ sealed Word.BITS State.BITS (run_by Word.BITS State.BITS encoder))
-        × (⟦<Backend::IntoReadWords as Holds<Word, Queue>>⟧.is_list → IsAt Word.BITS State.BITS (map Word.number (⟦<Backend as Holds<Word, Queue>>⟧.words all)) (start State.BITS) decoder.lower decoder.range decoder.point decoder.words) };
+    ghost becomes = { λ encoder decoder.
+        IsDecoder Word.number (⟦<Backend::IntoReadWords as Holds<Word, Queue>>⟧.words) Word.BITS State.BITS decoder
+        × (⟦<Backend::IntoReadWords as Holds<Word, Queue>>⟧.is_list → IsAt Word.BITS State.BITS (sealed_by Word.BITS State.BITS encoder) (start State.BITS) decoder.lower decoder.range decoder.point decoder.words)
+        × ((all : Backend) × (reverse (map Word.number (⟦<Backend as Holds<Word, Stack>>⟧.words all)) ≡ sealed_by Word.BITS State.BITS encoder)
+        × (first : _) × Backend.becomes all first × BeginsOver Word.number (⟦<Backend::IntoReadWords as ReadWords<Word, Queue>>⟧.reads) Word.BITS State.BITS first decoder) };
 
-    ghost fails = { λ encoder error. Unit {0} };
+    ghost fails = { λ encoder error. NoDecoder
+        (SealRefused Word.number (⟦<Backend as Holds<Word, Stack>>⟧.words) Word.BITS State.BITS Backend.room Backend.makes_room Backend.prepare_fails Backend.write_fails encoder)
+        (⟦<Backend::IntoReadWords as ReadWords<Word, Queue>>⟧.reads) error };
 
     /// A decoder of the sealed words.
     fn into_decoder(
@@ -44,13 +90,39 @@ where
             Backend::WriteError,
         >,
     > {
-        let all = match self.into_compressed() {
-            Ok(all) => all,
-            Err(error) => return Err(ReadWriteError::Write(error)),
-        };
-        match RangeDecoder::<Word, State, Backend::IntoReadWords>::from_compressed(all) {
-            Ok(decoder) => Ok(decoder),
-            Err(error) => Err(ReadWriteError::Read(error)),
-        }
+        self.into_decoder()
+    }
+}
+
+/// A decoder of the sealed words, as [`RangeEncoder::into_decoder`] gives it.
+impl<
+    Word: WordOf<State>,
+    State: BitArray,
+    Backend: WriteWords<Word> + IntoReadWords<Word, Queue> + BothWays<Word> + Drop,
+> TryFrom<RangeEncoder<Word, State, Backend>>
+    for RangeDecoder<Word, State, <Backend as IntoReadWords<Word, Queue>>::IntoReadWords> {
+    type Error = ReadWriteError<
+        <<Backend as IntoReadWords<Word, Queue>>::IntoReadWords as ReadWords<Word, Queue>>::ReadError,
+        Backend::WriteError,
+    >;
+
+    ghost try_from_gives = { λ encoder result. MatchResult result
+        (λ decoder. ⟦<Backend::IntoReadWords as Holds<Word, Queue>>⟧.is_list → IsAt Word.BITS State.BITS (sealed_by Word.BITS State.BITS encoder) (start State.BITS) decoder.lower decoder.range decoder.point decoder.words)
+        (NoDecoder (SealRefused Word.number (⟦<Backend as Holds<Word, Stack>>⟧.words) Word.BITS State.BITS Backend.room Backend.makes_room Backend.prepare_fails Backend.write_fails encoder)
+        (⟦<Backend::IntoReadWords as ReadWords<Word, Queue>>⟧.reads)) };
+
+    fn try_from(
+        encoder: RangeEncoder<Word, State, Backend>,
+    ) -> Result<
+        Self,
+        ReadWriteError<
+            <<Backend as IntoReadWords<Word, Queue>>::IntoReadWords as ReadWords<
+                Word,
+                Queue,
+            >>::ReadError,
+            Backend::WriteError,
+        >,
+    > {
+        encoder.into_decoder()
     }
 }

@@ -2,7 +2,7 @@
 
 ghost use Rattle.std.specs.Prelude.{◌≡◌, ◌↔◌, ◌<◌, ◌^◌, length, IsTrue};
 ghost use Rattle.constriction_queue.specs.States.{lower_of, range_of, IsPosition};
-ghost use Rattle.constriction_queue.specs.Encoder.{run_by};
+ghost use Rattle.constriction_queue.specs.Encoder.{IsEncoder, run_by};
 
 use crate::encoder::RangeEncoder;
 use crate::situation::EncoderSituation;
@@ -19,7 +19,8 @@ impl<Word: WordOf<State>, State: BitArray, Backend: Holds<Word, Stack> + PosSeek
 impl<Word: WordOf<State>, State: BitArray, Backend: CountsWords<Word>> Pos
     for RangeEncoder<Word, State, Backend> {
     ghost stands_at = { λ encoder position.
-        IsPosition State.BITS (run_by Word.BITS State.BITS encoder) position.0 (lower_of position.1) (range_of position.1) };
+        IsPosition State.BITS (run_by Word.BITS State.BITS encoder) position.0 (lower_of position.1) (range_of position.1)
+        × IsEncoder Word.number Backend.words Word.BITS State.BITS encoder };
 
     ghost can_tell = { λ encoder. (run_by Word.BITS State.BITS encoder).moves < 2 ^ 64 };
 

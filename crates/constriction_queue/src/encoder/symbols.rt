@@ -6,7 +6,7 @@ ghost use Rattle.constriction_base.specs.Steps.{Step};
 ghost use Rattle.constriction_base.specs.declared.errors.DefaultEncoderFrontendError.TheVariants.{ImpossibleSymbol};
 ghost use Rattle.constriction_stream.specs.Symbols.{ByBackend, EncodesSymbol, HasRoom, IsBackendError, never_frontend};
 ghost use Rattle.constriction_queue.specs.States.{lower_of, range_of};
-ghost use Rattle.constriction_queue.specs.Encoder.{left_to_encode};
+ghost use Rattle.constriction_queue.specs.Encoder.{IsEncoder, left_to_encode};
 ghost use Rattle.constriction_queue.specs.Calls.{EncodeCall};
 
 use crate::encoder::RangeEncoder;
@@ -26,7 +26,8 @@ impl<Word: WordOf<State>, State: BitArray, Backend: Holds<Word, Stack>> Code
 
     type State = RangeCoderState<Word, State>;
 
-    ghost shows = { λ encoder state. (lower_of state ≡ encoder.lower) × (range_of state ≡ encoder.range) };
+    ghost shows = { λ encoder state. (lower_of state ≡ encoder.lower) × (range_of state ≡ encoder.range)
+        × IsEncoder Word.number Backend.words Word.BITS State.BITS encoder };
 
     /// The interval.
     #[inline]
@@ -98,7 +99,7 @@ impl<
         ensures step { EncodesSymbol (⟦<RangeEncoder<Word, State, Backend> as Encode<PRECISION>>⟧.encodes)
             (⟦<RangeEncoder<Word, State, Backend> as Encode<PRECISION>>⟧.is_impossible_symbol)
             PRECISION (M.table model) symbol.now self.old result self.new }
-        ensures left { ⟦<RangeEncoder<Word, State, Backend> as Encode<PRECISION>>⟧.symbols_left self.old
+        ensures fewer_left { ⟦<RangeEncoder<Word, State, Backend> as Encode<PRECISION>>⟧.symbols_left self.old
             ≤ ⟦<RangeEncoder<Word, State, Backend> as Encode<PRECISION>>⟧.symbols_left self.new + 1 }
     {
         let Some((left, p)) = model.left_cumulative_and_probability(symbol) else {

@@ -2,7 +2,7 @@
 //! them off.
 
 ghost use Rattle.constriction_base.specs.Readings.{NeverRefused};
-ghost use Rattle.std.specs.Prelude.{◌≡◌, ◌↔◌, ◌⊎◌, ◌<◌, ◌^◌, ◌++◌, ℕ, drop, length, map, Ok, Err, IfOk, IfErr, OnOk, OnErr};
+ghost use Rattle.std.specs.Prelude.{◌≡◌, ◌↔◌, ◌⊎◌, ◌<◌, ◌^◌, ◌++◌, ℕ, drop, map, Ok, Err, IfOk, IfErr, OnOk, OnErr};
 ghost use Rattle.std.specs.Borrow.{sem, RestsIfErr};
 ghost use Rattle.constriction_base.specs.Digits.{fixed_digits, count_of_words};
 ghost use Rattle.constriction_base.specs.Steps.{IsSizes};

@@ -1,10 +1,9 @@
 //! The two steps: a symbol is put on, or taken off. Lists of symbols are put on in their order by the trait
 //! `Encode`, and from the last to the first by `EncodeReverse`.
 
-ghost use Rattle.constriction_base.specs.Steps.{Step};
 ghost use Rattle.constriction_base.specs.declared.errors.DefaultEncoderFrontendError.TheVariants.{ImpossibleSymbol};
 ghost use Rattle.constriction_stack.specs.Ans.{DecodeCall, EncodeCall, IsCoder};
-ghost use Rattle.constriction_stream.specs.Symbols.{ByBackend, DecodesSymbol, EncodesSymbol, GoesOn, HasRoom, IsBackendError, never_frontend};
+ghost use Rattle.constriction_stream.specs.Symbols.{ByBackend, EncodesSymbol, GoesOn, HasRoom, IsBackendError, never_frontend};
 ghost use Rattle.std.specs.Bool.{OnFalse};
 ghost use Rattle.std.specs.Prelude.{IsTrue, ⊤, ◌+◌, ◌↔◌, ◌≡◌, ◌≤◌};
 

@@ -6,12 +6,12 @@
 ghost use Rattle.constriction_base.specs.Readings.{BeginsHigh};
 ghost use Rattle.constriction_base.specs.Digits.{count_of_words};
 ghost use Rattle.constriction_base.specs.Steps.{IsSizes};
-ghost use Rattle.constriction_stack.specs.Ans.{AnsState, IsCoder, PartlyExported, exported, filled};
+ghost use Rattle.constriction_stack.specs.Ans.{IsCoder, PartlyExported, exported, filled};
 ghost use Rattle.constriction_stack.specs.Binary.{BinaryFilledBy, BinaryRefused, IsBinary, PartlyBinary, binary_state, binary_words};
 ghost use Rattle.constriction_stack.specs.Sizes.{SizesFit, valid_bit_count};
 ghost use Rattle.constriction_stack.specs.Imports.{FilledBy, ImportRefused, ListRefused};
 ghost use Rattle.std.specs.Int.Digits.{digits_of};
-ghost use Rattle.std.specs.Prelude.{Err, IfErr, IfOk, IsTrue, None, Ok, OnErr, OnOk, Some, [], length, map, reverse, ℕ, ◌*◌, ◌++◌, ◌<◌, ◌^◌, ◌↔◌, ◌≡◌, ◌⊎◌};
+ghost use Rattle.std.specs.Prelude.{Err, IfErr, IfOk, IsTrue, None, Ok, OnErr, OnOk, Some, length, map, reverse, ℕ, ◌*◌, ◌++◌, ◌<◌, ◌^◌, ◌↔◌, ◌≡◌, ◌⊎◌};
 
 use crate::coder::AnsCoder;
 use crate::moves::{append_words, filled, words_below_one};

@@ -1,1 +1,166 @@
-//! The words of a coder that is used again.
+//! The words of a coder that is used again: a guard shows them on the vector, and its drop takes them off.
+
+ghost use Rattle.constriction_symbol.specs.Bits.{IsQueueWords, IsStackWords, bits_above};
+ghost use Rattle.constriction_symbol.specs.Guards.{bits_without};
+ghost use Rattle.std.specs.Borrow.{RestsIfErr, sem};
+ghost use Rattle.std.specs.Prelude.{IfErr, IfOk, OnErr, OnOk, [], drop, map, reverse, vec_capacity, vec_len, ◌-◌, ◌<◌, ◌≡◌, ◌≤◌};
+
+use crate::coder::{QueueEncoder, StackCoder, SymbolCoder};
+use constriction_base::backends::{Queue, Semantics, Stack, WriteWords, take_back};
+use crate::word_bits::WordBits;
+use constriction_words::BitArray;
+use std::alloc::{AllocError, Allocator, Global};
+use std::fmt;
+
+/// A coder whose last words were written onto its vector, and are taken off again when this is dropped, which takes no
+/// memory. A guard that is forgotten leaves its words there.
+pub struct CoderGuard<'a, Word: BitArray, S: Semantics, A: Allocator = Global> {
+    inner: &'a mut SymbolCoder<Word, S, Vec<Word, A>>,
+    count: usize,
+}
+
+/// The guard of a stack of bits. [`StackCoder::get_compressed`] makes it.
+pub type StackCoderGuard<'a, Word, A = Global> = CoderGuard<'a, Word, Stack, A>;
+
+/// The guard of a queue of bits. [`QueueEncoder::get_compressed`] makes it.
+pub type QueueEncoderGuard<'a, Word, A = Global> = CoderGuard<'a, Word, Queue, A>;
+
+impl<'a, Word: BitArray, S: Semantics, A: Allocator> CoderGuard<'a, Word, S, A> {
+    ghost use Rattle.constriction_symbol.specs.Guarded.{lender};
+
+    /// The words, the first one first.
+    pub fn words(&self) -> &[Word]
+        ensures words { result.now ≡ (lender self.now).now.backend.items }
+    {
+        let inner: &SymbolCoder<Word, S, Vec<Word, A>> = &*self.inner;
+        inner.backend.as_slice()
+    }
+}
+
+impl<Word: BitArray, S: Semantics, A: Allocator> Drop for CoderGuard<'_, Word, S, A> {
+    ghost use Rattle.constriction_symbol.specs.Guarded.{lender, written};
+
+    /// Takes the words off that were written.
+    fn drop(self)
+        ensures last { self.exit.0.now.last ≡ (lender self.entry).now.last }
+        ensures restored { self.exit.0.now.bits ≡ bits_without Word.BITS Word.number (written self.entry)
+            (reverse (lender self.entry).now.backend.items) (lender self.entry).now.last }
+    {
+        let CoderGuard { inner, count } = self;
+        take_back::<Word, Vec<Word, A>>(&mut inner.backend, count);
+    }
+}
+
+impl<Word: BitArray + fmt::Debug, S: Semantics, A: Allocator> fmt::Debug for CoderGuard<'_, Word, S, A> {
+    /// The list of the words.
+    fn fmt<W: fmt::Write>(&self, f: &mut fmt::Formatter<W>) -> fmt::Result {
+        f.debug_list().entries(self.words().iter()).finish()
+    }
+}
+
+impl<Word: BitArray, A: Allocator> StackCoder<Word, Vec<Word, A>> {
+    /// Writes the words that end the bits, and keeps the bits outside the vector. Returns how many they are: two where the
+    /// last word is full, else one.
+    fn put_end(&mut self) -> Result<usize, AllocError>
+        ensures shows { OnOk result (IsStackWords Word.BITS self.old.bits (map Word.number self.new.backend.items)) }
+        ensures back { IfOk result (λ count. drop count (reverse self.new.backend.items) ≡ reverse self.old.backend.items) }
+        ensures bits { self.old.bits ≡ bits_above Word.BITS Word.number (reverse self.old.backend.items) self.old.last }
+        ensures last { self.new.last ≡ self.old.last }
+        ensures left { OnErr result (self.new.bits ≡ self.old.bits) }
+        ensures err { OnErr result (vec_capacity self.old.backend - vec_len self.old.backend < 2) }
+    {
+        let mut last = self.last.copied();
+        if last.is_full() {
+            WriteWords::<Word>::prepare(&mut self.backend, 2)?;
+            WriteWords::<Word>::write(&mut self.backend, last.word())?;
+            let mut end = WordBits::<Word>::none();
+            end.push(true);
+            WriteWords::<Word>::write(&mut self.backend, end.word())?;
+            return Ok(2);
+        }
+        last.push(true);
+        WriteWords::<Word>::write(&mut self.backend, last.word())?;
+        Ok(1)
+    }
+}
+
+impl<Word: BitArray, A: Allocator> QueueEncoder<Word, Vec<Word, A>> {
+    /// Writes the word of the bits outside the vector, and keeps them. Returns how many words it wrote: none where there
+    /// are no such bits, else one.
+    fn put_rest(&mut self) -> Result<usize, AllocError>
+        ensures shows { OnOk result (IsQueueWords Word.BITS self.old.bits (map Word.number self.new.backend.items)) }
+        ensures back { IfOk result (λ count. drop count (reverse self.new.backend.items) ≡ reverse self.old.backend.items) }
+        ensures bits { self.old.bits ≡ bits_above Word.BITS Word.number (reverse self.old.backend.items) self.old.last }
+        ensures last { self.new.last ≡ self.old.last }
+        ensures left { OnErr result (self.new.bits ≡ self.old.bits) }
+        ensures err { OnErr result ((self.old.last ≡ [] → ⊥) × (vec_capacity self.old.backend ≤ vec_len self.old.backend)) }
+    {
+        if self.last.is_empty() {
+            return Ok(0);
+        }
+        WriteWords::<Word>::write(&mut self.backend, self.last.word())?;
+        Ok(1)
+    }
+}
+
+impl<Word: BitArray, A: Allocator> StackCoder<Word, Vec<Word, A>> {
+    ghost use Rattle.constriction_base.specs.contracts.backends.semantics.Stack as order;
+    ghost use Rattle.constriction_base.specs.contracts.vectors.VecHoldsStack.TheImpl as held;
+    ghost use Rattle.constriction_symbol.specs.contracts.coder.SymbolCoder.{the_row};
+    ghost use Rattle.std.specs.contracts.vec.Vec as vec;
+    ghost use Rattle.constriction_symbol.specs.Guarded.{lender, written};
+
+    /// The words that [`StackCoder::into_compressed`] would give, for as long as the guard lives. When it is dropped, the
+    /// coder holds its bits as before.
+    ///
+    /// # Errors
+    /// Where there is no memory for the words. The bits are as before.
+    ///
+    /// ```
+    /// {
+    ///     let guard = coder.get_compressed()?;
+    ///     send(guard.words());
+    /// }
+    /// coder.write_bit(true)?; // the coder goes on as if its words had not been looked at
+    /// ```
+    pub fn get_compressed(&mut self) -> Result<StackCoderGuard<'_, Word, A>, AllocError>
+        ensures same_reference { IfOk result (λ g. (lender g).ghost_name ≡ self.entry.ghost_name) }
+        ensures shows { IfOk result (λ g. IsStackWords Word.BITS self.old.bits (map Word.number (lender g).now.backend.items)) }
+        ensures back { IfOk result (λ g. bits_without Word.BITS Word.number (written g)
+            (reverse (lender g).now.backend.items) (lender g).now.last ≡ self.old.bits) }
+        ensures err { OnErr result (vec_capacity self.old.backend - vec_len self.old.backend < 2) }
+        ensures* left { sem 𝓛 (RestsIfErr (the_row Word.row order.the_row (vec.the_row Word.row A.row A.Allocator) Word.NonZero.row Word.BitArray (held.ghosts Word.row A.row Word.NonZero.row Word.BitArray held.no_dict Word.Clone held.no_dict Word.NonZero.Clone held.no_dict A.Allocator held.no_dict held.no_dict))
+            self.entry (λ g. (lender g).ghost_name) result
+            (λ after. OnErr result (after.bits ≡ self.old.bits))) }
+    {
+        let count = self.put_end()?;
+        Ok(CoderGuard { inner: self, count })
+    }
+}
+
+impl<Word: BitArray, A: Allocator> QueueEncoder<Word, Vec<Word, A>> {
+    ghost use Rattle.constriction_base.specs.contracts.backends.semantics.Queue as order;
+    ghost use Rattle.constriction_base.specs.contracts.vectors.VecHoldsStack.TheImpl as held;
+    ghost use Rattle.constriction_symbol.specs.contracts.coder.SymbolCoder.{the_row};
+    ghost use Rattle.std.specs.contracts.vec.Vec as vec;
+    ghost use Rattle.constriction_symbol.specs.Guarded.{lender, written};
+
+    /// The words that [`QueueEncoder::into_compressed`] would give, for as long as the guard lives. When it is dropped, the
+    /// coder holds its bits as before.
+    ///
+    /// # Errors
+    /// Where there are bits outside the vector, and there is no memory for their word. The bits are as before.
+    pub fn get_compressed(&mut self) -> Result<QueueEncoderGuard<'_, Word, A>, AllocError>
+        ensures same_reference { IfOk result (λ g. (lender g).ghost_name ≡ self.entry.ghost_name) }
+        ensures shows { IfOk result (λ g. IsQueueWords Word.BITS self.old.bits (map Word.number (lender g).now.backend.items)) }
+        ensures back { IfOk result (λ g. bits_without Word.BITS Word.number (written g)
+            (reverse (lender g).now.backend.items) (lender g).now.last ≡ self.old.bits) }
+        ensures err { OnErr result ((self.old.last ≡ [] → ⊥) × (vec_capacity self.old.backend ≤ vec_len self.old.backend)) }
+        ensures* left { sem 𝓛 (RestsIfErr (the_row Word.row order.the_row (vec.the_row Word.row A.row A.Allocator) Word.NonZero.row Word.BitArray (held.ghosts Word.row A.row Word.NonZero.row Word.BitArray held.no_dict Word.Clone held.no_dict Word.NonZero.Clone held.no_dict A.Allocator held.no_dict held.no_dict))
+            self.entry (λ g. (lender g).ghost_name) result
+            (λ after. OnErr result (after.bits ≡ self.old.bits))) }
+    {
+        let count = self.put_rest()?;
+        Ok(CoderGuard { inner: self, count })
+    }
+}

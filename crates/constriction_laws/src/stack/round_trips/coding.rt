@@ -1,6 +1,6 @@
 //! List calls of the stack coder, said in the words of the laws: which states they lead to.
 
-ghost use Rattle.std.specs.Prelude.{◌≡◌, ℕ, List, length, reverse, IfSome, OnOk};
+ghost use Rattle.std.specs.Prelude.{◌≡◌, List, length, reverse, IfSome, OnOk};
 ghost use Rattle.constriction_stack.specs.Ans.{AnsState, IsValid};
 ghost use Rattle.constriction_laws.specs.stack.Readings.{DecodesAllBy};
 ghost use Rattle.constriction_stack.specs.Symbols.{EncodesAll, DecodesAll};

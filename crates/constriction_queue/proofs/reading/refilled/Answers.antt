@@ -1,4 +1,4 @@
-use Rattle.std.proofs.Common.{arith, refl, ◌∙◌, sym}
+use Rattle.std.proofs.Common.{◌∷◌, arith, refl, ◌∙◌, sym, inl, inr}
 use Rattle.constriction_base.proofs.Heads.{large_of_shr, small_of_shr}
 use Rattle.constriction_queue.proofs.Parts.{lower_fits, range_fits}
 use Rattle.constriction_queue.proofs.Pointing.{at_long, at_short, point_room}
@@ -44,3 +44,23 @@ returns-clause-list g c list ws r h =
     let point = rw (c.shifted_left.ensures, c.low_bits-2.ensures, c.BITS.ensures, c.BITS-2.ensures, c.BITS-5.ensures, c.widen.ensures) at c.plus-point.ensures in
     rw (c.long-2.ensures.lower, c.long-2.ensures.range)
     (at_short _ _ ws r _ _ _ _ _ _ _ _ _ (omega arith) (g.met.Word.BitArray.number_law _) short lower range point (c.in-Ok.ensures.word list) (c.in-Ok.ensures.rest list) h)
+
+pub returns-then-not-is_nothing-clause-reads : goal.returns-then-not-is_nothing-clause-reads
+returns-then-not-is_nothing-clause-reads g c =
+    let is = rw (c.BITS.ensures, c.BITS-2.ensures) at c.shifted_right.ensures in
+    let long = large_of_shr _ _ (λ e. let off = c.if-not-is_nothing.ensures.1 (is ∙ e) in cc) in
+    inr (λ short. absurd (omega arith), refl, λ ws r rest h. rw (c.long.ensures.lower, c.long.ensures.range) (at_long _ _ ws r _ _ _ _ long h))
+
+pub returns-clause-reads : goal.returns-clause-reads
+returns-clause-reads g c =
+    let is = rw (c.BITS.ensures, c.BITS-2.ensures) at c.shifted_right.ensures in
+    let short = small_of_shr _ _ (sym is ∙ c.if-not-is_nothing.ensures.0 refl) in
+    let lower = rw (c.low_bits.ensures, c.BITS.ensures, c.BITS-2.ensures, c.BITS-3.ensures) at c.shifted_left-lower.ensures in
+    let range = rw c.BITS-4.ensures at c.shifted_left-range.ensures in
+    let point = rw (c.shifted_left.ensures, c.low_bits-2.ensures, c.BITS.ensures, c.BITS-2.ensures, c.BITS-5.ensures, c.widen.ensures) at c.plus-point.ensures in
+    inl (short, (
+      g.Word.BitArray.number c.in-Ok.word,
+      c.in-Ok.ensures.reads,
+      λ ws r rest h. rw (c.long-2.ensures.lower, c.long-2.ensures.range)
+      (at_short _ _ ws r _ _ _ _ _ _ _ (g.Word.BitArray.number c.in-Ok.word ∷ rest) rest (omega arith) (g.met.Word.BitArray.number_law _) short lower range point refl refl h),
+    ))

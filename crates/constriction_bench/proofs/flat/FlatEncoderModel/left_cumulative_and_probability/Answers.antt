@@ -1,12 +1,12 @@
 use Rattle.std.proofs.Common.{arith, ◌^◌, ◌*◌, ap, ◌∙◌}
-use Rattle.constriction_bench.specs.Equal.{equal_has, equal_unknown}
+use Rattle.constriction_bench.specs.Equal.{equal_has, equal_impossible}
 use Rattle.constriction_bench.proofs.Powers.{below_power, not_below_power, moved_fits, same_in_word}
 use Rattle.constriction_bench.proofs.flat.FlatEncoderModel.left_cumulative_and_probability.Goals as goal
 
-pub returns-then-symbol-self-ne0-clause-impossible : goal.returns-then-symbol-self-ne0-clause-unknown
+pub returns-then-symbol-self-ne0-clause-impossible : goal.returns-then-symbol-self-ne0-clause-impossible
 returns-then-symbol-self-ne0-clause-impossible g c =
     let flat = c.args.self.now in
-    λ left p has. equal_unknown flat.bits flat.shift _ left p (not_below_power c.args.symbol.now flat.bits c.if-symbol-self-ne0.true) has
+    equal_impossible flat.bits flat.shift _ (not_below_power c.args.symbol.now flat.bits c.if-symbol-self-ne0.true)
 
 pub shifted_left-left-requires-clause-fits : goal.shifted_left-left-requires-clause-fits
 shifted_left-left-requires-clause-fits g c =

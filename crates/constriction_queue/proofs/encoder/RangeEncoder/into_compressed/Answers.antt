@@ -1,5 +1,6 @@
 use Rattle.std.proofs.Common.{map, ap, inl, inr}
 use Rattle.constriction_queue.specs.Encoder.{owed_of}
+use Rattle.constriction_queue.proofs.Encoders.{is_encoder}
 use Rattle.constriction_queue.proofs.Seals.{words_of_numbers}
 use Rattle.constriction_queue.proofs.encoder.RangeEncoder.into_compressed.Goals as goal
 
@@ -16,12 +17,20 @@ returns-in-Err-clause-err g c =
     let words = g.Backend.Holds.words c.self.inside.bulk in
     let seal = c.sealing-seal.result in
     let all = c.sealing-seal.ensures.words (map number words) (words_of_numbers number _ g.met.Word.BitArray.number_law words) in
-    rw (← c.self.view_is) (
-      owed_of number seal.held seal.point seal.zero,
-      all,
-      c.in-Err.ensures.short,
-      elim c.in-Err.ensures.err [
+    rw (← c.self.view_is) record {
+      owed = owed_of number seal.held seal.point seal.zero;
+      is = all;
+      short = c.in-Err.ensures.short;
+      error = elim c.in-Err.ensures.err [
         | inl room ↦ inl room
         | inr write ↦ inr (write.0, (write.1.0, write.1.1, rw (ap (map number) write.1.2) c.in-Err.ensures.begun))
-      ],
-    )
+      ];
+    }
+
+pub returns-in-Ok-clause-coder : goal.returns-in-Ok-clause-coder
+returns-in-Ok-clause-coder g c =
+    rw (← c.self.view_is) (is_encoder g.Word.BitArray.number g.Backend.Holds.words _ _ _ _ _ c.self.inside.situation c.self.invariant.0 c.self.invariant.1 c.self.inside.state.wide (g.met.State.BitArray.number_law _) (g.met.State.BitArray.number_law _))
+
+pub returns-in-Err-clause-coder : goal.returns-in-Err-clause-coder
+returns-in-Err-clause-coder g c =
+    rw (← c.self.view_is) (is_encoder g.Word.BitArray.number g.Backend.Holds.words _ _ _ _ _ c.self.inside.situation c.self.invariant.0 c.self.invariant.1 c.self.inside.state.wide (g.met.State.BitArray.number_law _) (g.met.State.BitArray.number_law _))

@@ -1,13 +1,14 @@
 use Rattle.std.proofs.Common.{rules, ◌≡◌, ◌∙◌, ap, sym, subst, map}
 use Rattle.std.specs.Prelude.{reverse}
 use Rattle.constriction_stack.specs.Binary.{binary_state}
-use Rattle.constriction_laws.specs.Symbols.{Model, EncodesAll, items_of}
-use Rattle.constriction_laws.proofs.ListCalls.{some_weaker}
+use Rattle.constriction_base.specs.Models.{Model, items_of}
+use Rattle.constriction_stack.specs.Symbols.{EncodesAll}
+use Rattle.constriction_laws.proofs.ListsGiven.{some_weaker}
 use Rattle.constriction_laws.proofs.stack.round_trips.lent_words.decode_lent_binary_words.Goals as goal
 
 pub returns-clause-kept : goal.returns-clause-kept
 returns-clause-kept g c =
-    let kept : c.drop-guard.new.self.0.state ≡ c.args.coder.now.state = c.drop-guard.ensures.restored (search rules) ∙ c.in-Ok.ensures.back in
+    let kept : c.drop-guard.new.self.0.state ≡ c.args.coder.now.state = c.drop-guard.ensures.back (search rules) ∙ c.in-Ok.ensures.back in
     search rules ∙ kept
 
 pub returns-clause-back : goal.returns-clause-back

@@ -1,4 +1,4 @@
-use Rattle.std.specs.Prelude.{◌≡◌, Ok, Err}
+use Rattle.std.specs.Prelude.{Ok, Err}
 use Rattle.std.proofs.Common.{arith, refl, ◌∙◌, sym, inl, inr}
 use Rattle.constriction_base.proofs.Heads.{large_of_shr, small_of_shr}
 use Rattle.constriction_base.proofs.Entering.{entry_is_step}
@@ -40,6 +40,7 @@ returns-in-Ok-clause-step g c =
         from = rw quantile at covers.0;
         below = rw quantile at covers.1;
         read = λ list. rw (c.widen-left.ensures, c.widen.ensures, c.widen-p.ensures, c.widen-2.ensures, c.from_nonzero-p.ensures) at c.in-Ok.ensures.list list;
+        by_reads = rw (c.widen-left.ensures, c.widen.ensures, c.widen-p.ensures, c.widen-2.ensures, c.from_nonzero-p.ensures) at c.in-Ok.ensures.reads;
         lower = tt;
         range = tt;
         point = tt;
@@ -70,6 +71,7 @@ returns-clause-step g c =
           from = rw quantile at covers.0;
           below = rw quantile at covers.1;
           read = tt;
+          by_reads = tt;
           lower = refl;
           range = refl;
           point = refl;

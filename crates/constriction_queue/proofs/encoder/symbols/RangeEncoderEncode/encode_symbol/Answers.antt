@@ -1,5 +1,5 @@
 use Rattle.std.specs.Prelude.{Ok, Err}
-use Rattle.std.proofs.Common.{inl, refl, arith}
+use Rattle.std.proofs.Common.{inl, refl}
 use Rattle.constriction_base.proofs.Entering.{entry_is_step}
 use Rattle.constriction_queue.proofs.Begun.{place_of}
 use Rattle.constriction_queue.proofs.encoder.symbols.RangeEncoderEncode.encode_symbol.Goals as goal

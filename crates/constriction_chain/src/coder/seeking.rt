@@ -1,0 +1,143 @@
+//! Positions of a coder: where each backend stands, and the heads.
+
+ghost use Rattle.constriction_chain.specs.Chain.{IsChainCoder, value_of};
+ghost use Rattle.constriction_chain.specs.Positions.{neither};
+ghost use Rattle.std.specs.Prelude.{◌≡◌, ◌⊎◌};
+
+use crate::coder::ChainCoder;
+use crate::heads::ChainCoderHeads;
+use constriction_base::backends::{Holds, Pos, PosSeek, Seek, SeeksBack, Stack};
+use constriction_words::{BitArray, WordOf};
+
+/// Where the two backends of a coder stand.
+#[derive(Debug, Clone, Copy, PartialEq, Eq, Hash, Drop)]
+pub struct BackendPosition<CompressedPosition, RemaindersPosition> {
+    /// The position of the compressed words.
+    pub compressed: CompressedPosition,
+    /// The position of the remainders.
+    pub remainders: RemaindersPosition,
+}
+
+impl<
+    Word: WordOf<State>,
+    State: BitArray,
+    C: Holds<Word, Stack> + PosSeek,
+    R: Holds<Word, Stack> + PosSeek,
+    const PRECISION: usize,
+> PosSeek for ChainCoder<Word, State, C, R, PRECISION> {
+    /// Where the backends stand, and the heads.
+    type Position = (
+        BackendPosition<C::Position, R::Position>,
+        ChainCoderHeads<Word, State, PRECISION>,
+    );
+}
+
+impl<
+    Word: WordOf<State>,
+    State: BitArray,
+    C: Holds<Word, Stack> + Pos,
+    R: Holds<Word, Stack> + Pos,
+    const PRECISION: usize,
+> Pos for ChainCoder<Word, State, C, R, PRECISION> {
+    ghost stands_at = { λ coder position. C.stands_at coder.compressed position.0.compressed
+        × R.stands_at coder.remainders position.0.remainders
+        × (Word.number position.1.0 ≡ coder.state.h) × (State.number position.1.1 ≡ coder.state.r) };
+
+    ghost can_tell = { λ coder. C.can_tell coder.compressed × R.can_tell coder.remainders };
+
+    /// Where the backends stand now, and the heads.
+    fn pos(
+        &self,
+    ) -> (
+        BackendPosition<C::Position, R::Position>,
+        ChainCoderHeads<Word, State, PRECISION>,
+    ) {
+        (
+            BackendPosition {
+                compressed: self.compressed.pos(),
+                remainders: self.remainders.pos(),
+            },
+            self.heads,
+        )
+    }
+}
+
+impl<
+    Word: WordOf<State>,
+    State: BitArray,
+    C: Holds<Word, Stack> + Seek,
+    R: Holds<Word, Stack> + Seek,
+    const PRECISION: usize,
+> Seek for ChainCoder<Word, State, C, R, PRECISION> {
+    ghost can_seek = { λ coder position. C.can_seek coder.compressed position.0.compressed
+        × R.can_seek coder.remainders position.0.remainders };
+
+    ghost seek_fails = { λ coder position. C.seek_fails coder.compressed position.0.compressed
+        ⊎ R.seek_fails coder.remainders position.0.remainders };
+
+    ghost sought = { λ old position new. C.sought old.compressed position.0.compressed new.compressed
+        × R.sought old.remainders position.0.remainders new.remainders
+        × (new ≡ value_of Word.number C.words R.words (Word.number position.1.0) (State.number position.1.1)
+        new.compressed new.remainders) };
+
+    ghost stays = { λ old position new. (new ≡ value_of Word.number C.words R.words old.state.h old.state.r
+        new.compressed new.remainders)
+        × ((C.stays old.compressed position.0.compressed new.compressed × (new.remainders ≡ old.remainders))
+        ⊎ (C.sought old.compressed position.0.compressed new.compressed
+        × R.stays old.remainders position.0.remainders new.remainders)) };
+
+    /// Goes to a position that was recorded before: the compressed backend first, then the remainders.
+    ///
+    /// # Errors
+    ///
+    /// `Err(())` where one of the backends refuses to go to its position. The heads stay then, and a
+    /// backend that was moved before stays moved.
+    ///
+    /// # Examples
+    ///
+    /// ```
+    /// let position = coder.pos();
+    /// let symbol = coder.decode_symbol(&table)?;
+    /// coder.seek(position);                    // Ok(()), where the compressed backend is a `Cursor`
+    /// coder.decode_symbol(&table)?;            // `symbol` again
+    /// ```
+    fn seek(
+        &mut self,
+        position: (
+            BackendPosition<C::Position, R::Position>,
+            ChainCoderHeads<Word, State, PRECISION>,
+        ),
+    ) -> Result<(), ()> {
+        let (places, heads) = position;
+        let BackendPosition {
+            compressed,
+            remainders,
+        } = places;
+        match self.compressed.seek(compressed) {
+            Ok(()) => {}
+            Err(()) => return Err(()),
+        }
+        match self.remainders.seek(remainders) {
+            Ok(()) => {}
+            Err(()) => return Err(()),
+        }
+        self.heads = heads;
+        Ok(())
+    }
+}
+
+impl<
+    Word: WordOf<State>,
+    State: BitArray,
+    C: Holds<Word, Stack> + SeeksBack,
+    R: Holds<Word, Stack> + SeeksBack,
+    const PRECISION: usize,
+> SeeksBack for ChainCoder<Word, State, C, R, PRECISION> {
+    ghost reach_law = { λ coder position stands. (
+        C.reach_law coder.compressed position.0.compressed stands.0,
+        R.reach_law coder.remainders position.0.remainders stands.1) };
+
+    ghost accept_law = { λ coder position stands fails. neither
+        (C.accept_law coder.compressed position.0.compressed stands.0)
+        (R.accept_law coder.remainders position.0.remainders stands.1) fails };
+}

@@ -1,0 +1,82 @@
+-- The words of an encoder in the order in which they are shown, the first one first.
+use Rattle.std.specs.Prelude.{replicate}
+use Rattle.std.proofs.Common.{◌≡◌, ℕ, zero, suc, ◌-◌, ◌<◌, List, [], ◌∷◌, ◌++◌, Option, None, Some, map, reverse, drop, length, refl, sym, ap, ◌∙◌, arith, append_assoc}
+use Rattle.std.proofs.lemmas.List.{map-append, reverse-append, reverse-reverse}
+use Rattle.std.specs.Int.NonZero.{non_zero_usize_get}
+use Rattle.constriction_queue.specs.declared.situation.HeldWords.{HeldWords}
+use Rattle.constriction_queue.specs.Encoder.{first_held, first_owed, owed_of, released_of, word_of}
+
+-- words that are all the same, the other way round
+one_behind : (x k : ℕ) → replicate k x ++ (x ∷ []) ≡ x ∷ replicate k x
+one_behind x zero = refl
+one_behind x (suc k) = ap (λ (ws : List ℕ). x ∷ ws) (one_behind x k)
+
+reverse_same : (x k : ℕ) → reverse (replicate k x) ≡ replicate k x
+reverse_same x zero = refl
+reverse_same x (suc k) = reverse-append (x ∷ []) (replicate k x) ∙ ap (λ (ws : List ℕ). ws ++ (x ∷ [])) (reverse_same x k) ∙ one_behind x k
+
+turned_held : {Word : Type 0} (number : Word → ℕ) (held : Option (HeldWords Word)) → reverse (released_of number held) ≡ first_held number held
+turned_held number None = refl
+turned_held number (Some h) =
+    reverse-append (replicate (non_zero_usize_get h.count - 1) (number h.others)) (number h.first ∷ [])
+    ∙ ap (λ (ws : List ℕ). number h.first ∷ ws) (reverse_same (number h.others) (non_zero_usize_get h.count - 1))
+
+turned_word : {Word : Type 0} (number : Word → ℕ) (word : Option Word) → reverse (word_of number word) ≡ word_of number word
+turned_word number None = refl
+turned_word number (Some x) = refl
+
+-- what is owed, the other way round
+pub turned_owed : {Word : Type 0} (number : Word → ℕ) (held : Option (HeldWords Word)) (top last : Option Word)
+    → reverse (owed_of number held top last) ≡ first_owed number held top last
+turned_owed number held top last =
+    let two : reverse (word_of number top ++ released_of number held) ≡ first_held number held ++ word_of number top =
+    reverse-append (word_of number top) (released_of number held)
+    ∙ ap (λ (ws : List ℕ). ws ++ reverse (word_of number top)) (turned_held number held)
+    ∙ ap (λ (ws : List ℕ). first_held number held ++ ws) (turned_word number top) in
+    reverse-append (word_of number last) (word_of number top ++ released_of number held)
+    ∙ ap (λ (ws : List ℕ). ws ++ reverse (word_of number last)) two
+    ∙ ap (λ (ws : List ℕ). (first_held number held ++ word_of number top) ++ ws) (turned_word number last)
+    ∙ append_assoc (first_held number held) (word_of number top) (word_of number last)
+
+map_reversed : {A B : Type 0} (f : A → B) (xs : List A) → map f (reverse xs) ≡ reverse (map f xs)
+map_reversed f [] = refl
+map_reversed f (x ∷ xs) =
+    ap (map f) (reverse-append (x ∷ []) xs) ∙ map-append f (reverse xs) (x ∷ []) ∙ ap (λ ys. ys ++ (f x ∷ [])) (map_reversed f xs)
+    ∙ sym (reverse-append (f x ∷ []) (map f xs))
+
+-- the words that a backend lends, and behind them what is owed
+pub shown_is : {Word : Type 0} (number : Word → ℕ) (words lent : List Word) (held : Option (HeldWords Word)) (top last : Option Word) (all : List ℕ) → words ≡ reverse lent
+    → reverse (owed_of number held top last ++ map number words) ≡ all
+    → map number lent ++ first_owed number held top last ≡ all
+shown_is number words lent held top last all is sealed_is =
+    let below : reverse (map number words) ≡ map number lent =
+    ap (λ ws. reverse (map number ws)) is ∙ ap reverse (map_reversed number lent) ∙ reverse-reverse (map number lent) in
+    ap (λ ws. map number lent ++ ws) (sym (turned_owed number held top last))
+    ∙ ap (λ ws. ws ++ reverse (owed_of number held top last)) (sym below)
+    ∙ sym (reverse-append (owed_of number held top last) (map number words)) ∙ sealed_is
+
+-- held words without the first of them
+pub others_are : {Word : Type 0} (number : Word → ℕ) (h rest : HeldWords Word) → non_zero_usize_get rest.count ≡ non_zero_usize_get h.count - 1 → 0 < non_zero_usize_get rest.count
+    → number rest.first ≡ number h.others → number rest.others ≡ number h.others
+    → first_held number (Some h) ≡ number h.first ∷ first_held number (Some rest)
+others_are number h rest count some first others =
+    let more : non_zero_usize_get h.count - 1 ≡ suc (non_zero_usize_get rest.count - 1) = omega arith in
+    rw (more, first, others) refl
+
+-- the word in front, where words that are read stand before it
+pub next_shown : {X : Type 0} (number : X → ℕ) (below : List X) (seal rest : List ℕ) (x : ℕ) → length below ≡ 0 → seal ≡ x ∷ rest → map number below ++ seal ≡ x ∷ (map number below ++ rest)
+next_shown number [] seal rest x none is = is
+next_shown number (y ∷ ys) seal rest x none is = absurd (omega (arith, none))
+
+pub none_shown : {X : Type 0} (number : X → ℕ) (below : List X) (seal : List ℕ) → length below ≡ 0 → seal ≡ [] → map number below ++ seal ≡ []
+none_shown number [] seal none is = is
+none_shown number (y ∷ ys) seal none is = absurd (omega (arith, none))
+
+-- what was put in front is taken off again
+pub drop_owed : (owed words : List ℕ) → drop (length owed) (owed ++ words) ≡ words
+drop_owed [] words = refl
+drop_owed (x ∷ owed) words = drop_owed owed words
+
+-- what was written, as a queue
+pub queue_is : {Word : Type 0} (number : Word → ℕ) {queue : List Word} (stack : List Word) {all : List ℕ} → queue ≡ reverse stack → reverse (map number stack) ≡ all → map number queue ≡ all
+queue_is number stack is sealed_is = ap (map number) is ∙ map_reversed number stack ∙ sealed_is

@@ -1,0 +1,113 @@
+//! The words of an encoder that is used again: a guard shows them, and its drop takes the seal off.
+
+ghost use Rattle.std.specs.Prelude.{◌≡◌, ◌+◌, ◌<◌, drop, length, map, reverse, IfOk, OnOk, OnErr};
+ghost use Rattle.std.specs.Borrow.{sem, RestsIfErr};
+ghost use Rattle.std.specs.contracts.vec.Vec.{the_row as vec_row};
+ghost use Rattle.constriction_queue.specs.Encoder.{HasHeads, IsEncoder, sealed_by};
+
+use crate::encoder::RangeEncoder;
+use crate::seal::sealing;
+use crate::writing::{owed_count, write_owed};
+use constriction_base::backends::{Holds, Stack, WriteWords, take_back};
+use constriction_words::{BitArray, WordOf};
+use std::alloc::{AllocError, Allocator, Global};
+use std::fmt;
+
+/// An encoder whose held words and seal were written onto its vector, and are taken off again when this is
+/// dropped. [`RangeEncoder::get_compressed`] makes it.
+///
+/// The drop takes no memory. A guard that is forgotten leaves its words behind.
+pub struct EncoderGuard<'a, Word: WordOf<State>, State: BitArray, A: Allocator = Global> {
+    pub(crate) inner: &'a mut RangeEncoder<Word, State, Vec<Word, A>>,
+    pub(crate) count: usize,
+}
+
+impl<'a, Word: WordOf<State>, State: BitArray, A: Allocator> EncoderGuard<'a, Word, State, A> {
+    ghost use Rattle.constriction_queue.specs.Guarded.{lender, lent_by};
+
+    /// The words that [`RangeEncoder::into_compressed`] would give.
+    pub fn words(&self) -> &[Word]
+        ensures words { result.now ≡ lent_by self.now }
+        ensures shows { map Word.number result.now ≡ reverse (lender self.now).now.words }
+        ensures coder { IsEncoder Word.number (⟦<Vec<Word, A> as Holds<Word, Stack>>⟧.words) Word.BITS State.BITS (lender self.now).now }
+    {
+        let inner: &RangeEncoder<Word, State, Vec<Word, A>> = &*self.inner;
+        inner.bulk.as_slice()
+    }
+}
+
+impl<Word: WordOf<State>, State: BitArray, A: Allocator> Drop for EncoderGuard<'_, Word, State, A> {
+    ghost use Rattle.constriction_queue.specs.Guarded.{lender, lent_back, written};
+
+    /// Takes the words off that were written.
+    fn drop(self)
+        ensures heads { HasHeads (lender self.entry).now (lent_back self.exit).now }
+        ensures restored { (lent_back self.exit).now.words ≡ drop (written self.entry) (lender self.entry).now.words }
+    {
+        let EncoderGuard { inner, count } = self;
+        take_back::<Word, Vec<Word, A>>(&mut inner.bulk, count);
+    }
+}
+
+impl<Word: WordOf<State> + fmt::Debug, State: BitArray, A: Allocator> fmt::Debug
+    for EncoderGuard<'_, Word, State, A> {
+    /// The list of the words.
+    fn fmt<W: fmt::Write>(&self, f: &mut fmt::Formatter<W>) -> fmt::Result {
+        f.debug_list().entries(self.words().iter()).finish()
+    }
+}
+
+impl<Word: WordOf<State>, State: BitArray, A: Allocator> RangeEncoder<Word, State, Vec<Word, A>> {
+    /// Writes the held words and the seal onto the vector, and keeps the interval and the situation. Returns
+    /// how many they are.
+    pub(crate) fn put_seal(&mut self) -> Result<usize, AllocError>
+        ensures shows { OnOk result (reverse self.new.words ≡ sealed_by Word.BITS State.BITS self.old) }
+        ensures back { IfOk result (λ count. drop count self.new.words ≡ self.old.words) }
+        ensures heads { HasHeads self.old self.new }
+        ensures kept { OnErr result (self.new.words ≡ self.old.words) }
+        ensures coder { IsEncoder Word.number (⟦<Vec<Word, A> as Holds<Word, Stack>>⟧.words) Word.BITS State.BITS self.new }
+        ensures room { OnErr result (⟦<Vec<Word, A> as WriteWords<Word>>⟧.room self.old.bulk + length self.old.words
+            < length (sealed_by Word.BITS State.BITS self.old)) }
+    {
+        let seal = sealing(self.state, self.situation);
+        let count = owed_count(&seal.held, &seal.point, &seal.zero);
+        match write_owed(&mut self.bulk, seal.held, seal.point, seal.zero) {
+            Ok(()) => {}
+            Err(error) => return Err(error),
+        }
+        Ok(count)
+    }
+}
+
+impl<Word: WordOf<State>, State: BitArray, A: Allocator> RangeEncoder<Word, State, Vec<Word, A>> {
+    ghost use Rattle.constriction_queue.specs.contracts.encoder.RangeEncoder.{the_row};
+    ghost use Rattle.constriction_queue.specs.Guarded.{lender, written};
+
+    /// The words that [`RangeEncoder::into_compressed`] would give, for as long as the guard lives: those
+    /// written and held, and the seal. When the guard is dropped, the encoder is as before.
+    ///
+    /// # Errors
+    /// Want of memory, where the vector had to grow. The encoder is as before.
+    ///
+    /// ```
+    /// {
+    ///     let guard = encoder.get_compressed()?;
+    ///     send(guard.words());
+    /// }
+    /// encoder.encode_symbol(&2, &table)?; // goes on as if its words had not been looked at
+    /// ```
+    pub fn get_compressed(&mut self) -> Result<EncoderGuard<'_, Word, State, A>, AllocError>
+        ensures same_reference { IfOk result (λ g. (lender g).ghost_name ≡ self.entry.ghost_name) }
+        ensures shows { IfOk result (λ g. reverse (lender g).now.words ≡ sealed_by Word.BITS State.BITS self.old) }
+        ensures back { IfOk result (λ g. drop (written g) (lender g).now.words ≡ self.old.words) }
+        ensures heads { IfOk result (λ g. HasHeads self.old (lender g).now) }
+        ensures room { OnErr result (⟦<Vec<Word, A> as WriteWords<Word>>⟧.room self.old.bulk + length self.old.words
+            < length (sealed_by Word.BITS State.BITS self.old)) }
+        ensures* kept { sem 𝓛 (RestsIfErr (the_row Word.row State.row (vec_row Word.row A.row A.Allocator) Word.NonZero.row State.NonZero.row Word.BitArray State.BitArray ⟦<Vec<Word, A> as Holds<Word, Stack>>⟧)
+            self.entry (λ g. (lender g).ghost_name) result
+            (λ after. HasHeads self.old after × (after.words ≡ self.old.words))) }
+    {
+        let count = self.put_seal()?;
+        Ok(EncoderGuard { inner: self, count })
+    }
+}

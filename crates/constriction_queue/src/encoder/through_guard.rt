@@ -1,0 +1,103 @@
+//! Reading the words that a guard lends: a guard as a buffer of a cursor, and a decoder over it.
+
+ghost use Rattle.std.specs.Prelude.{◌≡◌, ◌+◌, ◌<◌, drop, length, reverse, IfOk, OnErr};
+ghost use Rattle.constriction_queue.specs.Encoder.{HasHeads, sealed_by};
+ghost use Rattle.constriction_queue.specs.Decoder.{IsDecoder};
+ghost use Rattle.constriction_queue.specs.Range.{IsAt, start};
+
+use crate::decoder::RangeDecoder;
+use crate::encoder::RangeEncoder;
+use crate::encoder::guard::EncoderGuard;
+use crate::reading::read_point;
+use crate::state::RangeCoderState;
+use constriction_base::backends::{
+    Holds, IntoReadWords, IntoSeekReadWords, Queue, Stack, Words, WriteWords,
+};
+use constriction_base::cursor::Cursor;
+use constriction_words::{BitArray, WordOf};
+use std::alloc::{AllocError, Allocator};
+
+impl<'a, Word: WordOf<State>, State: BitArray, A: Allocator> Words<Word>
+    for EncoderGuard<'a, Word, State, A> {
+    ghost use Rattle.constriction_queue.specs.Guarded.{lent_by};
+
+    ghost lent = { λ g. lent_by g };
+
+    fn words(&self) -> &[Word] {
+        self.words()
+    }
+}
+
+impl<'a, Word: WordOf<State>, State: BitArray, A: Allocator> Holds<Word, Queue>
+    for EncoderGuard<'a, Word, State, A> {
+    ghost use Rattle.constriction_queue.specs.Guarded.{lent_by};
+
+    ghost words = { λ g. lent_by g };
+
+    ghost is_list = { Unit {0} };
+}
+
+impl<'a, Word: WordOf<State>, State: BitArray, A: Allocator> IntoReadWords<Word, Queue>
+    for EncoderGuard<'a, Word, State, A> {
+    type IntoReadWords = Cursor<Word, EncoderGuard<'a, Word, State, A>>;
+
+    ghost becomes = { λ old new. (new.buf ≡ old) × (new.pos ≡ 0) };
+
+    fn into_read_words(self) -> Cursor<Word, EncoderGuard<'a, Word, State, A>> {
+        Cursor::new_at_write_beginning(self)
+    }
+}
+
+impl<'a, Word: WordOf<State>, State: BitArray, A: Allocator> IntoSeekReadWords<Word, Queue>
+    for EncoderGuard<'a, Word, State, A> {
+    type IntoSeekReadWords = Cursor<Word, EncoderGuard<'a, Word, State, A>>;
+
+    ghost becomes = { λ old new. (new.buf ≡ old) × (new.pos ≡ 0) };
+
+    fn into_seek_read_words(self) -> Cursor<Word, EncoderGuard<'a, Word, State, A>> {
+        Cursor::new_at_write_beginning(self)
+    }
+}
+
+impl<Word: WordOf<State>, State: BitArray, A: Allocator> RangeEncoder<Word, State, Vec<Word, A>> {
+    ghost use Rattle.constriction_queue.specs.Guarded.{lender, written};
+
+    /// A decoder of the words that [`RangeEncoder::into_compressed`] would give, through a guard. When the
+    /// decoder is dropped, the encoder is as before.
+    ///
+    /// # Errors
+    /// Want of memory, where the vector had to grow. The encoder is as before.
+    ///
+    /// ```
+    /// {
+    ///     let mut decoder = encoder.decoder()?;
+    ///     decoder.decode_symbol(&table)?; // what was encoded first
+    /// }
+    /// encoder.encode_symbol(&2, &table)?; // goes on behind what was encoded last
+    /// ```
+    pub fn decoder(
+        &mut self,
+    ) -> Result<
+        RangeDecoder<Word, State, Cursor<Word, EncoderGuard<'_, Word, State, A>>>,
+        AllocError,
+    >
+        ensures same_reference { IfOk result (λ d. (lender d.bulk.buf).ghost_name ≡ self.entry.ghost_name) }
+        ensures ok { IfOk result (λ d. IsAt Word.BITS State.BITS (sealed_by Word.BITS State.BITS self.old) (start State.BITS) d.lower d.range d.point d.words) }
+        ensures back { IfOk result (λ d. drop (written d.bulk.buf) (lender d.bulk.buf).now.words ≡ self.old.words) }
+        ensures heads { IfOk result (λ d. HasHeads self.old (lender d.bulk.buf).now) }
+        ensures room { OnErr result (⟦<Vec<Word, A> as WriteWords<Word>>⟧.room self.old.bulk + length self.old.words
+            < length (sealed_by Word.BITS State.BITS self.old)) }
+    {
+        let _ = &self.bulk;
+        let count = self.put_seal()?;
+        let mut bulk = Cursor::new_at_write_beginning(EncoderGuard { inner: self, count });
+        match read_point::<Word, State, Cursor<Word, EncoderGuard<'_, Word, State, A>>>(&mut bulk) {
+            Ok(point) => Ok(RangeDecoder {
+                bulk,
+                state: RangeCoderState::start(),
+                point,
+            }),
+            Err(never) => match never {},
+        }
+    }
+}

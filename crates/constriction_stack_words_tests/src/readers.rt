@@ -1,0 +1,178 @@
+//! Coders over borrowed words, over words in reverse, and over iterators; clones.
+
+ghost use Rattle.constriction_base.specs.Steps.{IsSizes};
+
+use crate::coders::{HeapCoder, coder_with, table_of};
+use crate::expect::{has_head, holds, puts};
+use crate::script::Below;
+use constriction_base::backends::{Pos, WriteWords};
+use constriction_base::cursor::Cursor;
+use constriction_base::iterators::FallibleIteratorReadWords;
+use constriction_base::reverse::Reverse;
+use constriction_base::weights::WeightTable;
+use constriction_stack::coder::words::CompressedDataEndsWithZeroWord;
+use constriction_stack::{AnsCoder, DefaultAnsCoder};
+use constriction_words::{BitArray, WordOf};
+use linked_list_allocator::LocalHeap;
+use std::test::Fail;
+
+/// Where the coder of a slice's words stands, and its head.
+fn of_slice<State>(words: &[u8]) -> Result<(usize, State), CompressedDataEndsWithZeroWord>
+where
+    u8: WordOf<State>,
+    State: BitArray,
+    requires { IsSizes 8 State.BITS }
+{
+    match AnsCoder::<u8, State, Cursor<u8, &[u8]>>::from_compressed_slice(words) {
+        Ok(coder) => Ok(coder.pos()),
+        Err(error) => Err(error),
+    }
+}
+
+/// The same of words in reverse, or the words again where they are refused.
+fn of_reversed<State>(words: &[u8]) -> Result<(usize, State), &[u8]>
+where
+    u8: WordOf<State>,
+    State: BitArray,
+    requires { IsSizes 8 State.BITS }
+{
+    match AnsCoder::<u8, State, Reverse<Cursor<u8, &[u8]>>>::from_reversed_compressed(words) {
+        Ok(coder) => Ok(coder.pos()),
+        Err(rest) => Err(rest),
+    }
+}
+
+/// The same of a slice in the binary form.
+fn of_binary_slice<State>(words: &[u8]) -> (usize, State)
+where
+    u8: WordOf<State>,
+    State: BitArray,
+    requires { IsSizes 8 State.BITS }
+{
+    AnsCoder::<u8, State, Cursor<u8, &[u8]>>::from_binary_slice(words).pos()
+}
+
+/// The same of words in reverse in the binary form.
+fn of_reversed_binary<State>(words: &[u8]) -> (usize, State)
+where
+    u8: WordOf<State>,
+    State: BitArray,
+    requires { IsSizes 8 State.BITS }
+{
+    AnsCoder::<u8, State, Reverse<Cursor<u8, &[u8]>>>::from_reversed_binary(words).pos()
+}
+
+#[test]
+fn slices_of_words(rt: HostRuntime) {
+    assert!(rt;
+        of_slice::<u16>(&[7, 0]).is_err()
+            && of_binary_slice::<u16>(&[5, 0]) == (1, 256)
+            && of_reversed_binary::<u16>(&[0, 5]) == (1, 256)
+            && matches!(of_reversed::<u16>(&[0, 7]), Err(rest) if rest == [0u8, 7].as_slice())
+    );
+}
+
+#[test]
+fn slices_of_words_of_a_head_of_four(rt: HostRuntime) {
+    assert!(rt;
+        of_slice::<u32>(&[7, 0]).is_err()
+            && matches!(of_slice::<u32>(&[1, 2, 3, 4, 5, 6, 7]), Ok((3, 117835012)))
+            && of_binary_slice::<u32>(&[5, 0, 1, 2, 3]) == (2, 16974337)
+            && of_reversed_binary::<u32>(&[3, 2, 1, 0, 5]) == (3, 16974337)
+            && matches!(
+                of_reversed::<u32>(&[7, 6, 5, 4, 3, 2, 1]),
+                Ok((4, 117835012))
+            )
+            && matches!(of_reversed::<u32>(&[0, 7]), Err(rest) if rest == [0u8, 7].as_slice())
+    );
+}
+
+#[test]
+fn ans_reversed_iterators(rt: HostRuntime) -> Result<(), Fail> {
+    let Err(mut rest) = AnsCoder::<
+        u8,
+        u16,
+        FallibleIteratorReadWords<_>,
+    >::from_reversed_compressed_iter([Ok(5u8), Err('e')].into_iter()) else {
+        return Err(Fail::from("an error was read"));
+    };
+    assert!(rt; rest.next().is_none());
+    let answer = AnsCoder::<u32, u128, FallibleIteratorReadWords<_>>::from_reversed_binary_iter([
+        Ok(0u32),
+        Err('e'),
+    ].into_iter());
+    assert!(rt; matches!(answer, Err('e')));
+    let Ok(coder) = AnsCoder::<u32, u64, FallibleIteratorReadWords<_>>::from_reversed_binary_iter([
+        Ok(0u32),
+        Err('e'),
+    ].into_iter()) else {
+        return Err(Fail::from("the head is full"));
+    };
+    assert!(rt; has_head(&coder, 4294967296));
+    let Ok(coder) = AnsCoder::<
+        u8,
+        u16,
+        FallibleIteratorReadWords<_>,
+    >::from_reversed_compressed_iter([Ok(5u8), Ok(4), Err('e')].into_iter()) else {
+        return Err(Fail::from("the head is full"));
+    };
+    assert!(rt; has_head(&coder, 1284));
+    Ok(())
+}
+
+#[test]
+fn the_words_of_a_coder_that_stays(rt: HostRuntime) -> Result<(), Fail> {
+    let coder: DefaultAnsCoder = coder_with([9u32].to_vec(rt.alloc())?, 4294967297);
+    let mut words = coder.iter_compressed();
+    for word in [Some(9u32), Some(1), Some(1), None, None] {
+        assert!(rt; words.next() == word);
+    }
+    Ok(())
+}
+
+#[test]
+fn the_text_of_a_coder(rt: HostRuntime) -> Result<(), Fail> {
+    let coder: DefaultAnsCoder = coder_with([9u32].to_vec(rt.alloc())?, 4294967297);
+    let none: DefaultAnsCoder = coder_with(Vec::new(rt.alloc()), 0);
+    let text = format!(in rt.alloc(); "{:?} {:?}", coder, none)?;
+    assert_eq!(rt; text.as_str(), "[9, 1, 1] []");
+    Ok(())
+}
+
+/// From when a coder is cloned on, it and the clone part.
+fn parts<Backend>(
+    coder: &mut AnsCoder<u8, u16, Backend>,
+    clone: &AnsCoder<u8, u16, Backend>,
+    table: &WeightTable<u8, 8>,
+) -> bool
+where
+    Backend: WriteWords<u8> + Below<u8>,
+    Backend::WriteError: Drop,
+{
+    holds(clone, 65535, &[7])
+        && puts(coder, table, &[(1, 65535)])
+        && holds(coder, 65535, &[7, 255])
+        && holds(clone, 65535, &[7])
+}
+
+#[test]
+fn a_clone_parts_from_its_coder(rt: HostRuntime) -> Result<(), Fail> {
+    let table = table_of(rt.alloc(), &[255, 1])?;
+    let mut coder: AnsCoder<u8, u16> = coder_with([7u8].to_vec(rt.alloc())?, 65535);
+    let clone = coder.clone()?;
+    assert!(rt; parts(&mut coder, &clone, &table));
+    Ok(())
+}
+
+/// The coder's word takes 16 bytes of the heap, and the rest is full.
+#[test]
+fn a_full_heap_refuses_a_clone(rt: HostRuntime) -> Result<(), Fail> {
+    let heap = LocalHeap::new(rt.alloc(), 512)?;
+    let coder: HeapCoder<'_> = coder_with([7u8].to_vec(&heap)?, 515);
+    let filler: Vec<u8, &LocalHeap> = Vec::with_capacity(&heap, 496)?;
+    let is_refused = coder.clone().is_err();
+    drop(filler);
+    let clone = coder.clone()?;
+    assert!(rt; is_refused && holds(&clone, 515, &[7]) && holds(&coder, 515, &[7]));
+    Ok(())
+}
