@@ -72,14 +72,13 @@ where
 fn a_queue_is_read(rt: HostRuntime) -> Result<(), Fail> {
     let mut coder: DefaultQueueEncoder = DefaultQueueEncoder::with_bit_capacity(rt.alloc(), 40)?;
     let mut other: DefaultQueueEncoder = DefaultQueueEncoder::with_bit_capacity(rt.alloc(), 0)?;
-    let is_written = queue_len(&coder, 0) && writes::<Queue, _>(&mut coder, b"101").is_ok()
+    let is_written = queue_len(&coder, 0)
+        && writes::<Queue, _>(&mut coder, b"101").is_ok()
         && writes::<Queue, _>(&mut other, b"101").is_ok()
         && queue_len(&other, 3);
     let mut decoder = coder.into_decoder()?;
     let mut bits = other.into_overshooting_iter()?;
-    assert!(rt;
-        is_written && reads_queue(&mut decoder, WORD) && iterates_queue(&mut bits, WORD)
-    );
+    assert!(rt; is_written && reads_queue(&mut decoder, WORD) && iterates_queue(&mut bits, WORD));
     Ok(())
 }
 
@@ -87,7 +86,8 @@ fn a_queue_is_read(rt: HostRuntime) -> Result<(), Fail> {
 #[test]
 fn a_stack_is_read(rt: HostRuntime) -> Result<(), Fail> {
     let mut coder: DefaultStackCoder = DefaultStackCoder::with_bit_capacity(rt.alloc(), 40)?;
-    let is_written = stack_len(&coder, 0) && writes::<Stack, _>(&mut coder, b"1011").is_ok()
+    let is_written = stack_len(&coder, 0)
+        && writes::<Stack, _>(&mut coder, b"1011").is_ok()
         && stack_len(&coder, 4);
     let mut lent = coder.as_decoder();
     let mut bits = coder.iter();

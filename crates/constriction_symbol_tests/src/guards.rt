@@ -34,13 +34,15 @@ fn shows_stack<Word: BitArray + PartialEq, A: Allocator>(
 fn queue_bits(rt: HostRuntime) -> Result<(), Fail> {
     let empty: DefaultStackCoder = DefaultStackCoder::with_bit_capacity(rt.alloc(), 40)?;
     let mut coder: DefaultQueueEncoder = DefaultQueueEncoder::with_bit_capacity(rt.alloc(), 40)?;
-    let is_shown = stack_len(&empty, 0) && writes::<Queue, _>(&mut coder, b"101").is_ok()
+    let is_shown = stack_len(&empty, 0)
+        && writes::<Queue, _>(&mut coder, b"101").is_ok()
         && queue_len(&coder, 3)
         && matches!(shows_queue(&mut coder, &[5]), Ok(true))
         && queue_len(&coder, 3);
     let mut bits = coder.into_overshooting_iter()?;
     assert!(rt;
-        is_shown && gives::<Queue, _>(&mut bits, b"101")
+        is_shown
+            && gives::<Queue, _>(&mut bits, b"101")
             && gives_many::<Queue, _>(&mut bits, false, 29)
             && ends::<Queue, _>(&mut bits)
     );
@@ -53,9 +55,7 @@ fn stack_bits(rt: HostRuntime) -> Result<(), Fail> {
     let is_shown = writes::<Stack, _>(&mut coder, b"101").is_ok()
         && matches!(shows_stack(&mut coder, &[13]), Ok(true));
     let mut bits = coder.into_iterator();
-    assert!(rt;
-        is_shown && gives::<Stack, _>(&mut bits, b"101") && ends::<Stack, _>(&mut bits)
-    );
+    assert!(rt; is_shown && gives::<Stack, _>(&mut bits, b"101") && ends::<Stack, _>(&mut bits));
     Ok(())
 }
 
@@ -84,12 +84,12 @@ fn guards_of_full_words(rt: HostRuntime) -> Result<(), Fail> {
 fn a_full_heap_refuses_guards(rt: HostRuntime) -> Result<(), Fail> {
     let heap = LocalHeap::new(rt.alloc(), 512)?;
     let filler: Vec<u8, &LocalHeap> = Vec::with_capacity(&heap, 512)?;
-    let mut queue: QueueEncoder<u8, Vec<u8, &LocalHeap>> = QueueEncoder::from_compressed(
-        Vec::new(&heap),
-    );
-    let mut stack: StackCoder<u8, Vec<u8, &LocalHeap>> = match StackCoder::from_compressed(
-        Vec::new(&heap),
-    ) {
+    let mut queue: QueueEncoder<u8, Vec<u8, &LocalHeap>> = QueueEncoder::from_compressed(Vec::new(
+        &heap,
+    ));
+    let mut stack: StackCoder<u8, Vec<u8, &LocalHeap>> = match StackCoder::from_compressed(Vec::new(
+        &heap,
+    )) {
         Ok(coder) => coder,
         Err(_) => return Err(Fail::from("no empty stack")),
     };
@@ -99,7 +99,8 @@ fn a_full_heap_refuses_guards(rt: HostRuntime) -> Result<(), Fail> {
         && shows_stack(&mut stack, &[205, 1]).is_err();
     drop(filler);
     assert!(rt;
-        are_refused && matches!(shows_queue(&mut queue, &[5]), Ok(true))
+        are_refused
+            && matches!(shows_queue(&mut queue, &[5]), Ok(true))
             && matches!(shows_stack(&mut stack, &[205, 1]), Ok(true))
             && gives::<Stack, _>(&mut stack, b"11001101")
             && ends::<Stack, _>(&mut stack)

@@ -24,6 +24,8 @@ mod decoders;
 #[cfg(test)]
 mod golomb;
 #[cfg(test)]
+mod guards;
+#[cfg(test)]
 mod lists;
 #[cfg(test)]
 mod memory;
