@@ -73,13 +73,9 @@ fn chain_there_and_back(rt: HostRuntime) -> Result<(), Fail> {
     Ok(())
 }
 
-/// Whether the second symbol is 1 under its table, after one under a first table.
-fn second_is_one(
-    coder: &mut Vecs<u8, u16, 4>,
-    first: &WeightTable<u8, 4>,
-    second: &WeightTable<u8, 4>,
-) -> bool {
-    let mut given = coder.decode_symbols([first, second]);
+/// Whether two symbols come, each under its own table, the second of which is 1.
+fn second_is_one(coder: &mut Vecs<u8, u16, 4>, tables: Vec<&WeightTable<u8, 4>>) -> bool {
+    let mut given = coder.decode_symbols(tables);
     matches!(given.next(), Some(Ok(_)))
         && matches!(given.next(), Some(Ok(1)))
         && given.next().is_none()
@@ -93,8 +89,9 @@ fn chain_isolation_of_tables(rt: HostRuntime) -> Result<(), Fail> {
     let coder: Vecs<u8, u16, 4> = coder_of(rt.alloc(), [0xABu8, 0x12].to_vec(rt.alloc())?)?;
     for weights in [[5u8, 11], [1, 15], [15, 1]] {
         let first: WeightTable<u8, 4> = table_of(rt.alloc(), &weights)?;
+        let tables = vec![in rt.alloc(); &first, &ten]?;
         let mut other = coder.clone()?;
-        assert!(rt; second_is_one(&mut other, &first, &ten));
+        assert!(rt; second_is_one(&mut other, tables));
     }
     Ok(())
 }

@@ -94,17 +94,17 @@ where
     }
 }
 
-/// Reads two numbers by two codebooks, and a third one that wasn't asked for.
+/// Reads two numbers by two codebooks, and no third one.
 fn takes_two<S: Semantics, Stream: ReadBitStream<S>>(
     stream: &mut Stream,
+    codebooks: Vec<&ExpGolomb<u8>>,
     first: u8,
     second: u8,
 ) -> bool
 where
     Stream::ReadError: Drop,
 {
-    let codebook = ExpGolomb::<u8>::new();
-    let mut given = stream.decode_symbols([&codebook, &codebook]);
+    let mut given = stream.decode_symbols(codebooks);
     given.size_hint() == (2, Some(2))
         && matches!(given.next(), Some(Ok(found)) if found == first)
         && matches!(given.next(), Some(Ok(found)) if found == second)
@@ -119,6 +119,7 @@ fn lists_in_a_queue(rt: HostRuntime) -> Result<(), Fail> {
     let are_written = matches!(puts_list::<Queue, _>(&mut coder, &[0, 5]), Put::Done)
         && matches!(puts_pairs::<Queue, _>(&mut coder, pairs), Put::Done);
     let words = [25u8, 64, 0, 192, 63, 66];
+    let two = vec![in rt.alloc(); &codebook, &codebook]?;
     let mut decoder = word_queue(words.as_slice());
     assert!(rt;
         are_written
@@ -127,7 +128,7 @@ fn lists_in_a_queue(rt: HostRuntime) -> Result<(), Fail> {
                 takes_list::<Queue, _>(&mut decoder, &[0, 5, 255]),
                 Took::All
             )
-            && takes_two::<Queue, _>(&mut decoder, 254, 7)
+            && takes_two::<Queue, _>(&mut decoder, two, 254, 7)
             && matches!(
                 takes_list::<Queue, _>(&mut decoder, &[1, 0]),
                 Took::OutOfData
@@ -143,11 +144,12 @@ fn lists_on_a_stack(rt: HostRuntime) -> Result<(), Fail> {
     let mut coder: StackCoder<u8> = StackCoder::new(rt.alloc());
     let are_written = matches!(puts_list::<Stack, _>(&mut coder, &[0, 5]), Put::Done)
         && matches!(puts_pairs::<Stack, _>(&mut coder, pairs), Put::Done);
+    let two = vec![in rt.alloc(); &codebook, &codebook]?;
     let mut decoder = coder.as_decoder();
     let are_read = matches!(
         takes_list::<Stack, _>(&mut decoder, &[1, 7, 254]),
         Took::All
-    ) && takes_two::<Stack, _>(&mut decoder, 255, 5)
+    ) && takes_two::<Stack, _>(&mut decoder, two, 255, 5)
         && matches!(
             takes_list::<Stack, _>(&mut decoder, &[0, 0]),
             Took::OutOfData
