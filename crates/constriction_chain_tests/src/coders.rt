@@ -1,5 +1,6 @@
 //! The coders that tests begin with, and the tables.
 
+ghost use Rattle.std.specs.Prelude.{◌≤◌};
 ghost use Rattle.constriction_chain.specs.Chain.{IsSized};
 
 use constriction_base::backends::{ReadWords, Stack};

@@ -1,7 +1,5 @@
 //! Steps and lists that encode symbols, and what they answer, for any coder that knows no limit.
 
-ghost use Rattle.std.specs.Prelude.{⊥};
-
 use constriction_base::errors::CoderError;
 use constriction_base::weights::WeightTable;
 use constriction_chain::errors::{BackendError, EncoderFrontendError};

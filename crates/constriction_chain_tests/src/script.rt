@@ -1,7 +1,5 @@
 //! What a test does with a coder, act by act, and what it expects of each.
 
-ghost use Rattle.std.specs.Prelude.{⊥};
-
 use crate::put::{Call, Put, put_by};
 use crate::shown::Shown;
 use crate::take::{Took, Way, take_by};
