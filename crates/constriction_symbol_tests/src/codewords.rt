@@ -1,0 +1,74 @@
+//! Symbols written to streams and read from them by Exp-Golomb codewords.
+
+use constriction_base::backends::Semantics;
+use constriction_base::errors::CoderError;
+use constriction_symbol::codebooks::{BitOrder, SymbolCodeError};
+use constriction_symbol::exp_golomb::{ExpGolomb, InvalidCodeword};
+use constriction_symbol::reading::ReadBitStream;
+use constriction_symbol::writing::WriteBitStream;
+use constriction_words::BitArray;
+
+/// What a call that writes symbols answers.
+#[derive(Drop)]
+pub enum Put<E> {
+    Done,
+    Unknown,
+    Refused(E),
+}
+
+/// Writes the codewords of symbols, up to the first that is refused.
+pub fn puts<S: BitOrder, Stream: WriteBitStream<S>, N: BitArray>(
+    stream: &mut Stream,
+    symbols: &[N],
+) -> Put<Stream::WriteError> {
+    for symbol in symbols {
+        match stream.encode_symbol(symbol, ExpGolomb::<N>::new()) {
+            Ok(()) => {}
+            Err(CoderError::Frontend(_)) => return Put::Unknown,
+            Err(CoderError::Backend(error)) => return Put::Refused(error),
+        }
+    }
+    Put::Done
+}
+
+/// What a call that reads symbols answers.
+#[derive(Drop)]
+pub enum Took<E> {
+    /// All symbols came.
+    All,
+    /// Another symbol came.
+    Other,
+    OutOfData,
+    Invalid,
+    Refused(E),
+}
+
+/// What an error says.
+pub fn refusal_of<E>(error: CoderError<SymbolCodeError<InvalidCodeword>, E>) -> Took<E> {
+    match error {
+        CoderError::Frontend(SymbolCodeError::OutOfCompressedData) => Took::OutOfData,
+        CoderError::Frontend(SymbolCodeError::InvalidCodeword(InvalidCodeword)) => Took::Invalid,
+        CoderError::Backend(error) => Took::Refused(error),
+    }
+}
+
+/// Reads symbols, up to the first that is refused or another one.
+pub fn takes<S: Semantics, Stream: ReadBitStream<S>, N: BitArray + PartialEq>(
+    stream: &mut Stream,
+    symbols: &[N],
+) -> Took<Stream::ReadError>
+where
+    Stream::ReadError: Drop,
+{
+    for symbol in symbols {
+        match stream.decode_symbol(ExpGolomb::<N>::new()) {
+            Ok(found) => {
+                if found != *symbol {
+                    return Took::Other;
+                }
+            }
+            Err(error) => return refusal_of(error),
+        }
+    }
+    Took::All
+}
