@@ -125,10 +125,7 @@ impl<Word: WordOf<State>, State: BitArray, Backend: Holds<Word, Stack>> RangeEnc
     /// Whether words are held back exactly while the interval reaches over the greatest state, the first of
     /// them isn't all ones, the interval isn't that of an encoder without symbols, and their number leaves
     /// room for a seal in a `usize`. Then [`RangeEncoder::from_raw_parts`] can be asked for.
-    pub fn parts_fit(
-        state: RangeCoderState<Word, State>,
-        situation: EncoderSituation<Word>,
-    ) -> bool
+    pub fn parts_fit(state: RangeCoderState<Word, State>, situation: EncoderSituation<Word>) -> bool
         ensures { IsTrue result ↔ PartsFit Word.number Word.BITS State.BITS situation (lower_of state) (range_of state) }
     {
         let over = reaches_over(state.lower(), state.length());
@@ -169,7 +166,11 @@ impl<Word: WordOf<State>, State: BitArray, Backend: Holds<Word, Stack>> RangeEnc
     #[inline]
     pub fn into_raw_parts(
         self,
-    ) -> (Backend, RangeCoderState<Word, State>, EncoderSituation<Word>)
+    ) -> (
+        Backend,
+        RangeCoderState<Word, State>,
+        EncoderSituation<Word>,
+    )
         ensures parts { self ≡ encoder_of Word.number Backend.words Word.BITS (lower_of result.1) (range_of result.1) result.0 result.2 }
         ensures fit { PartsFit Word.number Word.BITS State.BITS result.2 (lower_of result.1) (range_of result.1) }
         ensures coder { IsEncoder Word.number Backend.words Word.BITS State.BITS self }

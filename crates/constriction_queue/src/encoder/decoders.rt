@@ -48,9 +48,9 @@ impl<
             Ok(all) => all,
             Err(error) => return Err(ReadWriteError::Write(error)),
         };
-        match RangeDecoder::<Word, State, Backend::IntoReadWords>::with_backend(
-            written_to_queue(all),
-        ) {
+        match RangeDecoder::<Word, State, Backend::IntoReadWords>::with_backend(written_to_queue(
+            all,
+        )) {
             Ok(decoder) => Ok(decoder),
             Err(error) => Err(ReadWriteError::Read(error)),
         }
@@ -102,7 +102,10 @@ impl<
 > TryFrom<RangeEncoder<Word, State, Backend>>
     for RangeDecoder<Word, State, <Backend as IntoReadWords<Word, Queue>>::IntoReadWords> {
     type Error = ReadWriteError<
-        <<Backend as IntoReadWords<Word, Queue>>::IntoReadWords as ReadWords<Word, Queue>>::ReadError,
+        <<Backend as IntoReadWords<Word, Queue>>::IntoReadWords as ReadWords<
+            Word,
+            Queue,
+        >>::ReadError,
         Backend::WriteError,
     >;
 

@@ -23,12 +23,12 @@ returns-in-Ok-clause-reads g c =
     let reads = c.in-Ok.ensures.reads in
     elim reads [
       | inl read ↦ inl (
-          rw range at read.0,
-          (read.1.0, read.1.1, λ ws r rest h. read.1.2 ws (cut _ r) rest (at_cut _ _ _ _ _ ws r _ _ _ _ _ _ _ scale lower c.times-range.ensures h)),
-        )
+        rw range at read.0,
+        (read.1.0, read.1.1, λ ws r rest h. read.1.2 ws (cut _ r) rest (at_cut _ _ _ _ _ ws r _ _ _ _ _ _ _ scale lower c.times-range.ensures h)),
+      )
       | inr none ↦ inr (
-          λ owes. none.0 (rw (← range) at owes),
-          none.1,
-          λ ws r rest h. none.2 ws (cut _ r) rest (at_cut _ _ _ _ _ ws r _ _ _ _ _ _ _ scale lower c.times-range.ensures h),
-        )
+        λ owes. none.0 (rw (← range) at owes),
+        none.1,
+        λ ws r rest h. none.2 ws (cut _ r) rest (at_cut _ _ _ _ _ ws r _ _ _ _ _ _ _ scale lower c.times-range.ensures h),
+      )
     ]

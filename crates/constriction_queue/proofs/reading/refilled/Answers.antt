@@ -58,9 +58,12 @@ returns-clause-reads g c =
     let lower = rw (c.low_bits.ensures, c.BITS.ensures, c.BITS-2.ensures, c.BITS-3.ensures) at c.shifted_left-lower.ensures in
     let range = rw c.BITS-4.ensures at c.shifted_left-range.ensures in
     let point = rw (c.shifted_left.ensures, c.low_bits-2.ensures, c.BITS.ensures, c.BITS-2.ensures, c.BITS-5.ensures, c.widen.ensures) at c.plus-point.ensures in
-    inl (short, (
-      g.Word.BitArray.number c.in-Ok.word,
-      c.in-Ok.ensures.reads,
-      λ ws r rest h. rw (c.long-2.ensures.lower, c.long-2.ensures.range)
-      (at_short _ _ ws r _ _ _ _ _ _ _ (g.Word.BitArray.number c.in-Ok.word ∷ rest) rest (omega arith) (g.met.Word.BitArray.number_law _) short lower range point refl refl h),
-    ))
+    inl (
+      short,
+      (
+        g.Word.BitArray.number c.in-Ok.word,
+        c.in-Ok.ensures.reads,
+        λ ws r rest h. rw (c.long-2.ensures.lower, c.long-2.ensures.range)
+            (at_short _ _ ws r _ _ _ _ _ _ _ (g.Word.BitArray.number c.in-Ok.word ∷ rest) rest (omega arith) (g.met.Word.BitArray.number_law _) short lower range point refl refl h),
+      ),
+    )

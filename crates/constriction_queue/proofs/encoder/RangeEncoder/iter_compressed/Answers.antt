@@ -11,5 +11,7 @@ returns g c =
     let words = g.Backend.Holds.words c.self.inside.bulk in
     let seal = c.sealing.result in
     let all = c.sealing.ensures.words (map number words) (words_of_numbers number _ g.met.Word.BitArray.number_law words) in
-    rw (← c.self.view_is) record { words = λ order. ap (λ ws. map number ws ++ first_owed number seal.held seal.point seal.zero) c.words.ensures
-    ∙ shown_is number words (g.Backend.Words.lent c.self.inside.bulk) seal.held seal.point seal.zero _ order all }
+    rw (← c.self.view_is) record {
+      words = λ order. ap (λ ws. map number ws ++ first_owed number seal.held seal.point seal.zero) c.words.ensures
+          ∙ shown_is number words (g.Backend.Words.lent c.self.inside.bulk) seal.held seal.point seal.zero _ order all;
+    }

@@ -34,19 +34,23 @@ returns-in-Ok-clause-step g c =
       _,
       _,
       c.quantile_function-symbol.ensures.found,
-      (Ok tt, record {
-        before = is_decoder g.Word.BitArray.number g.Backend.Holds.words _ _ _ _ _ _ c.self.invariant c.self.inside.state.wide (g.met.State.BitArray.number_law _) (g.met.State.BitArray.number_law _) (g.met.State.BitArray.number_law _);
-        after = is_decoder g.Word.BitArray.number g.Backend.Holds.words _ _ _ _ _ _ c.self.invariant c.in-Ok.state.wide (g.met.State.BitArray.number_law _) (g.met.State.BitArray.number_law _) (g.met.State.BitArray.number_law _);
-        from = rw quantile at covers.0;
-        below = rw quantile at covers.1;
-        read = λ list. rw (c.widen-left.ensures, c.widen.ensures, c.widen-p.ensures, c.widen-2.ensures, c.from_nonzero-p.ensures) at c.in-Ok.ensures.list list;
-        by_reads = rw (c.widen-left.ensures, c.widen.ensures, c.widen-p.ensures, c.widen-2.ensures, c.from_nonzero-p.ensures) at c.in-Ok.ensures.reads;
-        lower = tt;
-        range = tt;
-        point = tt;
-        kept = λ _. tt;
-        error = tt;
-      }, refl),
+      (
+        Ok tt,
+        record {
+          before = is_decoder g.Word.BitArray.number g.Backend.Holds.words _ _ _ _ _ _ c.self.invariant c.self.inside.state.wide (g.met.State.BitArray.number_law _) (g.met.State.BitArray.number_law _) (g.met.State.BitArray.number_law _);
+          after = is_decoder g.Word.BitArray.number g.Backend.Holds.words _ _ _ _ _ _ c.self.invariant c.in-Ok.state.wide (g.met.State.BitArray.number_law _) (g.met.State.BitArray.number_law _) (g.met.State.BitArray.number_law _);
+          from = rw quantile at covers.0;
+          below = rw quantile at covers.1;
+          read = λ list. rw (c.widen-left.ensures, c.widen.ensures, c.widen-p.ensures, c.widen-2.ensures, c.from_nonzero-p.ensures) at c.in-Ok.ensures.list list;
+          by_reads = rw (c.widen-left.ensures, c.widen.ensures, c.widen-p.ensures, c.widen-2.ensures, c.from_nonzero-p.ensures) at c.in-Ok.ensures.reads;
+          lower = tt;
+          range = tt;
+          point = tt;
+          kept = λ _. tt;
+          error = tt;
+        },
+        refl,
+      ),
     )
 
 pub returns-in-Ok-clause-variant : goal.returns-in-Ok-clause-variant
@@ -62,24 +66,28 @@ returns-clause-step g c =
     let covers = c.quantile_function-symbol.ensures.covers in
     rw (← c.self.view_is) (inr (
       _,
-      (_, _, c.quantile_function-symbol.ensures.found,
       (
-        Err c.in-Err.error,
-        record {
-          before = is_decoder g.Word.BitArray.number g.Backend.Holds.words _ _ _ _ _ _ c.self.invariant c.self.inside.state.wide (g.met.State.BitArray.number_law _) (g.met.State.BitArray.number_law _) (g.met.State.BitArray.number_law _);
-          after = is_decoder g.Word.BitArray.number g.Backend.Holds.words _ _ _ _ _ _ c.self.invariant c.self.inside.state.wide (g.met.State.BitArray.number_law _) (g.met.State.BitArray.number_law _) (g.met.State.BitArray.number_law _);
-          from = rw quantile at covers.0;
-          below = rw quantile at covers.1;
-          read = tt;
-          by_reads = tt;
-          lower = refl;
-          range = refl;
-          point = refl;
-          kept = λ list. rw (c.in-Err.ensures.kept list) refl;
-          error = rw (c.widen-p.ensures, c.widen-2.ensures, c.from_nonzero-p.ensures) at c.in-Err.ensures.err;
-        },
-        refl,
-      )),
+        _,
+        _,
+        c.quantile_function-symbol.ensures.found,
+        (
+          Err c.in-Err.error,
+          record {
+            before = is_decoder g.Word.BitArray.number g.Backend.Holds.words _ _ _ _ _ _ c.self.invariant c.self.inside.state.wide (g.met.State.BitArray.number_law _) (g.met.State.BitArray.number_law _) (g.met.State.BitArray.number_law _);
+            after = is_decoder g.Word.BitArray.number g.Backend.Holds.words _ _ _ _ _ _ c.self.invariant c.self.inside.state.wide (g.met.State.BitArray.number_law _) (g.met.State.BitArray.number_law _) (g.met.State.BitArray.number_law _);
+            from = rw quantile at covers.0;
+            below = rw quantile at covers.1;
+            read = tt;
+            by_reads = tt;
+            lower = refl;
+            range = refl;
+            point = refl;
+            kept = λ list. rw (c.in-Err.ensures.kept list) refl;
+            error = rw (c.widen-p.ensures, c.widen-2.ensures, c.from_nonzero-p.ensures) at c.in-Err.ensures.err;
+          },
+          refl,
+        ),
+      ),
     ))
 
 pub returns-clause-variant : goal.returns-clause-variant

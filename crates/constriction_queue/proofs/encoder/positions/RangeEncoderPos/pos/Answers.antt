@@ -11,8 +11,11 @@ returns g c =
     let held = held_of number g.Word.BitArray.BITS c.self.inside.situation in
     let place = g.met.Backend.CountsWords.count_law c.self.inside.bulk c.pos.result c.pos.ensures in
     let count : c.held.result ≡ length held = rw (← c.self.view_is) at c.held.ensures in
-    rw (← c.self.view_is) (record {
-      place_is = omega (arith, place, count, moves_are number held words);
-      lower_is = low_is g.Word.BitArray.BITS g.State.BitArray.BITS _ (g.State.BitArray.number c.self.inside.state.range) (held ++ map number words) (g.met.State.BitArray.number_law _);
-      range_is = refl;
-    }, is_encoder number g.Backend.Holds.words _ _ _ _ _ c.self.inside.situation c.self.invariant.0 c.self.invariant.1 c.self.inside.state.wide (g.met.State.BitArray.number_law _) (g.met.State.BitArray.number_law _))
+    rw (← c.self.view_is) (
+      record {
+        place_is = omega (arith, place, count, moves_are number held words);
+        lower_is = low_is g.Word.BitArray.BITS g.State.BitArray.BITS _ (g.State.BitArray.number c.self.inside.state.range) (held ++ map number words) (g.met.State.BitArray.number_law _);
+        range_is = refl;
+      },
+      is_encoder number g.Backend.Holds.words _ _ _ _ _ c.self.inside.situation c.self.invariant.0 c.self.invariant.1 c.self.inside.state.wide (g.met.State.BitArray.number_law _) (g.met.State.BitArray.number_law _),
+    )
