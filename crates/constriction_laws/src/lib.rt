@@ -10,11 +10,13 @@
 //!
 //! - [`lists`]: where each step is undone, so is a list of them, the last step first. One law for
 //!   every coder.
+//! - [`bounds`]: the output is short.
 //! - [`stack`]: the stack coder, by asymmetric numeral systems.
 #![tactic(auto)]
 
 #[cfg(test)]
 mod callers;
+pub mod bounds;
 pub mod lists;
 pub mod room;
 pub mod round_trips;
