@@ -2,4 +2,5 @@ pub mod Undoing
 pub mod HavingRoom
 pub mod ListsGiven
 pub mod stack_coder
-pub mod Bounds
+pub mod ProductBounds
+pub mod StepsOfSymbols

@@ -1,0 +1,51 @@
+//! How short the output is: products of whole numbers that bound the words of every list of steps, of whatever
+//! precisions. They are stated with `k = s - w - P`, the bits of a state beyond a word and a table of `P` bits.
+//!
+//! Read with logarithms, a step of probability `p / 2^P` costs at most `log2(2^P / p)`, its information content, and
+//! `log2(1 + 2^-k)` more, the rounding.
+
+ghost use Rattle.std.specs.Prelude.{◌≡◌, ℕ, ◌-◌, ◌*◌, ◌/◌, ◌<◌, ◌≤◌, ◌^◌, ◌++◌, ◌+◌, List, length};
+ghost use Rattle.std.specs.List.{AllByRecursion};
+ghost use Rattle.constriction_base.specs.Steps.{Step, IsSizes, AreSteps, AreWords, InTurn};
+ghost use Rattle.constriction_stack.specs.Ans.{AnsState, IsPush, IsValid, empty, exported};
+ghost use Rattle.constriction_queue.specs.Range.{ReadAs, run, sealed, start};
+ghost use Rattle.constriction_laws.specs.Bounds.{Act, Acts, AreAllowed, net_share, net_whole, product, rounded_whole, share};
+
+/// The words of a stack coder after encodes alone, from the empty one.
+pub fn stack_bound()
+    ensures { (w s : ℕ) (steps : List Step) (state : AnsState) → IsSizes w s → AreSteps w steps →
+        InTurn (IsPush w s) steps empty state →
+        2 ^ (w * (length (exported w state) - 1)) * product (share w s) steps ≤ 2 ^ (s - w) * product (rounded_whole w s) steps }
+{}
+
+/// The same where all steps have one precision, so that the spare bits are the same for all: of `n` symbols, the words but
+/// one have at most `s - w` bits more than the information content and `n * log2(1 + 2^-k)`.
+pub fn stack_bound_at_one_precision()
+    ensures { (w s precision : ℕ) (steps : List Step) (state : AnsState) → IsSizes w s → AreSteps w steps →
+        AllByRecursion (λ e. e.precision ≡ precision) steps → InTurn (IsPush w s) steps empty state →
+        2 ^ (w * (length (exported w state) - 1)) * (product (λ e. e.p) steps * (2 ^ (s - w - precision)) ^ length steps)
+        ≤ 2 ^ (s - w) * ((2 ^ precision) ^ length steps * (2 ^ (s - w - precision) + 1) ^ length steps) }
+{}
+
+/// The words of a stack coder after encodes and decodes in any order, from a valid state whose head isn't low: what
+/// bits-back coding costs, net.
+pub fn stack_net_bound()
+    ensures { (w s : ℕ) (acts : List Act) (old new : AnsState) → IsSizes w s → AreAllowed w acts → IsValid w s old →
+        2 ^ (s - w) ≤ old.head → InTurn (Acts w s) acts old new →
+        2 ^ (w * (length (exported w new) - 1)) * product (net_share w s) acts
+        < 2 ^ (w * length (exported w old)) * product (net_whole w s) acts }
+{}
+
+/// The sealed words of a new range encoder, of which there are two at least.
+pub fn range_bound()
+    ensures { (w s : ℕ) (steps : List Step) → IsSizes w s → AreSteps w steps →
+        2 ≤ length (sealed w s (run w s steps (start s))) →
+        2 ^ (w * (length (sealed w s (run w s steps (start s))) - 2)) * (2 ^ s - 1) * product (share w s) steps
+        < 2 ^ s * product (rounded_whole w s) steps }
+{}
+
+/// Where a state is two words, the sealed words of a new range encoder are read as its steps whatever words follow.
+pub fn any_words_may_follow()
+    ensures { (w s : ℕ) (steps : List Step) (rest : List ℕ) → IsSizes w s → s / w ≡ 2 → AreSteps w steps → AreWords w rest →
+        ReadAs w s (sealed w s (run w s steps (start s)) ++ rest) steps (start s) }
+{}
