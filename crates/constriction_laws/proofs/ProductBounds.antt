@@ -188,7 +188,7 @@ length-tail w s r = elim (cases_eq ((r.low + r.range) / 2 ^ (s - w)) (seal_numbe
 -- at most two words more than moves
 pub length-sealed : (w s : ℕ) (r : Run) → length (sealed w s r) ≤ r.moves + 2
 length-sealed w s r = elim (cases_eq r.range (2 ^ s - 1)) [
-  | inl e ↦ rw (eq-eqb r.range (2 ^ s - 1) e) (omega arith)
+  | inl e ↦ rw (eq-eqb r.range (2 ^ s - 1) e) (omega (arith, length-fixed_digits (2 ^ w) r.moves (r.low / 2 ^ s)))
   | inr ne ↦
       let count : length (fixed_digits (2 ^ w) (suc r.moves) (seal_number w s r) ++ tail w s r) ≡ length (fixed_digits (2 ^ w) (suc r.moves) (seal_number w s r)) + length (tail w s r) =
       length-append (fixed_digits (2 ^ w) (suc r.moves) (seal_number w s r)) (tail w s r) in
@@ -197,7 +197,7 @@ length-sealed w s r = elim (cases_eq r.range (2 ^ s - 1)) [
 
 pub range_words : (w s : ℕ) (es : List Step) → IsSizes w s → AreSteps w es → 2 ≤ length (sealed w s (run w s es (start s))) →
     2 ^ (w * (length (sealed w s (run w s es (start s))) - 2)) * (2 ^ s - 1) * product (share w s) es < 2 ^ s * product (rounded_whole w s) es
-range_words w s k es z hs two =
+range_words w s es z hs two =
     let b : ℕ = 2 ^ w in
     let r : Run = run w s es (start s) in
     let n : ℕ = length (sealed w s r) - 2 in

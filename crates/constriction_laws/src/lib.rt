@@ -14,9 +14,9 @@
 //! - [`stack`]: the stack coder, by asymmetric numeral systems.
 #![tactic(auto)]
 
+pub mod bounds;
 #[cfg(test)]
 mod callers;
-pub mod bounds;
 pub mod lists;
 pub mod room;
 pub mod round_trips;
