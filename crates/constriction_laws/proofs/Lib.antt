@@ -4,3 +4,4 @@ pub mod ListsGiven
 pub mod stack_coder
 pub mod ProductBounds
 pub mod StepsOfSymbols
+mod BoundRows

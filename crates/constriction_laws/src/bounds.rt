@@ -6,11 +6,11 @@
 
 pub mod words;
 
-ghost use Rattle.std.specs.Prelude.{◌≡◌, ℕ, ◌-◌, ◌*◌, ◌/◌, ◌<◌, ◌≤◌, ◌^◌, ◌++◌, ◌+◌, List, length};
+ghost use Rattle.std.specs.Prelude.{◌≡◌, ℕ, ◌-◌, ◌*◌, ◌<◌, ◌≤◌, ◌^◌, ◌+◌, List, length};
 ghost use Rattle.std.specs.List.{AllByRecursion};
-ghost use Rattle.constriction_base.specs.Steps.{Step, IsSizes, AreSteps, AreWords, InTurn};
+ghost use Rattle.constriction_base.specs.Steps.{Step, IsSizes, AreSteps, InTurn};
 ghost use Rattle.constriction_stack.specs.Ans.{AnsState, IsPush, IsValid, empty, exported};
-ghost use Rattle.constriction_queue.specs.Range.{ReadAs, run, sealed, start};
+ghost use Rattle.constriction_queue.specs.Range.{run, sealed, start};
 ghost use Rattle.constriction_laws.specs.Bounds.{Act, Acts, AreAllowed, net_share, net_whole, product, rounded_whole, share};
 
 /// The words of a stack coder after encodes alone, from the empty one.
@@ -44,10 +44,4 @@ pub fn range_bound()
         2 ≤ length (sealed w s (run w s steps (start s))) →
         2 ^ (w * (length (sealed w s (run w s steps (start s))) - 2)) * (2 ^ s - 1) * product (share w s) steps
         < 2 ^ s * product (rounded_whole w s) steps }
-{}
-
-/// Where a state is two words, the sealed words of a new range encoder are read as its steps whatever words follow.
-pub fn any_words_may_follow()
-    ensures { (w s : ℕ) (steps : List Step) (rest : List ℕ) → IsSizes w s → s / w ≡ 2 → AreSteps w steps → AreWords w rest →
-        ReadAs w s (sealed w s (run w s steps (start s)) ++ rest) steps (start s) }
 {}

@@ -18,7 +18,7 @@ returns g c =
     let items = items_of model (reverse c.args.symbols.now) in
     let coded = c.in_ok-words.ensures in
     let steps = steps_of_encodes w s items empty coded.0 coded.1 in
-    let many = sym (length-reverse _) ∙ sym (length-map _ g.Word.BitArray.number) ∙ ap length coded.2 in
+    let many = sym (length-reverse c.in_ok-words.words.items) ∙ sym (length-map (reverse c.in_ok-words.words.items) g.Word.BitArray.number) ∙ ap length coded.2 in
     record {
       few = (
         steps.0,
