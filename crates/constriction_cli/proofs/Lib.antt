@@ -1,3 +1,4 @@
+pub mod Faults
 pub mod OwnNumbers
 pub mod Reading
 pub mod Symbols

@@ -1,4 +1,6 @@
 pub mod Lines
+pub mod Inputs
 pub mod Coding
+pub mod commands
 pub mod Answers
 pub mod Written

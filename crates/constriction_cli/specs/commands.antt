@@ -1,0 +1,2 @@
+pub mod AnsDecode
+pub mod AnsEncode
