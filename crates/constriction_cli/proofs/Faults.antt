@@ -4,9 +4,11 @@ use Rattle.std.specs.List.{Any}
 use Rattle.std.specs.Prelude.{Result, Ok, Err, ◌≡◌, IfErr, IsErrAnd}
 use Rattle.constriction_cli.specs.Inputs.{GivesSymbols, NoSymbols, GivesWords, NoWords}
 use Rattle.constriction_cli.specs.Coding.{CoderFails, EncodeFails}
+use Rattle.constriction_cli.specs.Ranges.{ReadingFails}
 use Rattle.constriction_cli.specs.commands.AnsDecode.{AnsDecodeFails}
+use Rattle.constriction_cli.specs.commands.RangeDecode.{RangeDecodeFails}
 use Rattle.constriction_cli.specs.declared.fault.Fault.{Fault}
-use Rattle.constriction_cli.specs.declared.fault.Fault.TheVariants.{Encoder, ZeroWord, OutOfMemory}
+use Rattle.constriction_cli.specs.declared.fault.Fault.TheVariants.{Encoder, ZeroWord, InvalidData, OutOfMemory}
 
 -- an error that is passed on
 pub passed_on : {T : Type 0} (answer : Result T Fault) (fault : Fault) (fails : Fault → Type 0) → IsErrAnd answer (λ error. error ≡ fault) → fails fault → IfErr answer fails
@@ -28,3 +30,14 @@ symbols_refused text table symbols fault given why = absurd why
 pub no_words : (text : List ℕ) (fault : Fault) → NoWords text fault → AnsDecodeFails text fault
 no_words text (ZeroWord error) why = absurd why
 no_words text fault why = why
+
+-- or read
+pub no_words_to_read : (text : List ℕ) (fault : Fault) → NoWords text fault → RangeDecodeFails text fault
+no_words_to_read text (InvalidData error) why = absurd why
+no_words_to_read text fault why = why
+
+-- why the words of a text were not read is why they were not decoded
+pub reading_refused : (text : List ℕ) (table : List (ℕ × ℕ × ℕ)) (count : ℕ) (words : List ℕ) (fault : Fault) → GivesWords text table count words → ReadingFails words table count fault → RangeDecodeFails text fault
+reading_refused text table count words (InvalidData error) given why = (table, count, words, given, why)
+reading_refused text table count words OutOfMemory given why = tt
+reading_refused text table count words fault given why = absurd why

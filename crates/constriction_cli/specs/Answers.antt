@@ -3,8 +3,10 @@ use Rattle.std.specs.Prelude.{Option, ◌≡◌, ℕ, List, [], ◌∷◌, codes
 use Rattle.constriction_cli.specs.Coding.{EncodeFails}
 use Rattle.constriction_cli.specs.commands.AnsEncode.{IsAnsEncoded}
 use Rattle.constriction_cli.specs.commands.AnsDecode.{IsAnsDecoded, AnsDecodeFails}
+use Rattle.constriction_cli.specs.commands.RangeEncode.{IsRangeEncoded}
+use Rattle.constriction_cli.specs.commands.RangeDecode.{IsRangeDecoded, RangeDecodeFails}
 use Rattle.constriction_cli.specs.declared.commands.Command.{Command}
-use Rattle.constriction_cli.specs.declared.commands.Command.TheVariants.{AnsEncode, AnsDecode}
+use Rattle.constriction_cli.specs.declared.commands.Command.TheVariants.{AnsEncode, AnsDecode, RangeEncode, RangeDecode}
 use Rattle.constriction_cli.specs.declared.fault.Fault.{Fault}
 use Rattle.constriction_cli.specs.declared.fault.Fault.TheVariants.{Unreadable, Unwritable, OutOfMemory}
 
@@ -12,6 +14,8 @@ use Rattle.constriction_cli.specs.declared.fault.Fault.TheVariants.{Unreadable, 
 abbrev pub name_of : Command → List ℕ
 name_of AnsEncode = codes "ans-encode"
 name_of AnsDecode = codes "ans-decode"
+name_of RangeEncode = codes "range-encode"
+name_of RangeDecode = codes "range-decode"
 
 -- the arguments are the command's name alone
 abbrev pub Names : List (List ℕ) → Command → Type 0
@@ -21,6 +25,8 @@ Names arguments command = arguments ≡ name_of command ∷ []
 abbrev pub Fails : Command → List ℕ → Fault → Type 0
 Fails AnsEncode text fault = EncodeFails text fault
 Fails AnsDecode text fault = AnsDecodeFails text fault
+Fails RangeEncode text fault = EncodeFails text fault
+Fails RangeDecode text fault = RangeDecodeFails text fault
 
 -- why a run stops: reading, writing or memory failed, or the command that the arguments name fails for the text
 abbrev pub Stops : List (List ℕ) → Option (List ℕ) → Fault → Type 0
@@ -31,6 +37,8 @@ Stops arguments known fault = (fault ≡ Unreadable) ⊎ (fault ≡ Unwritable) 
 abbrev pub Answers : Command → List ℕ → List ℕ → Type 0
 Answers AnsEncode text answer = IsAnsEncoded text answer
 Answers AnsDecode text answer = IsAnsDecoded text answer
+Answers RangeEncode text answer = IsRangeEncoded text answer
+Answers RangeDecode text answer = IsRangeDecoded text answer
 
 -- what the command that the arguments name answers a text
 abbrev pub IsAnswered : List (List ℕ) → List ℕ → List ℕ → Type 0
