@@ -1,7 +1,9 @@
 -- Runs of a range coder, one more symbol at a time.
-use Rattle.std.proofs.Common.{◌≡◌, ℕ, ◌+◌, ◌-◌, ◌/◌, ◌%◌, ◌^◌, ◌<◌, List, get_or, length, map, reverse, take, sym, subst, ◌∙◌, ap, arith}
+use Rattle.std.proofs.Common.{◌≡◌, ℕ, ◌+◌, ◌-◌, ◌/◌, ◌%◌, ◌^◌, ◌<◌, List, get_or, length, map, reverse, take, refl, sym, subst, ◌∙◌, ap, arith}
 use Rattle.std.proofs.lemmas.List.{take_more, reverse-reverse}
 use Rattle.constriction.specs.Models.{Model, items_of}
+use Rattle.constriction.specs.declared.stream.queue.DecoderFrontendError.{DecoderFrontendError}
+use Rattle.constriction.specs.declared.stream.queue.DecoderFrontendError.TheVariants.{InvalidData}
 use Rattle.constriction.specs.queue.Range.{Run, start, offset, number_read, IsAt}
 use Rattle.constriction.specs.queue.Decoder.{Decoder, quantile_read}
 use Rattle.constriction.proofs.InTurn.{InTurn-symbol}
@@ -33,3 +35,7 @@ pub quantile_is : {B : Type 0} (words : List ℕ) (run : Run) (d : Decoder B) �
 quantile_is words run d at =
     ap (λ (n : ℕ). n / (d.range / 2 ^ 24)) (point_offset (number_read 32 64 words run.moves) run.low d.point d.lower at.point_is at.lower_is)
     ∙ ap (λ (n : ℕ). offset 32 64 words run / (n / 2 ^ 24)) at.range_is
+
+-- there is no other error of the decoder itself
+pub only_invalid : (error : DecoderFrontendError) → error ≡ InvalidData
+only_invalid InvalidData = refl

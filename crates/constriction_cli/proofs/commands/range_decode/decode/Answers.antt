@@ -5,7 +5,7 @@ use Rattle.constriction.proofs.InTurn.{InTurn-symbol}
 use Rattle.constriction.proofs.Outcomes.{decoded_by}
 use Rattle.constriction_cli.specs.Coding.{of_24_bits}
 use Rattle.constriction_cli.specs.Ranges.{Reads}
-use Rattle.constriction_cli.proofs.Ranges.{quantile_is}
+use Rattle.constriction_cli.proofs.Ranges.{quantile_is, only_invalid}
 use Rattle.constriction_cli.proofs.commands.range_decode.decode.Goals as goal
 
 pub loop-init : goal.loop-init
@@ -39,7 +39,8 @@ pub returns-in-Err-Frontend-InvalidData-clause-err : goal.returns-in-Err-Fronten
 returns-in-Err-Frontend-InvalidData-clause-err g c =
     let words = c.args.words.now in
     let here = c.loop.invariant.read in
-    let halted = c.decode_symbol.ensures.variant.0 (c.in-Err-Frontend-InvalidData.is ∙ ap Err c.in-Err-Frontend-InvalidData.field-0-is) in (
+    let refusal = c.in-Err-Frontend-InvalidData.is ∙ ap Err c.in-Err-Frontend-InvalidData.field-0-is in
+    let halted = c.decode_symbol.ensures.variant.0 (rw (only_invalid c.in-Err-Frontend-InvalidData.field-0-0) at refusal) in (
       c.loop.symbols.items,
       here.0,
       here.2,
