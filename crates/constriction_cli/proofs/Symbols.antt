@@ -1,16 +1,12 @@
--- Symbols onto a state, one more at a time, and why they are not encoded.
+-- Symbols onto a state, one more at a time.
 use Rattle.std.specs.List.{Any}
 use Rattle.std.proofs.Common.{◌≡◌, ℕ, ◌+◌, ◌<◌, ◌≤◌, inr, List, [], ◌∷◌, ◌++◌, length, get_or, drop, drop-cons, reverse, add-one, ◌∙◌, ap, sym, subst, refl, arith}
 use Rattle.std.proofs.lemmas.List.{drop_all, get_or_default, reverse-append}
-use Rattle.std.specs.Prelude.{Result, Ok, Err, IfErr, IsErrAnd}
 use Rattle.constriction.specs.Models.{Model, items_of}
-use Rattle.constriction.specs.Tables.{Impossible, table_of}
+use Rattle.constriction.specs.Tables.{Impossible}
 use Rattle.constriction.specs.stack.Ans.{AnsState, IsValid, empty}
 use Rattle.constriction.specs.stack.Symbols.{Encodes, EncodesAll}
 use Rattle.constriction.proofs.InTurn.{InTurn-symbol}
-use Rattle.constriction_cli.specs.Answers.{WeightsAre, SymbolsAre, Total, PushFails, EncodeFails}
-use Rattle.constriction_cli.specs.declared.fault.Fault.{Fault}
-use Rattle.constriction_cli.specs.declared.fault.Fault.TheVariants.{Unreadable, Unwritable, BadNumber, NoCount, NoWeights, WrongTotal, Encoder, ZeroWord, OutOfMemory}
 
 -- a coder that holds nothing is valid
 pub empty_valid : IsValid 32 64 empty
@@ -34,22 +30,3 @@ encoded-more model symbols place behind old new inside next encoded one =
 -- an impossible symbol at a place
 pub impossible_at : (table : List (ℕ × ℕ × ℕ)) (symbols : List ℕ) (place : ℕ) → place < length symbols → Impossible table (get_or symbols place 0) → Any (Impossible table) symbols
 impossible_at table symbols place inside none = (place, get_or symbols place 0, inside, get_or_default symbols place (get_or symbols place 0) 0 inside, none)
-
--- ---- faults
-
--- an error that is passed on
-pub passed_on : {T : Type 0} (answer : Result T Fault) (fault : Fault) (fails : Fault → Type 0) → IsErrAnd answer (λ error. error ≡ fault) → fails fault → IfErr answer fails
-passed_on (Ok x) fault fails is why = tt
-passed_on (Err error) fault fails is why = rw is why
-
--- why symbols were not encoded onto a coder is why a text was not encoded
-pub encode_fails : (text weights symbols : List ℕ) (fault : Fault) → WeightsAre text weights → SymbolsAre text symbols → Total weights → PushFails (table_of weights) symbols fault → EncodeFails text fault
-encode_fails text weights symbols (Encoder error) listed given total why = (weights, symbols, listed, given, total, why)
-encode_fails text weights symbols OutOfMemory listed given total why = tt
-encode_fails text weights symbols BadNumber listed given total why = absurd why
-encode_fails text weights symbols NoCount listed given total why = absurd why
-encode_fails text weights symbols NoWeights listed given total why = absurd why
-encode_fails text weights symbols WrongTotal listed given total why = absurd why
-encode_fails text weights symbols (ZeroWord error) listed given total why = absurd why
-encode_fails text weights symbols Unreadable listed given total why = absurd why
-encode_fails text weights symbols Unwritable listed given total why = absurd why

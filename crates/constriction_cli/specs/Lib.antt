@@ -1,4 +1,7 @@
 pub mod Lines
+pub mod Inputs
 pub mod Coding
+pub mod Ranges
+pub mod commands
 pub mod Answers
 pub mod Written

@@ -2,6 +2,8 @@
 
 mod ans_decode;
 mod ans_encode;
+mod range_decode;
+mod range_encode;
 
 ghost use Rattle.std.specs.Prelude.{map, string_bytes, IfOk, IfErr, IfSome, IfNone};
 ghost use Rattle.constriction_cli.specs.Answers.{Names, Answers, Fails};
@@ -15,6 +17,8 @@ use std::alloc::Global;
 pub enum Command {
     AnsEncode,
     AnsDecode,
+    RangeEncode,
+    RangeDecode,
 }
 
 impl Command {
@@ -29,6 +33,8 @@ impl Command {
         match name.as_str() {
             "ans-encode" => Some(Command::AnsEncode),
             "ans-decode" => Some(Command::AnsDecode),
+            "range-encode" => Some(Command::RangeEncode),
+            "range-decode" => Some(Command::RangeDecode),
             _ => None,
         }
     }
@@ -41,6 +47,8 @@ impl Command {
         match self {
             Command::AnsEncode => ans_encode::answer(alloc, text),
             Command::AnsDecode => ans_decode::answer(alloc, text),
+            Command::RangeEncode => range_encode::answer(alloc, text),
+            Command::RangeDecode => range_decode::answer(alloc, text),
         }
     }
 }

@@ -5,6 +5,7 @@ ghost use Rattle.constriction_cli.specs.Written.{fault_line};
 ghost use Rattle.constriction_cli.specs.declared.fault.Fault.TheVariants.{OutOfMemory};
 
 use constriction::DefaultEncoderFrontendError;
+use constriction::stream::queue::DecoderFrontendError;
 use constriction::stream::stack::CompressedDataEndsWithZeroWord;
 use std::alloc::{AllocError, AllocFailed};
 
@@ -22,6 +23,8 @@ pub enum Fault {
     Encoder(DefaultEncoderFrontendError),
     /// The last of the compressed words is zero.
     ZeroWord(CompressedDataEndsWithZeroWord),
+    /// The compressed words hold no symbol of the table.
+    InvalidData(DecoderFrontendError),
     OutOfMemory,
 }
 
@@ -40,6 +43,8 @@ impl Fault {
             Fault::Encoder(_) => b"Impossible symbol.\n",
             Fault::ZeroWord(_) =>
                 b"Tried to decode from compressed data that ends with a zero word, which is invalid for an ANS coder.\n",
+            Fault::InvalidData(_) =>
+                b"Tried to decode from compressed data that is invalid for the employed entropy model.\n",
             Fault::OutOfMemory => b"out of memory\n",
         }
     }

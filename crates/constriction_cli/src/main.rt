@@ -4,6 +4,7 @@
 mod cli;
 mod commands;
 mod fault;
+mod given;
 mod input;
 mod output;
 #[cfg(test)]

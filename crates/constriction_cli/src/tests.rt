@@ -3,6 +3,7 @@
 mod answers;
 mod failures;
 mod faults;
+mod ranges;
 mod writers;
 
 use crate::cli::run;

@@ -2,7 +2,7 @@
 
 ghost use Rattle.std.specs.Prelude.{◌≡◌, ◌≢◌, ◌⊎◌, ◌^◌, [], sum, IfOk, IfErr, OnOk, IsErrOf};
 ghost use Rattle.constriction.specs.Tables.{table_of};
-ghost use Rattle.constriction_cli.specs.Answers.{Total};
+ghost use Rattle.constriction_cli.specs.Inputs.{Total};
 ghost use Rattle.constriction_cli.specs.declared.fault.Fault.TheVariants.{NoWeights, WrongTotal, OutOfMemory};
 
 use crate::fault::Fault;

@@ -4,13 +4,13 @@ ghost use Rattle.std.specs.Prelude.{◌≡◌, ◌%◌, ◌^◌, map, reverse, I
 ghost use Rattle.constriction.specs.Models.{items_of};
 ghost use Rattle.constriction.specs.stack.Ans.{AnsState, empty, exported};
 ghost use Rattle.constriction.specs.stack.Symbols.{EncodesAll};
-ghost use Rattle.constriction_cli.specs.Coding.{of_24_bits};
-ghost use Rattle.constriction_cli.specs.Answers.{IsEncoded, EncodeFails, PushFails};
+ghost use Rattle.constriction_cli.specs.Coding.{of_24_bits, CoderFails, EncodeFails};
+ghost use Rattle.constriction_cli.specs.commands.AnsEncode.{IsAnsEncoded};
 
 use crate::fault::Fault;
-use crate::input::{parse_numbers, split_line};
+use crate::given::symbols::table_and_symbols;
 use crate::output::line_of_words;
-use crate::weights::{PRECISION, make_table};
+use crate::weights::PRECISION;
 use constriction::CoderError;
 use constriction::stream::Encode;
 use constriction::stream::model::{EncoderModel, EntropyModel};
@@ -26,7 +26,7 @@ fn encode<M: EncoderModel<PRECISION, Symbol = usize, Probability = u32>>(
     ensures ok { IfOk result (λ words. (state : AnsState)
         × EncodesAll 32 64 (items_of (of_24_bits (M.table model.now)) (reverse symbols.now)) empty state
         × (map (λ word. word % 2 ^ 32) (reverse words.items) ≡ exported 32 state)) }
-    ensures err { IfErr result (PushFails (M.table model.now) symbols.now) }
+    ensures err { IfErr result (CoderFails (M.table model.now) symbols.now) }
 {
     let mut coder = DefaultAnsCoder::new(alloc);
     let mut left = symbols.len();
@@ -43,14 +43,10 @@ fn encode<M: EncoderModel<PRECISION, Symbol = usize, Probability = u32>>(
 
 /// The line of words for a line of weights and a line of symbols.
 pub fn answer(alloc: Global, text: &[u8]) -> Result<Vec<u8>, Fault>
-    ensures ok { IfOk result (λ answer. IsEncoded text.now answer.items) }
+    ensures ok { IfOk result (λ answer. IsAnsEncoded text.now answer.items) }
     ensures err { IfErr result (EncodeFails text.now) }
 {
-    let (first, rest) = split_line(text);
-    let (second, _) = split_line(rest);
-    let weights = parse_numbers::<u32>(alloc, first)?;
-    let symbols = parse_numbers::<usize>(alloc, second)?;
-    let table = make_table(alloc, weights.as_slice())?;
+    let (table, symbols) = table_and_symbols(alloc, text)?;
     let words = encode(alloc, &table, symbols.as_slice())?;
     Ok(line_of_words(alloc, words.as_slice())?)
 }

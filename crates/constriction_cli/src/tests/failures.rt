@@ -134,7 +134,7 @@ fn fault_line_that_cannot_be_written(rt: HostRuntime) -> Result<(), Fail> {
 /// passes too; run it once for each allocation that it makes.
 #[test]
 fn refused_memory(rt: HostRuntime) -> Result<(), Fail> {
-    let cases: [(&str, &[u8], &[u8]); 2] = [
+    let cases: [(&str, &[u8], &[u8]); 4] = [
         (
             "ans-encode",
             b"3 2 16777211\n0 1 2 0 1 0 0\n",
@@ -143,6 +143,16 @@ fn refused_memory(rt: HostRuntime) -> Result<(), Fail> {
         (
             "ans-decode",
             b"3 2 16777211\n7 83886083 2852126722 42\n",
+            b"0 1 2 0 1 0 0\n",
+        ),
+        (
+            "range-encode",
+            b"3 2 16777211\n0 1 2 0 1 0 0\n",
+            b"0 589821 503313973 4293718528 0\n",
+        ),
+        (
+            "range-decode",
+            b"3 2 16777211\n7 0 589821 503313973 4293718528 0\n",
             b"0 1 2 0 1 0 0\n",
         ),
     ];

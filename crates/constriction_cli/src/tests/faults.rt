@@ -3,6 +3,7 @@
 use super::{ran, ran_with};
 use crate::fault::Fault;
 use constriction::DefaultEncoderFrontendError;
+use constriction::stream::queue::DecoderFrontendError;
 use constriction::stream::stack::CompressedDataEndsWithZeroWord;
 use std::test::Fail;
 
@@ -23,7 +24,7 @@ fn program_fault_texts(rt: HostRuntime) -> Result<(), Fail> {
 
 #[test]
 fn fault_texts(rt: HostRuntime) -> Result<(), Fail> {
-    let cases: [(Fault, &[u8]); 9] = [
+    let cases: [(Fault, &[u8]); 10] = [
         (Fault::Unreadable, b"cannot read input\n"),
         (Fault::Unwritable, b"cannot write output\n"),
         (Fault::BadNumber, b"bad number\n"),
@@ -37,6 +38,10 @@ fn fault_texts(rt: HostRuntime) -> Result<(), Fail> {
         (
             Fault::ZeroWord(CompressedDataEndsWithZeroWord),
             b"Tried to decode from compressed data that ends with a zero word, which is invalid for an ANS coder.\n",
+        ),
+        (
+            Fault::InvalidData(DecoderFrontendError::InvalidData),
+            b"Tried to decode from compressed data that is invalid for the employed entropy model.\n",
         ),
         (Fault::OutOfMemory, b"out of memory\n"),
     ];
@@ -55,6 +60,9 @@ fn coder_texts(rt: HostRuntime) -> Result<(), Fail> {
     let zero_word = CompressedDataEndsWithZeroWord;
     let line = format!(in rt.alloc(); "{zero_word}\n")?;
     assert_eq!(rt; Fault::ZeroWord(zero_word).line(), line.as_bytes());
+    let invalid = DecoderFrontendError::InvalidData;
+    let line = format!(in rt.alloc(); "{invalid}\n")?;
+    assert_eq!(rt; Fault::InvalidData(invalid).line(), line.as_bytes());
     Ok(())
 }
 
@@ -68,7 +76,7 @@ fn usage(rt: HostRuntime) -> Result<(), Fail> {
         &["ans-encode "],
         &["ANS-ENCODE"],
         &["ans-encode", "ans-encode"],
-        &["range-encode"],
+        &["range"],
         &["huffman"],
         &["--help"],
     ];

@@ -1,50 +1,35 @@
-use Rattle.std.proofs.Common.{◌≡◌, ◌-◌, ◌^◌, Some, ◌∷◌, suc, sym, ◌∙◌, ap, arith, inl, inr}
-use Rattle.std.proofs.lemmas.List.{map-id}
-use Rattle.constriction_cli.specs.Lines.{numbers_of, first_line, second_line}
+use Rattle.std.proofs.Common.{inl, inr}
+use Rattle.constriction_cli.specs.commands.AnsDecode.{AnsDecodeFails}
 use Rattle.constriction_cli.proofs.OwnNumbers.{own_reverse, ends_with_zero}
-use Rattle.constriction_cli.proofs.Reading.{numbers_of-small}
+use Rattle.constriction_cli.proofs.Faults.{passed_on, no_words}
+use Rattle.constriction_cli.proofs.Answered.{ans_decoded, words_fit}
 use Rattle.constriction_cli.proofs.commands.ans_decode.answer.Goals as goal
 
 pub returns-clause-ok : goal.returns-clause-ok
 returns-clause-ok c =
-    let words = c.take_count.new.numbers.items in
-    let line = second_line c.args.text.now in
+    let given = c.in_ok-table.ensures.ok in
     let imported = c.in-Ok.ensures.ok tt in
-    let listed : numbers_of (2 ^ 32 - 1) line ≡ Some (c.in_ok-count.count ∷ words) =
-    ap (numbers_of (2 ^ 32 - 1)) (sym (c.split_line-2.ensures.first ∙ ap first_line c.split_line.ensures.rest))
-    ∙ c.in_ok-words.ensures.ok ∙ ap Some (map-id c.in_ok-words.words.items ∙ c.in_ok-count.ensures.ok.0) in
-    let own = own_reverse words (λ i. omega (arith, numbers_of-small (2 ^ 32 - 1) line (c.in_ok-count.count ∷ words) listed (suc i))) in
-    record {
-      weights = c.in_ok-weights.weights.items;
-      count = c.in_ok-count.count;
-      words = words;
-      symbols = c.in_ok-symbols.symbols.items;
-      state = c.decode.new.coder.state;
-      weights_line = ap (numbers_of (2 ^ 32 - 1)) (sym c.split_line.ensures.first) ∙ c.in_ok-weights.ensures.ok ∙ ap Some (map-id c.in_ok-weights.weights.items);
-      words_line = listed;
-      few = c.in_ok-count.ensures.ok.1;
-      total = rw c.as_slice.ensures.value at c.in_ok-table.ensures.total;
-      high = rw own at (c.in-Ok.ensures.high tt);
-      decoded = rw (c.in_ok-table.ensures.ok, c.as_slice.ensures.value, imported, own) at c.in_ok-symbols.ensures.ok;
-      counted = c.in_ok-symbols.ensures.counted;
-      printed = rw c.as_slice-2.ensures.value at c.in_ok-line_of_numbers.ensures;
-    }
+    let own = own_reverse c.in_ok-table.words.items (words_fit given) in
+    ans_decoded c.in_ok-symbols.symbols.items c.decode.new.coder.state given
+    (rw own at (c.in-Ok.ensures.high tt))
+    (rw (imported, own) at c.in_ok-symbols.ensures.ok)
+    c.in_ok-symbols.ensures.counted
+    (rw c.as_slice.ensures.value at c.in_ok-line_of_numbers.ensures)
+
+pub returns-in_err-table-clause-err : goal.returns-in_err-table-clause-err
+returns-in_err-table-clause-err c =
+    passed_on _ c.in_err-table.field-0.0 (AnsDecodeFails c.args.text.now) c.from_residual.ensures.1
+    (no_words c.args.text.now c.in_err-table.field-0.0 c.in_err-table.ensures.err)
 
 pub returns-in_default-clause-err : goal.returns-in_default-clause-err
 returns-in_default-clause-err c =
-    let words = c.take_count.new.numbers.items in
-    let line = second_line c.args.text.now in
-    let listed : numbers_of (2 ^ 32 - 1) line ≡ Some (c.in_ok-count.count ∷ words) =
-    ap (numbers_of (2 ^ 32 - 1)) (sym (c.split_line-2.ensures.first ∙ ap first_line c.split_line.ensures.rest))
-    ∙ c.in_ok-words.ensures.ok ∙ ap Some (map-id c.in_ok-words.words.items ∙ c.in_ok-count.ensures.ok.0) in
-    let own = own_reverse words (λ i. omega (arith, numbers_of-small (2 ^ 32 - 1) line (c.in_ok-count.count ∷ words) listed (suc i))) in (
-      c.in_ok-weights.weights.items,
-      c.in_ok-count.count,
+    let given = c.in_ok-table.ensures.ok in
+    let words = c.in_ok-table.words.items in
+    let own = own_reverse words (words_fit given) in (
+      _,
+      c.in_ok-table.count,
       words,
-      ap (numbers_of (2 ^ 32 - 1)) (sym c.split_line.ensures.first) ∙ c.in_ok-weights.ensures.ok ∙ ap Some (map-id c.in_ok-weights.weights.items),
-      listed,
-      c.in_ok-count.ensures.ok.1,
-      rw c.as_slice.ensures.value at c.in_ok-table.ensures.total,
+      given,
       elim (c.in_default.ensures.taken tt) [
         | inl zero ↦ ends_with_zero words _ zero.0 own zero.1 zero.2
         | inr failed ↦ elim failed.1 [ ]

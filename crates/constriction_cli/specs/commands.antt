@@ -1,0 +1,4 @@
+pub mod AnsDecode
+pub mod AnsEncode
+pub mod RangeDecode
+pub mod RangeEncode
