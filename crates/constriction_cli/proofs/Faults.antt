@@ -1,6 +1,5 @@
 -- Faults that are passed on.
 use Rattle.std.proofs.Common.{ℕ, List}
-use Rattle.std.specs.List.{Any}
 use Rattle.std.specs.Prelude.{Result, Ok, Err, ◌≡◌, IfErr, IsErrAnd}
 use Rattle.constriction_cli.specs.Inputs.{GivesSymbols, NoSymbols, GivesWords, NoWords}
 use Rattle.constriction_cli.specs.Coding.{CoderFails, EncodeFails}

@@ -5,8 +5,9 @@ use Rattle.constriction_cli.specs.commands.AnsEncode.{IsAnsEncoded}
 use Rattle.constriction_cli.specs.commands.AnsDecode.{IsAnsDecoded, AnsDecodeFails}
 use Rattle.constriction_cli.specs.commands.RangeEncode.{IsRangeEncoded}
 use Rattle.constriction_cli.specs.commands.RangeDecode.{IsRangeDecoded, RangeDecodeFails}
+use Rattle.constriction_cli.specs.commands.Golomb.{IsGolomb, GolombFails}
 use Rattle.constriction_cli.specs.declared.commands.Command.{Command}
-use Rattle.constriction_cli.specs.declared.commands.Command.TheVariants.{AnsEncode, AnsDecode, RangeEncode, RangeDecode}
+use Rattle.constriction_cli.specs.declared.commands.Command.TheVariants.{AnsEncode, AnsDecode, RangeEncode, RangeDecode, Golomb}
 use Rattle.constriction_cli.specs.declared.fault.Fault.{Fault}
 use Rattle.constriction_cli.specs.declared.fault.Fault.TheVariants.{Unreadable, Unwritable, OutOfMemory}
 
@@ -16,6 +17,7 @@ name_of AnsEncode = codes "ans-encode"
 name_of AnsDecode = codes "ans-decode"
 name_of RangeEncode = codes "range-encode"
 name_of RangeDecode = codes "range-decode"
+name_of Golomb = codes "golomb"
 
 -- the arguments are the command's name alone
 abbrev pub Names : List (List ℕ) → Command → Type 0
@@ -27,6 +29,7 @@ Fails AnsEncode text fault = EncodeFails text fault
 Fails AnsDecode text fault = AnsDecodeFails text fault
 Fails RangeEncode text fault = EncodeFails text fault
 Fails RangeDecode text fault = RangeDecodeFails text fault
+Fails Golomb text fault = GolombFails text fault
 
 -- why a run stops: reading, writing or memory failed, or the command that the arguments name fails for the text
 abbrev pub Stops : List (List ℕ) → Option (List ℕ) → Fault → Type 0
@@ -39,6 +42,7 @@ Answers AnsEncode text answer = IsAnsEncoded text answer
 Answers AnsDecode text answer = IsAnsDecoded text answer
 Answers RangeEncode text answer = IsRangeEncoded text answer
 Answers RangeDecode text answer = IsRangeDecoded text answer
+Answers Golomb text answer = IsGolomb text answer
 
 -- what the command that the arguments name answers a text
 abbrev pub IsAnswered : List (List ℕ) → List ℕ → List ℕ → Type 0

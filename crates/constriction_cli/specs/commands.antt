@@ -1,4 +1,5 @@
 pub mod AnsDecode
 pub mod AnsEncode
+pub mod Golomb
 pub mod RangeDecode
 pub mod RangeEncode

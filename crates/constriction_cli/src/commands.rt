@@ -2,6 +2,7 @@
 
 mod ans_decode;
 mod ans_encode;
+mod golomb;
 mod range_decode;
 mod range_encode;
 
@@ -19,6 +20,7 @@ pub enum Command {
     AnsDecode,
     RangeEncode,
     RangeDecode,
+    Golomb,
 }
 
 impl Command {
@@ -35,6 +37,7 @@ impl Command {
             "ans-decode" => Some(Command::AnsDecode),
             "range-encode" => Some(Command::RangeEncode),
             "range-decode" => Some(Command::RangeDecode),
+            "golomb" => Some(Command::Golomb),
             _ => None,
         }
     }
@@ -49,6 +52,7 @@ impl Command {
             Command::AnsDecode => ans_decode::answer(alloc, text),
             Command::RangeEncode => range_encode::answer(alloc, text),
             Command::RangeDecode => range_decode::answer(alloc, text),
+            Command::Golomb => golomb::answer(alloc, text),
         }
     }
 }

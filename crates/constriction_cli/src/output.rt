@@ -43,6 +43,13 @@ pub fn line_of_words(alloc: Global, words: &[u32]) -> Result<Vec<u8>, AllocError
     line_of_numbers(alloc, words)
 }
 
+/// Adds the words of a coder as a line.
+pub fn push_words(out: &mut Vec<u8>, words: &[u32]) -> Result<(), AllocError>
+    ensures { OnOk result (out.new.items ≡ out.old.items ++ line_of (map (λ word. word % 2 ^ 32) words.now)) }
+{
+    push_numbers(out, words)
+}
+
 /// Writes bytes until the writer has taken all of them, or fails.
 fn write_bytes<O: Write>(output: &mut O, bytes: &[u8]) -> Result<(), Fault>
     ensures ok { OnOk result (Appends (O.contents output.old) (O.contents output.new) bytes.now) }

@@ -3,6 +3,7 @@
 mod answers;
 mod failures;
 mod faults;
+mod golomb;
 mod ranges;
 mod writers;
 

@@ -134,7 +134,7 @@ fn fault_line_that_cannot_be_written(rt: HostRuntime) -> Result<(), Fail> {
 /// passes too; run it once for each allocation that it makes.
 #[test]
 fn refused_memory(rt: HostRuntime) -> Result<(), Fail> {
-    let cases: [(&str, &[u8], &[u8]); 4] = [
+    let cases: [(&str, &[u8], &[u8]); 5] = [
         (
             "ans-encode",
             b"3 2 16777211\n0 1 2 0 1 0 0\n",
@@ -155,6 +155,7 @@ fn refused_memory(rt: HostRuntime) -> Result<(), Fail> {
             b"3 2 16777211\n7 0 589821 503313973 4293718528 0\n",
             b"0 1 2 0 1 0 0\n",
         ),
+        ("golomb", b"0 5 7\n", b"1 00110 0001000\n537\n"),
     ];
     for (command, text, line) in cases.iter() {
         // where the arguments or the lists of the test itself find no memory, there was no run

@@ -28,7 +28,7 @@ loop-preserved g c =
         narrow 32 64 (record { precision = 24; left = one.0; p = one.1 }) here.0,
         one.3.read tt words here.0 here.1,
         rw more (InTurn-symbol (λ item. Reads words item.model item.symbol) model c.loop.symbols.items c.in-Ok.symbol _ _ _ here.2
-        (one.0, one.1, one.2, (record { from = rw quantile at one.3.from; below = rw quantile at one.3.below }, refl))),
+            (one.0, one.1, one.2, (record { from = rw quantile at one.3.from; below = rw quantile at one.3.below }, refl))),
       );
     }
 
