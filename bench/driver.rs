@@ -38,8 +38,9 @@ type DecodeFlat<Word> = unsafe extern "C" fn(u32, *const Word, usize, *mut usize
 /// Words, room for words; answers how many words there are.
 type CopyWords<Word> = unsafe extern "C" fn(*const Word, usize, *mut Word, usize) -> usize;
 
-/// The library's functions at one size of words, states and precision.
+/// The library's functions of one coder, at one size of words, states and precision.
 struct Library<Word> {
+    coder: &'static str,
     size: &'static str,
     precision: u32,
     encode_table: EncodeTable<Word>,
@@ -48,15 +49,20 @@ struct Library<Word> {
     decode_cheap: DecodeTable<Word>,
     encode_flat: EncodeFlat<Word>,
     decode_flat: DecodeFlat<Word>,
+}
+
+/// Copies at one size: into a coder and out again, and with no coder.
+struct Copies<Word> {
+    size: &'static str,
     reload: CopyWords<Word>,
     copy: CopyWords<Word>,
 }
 
-/// Declares the C functions of one size, in which a slice is a pointer and then a length.
+/// Declares the C functions of one coder and size, in which a slice is a pointer and then a length.
 macro_rules! library {
-    ($word:ty, $size:literal, $precision:literal, $cheap:literal) => {{
+    ($word:ty, $coder:literal, $size:literal, $precision:literal, $cheap:literal) => {{
         unsafe extern "C" {
-            #[link_name = concat!("constriction_bench_ans_encode_", $size, "_table")]
+            #[link_name = concat!("constriction_bench_", $coder, "_encode_", $size, "_table")]
             fn encode_table(
                 weights: *const $word,
                 weights_len: usize,
@@ -66,7 +72,7 @@ macro_rules! library {
                 out_len: usize,
             ) -> usize;
 
-            #[link_name = concat!("constriction_bench_ans_decode_", $size, "_table")]
+            #[link_name = concat!("constriction_bench_", $coder, "_decode_", $size, "_table")]
             fn decode_table(
                 weights: *const $word,
                 weights_len: usize,
@@ -76,7 +82,7 @@ macro_rules! library {
                 symbols_len: usize,
             ) -> bool;
 
-            #[link_name = concat!("constriction_bench_ans_decode_", $size, "_", $cheap)]
+            #[link_name = concat!("constriction_bench_", $coder, "_decode_", $size, "_", $cheap)]
             fn decode_cheap(
                 weights: *const $word,
                 weights_len: usize,
@@ -86,7 +92,7 @@ macro_rules! library {
                 symbols_len: usize,
             ) -> bool;
 
-            #[link_name = concat!("constriction_bench_ans_encode_", $size, "_flat")]
+            #[link_name = concat!("constriction_bench_", $coder, "_encode_", $size, "_flat")]
             fn encode_flat(
                 bits: u32,
                 symbols: *const usize,
@@ -95,7 +101,7 @@ macro_rules! library {
                 out_len: usize,
             ) -> usize;
 
-            #[link_name = concat!("constriction_bench_ans_decode_", $size, "_flat")]
+            #[link_name = concat!("constriction_bench_", $coder, "_decode_", $size, "_flat")]
             fn decode_flat(
                 bits: u32,
                 words: *const $word,
@@ -103,7 +109,25 @@ macro_rules! library {
                 symbols: *mut usize,
                 symbols_len: usize,
             ) -> bool;
+        }
+        Library::<$word> {
+            coder: $coder,
+            size: $size,
+            precision: $precision,
+            encode_table,
+            decode_table,
+            cheap: $cheap,
+            decode_cheap,
+            encode_flat,
+            decode_flat,
+        }
+    }};
+}
 
+/// Declares the copies of one size.
+macro_rules! copies {
+    ($word:ty, $size:literal) => {{
+        unsafe extern "C" {
             #[link_name = concat!("constriction_bench_ans_reload_", $size)]
             fn reload(
                 words: *const $word,
@@ -120,15 +144,8 @@ macro_rules! library {
                 out_len: usize,
             ) -> usize;
         }
-        Library::<$word> {
+        Copies::<$word> {
             size: $size,
-            precision: $precision,
-            encode_table,
-            decode_table,
-            cheap: $cheap,
-            decode_cheap,
-            encode_flat,
-            decode_flat,
             reload,
             copy,
         }
@@ -289,7 +306,7 @@ fn cases<W: Word>(bench: &Bench, library: &Library<W>, drawn: &[usize], equal: &
 where
     <W as TryFrom<u32>>::Error: Debug,
 {
-    let size = library.size;
+    let (coder, size) = (library.coder, library.size);
     let numbers = weights(library.precision);
     let weights: Vec<W> = numbers.iter().map(|&n| n.try_into().unwrap()).collect();
 
@@ -323,7 +340,7 @@ where
         (library.decode_flat)(8, words.as_ptr(), words.len(), out.as_mut_ptr(), out.len())
     };
 
-    let name = format!("ans_encode_{size}_table");
+    let name = format!("{coder}_encode_{size}_table");
     bench.encode(&name, encode_table);
     let words = all_words(encode_table);
     if bench.wants(&name) {
@@ -338,11 +355,11 @@ where
         ("table", library.decode_table),
         (library.cheap, library.decode_cheap),
     ] {
-        let name = format!("ans_decode_{size}_{kind}");
+        let name = format!("{coder}_decode_{size}_{kind}");
         bench.decode(&name, &words, drawn, decode_by(decode));
     }
 
-    let name = format!("ans_encode_{size}_flat");
+    let name = format!("{coder}_encode_{size}_flat");
     bench.encode(&name, encode_flat);
     let words = all_words(encode_flat);
     if bench.wants(&name) {
@@ -350,7 +367,7 @@ where
         allocations(&name, || encode_flat(&mut []));
     }
     bench.decode(
-        &format!("ans_decode_{size}_flat"),
+        &format!("{coder}_decode_{size}_flat"),
         &words,
         equal,
         decode_flat,
@@ -358,7 +375,7 @@ where
 }
 
 /// A million words go into a coder and out again; beside it, the same copies with no coder.
-fn reloading<W: Word>(bench: &Bench, library: &Library<W>)
+fn reloading<W: Word>(bench: &Bench, copies: &Copies<W>)
 where
     <W as TryFrom<u32>>::Error: Debug,
 {
@@ -371,8 +388,8 @@ where
         })
         .collect();
     let mut out = vec![W::default(); COUNT];
-    for (name, call) in [("ans_reload", library.reload), ("copy", library.copy)] {
-        let name = format!("{name}_{}", library.size);
+    for (name, call) in [("ans_reload", copies.reload), ("copy", copies.copy)] {
+        let name = format!("{name}_{}", copies.size);
         if bench.wants(&name) {
             let time = bench.least(|| unsafe {
                 call(words.as_ptr(), words.len(), out.as_mut_ptr(), out.len())
@@ -392,10 +409,14 @@ fn main() {
     let entropy = information(&weights(24), 24, &drawn) / COUNT as f64;
     eprintln!("# {COUNT} symbols, {entropy:.3} bits each, least of {RUNS} runs");
 
-    let large = library!(u32, "u32u64p24", 24, "bucket");
-    let small = library!(u16, "u16u32p12", 12, "lookup");
+    let large = library!(u32, "ans", "u32u64p24", 24, "bucket");
+    let small = library!(u16, "ans", "u16u32p12", 12, "lookup");
     cases(&bench, &large, &drawn, &equal);
     cases(&bench, &small, &drawn, &equal);
-    reloading(&bench, &large);
-    reloading(&bench, &small);
+    reloading(&bench, &copies!(u32, "u32u64p24"));
+    reloading(&bench, &copies!(u16, "u16u32p12"));
+    let large = library!(u32, "range", "u32u64p24", 24, "bucket");
+    let small = library!(u16, "range", "u16u32p12", 12, "lookup");
+    cases(&bench, &large, &drawn, &equal);
+    cases(&bench, &small, &drawn, &equal);
 }

@@ -7,7 +7,14 @@
 mod input;
 mod models;
 
-use constriction::stream::{stack::AnsCoder, Decode};
+use constriction::{
+    backends::Cursor,
+    stream::{
+        queue::{RangeDecoder, RangeEncoder},
+        stack::AnsCoder,
+        Decode, Encode,
+    },
+};
 use input::{drawn_symbols, weights, Random, COUNT};
 use models::{large, small};
 use std::{hint::black_box, time::Instant};
@@ -36,29 +43,43 @@ impl Bench {
     }
 }
 
-/// The cases of one size: an encoder under `encoding`, and decoders under each of the others.
-macro_rules! ans_cases {
-    ($bench:expr, $word:ty, $state:ty, $size:literal, $symbols:expr, encode $encode:literal: $encoding:expr,
-     $(decode $decode:literal: $decoding:expr),*) => {{
+/// The cases of one coder and size: an encoder under `encoding`, and decoders under each of the others.
+macro_rules! cases {
+    ($bench:expr, $coder:literal, $encoder:ty, $encode_all:ident, $decoder:ty, $size:literal, $symbols:expr,
+     encode $encode:literal: $encoding:expr, $(decode $decode:literal: $decoding:expr),*) => {{
         let symbols: &[usize] = $symbols;
         let encoded = || {
-            let mut coder = AnsCoder::<$word, $state>::new();
-            coder.encode_iid_symbols_reverse(symbols, $encoding).ok().unwrap();
+            let mut coder = <$encoder>::new();
+            coder.$encode_all(symbols, $encoding).ok().unwrap();
             coder.into_compressed().ok().unwrap()
         };
-        $bench.case(&format!("ans_encode_{}_{}", $size, $encode), || (), |()| encoded());
+        $bench.case(&format!("{}_encode_{}_{}", $coder, $size, $encode), || (), |()| encoded());
         let words = encoded();
         $(
+            let name = format!("{}_decode_{}_{}", $coder, $size, $decode);
             let mut decoded = vec![0; COUNT];
-            $bench.case(&format!("ans_decode_{}_{}", $size, $decode), || words.clone(), |words| {
-                let mut coder = AnsCoder::<$word, $state>::from_compressed(words).ok().unwrap();
+            $bench.case(&name, || words.clone(), |words| {
+                let mut coder = <$decoder>::from_compressed(words).ok().unwrap();
                 for (place, symbol) in decoded.iter_mut().zip(coder.decode_iid_symbols(COUNT, $decoding)) {
                     *place = symbol.ok().unwrap();
                 }
             });
-            assert!(!format!("ans_decode_{}_{}", $size, $decode).contains(&$bench.part) || decoded == symbols);
+            assert!(!name.contains(&$bench.part) || decoded == symbols);
         )*
     }};
+}
+
+macro_rules! ans_cases {
+    ($bench:expr, $word:ty, $state:ty, $($rest:tt)*) => {
+        cases!($bench, "ans", AnsCoder<$word, $state>, encode_iid_symbols_reverse, AnsCoder<$word, $state>, $($rest)*)
+    };
+}
+
+macro_rules! range_cases {
+    ($bench:expr, $word:ty, $state:ty, $($rest:tt)*) => {
+        cases!($bench, "range", RangeEncoder<$word, $state>, encode_iid_symbols,
+            RangeDecoder<$word, $state, Cursor<$word, Vec<$word>>>, $($rest)*)
+    };
 }
 
 /// A million symbols below 256, each as likely.
@@ -81,6 +102,8 @@ fn main() {
     let flat = black_box(large::Flat::new(8));
     ans_cases!(bench, u32, u64, "u32u64p24", &drawn, encode "table": &table, decode "table": &table, decode "bucket": &bucket);
     ans_cases!(bench, u32, u64, "u32u64p24", &equal, encode "flat": &flat, decode "flat": &flat);
+    range_cases!(bench, u32, u64, "u32u64p24", &drawn, encode "table": &table, decode "table": &table, decode "bucket": &bucket);
+    range_cases!(bench, u32, u64, "u32u64p24", &equal, encode "flat": &flat, decode "flat": &flat);
 
     let weights_12: Vec<u16> = weights(12).iter().map(|&weight| weight as u16).collect();
     let table = small::Table::new(&weights_12);
@@ -88,4 +111,6 @@ fn main() {
     let flat = black_box(small::Flat::new(8));
     ans_cases!(bench, u16, u32, "u16u32p12", &drawn, encode "table": &table, decode "table": &table, decode "lookup": &lookup);
     ans_cases!(bench, u16, u32, "u16u32p12", &equal, encode "flat": &flat, decode "flat": &flat);
+    range_cases!(bench, u16, u32, "u16u32p12", &drawn, encode "table": &table, decode "table": &table, decode "lookup": &lookup);
+    range_cases!(bench, u16, u32, "u16u32p12", &equal, encode "flat": &flat, decode "flat": &flat);
 }

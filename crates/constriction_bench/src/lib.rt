@@ -6,12 +6,14 @@
 //!   serves the last two.
 //! - `large`: the cases at words of 32 bits, states of 64 and a precision of 24.
 //! - `small`: the cases at words of 16 bits, states of 32 and a precision of 12.
+//! - `ranges`: the measured loops of the range coder, and its cases at the same sizes.
 #![tactic(auto)]
 
 mod bucket;
 mod flat;
 pub mod large;
 mod lookup;
+pub mod ranges;
 mod runs;
 pub mod small;
 mod starts;
