@@ -8,6 +8,7 @@
 //! - `small`: the cases at words of 16 bits, states of 32 and a precision of 12.
 #![tactic(auto)]
 
+pub mod bits;
 mod bucket;
 mod flat;
 pub mod large;
