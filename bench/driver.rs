@@ -8,6 +8,7 @@
 //! (a table of weights), `bucket` (4096 start symbols and a short search upward), `lookup` (the
 //! symbol of each quantile listed), `flat` (equal weights, no table at all).
 
+mod bits;
 mod input;
 
 use input::{COUNT, Random, drawn_symbols, weights};
@@ -266,17 +267,17 @@ impl Bench {
 
     /// The library's decoders own their words, so they begin with a copy. What `malloc` and a copy
     /// take alone is not counted.
-    fn decode<W: Word>(
+    fn decode<W: Word, T: Copy + Default + PartialEq + Debug>(
         &self,
         name: &str,
         words: &[W],
-        symbols: &[usize],
-        decode: impl Fn(&[W], &mut [usize]) -> bool,
+        symbols: &[T],
+        decode: impl Fn(&[W], &mut [T]) -> bool,
     ) {
         if !self.wants(name) {
             return;
         }
-        let mut out = vec![0; COUNT];
+        let mut out = vec![T::default(); COUNT];
         let all = self.least(|| assert!(decode(words, &mut out)));
         assert_eq!(out, symbols);
         let copying = self.least(|| black_box(words).to_vec());
@@ -419,4 +420,5 @@ fn main() {
     let small = library!(u16, "range", "u16u32p12", 12, "lookup");
     cases(&bench, &large, &drawn, &equal);
     cases(&bench, &small, &drawn, &equal);
+    bits::cases(&bench, &drawn);
 }

@@ -3,6 +3,8 @@
 //! Prints a line `name ns_per_symbol` for each case, the least of RUNS runs over a million symbols. An argument keeps
 //! the cases whose name contains it. The names are those of `bench/driver.rs`, which says what they mean.
 
+mod bits;
+mod chain;
 #[path = "../../input.rs"]
 mod input;
 mod models;
@@ -26,9 +28,13 @@ struct Bench {
 }
 
 impl Bench {
+    fn wants(&self, name: &str) -> bool {
+        name.contains(&self.part)
+    }
+
     /// Prints the least time of `work` over the runs. Making its input and dropping its answer isn't counted.
     fn case<T, R>(&self, name: &str, mut input: impl FnMut() -> T, mut work: impl FnMut(T) -> R) {
-        if !name.contains(&self.part) {
+        if !self.wants(name) {
             return;
         }
         let mut least = f64::INFINITY;
@@ -113,4 +119,8 @@ fn main() {
     ans_cases!(bench, u16, u32, "u16u32p12", &equal, encode "flat": &flat, decode "flat": &flat);
     range_cases!(bench, u16, u32, "u16u32p12", &drawn, encode "table": &table, decode "table": &table, decode "lookup": &lookup);
     range_cases!(bench, u16, u32, "u16u32p12", &equal, encode "flat": &flat, decode "flat": &flat);
+
+    chain::cases(&bench);
+    bits::bits_alone(&bench);
+    bits::codewords(&bench, &drawn);
 }

@@ -9,6 +9,7 @@
 //! - `ranges`: the measured loops of the range coder, and its cases at the same sizes.
 #![tactic(auto)]
 
+pub mod bits;
 mod bucket;
 mod flat;
 pub mod large;
