@@ -10,12 +10,14 @@
 //!
 //! - [`lists`]: where each step is undone, so is a list of them, the last step first. One law for
 //!   every coder.
+//! - [`queue`]: the range coder.
 //! - [`stack`]: the stack coder, by asymmetric numeral systems.
 #![tactic(auto)]
 
 #[cfg(test)]
 mod callers;
 pub mod lists;
+pub mod queue;
 pub mod room;
 pub mod round_trips;
 pub mod stack;

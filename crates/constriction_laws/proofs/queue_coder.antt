@@ -1,0 +1,6 @@
+pub mod Entries
+pub mod Sealing
+pub mod Reading
+pub mod ComingBack
+pub mod ListCalls
+pub mod Pairs
