@@ -1,5 +1,6 @@
 pub mod Entries
 pub mod Sealing
+pub mod Seeking
 pub mod Reading
 pub mod ComingBack
 pub mod ListCalls
