@@ -4,4 +4,5 @@ pub mod Encoder
 pub mod Guarded
 pub mod Range
 pub mod States
+pub mod Symbols
 pub mod Writing

@@ -111,6 +111,9 @@
 //!   isn't full takes. [`laws::round_trips`]: lists that any coder gives.
 //! - [`laws::chain`]: the chain coder: its steps undo each other, and its symbols are isolated.
 //! - [`laws::symbol`]: codebooks: a symbol comes back, and no Exp-Golomb codeword begins another.
+//! - [`laws::queue`]: the range coder. [`laws::queue::round_trips`] are whole lists there and back, by the
+//!   coder's own calls; [`laws::queue::words`], [`laws::queue::lists`] and [`laws::queue::positions`] are the
+//!   laws of sealed words, of lists of symbols, and of recorded positions; the others are of guards and room.
 //! - [`laws::stack`]: the stack coder. [`laws::stack::round_trips`] are whole lists there and back, by
 //!   the coder's own calls; [`laws::stack::steps`], [`laws::stack::lists`] and [`laws::stack::words`] are
 //!   the laws of one symbol, of lists, and of words that are exported and imported; the others are of
@@ -205,6 +208,70 @@ pub mod laws {
 
     pub mod chain {
         pub use constriction_chain::laws::{changes_undo, steps_undo, symbols_are_isolated};
+    }
+
+    pub mod queue {
+        pub mod guards {
+            pub use constriction_laws::queue::guards::{shown_words_are_exported, shown_words_go};
+        }
+
+        pub mod lists {
+            pub use constriction_laws::queue::lists::{
+                decodes_undo_encodes, one_list_of_encodes, symbols_come_back, symbols_of_any_words,
+            };
+        }
+
+        pub mod positions {
+            pub use constriction_laws::queue::positions::{
+                position_leads_there, symbols_after_a_position,
+            };
+        }
+
+        pub mod refusals {
+            pub use constriction_laws::queue::refusals::room_is_enough;
+        }
+
+        pub mod round_trips {
+            pub mod coding {
+                pub use constriction_laws::queue::round_trips::coding::{
+                    decode_list, decode_pairs, encode_list, encode_pairs, has_ended,
+                };
+            }
+
+            pub mod decoders {
+                pub use constriction_laws::queue::round_trips::decoders::list_into_decoder;
+            }
+
+            pub mod lent_words {
+                pub use constriction_laws::queue::round_trips::lent_words::{
+                    decode_lent_words, decode_through_decoder, list_from_lent_words,
+                };
+            }
+
+            pub mod pairs {
+                pub use constriction_laws::queue::round_trips::pairs::pairs_through_words;
+            }
+
+            pub mod positions {
+                pub use constriction_laws::queue::round_trips::positions::list_after_a_position;
+            }
+
+            pub mod shown {
+                pub use constriction_laws::queue::round_trips::shown::{
+                    copy_shown_words, words_shown_and_given,
+                };
+            }
+
+            pub mod words {
+                pub use constriction_laws::queue::round_trips::words::list_through_words;
+            }
+        }
+
+        pub mod words {
+            pub use constriction_laws::queue::words::{
+                sealed_words_are_read, words_within_are_read,
+            };
+        }
     }
 
     pub mod stack {

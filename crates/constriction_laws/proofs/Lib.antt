@@ -4,4 +4,6 @@ pub mod ListsGiven
 pub mod stack_coder
 pub mod ProductBounds
 pub mod StepsOfSymbols
+pub mod FollowingWords
 mod BoundRows
+pub mod queue_coder

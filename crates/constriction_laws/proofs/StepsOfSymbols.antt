@@ -6,6 +6,9 @@ use Rattle.constriction_base.specs.Steps.{Step, IsStep, AreSteps, InTurn}
 use Rattle.constriction_base.specs.Models.{Item, AreModels}
 use Rattle.constriction_stack.specs.Ans.{AnsState, IsPush}
 use Rattle.constriction_stack.specs.Symbols.{EncodesAll}
+use Rattle.constriction_queue.specs.Range.{Run}
+use Rattle.constriction_laws.specs.queue.Symbols as queue
+use Rattle.constriction_laws.proofs.queue_coder.Entries.{entries}
 use Rattle.constriction_laws.specs.Bounds.{AreEntries, product, spare, share, rounded_whole}
 use Rattle.constriction_laws.proofs.stack_coder.Choosing.{step_of}
 
@@ -16,6 +19,11 @@ steps_of_encodes w s (item ∷ items) old new h =
     let rest = steps_of_encodes w s items h.0 new h.2 in
     let step : Step = record { precision = item.model.precision; left = h.1.0; p = h.1.1 } in
     (step ∷ rest.0, ((h.1.0, h.1.1, h.1.2, refl), rest.1), (h.0, h.1.3, rest.2))
+
+-- the entries to which a run was narrowed
+pub narrowed_entries : {S : Type 0} (w s : ℕ) (items : List (Item S)) (old new : Run) (h : queue.EncodesAll w s items old new) → AreEntries items (entries w s items old new h)
+narrowed_entries w s [] old new h = tt
+narrowed_entries w s (item ∷ items) old new h = ((h.1.0, h.1.1, h.1.2, refl), narrowed_entries w s items h.0 new h.2)
 
 pub entries_are_steps : {S : Type 0} (w s : ℕ) (items : List (Item S)) (steps : List Step) → AreModels w items → AreEntries items steps → AreSteps w steps
 entries_are_steps w s [] [] ms h = tt

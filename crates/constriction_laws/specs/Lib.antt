@@ -1,3 +1,4 @@
 pub mod Readings
 pub mod stack
 pub mod Bounds
+pub mod queue

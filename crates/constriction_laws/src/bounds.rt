@@ -4,6 +4,7 @@
 //! Read with logarithms, a step of probability `p / 2^P` costs at most `log2(2^P / p)`, its information content, and
 //! `log2(1 + 2^-k)` more, the rounding.
 
+pub mod following;
 pub mod words;
 
 ghost use Rattle.std.specs.Prelude.{◌≡◌, ℕ, ◌-◌, ◌*◌, ◌<◌, ◌≤◌, ◌^◌, ◌+◌, List, length};

@@ -3,9 +3,7 @@
 //! - [`iterators`]: an iterator of words, and symbols that come back from it.
 //! - [`room`]: when a step is refused for want of memory or of room.
 //! - [`round_trips`]: symbols of two precisions, a position kept by hand, bytes and bits.
-//! - [`tests`]: they run once, as the laws do.
 
-mod iterators;
-mod room;
-mod round_trips;
-mod tests;
+pub mod iterators;
+pub mod room;
+pub mod round_trips;

@@ -8,16 +8,19 @@
 //! follows for a whole run. Words are listed in the order in which they are read, the next one
 //! first.
 //!
+//! - [`bounds`]: the output is short, and what may follow it.
+//! - [`callers`]: functions at concrete types that call coders, and learn all from contracts and laws.
 //! - [`lists`]: where each step is undone, so is a list of them, the last step first. One law for
 //!   every coder.
-//! - [`bounds`]: the output is short.
+//! - [`queue`]: the range coder.
+//! - [`room`], [`round_trips`]: what any coder takes where it isn't full, and lists that any coder gives.
 //! - [`stack`]: the stack coder, by asymmetric numeral systems.
 #![tactic(auto)]
 
 pub mod bounds;
-#[cfg(test)]
-mod callers;
+pub mod callers;
 pub mod lists;
+pub mod queue;
 pub mod room;
 pub mod round_trips;
 pub mod stack;

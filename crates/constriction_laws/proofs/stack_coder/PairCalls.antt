@@ -74,12 +74,12 @@ module _ {A B : Type 0} where
 
 -- ---- the items of symbols and models
 module _ {S M : Type 0} (precision : ℕ) (table : M → List (S × ℕ × ℕ)) where
-  are_pairs : (w : ℕ) (xs : List S) (ms : List M) → ((m : M) → IsModel w (record { precision = precision; table = table m })) → AreModels w (pairs_of precision table xs ms)
+  pub are_pairs : (w : ℕ) (xs : List S) (ms : List M) → ((m : M) → IsModel w (record { precision = precision; table = table m })) → AreModels w (pairs_of precision table xs ms)
   are_pairs w [] ms lawful = tt
   are_pairs w (x ∷ xs) [] lawful = tt
   are_pairs w (x ∷ xs) (m ∷ ms) lawful = (lawful m, are_pairs w xs ms lawful)
 
-  same_models : (xs ys : List S) (ms : List M) → length xs ≡ length ys → models (pairs_of precision table xs ms) ≡ models (pairs_of precision table ys ms)
+  pub same_models : (xs ys : List S) (ms : List M) → length xs ≡ length ys → models (pairs_of precision table xs ms) ≡ models (pairs_of precision table ys ms)
   same_models [] [] ms same = refl
   same_models [] (y ∷ ys) ms same = absurd (omega arith)
   same_models (x ∷ xs) [] ms same = absurd (omega arith)
@@ -87,7 +87,7 @@ module _ {S M : Type 0} (precision : ℕ) (table : M → List (S × ℕ × ℕ))
   same_models (x ∷ xs) (y ∷ ys) (m ∷ ms) same =
       ap (λ (ns : List (Model S)). record { precision = precision; table = table m } ∷ ns) (same_models xs ys ms (omega arith))
 
-  their_symbols : (xs : List S) (ms : List M) → length xs ≡ length ms → map (λ (i : Item S). i.symbol) (pairs_of precision table xs ms) ≡ xs
+  pub their_symbols : (xs : List S) (ms : List M) → length xs ≡ length ms → map (λ (i : Item S). i.symbol) (pairs_of precision table xs ms) ≡ xs
   their_symbols [] ms same = refl
   their_symbols (x ∷ xs) [] same = absurd (omega arith)
   their_symbols (x ∷ xs) (m ∷ ms) same = ap (λ (ys : List S). x ∷ ys) (their_symbols xs ms (omega arith))

@@ -5,11 +5,11 @@ use Rattle.std.proofs.lemmas.List.{length-reverse}
 use Rattle.constriction_base.specs.Models.{Model, IsModel, Item, item_of, items_of, models, AreModels}
 use Rattle.constriction_laws.proofs.stack_coder.ComingBack.{map-reverse}
 
-symbols-items_of : {S : Type 0} (model : Model S) (xs : List S) → map (λ i. i.symbol) (items_of model xs) ≡ xs
+pub symbols-items_of : {S : Type 0} (model : Model S) (xs : List S) → map (λ i. i.symbol) (items_of model xs) ≡ xs
 symbols-items_of model [] = refl
 symbols-items_of {S} model (x ∷ xs) = ap (λ (ys : List S). x ∷ ys) (symbols-items_of model xs)
 
-models-alike : {S : Type 0} (model : Model S) (xs ys : List S) → length xs ≡ length ys → models (items_of model xs) ≡ models (items_of model ys)
+pub models-alike : {S : Type 0} (model : Model S) (xs ys : List S) → length xs ≡ length ys → models (items_of model xs) ≡ models (items_of model ys)
 models-alike model [] [] e = refl
 models-alike model [] (y ∷ ys) e = absurd (omega arith)
 models-alike model (x ∷ xs) [] e = absurd (omega arith)

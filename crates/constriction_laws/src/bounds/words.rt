@@ -7,10 +7,12 @@ ghost use Rattle.constriction_base.specs.Models.{items_of};
 ghost use Rattle.constriction_stack.specs.Ans.{IsValid, exported};
 ghost use Rattle.constriction_laws.specs.Bounds.{AreEntries, Decode, Encode, net_share, net_whole, product, rounded_whole, share};
 
-use crate::bounds::{stack_bound, stack_net_bound};
+use crate::bounds::{range_bound, stack_bound, stack_net_bound};
+use crate::queue::round_trips::coding::encode_list;
 use crate::stack::round_trips::words::words_of_list;
 use constriction_base::backends::{Holds, ReadWords, Stack, WriteWords};
 use constriction_base::model::{DecoderModel, EncoderModel, EntropyModel};
+use constriction_queue::RangeEncoder;
 use constriction_stack::coder::AnsCoder;
 use constriction_stream::coder::Code;
 use constriction_stream::decoding::Decode;
@@ -35,6 +37,31 @@ where
 {
     let words = words_of_list::<Word, State, M, PRECISION>(alloc, symbols, model)?;
     stack_bound();
+    Some(words)
+}
+
+/// The words of a new range encoder that was given symbols, and how many they are at most.
+pub fn few_sealed_words_of_list<
+    Word: WordOf<State>,
+    State: BitArray,
+    M: EncoderModel<PRECISION>,
+    const PRECISION: usize,
+>(alloc: Global, symbols: &[M::Symbol], model: &M) -> Option<Vec<Word>>
+where
+    M::Probability: WordOf<Word>,
+    requires { IsSizes Word.BITS State.BITS }
+    ensures few { IfSome result (λ words. (steps : List Step)
+        × AreEntries (items_of record { precision = PRECISION; table = M.table model.now } symbols.now) steps
+        × (2 ≤ length words.items →
+        2 ^ (Word.BITS * (length words.items - 2)) * (2 ^ State.BITS - 1) * product (share Word.BITS State.BITS) steps
+        < 2 ^ State.BITS * product (rounded_whole Word.BITS State.BITS) steps)) }
+{
+    let mut encoder: RangeEncoder<Word, State, Vec<Word>> = RangeEncoder::new(alloc);
+    encode_list(&mut encoder, symbols, model)?;
+    let Ok(words) = encoder.into_compressed() else {
+        return None;
+    };
+    range_bound();
     Some(words)
 }
 

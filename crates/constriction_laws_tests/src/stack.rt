@@ -1,26 +1,30 @@
-//! The round trips and the callers, and the laws themselves, at concrete types.
+//! The round trips and callers of the stack coder, and its laws, at words of 8 bits and heads of 16.
 
-use super::iterators::{LastFirst, list_from_an_iterator};
-use super::round_trips::{any_bytes, back_to_a_position, two_precisions, valid_bits};
-use crate::lists::lists_undo;
-use crate::stack::lists::Decoding;
-use crate::stack::round_trips::binary::words_through_list;
-use crate::stack::round_trips::coding::encode_list_reverse;
-use crate::stack::round_trips::compressed::compressed_words_through_list;
-use crate::stack::round_trips::decoders::{
-    list_as_decoder, list_into_decoder, list_into_seekable_decoder,
-};
-use crate::stack::round_trips::lent_words::{decode_lent_binary_words, list_from_lent_words};
-use crate::stack::round_trips::pairs::pairs_through_words;
-use crate::stack::round_trips::positions::list_before_a_position;
-use crate::stack::round_trips::shown::words_shown_and_given;
-use crate::stack::round_trips::steps::{encode_and_decode, export_and_import};
-use crate::stack::round_trips::words::{
-    list_from_borrowed_words, list_from_reversed_words, list_through_words, words_of_list,
-};
-use crate::stack::{binary, guards, lists, positions, readings, sizes, steps, words};
 use constriction_base::iterators::FallibleIteratorReadWords;
 use constriction_base::weights::WeightTable;
+use constriction_laws::callers::iterators::{LastFirst, list_from_an_iterator};
+use constriction_laws::callers::round_trips::{
+    any_bytes, back_to_a_position, two_precisions, valid_bits,
+};
+use constriction_laws::lists::lists_undo;
+use constriction_laws::stack::lists::Decoding;
+use constriction_laws::stack::round_trips::binary::words_through_list;
+use constriction_laws::stack::round_trips::coding::encode_list_reverse;
+use constriction_laws::stack::round_trips::compressed::compressed_words_through_list;
+use constriction_laws::stack::round_trips::decoders::{
+    list_as_decoder, list_into_decoder, list_into_seekable_decoder,
+};
+use constriction_laws::stack::round_trips::lent_words::{
+    decode_lent_binary_words, list_from_lent_words,
+};
+use constriction_laws::stack::round_trips::pairs::pairs_through_words;
+use constriction_laws::stack::round_trips::positions::list_before_a_position;
+use constriction_laws::stack::round_trips::shown::words_shown_and_given;
+use constriction_laws::stack::round_trips::steps::{encode_and_decode, export_and_import};
+use constriction_laws::stack::round_trips::words::{
+    list_from_borrowed_words, list_from_reversed_words, list_through_words, words_of_list,
+};
+use constriction_laws::stack::{binary, guards, lists, positions, readings, sizes, steps, words};
 use constriction_stack::coder::AnsCoder;
 use std::alloc::Global;
 use std::convert::Infallible;

@@ -1,0 +1,22 @@
+use Rattle.std.proofs.Common.{◌∙◌, sym, arith}
+use Rattle.constriction_base.specs.Models.{Model, IsModel, item_of}
+use Rattle.constriction_laws.proofs.ListsGiven.{some_weaker, some_both}
+use Rattle.constriction_laws.proofs.queue_coder.ListCalls.{decodes_of, back_of}
+use Rattle.constriction_laws.proofs.queue.round_trips.coding.decode_list.Goals as goal
+
+pub returns-clause-decoded : goal.returns-clause-decoded
+returns-clause-decoded g c = λ known words old at.
+    let model : Model g.row.M-Symbol.Denot = record { precision = g.row.PRECISION; table = g.M.EntropyModel.table c.args.model.now } in
+    some_weaker c.decode_list.result c.decode_list.ensures.steps (λ again all.
+    decodes_of _ g.Word.BitArray.number g.Backend.Holds.words g.Backend.Holds.is_list g.Backend.ReadWords.reads g.Word.BitArray.BITS g.State.BitArray.BITS words known (item_of model) again.items old c.args.decoder.now c.decode_list.new.decoder at all)
+
+pub returns-clause-back : goal.returns-clause-back
+returns-clause-back g c = λ known words symbols old last at decoded count.
+    let w = g.Word.BitArray.BITS in
+    let s = g.State.BitArray.BITS in
+    let sized = g.met.M.EntropyModel.sized c.args.model.now in
+    let model : Model g.row.M-Symbol.Denot = record { precision = g.row.PRECISION; table = g.M.EntropyModel.table c.args.model.now } in
+    let lawful : IsModel w model = record { some_bits = sized.0; within_word = omega (arith, sized.1, g.met.M.Probability.WordOf.width_law); lawful = g.M.EntropyModel.lawful c.args.model.now } in
+    some_both c.decode_list.result c.decode_list.ensures.count c.decode_list.ensures.steps (λ again many all.
+    back_of w s words model symbols again.items old last c.decode_list.new.decoder lawful (count ∙ sym many) decoded
+    (decodes_of _ g.Word.BitArray.number g.Backend.Holds.words g.Backend.Holds.is_list g.Backend.ReadWords.reads w s words known (item_of model) again.items old c.args.decoder.now c.decode_list.new.decoder at all))

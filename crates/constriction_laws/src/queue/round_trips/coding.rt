@@ -1,0 +1,155 @@
+//! List calls of the range coder, said in the words of the laws: which runs they lead to.
+
+ghost use Rattle.std.specs.Prelude.{◌≡◌, ℕ, List, length, IfSome, IsTrue};
+ghost use Rattle.constriction_base.specs.Models.{items_of, pairs_of};
+ghost use Rattle.constriction_queue.specs.Encoder.{run_by};
+ghost use Rattle.constriction_queue.specs.Range.{Run};
+ghost use Rattle.constriction_laws.specs.queue.Symbols.{EncodesAll, DecodesAll, StandsAt, MayEnd};
+
+use crate::round_trips as any_coder;
+use constriction_base::backends::{BoundedReadWords, Holds, Queue, ReadWords, WriteWords};
+use constriction_base::model::{DecoderModel, EncoderModel, EntropyModel};
+use constriction_queue::{RangeDecoder, RangeEncoder};
+use constriction_stream::decoding::Decode;
+use constriction_stream::encoding::Encode;
+use constriction_words::{BitArray, WordOf};
+use std::alloc::Global;
+
+/// Symbols that are put behind the others by one model, the first one first.
+///
+/// It leads to the run of an encode of each symbol, one after the other. `None` says that a step was refused,
+/// or that the encoder doesn't count so many more symbols.
+pub fn encode_list<
+    Word: WordOf<State>,
+    State: BitArray,
+    Backend: WriteWords<Word>,
+    M: EncoderModel<PRECISION>,
+    const PRECISION: usize,
+>(encoder: &mut RangeEncoder<Word, State, Backend>, symbols: &[M::Symbol], model: &M) -> Option<()>
+where
+    M::Probability: WordOf<Word>,
+    Backend::WriteError: Drop,
+    ensures { IfSome result (λ _. EncodesAll Word.BITS State.BITS
+        (items_of record { precision = PRECISION; table = M.table model.now } symbols.now)
+        (run_by Word.BITS State.BITS encoder.old) (run_by Word.BITS State.BITS encoder.new)) }
+{
+    if Encode::<PRECISION>::symbols_left(encoder) < symbols.len() {
+        return None;
+    }
+    let Ok(()) = Encode::<PRECISION>::encode_iid_symbols(encoder, symbols, model) else {
+        return None;
+    };
+    Some(())
+}
+
+/// Symbols that are put behind the others, each by a model of its own.
+///
+/// It leads to the run of an encode of each of them, one after the other. `None` says that a step was refused,
+/// or that the encoder doesn't count so many more symbols.
+pub fn encode_pairs<
+    Word: WordOf<State>,
+    State: BitArray,
+    Backend: WriteWords<Word>,
+    M: EncoderModel<PRECISION>,
+    const PRECISION: usize,
+>(
+    encoder: &mut RangeEncoder<Word, State, Backend>,
+    symbols: &[M::Symbol],
+    models: &[M],
+) -> Option<()>
+where
+    M::Probability: WordOf<Word>,
+    Backend::WriteError: Drop,
+    requires { length symbols.now ≡ length models.now }
+    ensures { IfSome result (λ _. EncodesAll Word.BITS State.BITS
+        (pairs_of PRECISION M.table symbols.now models.now)
+        (run_by Word.BITS State.BITS encoder.old) (run_by Word.BITS State.BITS encoder.new)) }
+{
+    if Encode::<PRECISION>::symbols_left(encoder) < symbols.len() {
+        return None;
+    }
+    let Ok(()) = Encode::<PRECISION>::encode_symbols(encoder, symbols.iter().zip(models.iter()))
+    else {
+        return None;
+    };
+    Some(())
+}
+
+/// So many symbols that are taken by one model.
+///
+/// From where the decoder stands it leads to the run of a decode of each symbol, one after the other. Where
+/// these words are those of as many symbols, the symbols come back, the first one first.
+pub fn decode_list<
+    Word: WordOf<State>,
+    State: BitArray,
+    Backend: ReadWords<Word, Queue>,
+    M: DecoderModel<PRECISION>,
+    const PRECISION: usize,
+>(
+    alloc: Global,
+    decoder: &mut RangeDecoder<Word, State, Backend>,
+    amt: usize,
+    model: &M,
+) -> Option<Vec<M::Symbol>>
+where
+    M::Probability: WordOf<Word>,
+    Backend::ReadError: Drop,
+    ensures count { IfSome result (λ again. length again.items ≡ amt) }
+    ensures decoded { Backend.is_list → (words : List ℕ) (old : Run) → StandsAt Word.BITS State.BITS words old decoder.old →
+        IfSome result (λ again. (last : Run)
+        × DecodesAll Word.BITS State.BITS words (items_of record { precision = PRECISION; table = M.table model.now } again.items) old last
+        × StandsAt Word.BITS State.BITS words last decoder.new) }
+    ensures back { Backend.is_list → (words : List ℕ) (symbols : List M.Symbol) (old last : Run) →
+        StandsAt Word.BITS State.BITS words old decoder.old →
+        DecodesAll Word.BITS State.BITS words (items_of record { precision = PRECISION; table = M.table model.now } symbols) old last →
+        length symbols ≡ amt →
+        IfSome result (λ again. (again.items ≡ symbols) × StandsAt Word.BITS State.BITS words last decoder.new) }
+{
+    any_coder::decode_list::<_, _, PRECISION>(alloc, decoder, amt, model)
+}
+
+/// A symbol that is taken for each of the models.
+///
+/// From where the decoder stands it leads to the run of a decode of each symbol, one after the other. Where
+/// these words are those of as many symbols under these models, the symbols come back, the first one first.
+pub fn decode_pairs<
+    Word: WordOf<State>,
+    State: BitArray,
+    Backend: ReadWords<Word, Queue>,
+    M: DecoderModel<PRECISION>,
+    const PRECISION: usize,
+>(
+    alloc: Global,
+    decoder: &mut RangeDecoder<Word, State, Backend>,
+    models: &[M],
+) -> Option<Vec<M::Symbol>>
+where
+    M::Probability: WordOf<Word>,
+    Backend::ReadError: Drop,
+    ensures count { IfSome result (λ again. length again.items ≡ length models.now) }
+    ensures decoded { Backend.is_list → (words : List ℕ) (old : Run) → StandsAt Word.BITS State.BITS words old decoder.old →
+        IfSome result (λ again. (last : Run)
+        × DecodesAll Word.BITS State.BITS words (pairs_of PRECISION M.table again.items models.now) old last
+        × StandsAt Word.BITS State.BITS words last decoder.new) }
+    ensures back { Backend.is_list → (words : List ℕ) (symbols : List M.Symbol) (old last : Run) →
+        StandsAt Word.BITS State.BITS words old decoder.old →
+        DecodesAll Word.BITS State.BITS words (pairs_of PRECISION M.table symbols models.now) old last →
+        length symbols ≡ length models.now →
+        IfSome result (λ again. (again.items ≡ symbols) × StandsAt Word.BITS State.BITS words last decoder.new) }
+{
+    any_coder::decode_by_models::<_, _, PRECISION>(alloc, decoder, models)
+}
+
+/// Whether the backend and the decoder say that the words may have ended. They do, where these may end at the
+/// run at which the decoder stands, as those of a seal at the end of its run.
+pub fn has_ended<
+    Word: WordOf<State>,
+    State: BitArray,
+    Backend: BoundedReadWords<Word, Queue>,
+    const PRECISION: usize,
+>(decoder: &RangeDecoder<Word, State, Backend>) -> bool
+    ensures { (words : List ℕ) (there : Run) → StandsAt Word.BITS State.BITS words there decoder.now →
+        MayEnd Word.BITS State.BITS words there → IsTrue result }
+{
+    decoder.bulk().maybe_exhausted() && Decode::<PRECISION>::maybe_exhausted(decoder)
+}

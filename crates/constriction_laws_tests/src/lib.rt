@@ -1,0 +1,13 @@
+//! Tests of the laws' callers, and no code besides: each round trip once, at a concrete type.
+//!
+//! What a law or a round trip says is proved in `constriction_laws` for all values. These tests stand for
+//! what no contract can say: that the calls succeed where there is memory, and give the numbers that a
+//! reader expects.
+#![tactic(auto)]
+
+#[cfg(test)]
+mod bounds;
+#[cfg(test)]
+mod queue;
+#[cfg(test)]
+mod stack;
