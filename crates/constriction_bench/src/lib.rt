@@ -6,6 +6,7 @@
 //!   serves the last two.
 //! - `large`: the cases at words of 32 bits, states of 64 and a precision of 24.
 //! - `small`: the cases at words of 16 bits, states of 32 and a precision of 12.
+//! - `bits`: the cases of bit coders, with words of 32 bits.
 #![tactic(auto)]
 
 pub mod bits;
