@@ -1,4 +1,5 @@
 pub mod BitLemmas
+pub mod TopLemmas
 pub mod Coding
 pub mod Lengths
 pub mod Emitted

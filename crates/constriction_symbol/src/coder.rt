@@ -14,7 +14,7 @@ ghost use Rattle.constriction_symbol.specs.Bits.{BitsValue, PopsBit, PutsBit, Pu
 ghost use Rattle.std.specs.Prelude.{IfErr, IfOk, IsTrue, List, OnErr, OnOk, Result, [], length, reverse, ℕ, ◌*◌, ◌+◌, ◌<◌, ◌↔◌, ◌≡◌, ◌≤◌};
 
 use crate::steps::{put_last, take_last};
-use crate::word_bits::WordBits;
+use crate::top_bits::TopBits;
 use constriction_base::backends::{
     BoundedReadWords, Holds, Queue, ReadWords, Semantics, Stack, WriteWords,
 };
@@ -29,7 +29,7 @@ use std::marker::{Model, PhantomData};
 #[derive(Debug, Drop)]
 pub struct SymbolCoder<Word: BitArray, S: Semantics, B: Holds<Word, Stack> = Vec<Word>> {
     backend: B,
-    last: WordBits<Word>,
+    last: TopBits<Word>,
     semantics: PhantomData<S>,
 }
 
@@ -65,7 +65,7 @@ impl<Word: BitArray, S: Semantics> SymbolCoder<Word, S, Vec<Word>> {
     {
         SymbolCoder {
             backend: Vec::new(alloc),
-            last: WordBits::none(),
+            last: TopBits::none(),
             semantics: PhantomData,
         }
     }
@@ -82,7 +82,7 @@ impl<Word: BitArray> StackCoder<Word, Vec<Word>> {
         let backend = Vec::with_capacity(alloc, bit_capacity / Word::BITS as usize + 1)?;
         Ok(SymbolCoder {
             backend,
-            last: WordBits::none(),
+            last: TopBits::none(),
             semantics: PhantomData,
         })
     }
@@ -99,7 +99,7 @@ impl<Word: BitArray> QueueEncoder<Word, Vec<Word>> {
         let backend = Vec::with_capacity(alloc, bit_capacity.div_ceil(Word::BITS as usize))?;
         Ok(SymbolCoder {
             backend,
-            last: WordBits::none(),
+            last: TopBits::none(),
             semantics: PhantomData,
         })
     }

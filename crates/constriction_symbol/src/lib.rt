@@ -37,5 +37,6 @@ pub mod reading;
 pub mod round_trips;
 mod steps;
 mod taking;
+mod top_bits;
 mod word_bits;
 pub mod writing;

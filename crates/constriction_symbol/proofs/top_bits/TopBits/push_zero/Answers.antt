@@ -1,0 +1,18 @@
+use Rattle.std.proofs.Common.{◌≡◌, ◌<◌, ◌≤◌, ◌+◌, ◌*◌, ◌-◌, ◌/◌, ◌^◌, arith, ◌∙◌, ap, pow_pos}
+use Rattle.constriction_symbol.proofs.Coding.{length_bits}
+use Rattle.constriction_symbol.proofs.TopLemmas.{clear_on_top}
+use Rattle.constriction_symbol.proofs.top_bits.TopBits.push_zero.Goals as goal
+
+pub invariant_of-self : goal.invariant_of-self
+invariant_of-self g c =
+    let w = g.Word.BitArray.number c.self.inside.word in
+    let room : c.self.inside.count < g.Word.BitArray.BITS = rw (← c.self.view_is, length_bits c.self.inside.count (w / 2 ^ (g.Word.BitArray.BITS - c.self.inside.count))) at c.requires in
+    let comes = clear_on_top g.Word.BitArray.BITS c.self.inside.count w (g.Word.BitArray.number c.shifted_right-self-inside.result) room (g.met.Word.BitArray.number_law c.self.inside.word) c.self.invariant.1 c.shifted_right-self-inside.ensures in
+    (omega (arith, room), comes.1)
+
+pub returns : goal.returns
+returns g c =
+    let w = g.Word.BitArray.number c.self.inside.word in
+    let room : c.self.inside.count < g.Word.BitArray.BITS = rw (← c.self.view_is, length_bits c.self.inside.count (w / 2 ^ (g.Word.BitArray.BITS - c.self.inside.count))) at c.requires in
+    let comes = clear_on_top g.Word.BitArray.BITS c.self.inside.count w (g.Word.BitArray.number c.shifted_right-self-inside.result) room (g.met.Word.BitArray.number_law c.self.inside.word) c.self.invariant.1 c.shifted_right-self-inside.ensures in
+    rw (← c.self.view_is) comes.0
