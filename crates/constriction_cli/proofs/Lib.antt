@@ -1,4 +1,5 @@
 pub mod Answered
+pub mod Chain
 pub mod Codewords
 pub mod Faults
 pub mod OwnNumbers

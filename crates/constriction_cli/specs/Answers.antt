@@ -5,9 +5,10 @@ use Rattle.constriction_cli.specs.commands.AnsEncode.{IsAnsEncoded}
 use Rattle.constriction_cli.specs.commands.AnsDecode.{IsAnsDecoded, AnsDecodeFails}
 use Rattle.constriction_cli.specs.commands.RangeEncode.{IsRangeEncoded}
 use Rattle.constriction_cli.specs.commands.RangeDecode.{IsRangeDecoded, RangeDecodeFails}
+use Rattle.constriction_cli.specs.commands.ChainSplit.{IsChainSplit, ChainSplitFails}
 use Rattle.constriction_cli.specs.commands.Golomb.{IsGolomb, GolombFails}
 use Rattle.constriction_cli.specs.declared.commands.Command.{Command}
-use Rattle.constriction_cli.specs.declared.commands.Command.TheVariants.{AnsEncode, AnsDecode, RangeEncode, RangeDecode, Golomb}
+use Rattle.constriction_cli.specs.declared.commands.Command.TheVariants.{AnsEncode, AnsDecode, RangeEncode, RangeDecode, ChainSplit, Golomb}
 use Rattle.constriction_cli.specs.declared.fault.Fault.{Fault}
 use Rattle.constriction_cli.specs.declared.fault.Fault.TheVariants.{Unreadable, Unwritable, OutOfMemory}
 
@@ -17,6 +18,7 @@ name_of AnsEncode = codes "ans-encode"
 name_of AnsDecode = codes "ans-decode"
 name_of RangeEncode = codes "range-encode"
 name_of RangeDecode = codes "range-decode"
+name_of ChainSplit = codes "chain-split"
 name_of Golomb = codes "golomb"
 
 -- the arguments are the command's name alone
@@ -29,6 +31,7 @@ Fails AnsEncode text fault = EncodeFails text fault
 Fails AnsDecode text fault = AnsDecodeFails text fault
 Fails RangeEncode text fault = EncodeFails text fault
 Fails RangeDecode text fault = RangeDecodeFails text fault
+Fails ChainSplit text fault = ChainSplitFails text fault
 Fails Golomb text fault = GolombFails text fault
 
 -- why a run stops: reading, writing or memory failed, or the command that the arguments name fails for the text
@@ -42,6 +45,7 @@ Answers AnsEncode text answer = IsAnsEncoded text answer
 Answers AnsDecode text answer = IsAnsDecoded text answer
 Answers RangeEncode text answer = IsRangeEncoded text answer
 Answers RangeDecode text answer = IsRangeDecoded text answer
+Answers ChainSplit text answer = IsChainSplit text answer
 Answers Golomb text answer = IsGolomb text answer
 
 -- what the command that the arguments name answers a text

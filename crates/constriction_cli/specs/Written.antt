@@ -2,7 +2,7 @@
 use Rattle.std.specs.Prelude.{Option, ℕ, List, [], ◌∷◌, ◌++◌, take, codes}
 use Rattle.std.specs.Io.KnownBytes.{Appends}
 use Rattle.constriction_cli.specs.declared.fault.Fault.{Fault}
-use Rattle.constriction_cli.specs.declared.fault.Fault.TheVariants.{Unreadable, Unwritable, BadNumber, NoCount, NoWeights, WrongTotal, Encoder, ZeroWord, InvalidData, OutOfMemory}
+use Rattle.constriction_cli.specs.declared.fault.Fault.TheVariants.{Unreadable, Unwritable, BadNumber, NoCount, NoWeights, WrongTotal, Encoder, ZeroWord, InvalidData, NoChain, OutOfData, OutOfMemory}
 
 -- what a writer holds grew by a beginning of these bytes
 abbrev pub Begins : Option (List ℕ) → Option (List ℕ) → List ℕ → Type 0
@@ -27,4 +27,6 @@ fault_line WrongTotal = as_line (codes "weights do not sum to 16777216")
 fault_line (Encoder error) = as_line (codes "Impossible symbol.")
 fault_line (ZeroWord error) = as_line (codes "Tried to decode from compressed data that ends with a zero word, which is invalid for an ANS coder.")
 fault_line (InvalidData error) = as_line (codes "Tried to decode from compressed data that is invalid for the employed entropy model.")
+fault_line NoChain = as_line (codes "not enough words, or a zero word at the end")
+fault_line (OutOfData error) = as_line (codes "Out of compressed data.")
 fault_line OutOfMemory = as_line (codes "out of memory")

@@ -1,5 +1,6 @@
 pub mod AnsDecode
 pub mod AnsEncode
+pub mod ChainSplit
 pub mod Golomb
 pub mod RangeDecode
 pub mod RangeEncode

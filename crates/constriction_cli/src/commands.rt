@@ -2,6 +2,7 @@
 
 mod ans_decode;
 mod ans_encode;
+mod chain_split;
 mod golomb;
 mod range_decode;
 mod range_encode;
@@ -20,6 +21,7 @@ pub enum Command {
     AnsDecode,
     RangeEncode,
     RangeDecode,
+    ChainSplit,
     Golomb,
 }
 
@@ -37,6 +39,7 @@ impl Command {
             "ans-decode" => Some(Command::AnsDecode),
             "range-encode" => Some(Command::RangeEncode),
             "range-decode" => Some(Command::RangeDecode),
+            "chain-split" => Some(Command::ChainSplit),
             "golomb" => Some(Command::Golomb),
             _ => None,
         }
@@ -52,6 +55,7 @@ impl Command {
             Command::AnsDecode => ans_decode::answer(alloc, text),
             Command::RangeEncode => range_encode::answer(alloc, text),
             Command::RangeDecode => range_decode::answer(alloc, text),
+            Command::ChainSplit => chain_split::answer(alloc, text),
             Command::Golomb => golomb::answer(alloc, text),
         }
     }

@@ -5,6 +5,7 @@ ghost use Rattle.constriction_cli.specs.Written.{fault_line};
 ghost use Rattle.constriction_cli.specs.declared.fault.Fault.TheVariants.{OutOfMemory};
 
 use constriction::DefaultEncoderFrontendError;
+use constriction::stream::chain;
 use constriction::stream::queue::DecoderFrontendError;
 use constriction::stream::stack::CompressedDataEndsWithZeroWord;
 use std::alloc::{AllocError, AllocFailed};
@@ -23,6 +24,10 @@ pub enum Fault {
     Encoder(DefaultEncoderFrontendError),
     /// The last of the compressed words is zero.
     ZeroWord(CompressedDataEndsWithZeroWord),
+    /// The words are those of no chain coder: they are too few, or the last of them is zero.
+    NoChain,
+    /// The words of a chain coder ended.
+    OutOfData(chain::DecoderFrontendError),
     /// The compressed words hold no symbol of the table.
     InvalidData(DecoderFrontendError),
     OutOfMemory,
@@ -45,6 +50,8 @@ impl Fault {
                 b"Tried to decode from compressed data that ends with a zero word, which is invalid for an ANS coder.\n",
             Fault::InvalidData(_) =>
                 b"Tried to decode from compressed data that is invalid for the employed entropy model.\n",
+            Fault::NoChain => b"not enough words, or a zero word at the end\n",
+            Fault::OutOfData(_) => b"Out of compressed data.\n",
             Fault::OutOfMemory => b"out of memory\n",
         }
     }

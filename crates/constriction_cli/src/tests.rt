@@ -1,6 +1,7 @@
 //! Runs of the program over lists of bytes.
 
 mod answers;
+mod chain;
 mod failures;
 mod faults;
 mod golomb;

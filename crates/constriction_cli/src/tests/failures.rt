@@ -134,7 +134,7 @@ fn fault_line_that_cannot_be_written(rt: HostRuntime) -> Result<(), Fail> {
 /// passes too; run it once for each allocation that it makes.
 #[test]
 fn refused_memory(rt: HostRuntime) -> Result<(), Fail> {
-    let cases: [(&str, &[u8], &[u8]); 5] = [
+    let cases: [(&str, &[u8], &[u8]); 6] = [
         (
             "ans-encode",
             b"3 2 16777211\n0 1 2 0 1 0 0\n",
@@ -154,6 +154,11 @@ fn refused_memory(rt: HostRuntime) -> Result<(), Fail> {
             "range-decode",
             b"3 2 16777211\n7 0 589821 503313973 4293718528 0\n",
             b"0 1 2 0 1 0 0\n",
+        ),
+        (
+            "chain-split",
+            b"8388608 8388608\n1 287454020 256\n",
+            b"0\n\n2149724996 273\n",
         ),
         ("golomb", b"0 5 7\n", b"1 00110 0001000\n537\n"),
     ];

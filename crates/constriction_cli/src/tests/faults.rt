@@ -3,6 +3,7 @@
 use super::{ran, ran_with};
 use crate::fault::Fault;
 use constriction::DefaultEncoderFrontendError;
+use constriction::stream::chain;
 use constriction::stream::queue::DecoderFrontendError;
 use constriction::stream::stack::CompressedDataEndsWithZeroWord;
 use std::test::Fail;
@@ -24,7 +25,7 @@ fn program_fault_texts(rt: HostRuntime) -> Result<(), Fail> {
 
 #[test]
 fn fault_texts(rt: HostRuntime) -> Result<(), Fail> {
-    let cases: [(Fault, &[u8]); 10] = [
+    let cases: [(Fault, &[u8]); 12] = [
         (Fault::Unreadable, b"cannot read input\n"),
         (Fault::Unwritable, b"cannot write output\n"),
         (Fault::BadNumber, b"bad number\n"),
@@ -38,6 +39,14 @@ fn fault_texts(rt: HostRuntime) -> Result<(), Fail> {
         (
             Fault::ZeroWord(CompressedDataEndsWithZeroWord),
             b"Tried to decode from compressed data that ends with a zero word, which is invalid for an ANS coder.\n",
+        ),
+        (
+            Fault::NoChain,
+            b"not enough words, or a zero word at the end\n",
+        ),
+        (
+            Fault::OutOfData(chain::DecoderFrontendError::OutOfCompressedData),
+            b"Out of compressed data.\n",
         ),
         (
             Fault::InvalidData(DecoderFrontendError::InvalidData),
@@ -60,6 +69,9 @@ fn coder_texts(rt: HostRuntime) -> Result<(), Fail> {
     let zero_word = CompressedDataEndsWithZeroWord;
     let line = format!(in rt.alloc(); "{zero_word}\n")?;
     assert_eq!(rt; Fault::ZeroWord(zero_word).line(), line.as_bytes());
+    let ended = chain::DecoderFrontendError::OutOfCompressedData;
+    let line = format!(in rt.alloc(); "{ended}\n")?;
+    assert_eq!(rt; Fault::OutOfData(ended).line(), line.as_bytes());
     let invalid = DecoderFrontendError::InvalidData;
     let line = format!(in rt.alloc(); "{invalid}\n")?;
     assert_eq!(rt; Fault::InvalidData(invalid).line(), line.as_bytes());
