@@ -1,2 +1,3 @@
 pub mod Readings
 pub mod stack
+pub mod symbol

@@ -11,6 +11,7 @@
 //! - [`lists`]: where each step is undone, so is a list of them, the last step first. One law for
 //!   every coder.
 //! - [`stack`]: the stack coder, by asymmetric numeral systems.
+//! - [`symbol`]: bit coders and codebooks.
 #![tactic(auto)]
 
 #[cfg(test)]
@@ -19,3 +20,4 @@ pub mod lists;
 pub mod room;
 pub mod round_trips;
 pub mod stack;
+pub mod symbol;

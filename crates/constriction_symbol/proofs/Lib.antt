@@ -6,3 +6,4 @@ pub mod GolombLemmas
 pub mod BitsGiven
 pub mod ReadBack
 pub mod Words
+pub mod Equal

@@ -3,9 +3,11 @@
 //!
 //! - [`words`]: words from a coder, and a coder from words.
 //! - [`decoders`]: the same bits for reading.
+//! - [`equality`]: whether two coders are equal.
 //! - [`guard`]: the words of a coder that is used again.
 
 pub mod decoders;
+mod equality;
 pub mod guard;
 pub mod words;
 
@@ -63,9 +65,10 @@ impl<Word: BitArray, S: Semantics> SymbolCoder<Word, S, Vec<Word>> {
     pub fn new(alloc: Global) -> Self
         ensures { result.bits ≡ [] }
     {
+        let last = WordBits::none();
         SymbolCoder {
             backend: Vec::new(alloc),
-            last: WordBits::none(),
+            last,
             semantics: PhantomData,
         }
     }

@@ -116,9 +116,10 @@ impl<Word: BitArray, B: Holds<Word, Stack>> QueueEncoder<Word, B> {
         ensures last { result.last ≡ [] }
         ensures backend { result.backend ≡ compressed }
     {
+        let last = WordBits::none();
         SymbolCoder {
             backend: compressed,
-            last: WordBits::none(),
+            last,
             semantics: PhantomData,
         }
     }
