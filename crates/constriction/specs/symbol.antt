@@ -3,3 +3,4 @@ pub mod Codewords
 pub mod Golomb
 pub mod Guarded
 pub mod Guards
+pub mod Lists

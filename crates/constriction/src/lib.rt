@@ -110,10 +110,11 @@
 //! - [`laws::lists`]: where each step is undone, so is a list of them. [`laws::room`]: what a coder that
 //!   isn't full takes. [`laws::round_trips`]: lists that any coder gives.
 //! - [`laws::chain`]: the chain coder: its steps undo each other, and its symbols are isolated.
-//! - [`laws::symbol`]: codebooks: a symbol comes back, and no Exp-Golomb codeword begins another.
 //! - [`laws::queue`]: the range coder. [`laws::queue::round_trips`] are whole lists there and back, by the
 //!   coder's own calls; [`laws::queue::words`], [`laws::queue::lists`] and [`laws::queue::positions`] are the
 //!   laws of sealed words, of lists of symbols, and of recorded positions; the others are of guards and room.
+//! - [`laws::symbol`]: bit coders and codebooks: lists of symbols come back from queues and from stacks,
+//!   under mixed codebooks too, and no Exp-Golomb codeword begins another.
 //! - [`laws::stack`]: the stack coder. [`laws::stack::round_trips`] are whole lists there and back, by
 //!   the coder's own calls; [`laws::stack::steps`], [`laws::stack::lists`] and [`laws::stack::words`] are
 //!   the laws of one symbol, of lists, and of words that are exported and imported; the others are of
@@ -386,8 +387,51 @@ pub mod laws {
     }
 
     pub mod symbol {
-        pub use constriction_symbol::round_trips::{
-            golomb_is_prefix_free, one_stack_of_words, symbol_comes_back,
-        };
+        pub mod golomb {
+            pub use constriction_laws::symbol::golomb::golomb_is_prefix_free;
+        }
+
+        pub mod lists {
+            pub use constriction_laws::symbol::lists::{
+                mixed_symbols_come_back, symbols_come_back,
+            };
+        }
+
+        pub mod round_trips {
+            pub mod coding {
+                pub use constriction_laws::symbol::round_trips::coding::{
+                    decode_list, encode_list, encode_list_reverse,
+                };
+            }
+
+            pub mod lent_words {
+                pub use constriction_laws::symbol::round_trips::lent_words::{
+                    list_from_lent_queue, list_from_lent_stack,
+                };
+            }
+
+            pub mod pairs {
+                pub use constriction_laws::symbol::round_trips::pairs::{
+                    decode_pairs, encode_pairs, encode_pairs_reverse, pairs_through_queue,
+                    pairs_through_stack,
+                };
+            }
+
+            pub mod steps {
+                pub use constriction_laws::symbol::round_trips::steps::symbol_comes_back;
+            }
+
+            pub mod words {
+                pub use constriction_laws::symbol::round_trips::words::{
+                    bits_through_words, list_through_queue, list_through_stack,
+                };
+            }
+        }
+
+        pub mod words {
+            pub use constriction_laws::symbol::words::{
+                one_list_of_queue_words, one_list_of_stack_words, one_stack_of_words,
+            };
+        }
     }
 }

@@ -7,3 +7,4 @@ pub mod StepsOfSymbols
 pub mod FollowingWords
 mod BoundRows
 pub mod queue_coder
+pub mod bit_coders

@@ -28,7 +28,7 @@ gives_more {C} {S} {E} decodes halts precision table same old xs mid x answer ne
     InTurn-more (λ (symbol : S) (old new : C). DecodesSymbol decodes halts precision table old (Ok symbol) new) xs x old mid new all one
 
 -- the same where each has a model of its own
-zip_more : {S M : Type 0} (xs : List S) (ms : List M) (x : S) (m : M) (rest : List M) → drop (length xs) ms ≡ m ∷ rest → zip (xs ++ x ∷ []) ms ≡ zip xs ms ++ (x, m) ∷ []
+pub zip_more : {S M : Type 0} (xs : List S) (ms : List M) (x : S) (m : M) (rest : List M) → drop (length xs) ms ≡ m ∷ rest → zip (xs ++ x ∷ []) ms ≡ zip xs ms ++ (x, m) ∷ []
 zip_more [] [] x m rest is = absurd cc
 zip_more {S} {M} [] (n ∷ ms) x m rest is = (let first : n ≡ m = cc in ap (λ (n : M). (x, n) ∷ []) first)
 zip_more (y ∷ xs) [] x m rest is = absurd cc

@@ -2,3 +2,4 @@ pub mod Readings
 pub mod stack
 pub mod Bounds
 pub mod queue
+pub mod symbol

@@ -15,6 +15,7 @@
 //! - [`queue`]: the range coder.
 //! - [`room`], [`round_trips`]: what any coder takes where it isn't full, and lists that any coder gives.
 //! - [`stack`]: the stack coder, by asymmetric numeral systems.
+//! - [`symbol`]: bit coders and codebooks.
 #![tactic(auto)]
 
 pub mod bounds;
@@ -24,3 +25,4 @@ pub mod queue;
 pub mod room;
 pub mod round_trips;
 pub mod stack;
+pub mod symbol;

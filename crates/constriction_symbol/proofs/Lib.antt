@@ -1,5 +1,4 @@
 pub mod BitLemmas
-pub mod TopLemmas
 pub mod Coding
 pub mod Lengths
 pub mod Emitted
@@ -7,3 +6,4 @@ pub mod GolombLemmas
 pub mod BitsGiven
 pub mod ReadBack
 pub mod Words
+pub mod Equal

@@ -1,10 +1,9 @@
 -- What is read of bits that begin with a codeword.
-use Rattle.std.proofs.Common.{◌≡◌, ◌⊎◌, Bool, List, [], ◌∷◌, ◌++◌, Option, Some, None, Result, Ok, Err, ap, sym, inl, inr, refl, ◌∙◌, append-nil, append_assoc}
-use Rattle.std.specs.Prelude.{map}
+use Rattle.std.proofs.Common.{◌≡◌, ◌⊎◌, Bool, List, [], ◌∷◌, ◌++◌, Option, Some, None, Result, Ok, Err, ap, sym, inl, inr, refl, ◌∙◌, append-nil}
 use Rattle.constriction_base.specs.declared.errors.CoderError.{CoderError}
 use Rattle.constriction_base.specs.declared.errors.CoderError.TheVariants.{Frontend, Backend}
 use Rattle.constriction_symbol.specs.Bits.{GivesBit}
-use Rattle.constriction_symbol.specs.Codewords.{GivesBits, EndsAfter, NoneBegins, NoneFits, ReadsSymbol, ComesBack}
+use Rattle.constriction_symbol.specs.Codewords.{GivesBits, NoneBegins, NoneFits, ReadsSymbol, ComesBack}
 use Rattle.constriction_symbol.specs.declared.codebooks.SymbolCodeError.{SymbolCodeError}
 use Rattle.constriction_symbol.specs.declared.codebooks.SymbolCodeError.TheVariants.{OutOfCompressedData, InvalidCodeword}
 

@@ -1,7 +1,7 @@
 -- Words of a stack of bits are those of no other bits.
 use Rattle.std.proofs.Common.{◌≡◌, ℕ, zero, suc, Bool, true, false, List, [], ◌∷◌, ◌++◌, ap, sym, refl, ◌∙◌, replicate, reverse}
 use Rattle.std.proofs.lemmas.List.{reverse-append, reverse-reverse}
-use Rattle.constriction_symbol.specs.Bits.{bits_of_words, HasStackWords}
+use Rattle.constriction_symbol.specs.Bits.{HasStackWords}
 use Rattle.constriction_symbol.proofs.GolombLemmas.{reverse_zeros}
 
 -- zeros and a one that begin the same bits are followed by the same

@@ -3,9 +3,11 @@
 //!
 //! - [`words`]: words from a coder, and a coder from words.
 //! - [`decoders`]: the same bits for reading.
+//! - [`equality`]: whether two coders are equal.
 //! - [`guard`]: the words of a coder that is used again.
 
 pub mod decoders;
+mod equality;
 pub mod guard;
 pub mod words;
 
@@ -14,7 +16,7 @@ ghost use Rattle.constriction_symbol.specs.Bits.{BitsValue, PopsBit, PutsBit, Pu
 ghost use Rattle.std.specs.Prelude.{IfErr, IfOk, IsTrue, List, OnErr, OnOk, Result, [], length, reverse, ℕ, ◌*◌, ◌+◌, ◌<◌, ◌↔◌, ◌≡◌, ◌≤◌};
 
 use crate::steps::{put_last, take_last};
-use crate::top_bits::TopBits;
+use crate::word_bits::WordBits;
 use constriction_base::backends::{
     BoundedReadWords, Holds, Queue, ReadWords, Semantics, Stack, WriteWords,
 };
@@ -29,7 +31,7 @@ use std::marker::{Model, PhantomData};
 #[derive(Debug, Drop)]
 pub struct SymbolCoder<Word: BitArray, S: Semantics, B: Holds<Word, Stack> = Vec<Word>> {
     backend: B,
-    last: TopBits<Word>,
+    last: WordBits<Word>,
     semantics: PhantomData<S>,
 }
 
@@ -63,9 +65,10 @@ impl<Word: BitArray, S: Semantics> SymbolCoder<Word, S, Vec<Word>> {
     pub fn new(alloc: Global) -> Self
         ensures { result.bits ≡ [] }
     {
+        let last = WordBits::none();
         SymbolCoder {
             backend: Vec::new(alloc),
-            last: TopBits::none(),
+            last,
             semantics: PhantomData,
         }
     }
@@ -82,7 +85,7 @@ impl<Word: BitArray> StackCoder<Word, Vec<Word>> {
         let backend = Vec::with_capacity(alloc, bit_capacity / Word::BITS as usize + 1)?;
         Ok(SymbolCoder {
             backend,
-            last: TopBits::none(),
+            last: WordBits::none(),
             semantics: PhantomData,
         })
     }
@@ -99,7 +102,7 @@ impl<Word: BitArray> QueueEncoder<Word, Vec<Word>> {
         let backend = Vec::with_capacity(alloc, bit_capacity.div_ceil(Word::BITS as usize))?;
         Ok(SymbolCoder {
             backend,
-            last: TopBits::none(),
+            last: WordBits::none(),
             semantics: PhantomData,
         })
     }

@@ -21,7 +21,6 @@
 //! - [`writing`], [`reading`]: streams of bits, to which symbols are written and from which they are read, with lists.
 //! - [`iterators`]: the iterators of symbols.
 //! - [`exp_golomb`]: the Exp-Golomb codebook of numbers.
-//! - [`round_trips`]: what follows: a symbol comes back, and so do the bits of a stack.
 //!
 //! Contracts cite the definitions of `specs/Bits.antt` (bits of words), `specs/Codewords.antt` (what is emitted, written
 //! and read) and `specs/Golomb.antt` (the grammar).
@@ -30,13 +29,12 @@
 pub mod codebooks;
 pub mod coder;
 mod emitting;
+mod equality;
 pub mod exp_golomb;
 pub mod iterators;
 pub mod queue;
 pub mod reading;
-pub mod round_trips;
 mod steps;
 mod taking;
-mod top_bits;
 mod word_bits;
 pub mod writing;

@@ -112,7 +112,7 @@ impl<Word: BitArray, B: ReadWords<Word, Stack> + Drop> ReadBitStream<Stack>
         &mut self,
         codebook: C,
     ) -> Result<C::Symbol, CoderError<SymbolCodeError<C::InvalidCodeword>, B::ReadError>> {
-        codebook.decode_symbol(self)
+        C::decode_symbol(&codebook, self)
     }
 
     ghost list_law = { λ known old item new given. given.1 known };

@@ -1,7 +1,7 @@
-//! Bits of which a word holds as many as there are, and which are taken from their beginning.
+//! Bits of which a word holds as many as there are.
 
-ghost use Rattle.constriction_symbol.specs.Bits.{AreZeros, bits_of};
-ghost use Rattle.std.specs.Prelude.{IsTrue, List, [], length, ◌<◌, ◌∷◌, ◌↔◌, ◌≡◌};
+ghost use Rattle.constriction_symbol.specs.Bits.{AreZeros, TopWord, bits_of};
+ghost use Rattle.std.specs.Prelude.{IsTrue, List, MatchOption, [], length, ◌+◌, ◌++◌, ◌<◌, ◌≤◌, ◌∷◌, ◌^◌, ◌↔◌, ◌≡◌};
 
 use constriction_words::BitArray;
 use std::marker::Model;
@@ -49,6 +49,20 @@ impl<Word: BitArray> WordBits<Word> {
         }
     }
 
+    /// The bits below the highest one that is set. `None` for 0, and only for 0.
+    pub fn below_highest(word: Word) -> Option<Self>
+        ensures { MatchOption result (Word.number word ≡ 0) (λ bits. TopWord Word.BITS bits (Word.number word)) }
+    {
+        if word.is_nothing() {
+            return None;
+        }
+        let count = word.bit_length() - 1;
+        Some(WordBits {
+            word: word.low_bits(count),
+            count,
+        })
+    }
+
     /// The same bits.
     #[inline]
     pub fn copied(&self) -> Self
@@ -60,12 +74,62 @@ impl<Word: BitArray> WordBits<Word> {
         }
     }
 
+    /// How many bits there are.
+    #[inline]
+    pub fn count(&self) -> u32
+        ensures value { result ≡ length self.now }
+        ensures within { result ≤ Word.BITS }
+    {
+        self.count
+    }
+
     /// Whether there is no bit.
     #[inline]
     pub fn is_empty(&self) -> bool
         ensures { IsTrue result ↔ (self.now ≡ []) }
     {
         self.count == 0
+    }
+
+    /// Whether there is no room for a bit.
+    #[inline]
+    pub fn is_full(&self) -> bool
+        ensures full { IsTrue result ↔ (length self.now ≡ Word.BITS) }
+        ensures within { length self.now ≤ Word.BITS }
+    {
+        self.count() == Word::BITS
+    }
+
+    /// The word, with zeros above the bits.
+    #[inline]
+    pub fn word(&self) -> Word
+        ensures bits { bits_of (length self.now) (Word.number result) ≡ self.now }
+        ensures small { Word.number result < 2 ^ length self.now }
+        ensures within { length self.now ≤ Word.BITS }
+    {
+        self.word
+    }
+
+    /// Puts a bit behind the others.
+    #[inline]
+    pub fn push(&mut self, bit: bool)
+        requires { length self.old < Word.BITS }
+        ensures { self.new ≡ self.old ++ bit ∷ [] }
+    {
+        self.word = with_bit(self.word, self.count, bit);
+        self.count += 1;
+    }
+
+    /// Takes the last bit off.
+    #[inline]
+    pub fn pop(&mut self) -> bool
+        requires { 0 < length self.old }
+        ensures { self.old ≡ self.new ++ result ∷ [] }
+    {
+        self.count -= 1;
+        let bit = !self.word.shifted_right(self.count).is_nothing();
+        self.word = self.word.low_bits(self.count);
+        bit
     }
 
     /// Takes the first bit off.
@@ -86,5 +150,20 @@ impl<Word: BitArray> WordBits<Word> {
         ensures { IsTrue result ↔ AreZeros self.now }
     {
         self.word.is_nothing()
+    }
+}
+
+/// The word with one more bit above the `count` bits that it has.
+#[inline]
+fn with_bit<Word: BitArray>(word: Word, count: u32, bit: bool) -> Word
+    requires room { count < Word.BITS }
+    requires small { Word.number word < 2 ^ count }
+    ensures bits { bits_of (count + 1) (Word.number result) ≡ bits_of count (Word.number word) ++ bit ∷ [] }
+    ensures small { Word.number result < 2 ^ (count + 1) }
+{
+    if bit {
+        word.plus(Word::unit().shifted_left(count))
+    } else {
+        word
     }
 }

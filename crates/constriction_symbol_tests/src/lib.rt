@@ -22,6 +22,8 @@ mod codewords;
 #[cfg(test)]
 mod decoders;
 #[cfg(test)]
+mod equality;
+#[cfg(test)]
 mod golomb;
 #[cfg(test)]
 mod guards;

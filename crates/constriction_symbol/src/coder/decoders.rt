@@ -43,7 +43,7 @@ impl<
         ensures bits { IfOk result (λ decoder. PadsTo Word.BITS self.bits decoder.bits) }
         ensures err { IfErr result (λ e. (self.last ≡ [] → ⊥) × B.write_fails self.backend e) }
     {
-        self.into_decoder()
+        QueueEncoder::into_decoder(self)
     }
 }
 
@@ -72,7 +72,7 @@ impl<Word: BitArray, B: IntoReadWords<Word, Stack>> StackCoder<Word, B> {
         ensures last { result.last ≡ self.last }
         ensures place { B.becomes self.backend result.backend }
     {
-        self.into_decoder()
+        StackCoder::into_decoder(self)
     }
 }
 

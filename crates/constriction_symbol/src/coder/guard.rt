@@ -1,12 +1,12 @@
 //! The words of a coder that is used again: a guard shows them on the vector, and its drop takes them off.
 
 ghost use Rattle.constriction_symbol.specs.Bits.{IsQueueWords, IsStackWords, bits_above};
-ghost use Rattle.constriction_symbol.specs.Guards.{bits_without};
+ghost use Rattle.constriction_symbol.specs.Guards.{LacksEnd, bits_without};
 ghost use Rattle.std.specs.Borrow.{RestsIfErr, sem};
-ghost use Rattle.std.specs.Prelude.{IfErr, IfOk, OnErr, OnOk, [], drop, map, reverse, vec_capacity, vec_len, ◌-◌, ◌<◌, ◌≡◌, ◌≤◌};
+ghost use Rattle.std.specs.Prelude.{IfErr, IfOk, OnErr, OnOk, [], drop, map, reverse, vec_capacity, vec_len, ◌-◌, ◌≡◌, ◌≤◌};
 
 use crate::coder::{QueueEncoder, StackCoder, SymbolCoder};
-use crate::top_bits::TopBits;
+use crate::word_bits::WordBits;
 use constriction_base::backends::{Queue, Semantics, Stack, WriteWords, take_back};
 use constriction_words::BitArray;
 use std::alloc::{AllocError, Allocator, Global};
@@ -68,13 +68,13 @@ impl<Word: BitArray, A: Allocator> StackCoder<Word, Vec<Word, A>> {
         ensures bits { self.old.bits ≡ bits_above Word.BITS Word.number (reverse self.old.backend.items) self.old.last }
         ensures last { self.new.last ≡ self.old.last }
         ensures left { OnErr result (self.new.bits ≡ self.old.bits) }
-        ensures err { OnErr result (vec_capacity self.old.backend - vec_len self.old.backend < 2) }
+        ensures err { OnErr result (LacksEnd Word.BITS self.old.last (vec_capacity self.old.backend - vec_len self.old.backend)) }
     {
         let mut last = self.last.copied();
         if last.is_full() {
             WriteWords::<Word>::prepare(&mut self.backend, 2)?;
             WriteWords::<Word>::write(&mut self.backend, last.word())?;
-            let mut end = TopBits::<Word>::none();
+            let mut end = WordBits::<Word>::none();
             end.push(true);
             WriteWords::<Word>::write(&mut self.backend, end.word())?;
             return Ok(2);
@@ -115,7 +115,7 @@ impl<Word: BitArray, A: Allocator> StackCoder<Word, Vec<Word, A>> {
     /// coder holds its bits as before.
     ///
     /// # Errors
-    /// Where there is no memory for the words. The bits are as before.
+    /// Where there is no memory for the words, two where the last word is full, else one. The bits are as before.
     ///
     /// ```
     /// {
@@ -129,7 +129,7 @@ impl<Word: BitArray, A: Allocator> StackCoder<Word, Vec<Word, A>> {
         ensures shows { IfOk result (λ g. IsStackWords Word.BITS self.old.bits (map Word.number (lender g).now.backend.items)) }
         ensures back { IfOk result (λ g. bits_without Word.BITS Word.number (written g)
             (reverse (lender g).now.backend.items) (lender g).now.last ≡ self.old.bits) }
-        ensures err { OnErr result (vec_capacity self.old.backend - vec_len self.old.backend < 2) }
+        ensures err { OnErr result (LacksEnd Word.BITS self.old.last (vec_capacity self.old.backend - vec_len self.old.backend)) }
         ensures* left { sem 𝓛 (RestsIfErr (the_row Word.row order.the_row (vec.the_row Word.row A.row A.Allocator) Word.NonZero.row Word.BitArray (held.ghosts Word.row A.row Word.NonZero.row Word.BitArray held.no_dict Word.Clone held.no_dict Word.NonZero.Clone held.no_dict A.Allocator held.no_dict held.no_dict))
             self.entry (λ g. (lender g).ghost_name) result
             (λ after. OnErr result (after.bits ≡ self.old.bits))) }

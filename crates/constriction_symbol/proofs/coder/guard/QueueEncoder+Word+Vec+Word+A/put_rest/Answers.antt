@@ -1,6 +1,5 @@
-use Rattle.std.proofs.Common.{◌≡◌, [], ap, map, reverse, refl}
+use Rattle.std.proofs.Common.{◌≡◌, [], reverse}
 use Rattle.std.proofs.lemmas.List.{reverse-reverse}
-use Rattle.constriction_symbol.specs.Bits.{IsQueueWords}
 use Rattle.constriction_symbol.proofs.Coding.{queue_closed}
 use Rattle.constriction_symbol.proofs.coder.guard.QueueEncoder+Word+Vec+Word+A.put_rest.Goals as goal
 

@@ -1,6 +1,5 @@
-use Rattle.std.proofs.Common.{◌≡◌, ◌<◌, ◌++◌, ◌∷◌, [], ap, arith, length, length-append, map, reverse, refl, true, ◌∙◌, sym, inl, inr, Ok}
+use Rattle.std.proofs.Common.{◌≡◌, ◌<◌, ◌++◌, ◌∷◌, [], ap, arith, length, length-append, reverse, true, ◌∙◌}
 use Rattle.std.proofs.lemmas.List.{reverse-reverse}
-use Rattle.constriction_symbol.specs.Bits.{IsStackWords, bits_above}
 use Rattle.constriction_symbol.proofs.Coding.{stack_closed, bit_after, bit_after_flush}
 use Rattle.constriction_symbol.proofs.coder.guard.StackCoder+Word+Vec+Word+A.put_end.Goals as goal
 

@@ -1,0 +1,3 @@
+pub mod Codewords
+pub mod Words
+pub mod Pairs

@@ -1,0 +1,12 @@
+//! Laws of bit coders and codebooks.
+//!
+//! - [`lists`]: symbols come back from bits that their codewords begin, one behind another, by one codebook or by one
+//!   each.
+//! - [`words`]: words of a stack of bits are those of no other bits, and bits have one list of words.
+//! - [`golomb`]: no Exp-Golomb codeword begins another.
+//! - [`round_trips`]: symbols and bits there and back, by the coders' own calls.
+
+pub mod golomb;
+pub mod lists;
+pub mod round_trips;
+pub mod words;

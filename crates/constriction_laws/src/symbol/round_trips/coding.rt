@@ -1,0 +1,69 @@
+//! Lists that are written and read, in the words of the laws.
+
+ghost use Rattle.constriction_laws.specs.symbol.Lists.{AreCodewords, ReadsAll};
+ghost use Rattle.std.specs.Prelude.{Bool, IfSome, List, OnOk, length, reverse, ◌++◌, ◌≡◌};
+
+use constriction_base::backends::{Queue, Semantics, WriteWords};
+use constriction_base::errors::DefaultEncoderError;
+use constriction_symbol::codebooks::{Codebook, DecoderCodebook, EncoderCodebook};
+use constriction_symbol::coder::StackCoder;
+use constriction_symbol::reading::ReadBitStream;
+use constriction_symbol::writing::WriteBitStream;
+use constriction_words::BitArray;
+use std::alloc::{AllocError, Global};
+
+/// Writes symbols by one codebook, from the first to the last: `encode_iid_symbols`. Their codewords stand behind the
+/// bits before, in this order.
+pub fn encode_list<W: WriteBitStream<Queue>, C: EncoderCodebook>(
+    stream: &mut W,
+    symbols: &[C::Symbol],
+    codebook: &C,
+) -> Result<(), DefaultEncoderError<W::WriteError>>
+    ensures { OnOk result ((code : List Bool) × AreCodewords (C.codeword codebook.now) symbols.now code
+        × (W.bits stream.new ≡ W.bits stream.old ++ code)) }
+{
+    WriteBitStream::<Queue>::encode_iid_symbols(stream, symbols, codebook)
+}
+
+/// Writes symbols by one codebook, from the last to the first: `encode_iid_symbols_reverse`. From the end, their
+/// codewords come off in the order of the list, and then the bits before.
+pub fn encode_list_reverse<Word: BitArray, B: WriteWords<Word>, C: EncoderCodebook>(
+    coder: &mut StackCoder<Word, B>,
+    symbols: &[C::Symbol],
+    codebook: &C,
+) -> Result<(), DefaultEncoderError<B::WriteError>>
+where
+    B::WriteError: From<AllocError>,
+    ensures { OnOk result ((code : List Bool) × AreCodewords (C.codeword codebook.now) symbols.now code
+        × (reverse coder.new.bits ≡ code ++ reverse coder.old.bits)) }
+{
+    coder.encode_iid_symbols_reverse(symbols, codebook)
+}
+
+/// So many symbols by one codebook, as [`ReadBitStream::decode_iid_symbols`] gives them, one after the other. `None`
+/// comes where one is refused, or for want of memory.
+pub fn decode_list<S: Semantics, R: ReadBitStream<S>, C: DecoderCodebook>(
+    alloc: Global,
+    stream: &mut R,
+    amt: usize,
+    codebook: &C,
+) -> Option<Vec<C::Symbol>>
+where
+    R::ReadError: Drop,
+    C::Symbol: Drop,
+    C::InvalidCodeword: Drop,
+    ensures count { IfSome result (λ symbols. length symbols.items ≡ amt) }
+    ensures steps { IfSome result (λ symbols. ReadsAll R.gives (C.codeword codebook.now) (C.reads_on codebook.now) (C.is_invalid codebook.now)
+        symbols.items stream.old stream.new) }
+{
+    let mut symbols = Vec::new(alloc);
+    'decode: for answer in stream.decode_iid_symbols(amt, codebook) {
+        let Ok(symbol) = answer else {
+            return None;
+        };
+        let Ok(()) = symbols.push(symbol) else {
+            return None;
+        };
+    }
+    Some(symbols)
+}

@@ -1,0 +1,23 @@
+//! Words of bits.
+
+ghost use Rattle.constriction_base.specs.Steps.{AreWords};
+ghost use Rattle.constriction_symbol.specs.Bits.{HasStackWords, IsQueueWords, IsStackWords};
+ghost use Rattle.std.specs.Prelude.{Bool, List, ◌≡◌, ℕ};
+
+/// The words of a stack of bits are those of no other bits: what is imported from the words of an export holds the bits
+/// that were exported.
+pub fn one_stack_of_words()
+    ensures { (w : ℕ) (words : List ℕ) (bits others : List Bool) → HasStackWords w bits words → HasStackWords w others words → bits ≡ others }
+{}
+
+/// A stack of bits has one list of words: what a guard lends is what the export then gives.
+pub fn one_list_of_stack_words()
+    ensures { (w : ℕ) (bits : List Bool) (words others : List ℕ) → AreWords w words → AreWords w others →
+        IsStackWords w bits words → IsStackWords w bits others → words ≡ others }
+{}
+
+/// The same of a queue of bits.
+pub fn one_list_of_queue_words()
+    ensures { (w : ℕ) (bits : List Bool) (words others : List ℕ) → AreWords w words → AreWords w others →
+        IsQueueWords w bits words → IsQueueWords w bits others → words ≡ others }
+{}
