@@ -58,6 +58,7 @@ impl<Word: WordOf<State>, State: BitArray> RangeCoderState<Word, State> {
     /// The interval from `lower`, of `range` states.
     ///
     /// # Errors
+    ///
     /// `Err(())` exactly where `range` is below two to (the bits of `State` - the bits of `Word`). `lower` is
     /// free: the interval may reach over the greatest state, and goes on at 0 then.
     pub fn new(lower: State, range: State) -> Result<Self, ()>

@@ -16,7 +16,7 @@ use constriction_words::{BitArray, WordOf};
 use std::num::NonZeroUsize;
 
 /// Whether an interval reaches over the end of the states.
-#[inline]
+#[inline(always)]
 pub fn reaches_over<State: BitArray>(lower: State, range: State) -> bool
     ensures { IsTrue result ↔ (2 ^ State.BITS ≤ State.number lower + State.number range) }
 {
@@ -54,7 +54,7 @@ pub struct Part<Word, State> {
 }
 
 /// The part of an interval that belongs to a symbol.
-#[inline]
+#[inline(always)]
 pub fn narrowed<Word: WordOf<State>, State: BitArray>(
     state: RangeCoderState<Word, State>,
     situation: EncoderSituation<Word>,
@@ -113,7 +113,7 @@ pub struct Shifted<Word: WordOf<State>, State: BitArray> {
 }
 
 /// An interval that grows by a word if it is short.
-#[inline]
+#[inline(always)]
 pub fn grow<Word: WordOf<State>, State: BitArray>(
     lower: State,
     range: State,
@@ -166,7 +166,7 @@ pub fn grow<Word: WordOf<State>, State: BitArray>(
 }
 
 /// An encoder's interval and situation after a step, whose words are written.
-#[inline]
+#[inline(always)]
 pub fn narrowed_onto<Word: WordOf<State>, State: BitArray, Backend: WriteWords<Word>>(
     bulk: &mut Backend,
     state: RangeCoderState<Word, State>,
@@ -194,5 +194,82 @@ pub fn narrowed_onto<Word: WordOf<State>, State: BitArray, Backend: WriteWords<W
     match write_step(bulk, part.released, after.top) {
         Ok(()) => Ok((after.state, after.situation)),
         Err(refusal) => Err(refusal),
+    }
+}
+
+/// The same while words are held back. This is rare, so it is kept apart from the other steps.
+#[cold]
+#[inline(never)]
+fn narrowed_while_held<Word: WordOf<State>, State: BitArray, Backend: WriteWords<Word>>(
+    bulk: &mut Backend,
+    state: RangeCoderState<Word, State>,
+    situation: EncoderSituation<Word>,
+    left: State,
+    p: State,
+    precision: u32,
+) -> Result<(RangeCoderState<Word, State>, EncoderSituation<Word>), Backend::WriteError>
+    requires sizes { IsSizes Word.BITS State.BITS }
+    requires step { IsStep Word.BITS record { precision = precision; left = State.number left; p = State.number p } }
+    requires fit { PartsFit Word.number Word.BITS State.BITS situation (lower_of state) (range_of state) }
+    requires place { HasPlace situation }
+    ensures ok { IfOk result (λ after. EncodeCall Word.number Backend.words Word.BITS State.BITS Backend.room Backend.makes_room Backend.prepare_fails Backend.write_fails
+        (encoder_of Word.number Backend.words Word.BITS (lower_of state) (range_of state) bulk.old situation)
+        record { precision = precision; left = State.number left; p = State.number p } (Ok tt)
+        (encoder_of Word.number Backend.words Word.BITS (lower_of after.0) (range_of after.0) bulk.new after.1)) }
+    ensures fit { IfOk result (λ after. PartsFit Word.number Word.BITS State.BITS after.1 (lower_of after.0) (range_of after.0)) }
+    ensures err { IfErr result (λ e. EncodeCall Word.number Backend.words Word.BITS State.BITS Backend.room Backend.makes_room Backend.prepare_fails Backend.write_fails
+        (encoder_of Word.number Backend.words Word.BITS (lower_of state) (range_of state) bulk.old situation)
+        record { precision = precision; left = State.number left; p = State.number p } (Err e)
+        (encoder_of Word.number Backend.words Word.BITS (lower_of state) (range_of state) bulk.new situation)) }
+{
+    narrowed_onto(bulk, state, situation, left, p, precision)
+}
+
+/// The same for every situation.
+#[inline(always)]
+pub fn step_onto<Word: WordOf<State>, State: BitArray, Backend: WriteWords<Word>>(
+    bulk: &mut Backend,
+    state: RangeCoderState<Word, State>,
+    situation: EncoderSituation<Word>,
+    left: State,
+    p: State,
+    precision: u32,
+) -> Result<(RangeCoderState<Word, State>, EncoderSituation<Word>), Backend::WriteError>
+    requires sizes { IsSizes Word.BITS State.BITS }
+    requires step { IsStep Word.BITS record { precision = precision; left = State.number left; p = State.number p } }
+    requires fit { PartsFit Word.number Word.BITS State.BITS situation (lower_of state) (range_of state) }
+    requires place { HasPlace situation }
+    ensures ok { IfOk result (λ after. EncodeCall Word.number Backend.words Word.BITS State.BITS Backend.room Backend.makes_room Backend.prepare_fails Backend.write_fails
+        (encoder_of Word.number Backend.words Word.BITS (lower_of state) (range_of state) bulk.old situation)
+        record { precision = precision; left = State.number left; p = State.number p } (Ok tt)
+        (encoder_of Word.number Backend.words Word.BITS (lower_of after.0) (range_of after.0) bulk.new after.1)) }
+    ensures fit { IfOk result (λ after. PartsFit Word.number Word.BITS State.BITS after.1 (lower_of after.0) (range_of after.0)) }
+    ensures err { IfErr result (λ e. EncodeCall Word.number Backend.words Word.BITS State.BITS Backend.room Backend.makes_room Backend.prepare_fails Backend.write_fails
+        (encoder_of Word.number Backend.words Word.BITS (lower_of state) (range_of state) bulk.old situation)
+        record { precision = precision; left = State.number left; p = State.number p } (Err e)
+        (encoder_of Word.number Backend.words Word.BITS (lower_of state) (range_of state) bulk.new situation)) }
+{
+    match situation {
+        EncoderSituation::Normal => narrowed_onto(
+            bulk,
+            state,
+            EncoderSituation::Normal,
+            left,
+            p,
+            precision,
+        ),
+        EncoderSituation::Inverted(count, first) => {
+            match narrowed_while_held(
+                bulk,
+                state,
+                EncoderSituation::Inverted(count, first),
+                left,
+                p,
+                precision,
+            ) {
+                Ok((state, situation)) => Ok((state, situation)),
+                Err(refusal) => Err(refusal),
+            }
+        }
     }
 }

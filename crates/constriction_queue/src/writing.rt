@@ -144,7 +144,7 @@ pub fn write_owed<Word: BitArray, Backend: WriteWords<Word>>(
 }
 
 /// The same of what a step owes. Where no held words are let go, this is one word at most.
-#[inline]
+#[inline(always)]
 pub fn write_step<Word: BitArray, Backend: WriteWords<Word>>(
     bulk: &mut Backend,
     held: Option<HeldWords<Word>>,

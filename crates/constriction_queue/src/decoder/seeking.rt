@@ -41,6 +41,7 @@ where
     /// backend holds at its position, of which it reads as many as a state has.
     ///
     /// # Errors
+    ///
     /// `Err(())` where the backend can't go to its position, or refuses a read. The interval and the point
     /// stay.
     ///

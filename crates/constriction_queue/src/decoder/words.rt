@@ -21,6 +21,7 @@ impl<Word: WordOf<State>, State: BitArray, Backend: ReadWords<Word, Queue>> Rang
     /// A decoder of a backend's words. It reads as many of them as a state has.
     ///
     /// # Errors
+    ///
     /// That of a read. The backend is gone then.
     pub fn with_backend(mut bulk: Backend) -> Result<Self, Backend::ReadError>
     where
@@ -44,7 +45,8 @@ impl<Word: WordOf<State>, State: BitArray, Backend: ReadWords<Word, Queue>> Rang
     /// A decoder of words, such as [`crate::RangeEncoder::into_compressed`] gives.
     ///
     /// # Errors
-    /// That of a read. A cursor answers none.
+    ///
+    /// That of a read. A cursor returns none.
     ///
     /// ```
     /// let mut decoder = DefaultRangeDecoder::from_compressed(words)?; // of a `Vec<u32>`
@@ -67,7 +69,8 @@ impl<Word: WordOf<State>, State: BitArray, Backend: ReadWords<Word, Queue>> Rang
     /// A decoder of borrowed words.
     ///
     /// # Errors
-    /// That of a read. A cursor answers none.
+    ///
+    /// That of a read. A cursor returns none.
     pub fn for_compressed<'a, Buf: AsReadWords<'a, Word, Queue, AsReadWords = Backend>>(
         compressed: &'a Buf,
     ) -> Result<Self, Backend::ReadError>
@@ -92,6 +95,7 @@ impl<Word: WordOf<State>, State: BitArray, Backend: Holds<Word, Queue>> RangeDec
     /// the words that were read last, as many as a state has.
     ///
     /// # Errors
+    ///
     /// The backend, exactly where the point doesn't lie in the interval.
     pub fn from_raw_parts(
         bulk: Backend,

@@ -20,7 +20,8 @@ impl<Word: WordOf<State>, State: BitArray, Backend: WriteWords<Word>> RangeEncod
     /// symbol was encoded. It asks the backend for room for all that is missing.
     ///
     /// # Errors
-    /// What the backend answers where it has no room for them, or refuses to write one. The encoder is gone
+    ///
+    /// What the backend returns where it has no room for them, or refuses to write one. The encoder is gone
     /// then.
     pub fn into_compressed(self) -> Result<Backend, Backend::WriteError>
     where

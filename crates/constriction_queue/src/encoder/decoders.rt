@@ -24,6 +24,7 @@ impl<
     /// A decoder of the words that [`RangeEncoder::into_compressed`] gives.
     ///
     /// # Errors
+    ///
     /// `Write(error)` where the backend has no room for the seal, or refuses to write it; `Read(error)`
     /// where a read of the first words is refused. The encoder is gone then.
     pub fn into_decoder(

@@ -87,6 +87,7 @@ impl<Word: WordOf<State>, State: BitArray, A: Allocator> RangeEncoder<Word, Stat
     /// written and held, and the seal. When the guard is dropped, the encoder is as before.
     ///
     /// # Errors
+    ///
     /// Want of memory, where the vector had to grow. The encoder is as before.
     ///
     /// ```

@@ -12,7 +12,7 @@ ghost use Rattle.constriction_queue.specs.Calls.{EncodeCall};
 use crate::encoder::RangeEncoder;
 use crate::situation::EncoderSituation;
 use crate::state::RangeCoderState;
-use crate::step::narrowed_onto;
+use crate::step::step_onto;
 use constriction_base::backends::{Holds, Stack, WriteWords};
 use constriction_base::errors::{CoderError, DefaultEncoderError, DefaultEncoderFrontendError};
 use constriction_base::model::{EncoderModel, EntropyModel};
@@ -80,6 +80,7 @@ impl<
     /// then writes them. It sets its interval last.
     ///
     /// # Errors
+    ///
     /// - `Frontend(ImpossibleSymbol)` exactly where the model doesn't know the symbol. Nothing
     ///   changed.
     /// - `Backend(error)` only where words had to be written, and the backend refused room for them, or
@@ -107,7 +108,7 @@ impl<
         };
         let p = M::Probability::from_nonzero(p);
         let (left, p) = (left.widen().widen(), p.widen().widen());
-        match narrowed_onto(
+        match step_onto(
             &mut self.bulk,
             self.state,
             self.situation,

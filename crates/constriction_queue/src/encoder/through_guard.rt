@@ -66,6 +66,7 @@ impl<Word: WordOf<State>, State: BitArray, A: Allocator> RangeEncoder<Word, Stat
     /// decoder is dropped, the encoder is as before.
     ///
     /// # Errors
+    ///
     /// Want of memory, where the vector had to grow. The encoder is as before.
     ///
     /// ```

@@ -4,13 +4,13 @@ use Rattle.constriction_base.proofs.Entering.{entry_is_step}
 use Rattle.constriction_queue.proofs.Begun.{place_of}
 use Rattle.constriction_queue.proofs.encoder.symbols.RangeEncoderEncode.encode_symbol.Goals as goal
 
-pub narrowed_onto-requires-clause-step : goal.narrowed_onto-requires-clause-step
-narrowed_onto-requires-clause-step g c =
+pub step_onto-requires-clause-step : goal.step_onto-requires-clause-step
+step_onto-requires-clause-step g c =
     rw (c.widen-left.ensures, c.widen.ensures, c.widen-p.ensures, c.widen-2.ensures, c.from_nonzero-p.ensures)
     (entry_is_step _ _ _ _ _ _ _ (g.M.EntropyModel.lawful c.args.model) c.in-Some.ensures.found (g.met.M.EntropyModel.sized c.args.model) g.met.M.Probability.WordOf.width_law)
 
-pub narrowed_onto-requires-clause-place : goal.narrowed_onto-requires-clause-place
-narrowed_onto-requires-clause-place g c =
+pub step_onto-requires-clause-place : goal.step_onto-requires-clause-place
+step_onto-requires-clause-place g c =
     let left = c.requires tt in
     place_of g.Word.BitArray.number g.Word.BitArray.BITS c.self.inside.situation (rw (← c.self.view_is) at left)
 
