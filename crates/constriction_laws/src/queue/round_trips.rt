@@ -7,6 +7,8 @@
 //!
 //! - [`coding`]: list calls, said in the words of the laws.
 //! - [`lent_words`]: symbols that come back from the words that an encoder lends by a guard.
+//! - [`shown`]: words that an encoder shows and keeps, and those that it then gives.
 
 pub mod coding;
 pub mod lent_words;
+pub mod shown;
