@@ -1,6 +1,7 @@
 -- What list calls of a range coder do, in the words of the laws.
 use Rattle.std.proofs.Common.{◌≡◌, ℕ, ◌+◌, ◌-◌, ◌*◌, ◌/◌, ◌<◌, ◌^◌, ◌⊎◌, Option, List, [], ◌∷◌, Result, Ok, Err, inl, inr, length, map, refl, sym, ap, ◌∙◌, subst, arith}
 use Rattle.std.specs.List.{zip}
+use Rattle.std.specs.Prelude.{reverse}
 use Rattle.constriction_base.specs.declared.errors.CoderError.{CoderError}
 use Rattle.constriction_base.specs.Steps.{Step, InTurn}
 use Rattle.constriction_base.specs.Tables.{AtEntry}
@@ -12,6 +13,7 @@ use Rattle.constriction_queue.specs.Encoder.{Encoder, run_by}
 use Rattle.constriction_queue.specs.Decoder.{Decoder, distance, quantile_read}
 use Rattle.constriction_queue.specs.Calls as calls
 use Rattle.constriction_queue.proofs.Pointing.{takes_is, mod_sum}
+use Rattle.constriction_queue.proofs.Showing.{queue_is}
 use Rattle.constriction_laws.specs.queue.Symbols.{Encodes, Decodes, EncodesAll, DecodesAll, StandsAt, MayEnd}
 use Rattle.constriction_laws.proofs.queue_coder.ComingBack.{decodes_unique}
 use Rattle.constriction_laws.proofs.stack_coder.SameModel.{are_models, models-alike, symbols-items_of}
@@ -101,3 +103,7 @@ ended_of w s words r d some at (none, inr near) = (at.rest_is ∙ none, inr (ome
 pub none_mapped : {A B : Type 0} (f : A → B) (xs : List A) → map f xs ≡ [] → xs ≡ []
 none_mapped f [] is = refl
 none_mapped f (x ∷ xs) is = absurd cc
+
+-- what was written, as a queue
+pub queue_words : {W : Type 0} (number : W → ℕ) {queue stack : List W} {all : List ℕ} → queue ≡ reverse stack → reverse (map number stack) ≡ all → map number queue ≡ all
+queue_words number {stack = stack} is sealed_is = queue_is number stack is sealed_is

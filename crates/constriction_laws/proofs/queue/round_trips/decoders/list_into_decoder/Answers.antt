@@ -23,5 +23,5 @@ returns g c = λ new.
     let at = c.in-Ok.ensures.ok known in
     let decoded = c.symbols_come_back.ensures.decoded w s (items_of model symbols) last sizes models coded in
     let back = c.in_ok-again.ensures.back known (sealed w s last) symbols (start s) last at decoded refl in
-    let ended = c.has_ended.ensures (sealed w s last) last back.1 (c.symbols_come_back.ensures.exhausted w s (items_of model symbols) last sizes models coded) in
+    let ended = c.has_ended-ended.ensures (sealed w s last) last back.1 (c.symbols_come_back.ensures.exhausted w s (items_of model symbols) last sizes models coded) in
     (back.0, ended)

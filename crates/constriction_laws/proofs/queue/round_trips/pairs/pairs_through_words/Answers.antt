@@ -2,7 +2,7 @@ use Rattle.std.proofs.Common.{◌≡◌, ◌∙◌, map, sym, subst, arith}
 use Rattle.constriction_base.specs.Models.{pairs_of}
 use Rattle.constriction_queue.specs.Encoder.{run_by}
 use Rattle.constriction_queue.specs.Range.{Run, sealed, start}
-use Rattle.constriction_queue.proofs.Showing.{queue_is}
+use Rattle.constriction_laws.proofs.queue_coder.ListCalls.{queue_words}
 use Rattle.constriction_laws.specs.queue.Symbols.{EncodesAll}
 use Rattle.constriction_laws.proofs.stack_coder.PairCalls.{are_pairs}
 use Rattle.constriction_laws.proofs.queue.round_trips.pairs.pairs_through_words.Goals as goal
@@ -21,9 +21,9 @@ returns g c = λ new.
     (λ m. (let sized = g.met.M.EntropyModel.sized m in record { some_bits = sized.0; within_word = omega (arith, sized.1, g.met.M.Probability.WordOf.width_law); lawful = g.M.EntropyModel.lawful m })) in
     let known = g.met.Backend.IntoReadWords.BoundedReadWords.knows_words in
     let coded : EncodesAll w s items (start s) last = subst (λ r. EncodesAll w s items r last) new c.in_ok-encode_pairs.ensures in
-    let words = queue_is number _ (g.met.Backend.BothWays.turned_law _) c.in-Ok.ensures.ok in
+    let words = queue_words number (g.met.Backend.BothWays.turned_law c.in-Ok.words) c.in-Ok.ensures.ok in
     let at = rw words at (c.in-Ok-from_compressed.ensures.ok known) in
     let decoded = c.symbols_come_back.ensures.decoded w s items last sizes models coded in
     let back = c.in_ok-again.ensures.back known (sealed w s last) symbols (start s) last at decoded c.requires in
-    let ended = c.has_ended.ensures (sealed w s last) last back.1 (c.symbols_come_back.ensures.exhausted w s items last sizes models coded) in
+    let ended = c.has_ended-ended.ensures (sealed w s last) last back.1 (c.symbols_come_back.ensures.exhausted w s items last sizes models coded) in
     (back.0, ended)

@@ -1,6 +1,7 @@
 use Rattle.std.proofs.Common.{◌≡◌, ◌∙◌, drop, map, refl, sym, ap, subst, arith}
 use Rattle.std.specs.Prelude.{reverse}
 use Rattle.std.proofs.lemmas.List.{reverse-reverse}
+use Rattle.std.specs.declared.convert.Infallible.{Infallible}
 use Rattle.constriction_base.specs.Models.{Model, IsModel, items_of}
 use Rattle.constriction_queue.specs.Encoder.{run_by}
 use Rattle.constriction_queue.specs.Range.{Run, sealed, start}
@@ -31,7 +32,7 @@ returns g c = λ new.
     let items = c.in-Ok.words.items in
     let words : map number items ≡ sealed w s last = queue_is number (reverse items) (sym (reverse-reverse items)) c.in-Ok.ensures.ok in
     let place = c.in-Ok-from_compressed.ensures.place in
-    let kept = cursor_keeps _ number (λ v. v.items) place.2.2.0 place.0 c.in-Ok-from_compressed.decoder.bulk place.2.2.2 in
+    let kept = cursor_keeps Infallible number (λ v. v.items) place.2.2.0 place.0 c.in-Ok-from_compressed.decoder.bulk place.2.2.2 in
     let sought = c.in-Ok-seek.ensures.ok in
     let moved = sought.2.0 in
     let point = sought.2.2 tt in
