@@ -1,4 +1,5 @@
 pub mod Undoing
 pub mod HavingRoom
 pub mod ListsGiven
+pub mod chain_coder
 pub mod stack_coder

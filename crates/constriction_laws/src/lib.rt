@@ -11,10 +11,12 @@
 //! - [`lists`]: where each step is undone, so is a list of them, the last step first. One law for
 //!   every coder.
 //! - [`stack`]: the stack coder, by asymmetric numeral systems.
+//! - [`chain`]: the chain coder, whose symbols are isolated.
 #![tactic(auto)]
 
 #[cfg(test)]
 mod callers;
+pub mod chain;
 pub mod lists;
 pub mod room;
 pub mod round_trips;
