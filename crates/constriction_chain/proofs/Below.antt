@@ -20,36 +20,44 @@ use Rattle.constriction_chain.proofs.Walks.{cons_same, quantile_over}
 quantile_part : (w P h q h' : ℕ) (ws ws' : List ℕ) → IsQuantile w P h ws q h' ws'
     → (t : List ℕ) × (ws ≡ t ++ ws') × ((below : List ℕ) → IsQuantile w P h (t ++ below) q h' below)
 quantile_part w P h q h' ws ws' x = elim x.taken [
-  | inl y ↦ (number_of (y.others ++ y.answer) ∷ [], y.word, λ below. record {
-    bits = x.bits;
-    bits' = x.bits';
-    head = x.head;
-    head' = x.head';
-    taken = inl (record {
-      others = y.others;
-      answer = y.answer;
-      few = y.few;
-      others_length = y.others_length;
-      answer_length = y.answer_length;
-      word = refl;
-      left_over = y.left_over;
-      is = y.is;
-    });
-  })
-  | inr y ↦ ([], sym y.words, λ below. record {
-    bits = x.bits;
-    bits' = x.bits';
-    head = x.head;
-    head' = x.head';
-    taken = inr (record {
-      answer = y.answer;
-      within_word = y.within_word;
-      answer_length = y.answer_length;
-      left_over = y.left_over;
-      words = refl;
-      is = y.is;
-    });
-  })
+  | inl y ↦ (
+    number_of (y.others ++ y.answer) ∷ [],
+    y.word,
+    λ below. record {
+      bits = x.bits;
+      bits' = x.bits';
+      head = x.head;
+      head' = x.head';
+      taken = inl (record {
+        others = y.others;
+        answer = y.answer;
+        few = y.few;
+        others_length = y.others_length;
+        answer_length = y.answer_length;
+        word = refl;
+        left_over = y.left_over;
+        is = y.is;
+      });
+    },
+  )
+  | inr y ↦ (
+    [],
+    sym y.words,
+    λ below. record {
+      bits = x.bits;
+      bits' = x.bits';
+      head = x.head;
+      head' = x.head';
+      taken = inr (record {
+        answer = y.answer;
+        within_word = y.within_word;
+        answer_length = y.answer_length;
+        left_over = y.left_over;
+        words = refl;
+        is = y.is;
+      });
+    },
+  )
 ]
 
 -- a word moves out above any others
@@ -63,13 +71,16 @@ decode_part : (w s : ℕ) (e : Step) (x y : ChainState) → IsDecode w s e x y
     → (t : List ℕ) × (x.compressed ≡ t ++ y.compressed)
     × ((under below : List ℕ) → IsDecode w s e (state x.h x.r (t ++ under) (x.remainders ++ below)) (state y.h y.r under (y.remainders ++ below)))
 decode_part w s e x y d =
-    let part = quantile_part w e.precision x.h (e.left + d.t) y.h x.compressed y.compressed d.walk in
-    (part.0, part.1, λ under below. record {
-      t = d.t;
-      within = d.within;
-      walk = part.2 under;
-      gain = brought_over w _ (x.r * e.p + d.t) y.r x.remainders y.remainders below d.gain;
-    })
+    let part = quantile_part w e.precision x.h (e.left + d.t) y.h x.compressed y.compressed d.walk in (
+      part.0,
+      part.1,
+      λ under below. record {
+        t = d.t;
+        within = d.within;
+        walk = part.2 under;
+        gain = brought_over w _ (x.r * e.p + d.t) y.r x.remainders y.remainders below d.gain;
+      },
+    )
 
 -- the same of decodes one after the other
 pub decodes_part : {S : Type 0} (w s : ℕ) (items : List (Item S)) (x y : ChainState) → DecodesAll w s items x y
@@ -79,8 +90,7 @@ decodes_part w s [] x y all =
     ([], ap (λ (z : ChainState). z.compressed) (sym all), λ under below. ap (λ (z : ChainState). state z.h z.r under (z.remainders ++ below)) all)
 decodes_part w s (item ∷ items) x y (next, (left, p, has, d), all) =
     let one = decode_part w s (record { precision = item.model.precision; left = left; p = p }) x next d in
-    let more = decodes_part w s items next y all in
-    (
+    let more = decodes_part w s items next y all in (
       one.0 ++ more.0,
       one.1 ∙ (ap (λ (vs : List ℕ). one.0 ++ vs) more.1 ∙ sym (append_assoc one.0 more.0 y.compressed)),
       λ under below. (

@@ -61,7 +61,7 @@ decoded_chain w s e old new sized few chain d =
       some = quantile_some w e.precision old.h (e.left + d.t) new.h old.compressed new.compressed d.walk;
       within_word = quantile_fits w e.precision old.h (e.left + d.t) new.h old.compressed new.compressed sized.within_word chain.within_word d.walk;
       window = brought_window w e.precision b (old.r * e.p + d.t) new.r old.remainders new.remainders sized.within_word
-      (gain_low old.r e.p d.t b (omega (arith, d.within)) chain.window.from) (gain_below b w e.precision old.r e.p d.t d.within few chain.window.below) d.gain;
+          (gain_low old.r e.p d.t b (omega (arith, d.within)) chain.window.from) (gain_below b w e.precision old.r e.p d.t d.within few chain.window.below) d.gain;
       compressed_fit = quantile_words w e.precision old.h (e.left + d.t) new.h old.compressed new.compressed chain.compressed_fit d.walk;
       remainders_fit = brought_words w b (old.r * e.p + d.t) new.r old.remainders new.remainders chain.remainders_fit d.gain;
     }

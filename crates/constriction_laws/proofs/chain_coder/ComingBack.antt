@@ -92,8 +92,7 @@ module _ {S : Type 0} (w s P : ℕ) where
     pub can_encode : (below : List ℕ) (items : List (Item S)) (x y : ChainState) → AreModelsAt P items → AreWords w below → IsWhole w s P x → DecodesAll w s items x y
         → (z last : ChainState) × FromRemainders w s P (remainder_words w y ++ below) z × EncodesAll w s (reverse items) z last
     can_encode below items x y at fit whole decoded =
-        let way = other_way below items x y at fit whole decoded in
-        (
+        let way = other_way below items x y at fit whole decoded in (
           state y.h y.r [] (y.remainders ++ below),
           state x.h x.r way.0 below,
           record { chain = way.2; compressed = refl; are = ap (λ (ws : List ℕ). y.h ∷ ws) (append_assoc (digits_of (2 ^ w) y.r) y.remainders below) },
@@ -113,8 +112,7 @@ module _ {S : Type 0} (w s P : ℕ) where
         let same : z ≡ state y.h y.r [] (y.remainders ++ below) = state_same z (state y.h y.r [] (y.remainders ++ below)) (sym first.0) (sym rest.0) from.compressed (sym rest.1) in
         let put = subst (λ (o : ChainState). EncodesAll w s (reverse items) o last) same encoded in
         let end : last ≡ state x.h x.r way.0 below =
-        encodes_unique (reverse items) (state y.h y.r [] (y.remainders ++ below)) last (state x.h x.r way.0 below) (turned_at items at) put way.3 in
-        (
+        encodes_unique (reverse items) (state y.h y.r [] (y.remainders ++ below)) last (state x.h x.r way.0 below) (turned_at items at) put way.3 in (
           ap (λ (o : ChainState). o.h) end ∙ whole.h,
           ap (λ (o : ChainState). o.r) end,
           ap (λ (o : ChainState). o.remainders) end,
@@ -125,12 +123,11 @@ module _ {S : Type 0} (w s P : ℕ) where
         → FromRemainders w s P (remainder_words w y ++ below) z → EncodesAll w s (reverse items) z last
         → (last.h ≡ 1) × (last.remainders ≡ below) × (words ≡ compressed_words w last ++ y.compressed)
     compressed_back words below items x y z last at (whole, are) decoded from encoded =
-        let back = come_back below items x y z last at whole decoded from encoded in
-        (
+        let back = come_back below items x y z last at whole decoded from encoded in (
           back.0,
           back.2,
           are ∙ (ap (λ (ws : List ℕ). digits_of (2 ^ w) x.r ++ ws) back.3 ∙ (ap (λ n. digits_of (2 ^ w) n ++ (last.compressed ++ y.compressed)) (sym back.1)
-          ∙ sym (append_assoc (digits_of (2 ^ w) last.r) last.compressed y.compressed))),
+              ∙ sym (append_assoc (digits_of (2 ^ w) last.r) last.compressed y.compressed))),
         )
 
     pub binary_back : (words below : List ℕ) (items : List (Item S)) (x y z last : ChainState) → AreModelsAt P items → FromBinary w s P words x → DecodesAll w s items x y
@@ -138,12 +135,13 @@ module _ {S : Type 0} (w s P : ℕ) where
         → (last.h ≡ 1) × (last.remainders ≡ below) × ((written : List ℕ) × AreBinaryWords w written last × (words ≡ written ++ y.compressed))
     binary_back words below items x y z last at (whole, (m, one, are)) decoded from encoded =
         let back = come_back below items x y z last at whole decoded from encoded in
-        let one' : IsOneAbove w m last.r = subst (λ n. IsOneAbove w m n) (sym back.1) one in
-        (
+        let one' : IsOneAbove w m last.r = subst (λ n. IsOneAbove w m n) (sym back.1) one in (
           back.0,
           back.2,
-          (fixed_digits (2 ^ w) m last.r ++ last.compressed,
-          (m, one', refl),
-          are ∙ (ap (λ (ws : List ℕ). fixed_digits (2 ^ w) m x.r ++ ws) back.3 ∙ (ap (λ n. fixed_digits (2 ^ w) m n ++ (last.compressed ++ y.compressed)) (sym back.1)
-          ∙ sym (append_assoc (fixed_digits (2 ^ w) m last.r) last.compressed y.compressed)))),
+          (
+            fixed_digits (2 ^ w) m last.r ++ last.compressed,
+            (m, one', refl),
+            are ∙ (ap (λ (ws : List ℕ). fixed_digits (2 ^ w) m x.r ++ ws) back.3 ∙ (ap (λ n. fixed_digits (2 ^ w) m n ++ (last.compressed ++ y.compressed)) (sym back.1)
+                ∙ sym (append_assoc (fixed_digits (2 ^ w) m last.r) last.compressed y.compressed))),
+          ),
         )

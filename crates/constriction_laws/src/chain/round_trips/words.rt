@@ -63,8 +63,7 @@ where
         × EncodesAll Word.BITS State.BITS (items_of record { precision = PRECISION; table = M.table model.now } (reverse symbols.now)) before coder.state) }
 {
     let Ok(mut coder) = ChainCoder::<Word, State, Vec<Word>, Vec<Word>, PRECISION>::from_remainders(
-        alloc,
-        remainders,
+        alloc, remainders,
     ) else {
         return None;
     };
