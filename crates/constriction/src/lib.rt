@@ -109,7 +109,10 @@
 //!
 //! - [`laws::lists`]: where each step is undone, so is a list of them. [`laws::room`]: what a coder that
 //!   isn't full takes. [`laws::round_trips`]: lists that any coder gives.
-//! - [`laws::chain`]: the chain coder: its steps undo each other, and its symbols are isolated.
+//! - [`laws::chain`]: the chain coder. [`laws::chain::isolation`] says that its symbols don't depend on one
+//!   another's models; [`laws::chain::steps`], [`laws::chain::lists`] and [`laws::chain::words`] are of one
+//!   step, of lists, and of words that come back by way of the remainders; [`laws::chain::round_trips`] are
+//!   the same by the coder's own calls.
 //! - [`laws::queue`]: the range coder. [`laws::queue::round_trips`] are whole lists there and back, by the
 //!   coder's own calls; [`laws::queue::words`], [`laws::queue::lists`] and [`laws::queue::positions`] are the
 //!   laws of sealed words, of lists of symbols, and of recorded positions; the others are of guards and room.
@@ -208,7 +211,33 @@ pub mod laws {
     }
 
     pub mod chain {
-        pub use constriction_chain::laws::{changes_undo, steps_undo, symbols_are_isolated};
+        pub mod isolation {
+            pub use constriction_laws::chain::isolation::symbols_are_isolated;
+        }
+
+        pub mod lists {
+            pub use constriction_laws::chain::lists::{decodes_undo_encodes, encodes_undo_decodes};
+        }
+
+        pub mod round_trips {
+            pub mod coding {
+                pub use constriction_laws::chain::round_trips::coding::{
+                    decode_list, decode_pairs, encode_list_reverse,
+                };
+            }
+
+            pub mod words {
+                pub use constriction_laws::chain::round_trips::words::{put_back, take_symbols};
+            }
+        }
+
+        pub mod steps {
+            pub use constriction_laws::chain::steps::{changes_undo, steps_undo};
+        }
+
+        pub mod words {
+            pub use constriction_laws::chain::words::{one_coder, words_come_back};
+        }
     }
 
     pub mod queue {

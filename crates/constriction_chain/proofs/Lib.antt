@@ -8,3 +8,6 @@ pub mod Outcomes
 pub mod Ending
 pub mod Moving
 pub mod Isolation
+pub mod Validity
+pub mod Below
+pub mod Rows

@@ -76,8 +76,8 @@ impl<
     /// The two heads.
     #[inline]
     fn state(&self) -> ChainCoderHeads<Word, State, PRECISION> {
-        let _ = self.heads.parts();
-        self.heads
+        let (compressed, remainders) = self.heads.parts();
+        ChainCoderHeads::of(compressed, remainders)
     }
 }
 

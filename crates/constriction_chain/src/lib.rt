@@ -23,21 +23,21 @@
 //! - [`coder`]: the coder, its steps, changes of its precision, its words and its positions.
 //! - [`heads`]: the two numbers that it holds beside its words.
 //! - [`errors`]: why a call is refused.
-//! - [`laws`]: what holds of the definitions.
 //! - `halves`: a decode in two halves, and an encode, on the heads and the backends.
 //! - `steps`: the parts of a step, each on one side.
 //! - `moves`: words that move between the number of the remainders and a backend, as many as there are.
 //!
 //! Contracts cite the definitions of `specs/Walk.antt` (quantiles, as a walk on bits), `specs/Chain.antt` (states,
-//! steps, changes of the precision), `specs/Words.antt` (words that coders are made of and written as) and `specs/Steps.antt` (what a call over backends may answer and leave). They
-//! speak of numbers and lists; words are listed in the order in which they are read.
+//! steps, changes of the precision), `specs/Words.antt` (words that coders are made of and written as) and
+//! `specs/Steps.antt` (what a call over backends may answer and leave). The laws of `constriction_laws` cite
+//! `specs/Symbols.antt`, `specs/Imports.antt` and `specs/Runs.antt` besides. They speak of numbers and lists; words are
+//! listed in the order in which they are read.
 #![tactic(auto)]
 
 pub mod coder;
 pub mod errors;
 mod halves;
 pub mod heads;
-pub mod laws;
 mod moves;
 mod steps;
 

@@ -1,4 +1,5 @@
 pub mod Readings
+pub mod chain
 pub mod stack
 pub mod Bounds
 pub mod queue

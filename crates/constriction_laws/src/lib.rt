@@ -10,6 +10,7 @@
 //!
 //! - [`bounds`]: the output is short, and what may follow it.
 //! - [`callers`]: functions at concrete types that call coders, and learn all from contracts and laws.
+//! - [`chain`]: the chain coder, whose symbols are isolated.
 //! - [`lists`]: where each step is undone, so is a list of them, the last step first. One law for
 //!   every coder.
 //! - [`queue`]: the range coder.
@@ -20,6 +21,7 @@
 
 pub mod bounds;
 pub mod callers;
+pub mod chain;
 pub mod lists;
 pub mod queue;
 pub mod room;

@@ -1,0 +1,32 @@
+-- What coding symbols, each under its model, does to a chain coder's state.
+use Rattle.std.specs.Prelude.{◌≡◌, ℕ, List}
+use Rattle.std.specs.List.{AllByRecursion}
+use Rattle.constriction_base.specs.Steps.{InTurn}
+use Rattle.constriction_base.specs.Tables.{AtEntry, IsTable}
+use Rattle.constriction_base.specs.Models.{Model, Item}
+use Rattle.constriction_chain.specs.Chain.{ChainState, IsDecode, IsEncode}
+
+-- a decode of the symbol leads from the old state to the new one, by the step of its entry
+abbrev pub Decodes : {S : Type 0} → ℕ → ℕ → Model S → S → ChainState → ChainState → Type 0
+Decodes w s model symbol old new = AtEntry model.precision model.table symbol (λ e. IsDecode w s e old new)
+
+-- an encode of the symbol leads from the old state to the new one, by the step of its entry
+abbrev pub Encodes : {S : Type 0} → ℕ → ℕ → Model S → S → ChainState → ChainState → Type 0
+Encodes w s model symbol old new = AtEntry model.precision model.table symbol (λ e. IsEncode w s e old new)
+
+-- decodes of the items, one after the other, lead from the old state to the new one
+abbrev pub DecodesAll : {S : Type 0} → ℕ → ℕ → List (Item S) → ChainState → ChainState → Type 0
+DecodesAll w s items old new = InTurn (λ item. Decodes w s item.model item.symbol) items old new
+
+-- encodes of the items, one after the other, lead from the old state to the new one
+abbrev pub EncodesAll : {S : Type 0} → ℕ → ℕ → List (Item S) → ChainState → ChainState → Type 0
+EncodesAll w s items old new = InTurn (λ item. Encodes w s item.model item.symbol) items old new
+
+-- a model of the precision: its table cuts the numbers below two to it
+pub record IsModelAt {S : Type 0} (P : ℕ) (model : Model S) : Type 0 where
+  pub level : model.precision ≡ P
+  pub lawful : IsTable model.precision model.table
+
+-- each item's model is one of the precision
+abbrev pub AreModelsAt : {S : Type 0} → ℕ → List (Item S) → Type 0
+AreModelsAt P items = AllByRecursion (λ item. IsModelAt P item.model) items

@@ -1,0 +1,3 @@
+pub mod ComingBack
+pub mod Isolated
+pub mod ListCalls
