@@ -1,0 +1,107 @@
+//! The coders that tests begin with, and the tables.
+
+ghost use Rattle.constriction_chain.specs.Chain.{IsSized};
+
+use constriction_base::backends::{ReadWords, Stack};
+use constriction_base::weights::{TableError, WeightTable};
+use constriction_chain::ChainCoder;
+use constriction_words::{BitArray, WordOf};
+use std::alloc::Global;
+
+/// A coder over vectors.
+pub type Whole<Word, State, const PRECISION: usize> = ChainCoder<
+    Word,
+    State,
+    Vec<Word>,
+    Vec<Word>,
+    PRECISION,
+>;
+
+/// A coder of bytes over vectors, with a number of the remainders of two bytes.
+pub type Bytes<const PRECISION: usize> = Whole<u8, u16, PRECISION>;
+
+/// A table of 8 bits. Where memory is refused, it is asked for once more.
+pub fn table_of(alloc: Global, weights: &[u8]) -> Result<WeightTable<u8, 8>, TableError> {
+    match WeightTable::new(alloc, weights) {
+        Err(TableError::Memory) => WeightTable::new(alloc, weights),
+        answer => answer,
+    }
+}
+
+/// A table of 4 bits.
+pub fn coarse_table_of(alloc: Global, weights: &[u8]) -> Result<WeightTable<u8, 4>, TableError> {
+    WeightTable::new(alloc, weights)
+}
+
+/// The coder that compressed words stand for, if there is one.
+pub fn of_words<Word, State, C, const PRECISION: usize>(
+    alloc: Global,
+    words: C,
+) -> Option<ChainCoder<Word, State, C, Vec<Word>, PRECISION>>
+where
+    Word: WordOf<State>,
+    State: BitArray,
+    C: ReadWords<Word, Stack> + Drop,
+    C::ReadError: Drop,
+    requires { IsSized Word.BITS State.BITS PRECISION }
+{
+    ChainCoder::from_compressed(alloc, words).ok()
+}
+
+/// The same in the binary form.
+pub fn of_binary<Word, State, C, const PRECISION: usize>(
+    alloc: Global,
+    words: C,
+) -> Option<ChainCoder<Word, State, C, Vec<Word>, PRECISION>>
+where
+    Word: WordOf<State>,
+    State: BitArray,
+    C: ReadWords<Word, Stack> + Drop,
+    C::ReadError: Drop,
+    requires { IsSized Word.BITS State.BITS PRECISION }
+{
+    ChainCoder::from_binary(alloc, words).ok()
+}
+
+/// The coder that remainders stand for, if there is one.
+pub fn of_remainders<Word, State, R, const PRECISION: usize>(
+    alloc: Global,
+    remainders: R,
+) -> Option<ChainCoder<Word, State, Vec<Word>, R, PRECISION>>
+where
+    Word: WordOf<State>,
+    State: BitArray,
+    R: ReadWords<Word, Stack> + Drop,
+    R::ReadError: Drop,
+    requires { IsSized Word.BITS State.BITS PRECISION }
+{
+    ChainCoder::from_remainders(alloc, remainders).ok()
+}
+
+/// From which words a coder is made.
+#[derive(Clone, Copy)]
+pub enum Source<'a, Word> {
+    /// Compressed words.
+    Words(&'a [Word]),
+    /// Compressed words in the binary form.
+    Binary(&'a [Word]),
+    /// Remainders.
+    Remainders(&'a [Word]),
+}
+
+/// The coder over vectors that some words stand for, if there is one.
+pub fn made<Word, State, const PRECISION: usize>(
+    alloc: Global,
+    words: Source<'_, Word>,
+) -> Option<Whole<Word, State, PRECISION>>
+where
+    Word: WordOf<State>,
+    State: BitArray,
+    requires { IsSized Word.BITS State.BITS PRECISION }
+{
+    match words {
+        Source::Words(words) => of_words(alloc, words.to_vec(alloc).ok()?),
+        Source::Binary(words) => of_binary(alloc, words.to_vec(alloc).ok()?),
+        Source::Remainders(words) => of_remainders(alloc, words.to_vec(alloc).ok()?),
+    }
+}

@@ -1,0 +1,121 @@
+//! Encodes, and what they return.
+
+use constriction_base::backends::{ReadWords, Stack, WriteWords};
+use constriction_base::errors::CoderError;
+use constriction_base::weights::WeightTable;
+use constriction_chain::{BackendError, ChainCoder, EncoderError, EncoderFrontendError};
+use constriction_stream::encoding::Encode;
+use constriction_words::{BitArray, WordOf};
+
+/// What a call that puts symbols back returns.
+#[derive(Drop)]
+pub enum Put<C, R> {
+    Done,
+    Unknown,
+    OutOfRemainders,
+    /// The compressed words refused a call.
+    Compressed(C),
+    /// The remainders refused a call.
+    Remainders(R),
+}
+
+/// The answer of a step or a list.
+pub fn answer_of<C, R>(answer: Result<(), EncoderError<C, R>>) -> Put<C, R> {
+    match answer {
+        Ok(()) => Put::Done,
+        Err(CoderError::Frontend(EncoderFrontendError::ImpossibleSymbol)) => Put::Unknown,
+        Err(CoderError::Frontend(EncoderFrontendError::OutOfRemainders)) => Put::OutOfRemainders,
+        Err(CoderError::Backend(BackendError::Compressed(error))) => Put::Compressed(error),
+        Err(CoderError::Backend(BackendError::Remainders(error))) => Put::Remainders(error),
+    }
+}
+
+/// Puts a symbol back.
+pub fn put_one<Word, State, C, R, Probability, const PRECISION: usize>(
+    coder: &mut ChainCoder<Word, State, C, R, PRECISION>,
+    table: &WeightTable<Probability, PRECISION>,
+    symbol: usize,
+) -> Put<C::WriteError, R::ReadError>
+where
+    Word: WordOf<State>,
+    State: BitArray,
+    C: WriteWords<Word>,
+    R: ReadWords<Word, Stack>,
+    Probability: WordOf<Word>,
+{
+    answer_of(coder.encode_symbol(&symbol, table))
+}
+
+/// Whether symbols are put back one by one.
+pub fn puts<Word, State, C, R, Probability, const PRECISION: usize>(
+    coder: &mut ChainCoder<Word, State, C, R, PRECISION>,
+    table: &WeightTable<Probability, PRECISION>,
+    symbols: &[usize],
+) -> bool
+where
+    Word: WordOf<State>,
+    State: BitArray,
+    C: WriteWords<Word>,
+    C::WriteError: Drop,
+    R: ReadWords<Word, Stack>,
+    R::ReadError: Drop,
+    Probability: WordOf<Word>,
+{
+    for symbol in symbols {
+        match put_one(coder, table, *symbol) {
+            Put::Done => {}
+            _ => return false,
+        }
+    }
+    true
+}
+
+/// Whether symbols are put back one by one, the last one first.
+pub fn puts_back<Word, State, C, R, Probability, const PRECISION: usize>(
+    coder: &mut ChainCoder<Word, State, C, R, PRECISION>,
+    table: &WeightTable<Probability, PRECISION>,
+    symbols: &[usize],
+) -> bool
+where
+    Word: WordOf<State>,
+    State: BitArray,
+    C: WriteWords<Word>,
+    C::WriteError: Drop,
+    R: ReadWords<Word, Stack>,
+    R::ReadError: Drop,
+    Probability: WordOf<Word>,
+{
+    for symbol in symbols.iter().rev() {
+        match put_one(coder, table, *symbol) {
+            Put::Done => {}
+            _ => return false,
+        }
+    }
+    true
+}
+
+/// Whether the remainders may have ended, or the compressed words may be full.
+pub fn seems_full<Word, State, C, R, const PRECISION: usize>(
+    coder: &ChainCoder<Word, State, C, R, PRECISION>,
+) -> bool
+where
+    Word: WordOf<State>,
+    State: BitArray,
+    C: WriteWords<Word>,
+    R: ReadWords<Word, Stack>,
+{
+    Encode::<PRECISION>::maybe_full(coder)
+}
+
+/// Whether there is no limit to how many symbols are put back.
+pub fn has_no_limit<Word, State, C, R, const PRECISION: usize>(
+    coder: &ChainCoder<Word, State, C, R, PRECISION>,
+) -> bool
+where
+    Word: WordOf<State>,
+    State: BitArray,
+    C: WriteWords<Word>,
+    R: ReadWords<Word, Stack>,
+{
+    Encode::<PRECISION>::symbols_left(coder) == usize::MAX
+}

@@ -1,0 +1,190 @@
+//! What a test does with a coder, act by act, and what it expects of each.
+
+use crate::expect::{Below, exports, exports_binary, heads_of, is_at, is_handed_back};
+use crate::put::{Put, put_one, puts, puts_back, seems_full};
+use crate::take::{Taken, gives, seems_exhausted, take};
+use constriction_base::backends::{ReadWords, Stack, WriteWords};
+use constriction_base::weights::WeightTable;
+use constriction_chain::ChainCoder;
+use constriction_words::{BitArray, WordOf};
+
+/// Why a step is refused.
+#[derive(Clone, Copy, PartialEq, Eq)]
+pub enum Fault {
+    /// A word of the compressed words is needed, and none is left.
+    OutOfData,
+    /// A word of the remainders is needed, and none is left.
+    OutOfRemainders,
+    /// The table doesn't know the symbol.
+    Unknown,
+    /// The compressed words refused a call.
+    Compressed,
+    /// The remainders refused a call.
+    Remainders,
+}
+
+/// An act on a coder, and what is expected of it.
+#[derive(Clone, Copy)]
+pub enum Act<'a, Word> {
+    /// Symbols are taken one by one.
+    Gives(&'a [usize]),
+    /// A decode is refused, and the heads stay.
+    GivesNone(Fault),
+    /// Symbols are put back one by one.
+    Puts(&'a [usize]),
+    /// The same, the last one first.
+    PutsBack(&'a [usize]),
+    /// A symbol isn't put back, and the heads stay.
+    PutsNone(usize, Fault),
+    /// The compressed words, and the remainders with the words of both heads on top.
+    Is(&'a [Word], &'a [Word]),
+    /// The remainders that are left by an export, and its words.
+    Exports(&'a [Word], &'a [Word]),
+    /// The same in the binary form.
+    ExportsBinary(&'a [Word], &'a [Word]),
+    /// Whether no bits are left over.
+    Whole(bool),
+    /// Neither export takes the coder, and both hand it back: its words as in [`Act::Is`].
+    NotExported(&'a [Word], &'a [Word]),
+    /// The next decode may find the words ended, or the remainders full.
+    Exhausted(bool),
+    /// The next encode may find the remainders ended, or the words full.
+    Full(bool),
+}
+
+/// Why a decode was refused, if it was.
+fn fault_of_take<C, R>(taken: Taken<C, R>) -> Option<Fault>
+where
+    C: Drop,
+    R: Drop,
+{
+    match taken {
+        Taken::Symbol(_) => None,
+        Taken::OutOfData => Some(Fault::OutOfData),
+        Taken::Compressed(_) => Some(Fault::Compressed),
+        Taken::Remainders(_) => Some(Fault::Remainders),
+    }
+}
+
+/// Why an encode was refused, if it was.
+fn fault_of_put<C, R>(put: Put<C, R>) -> Option<Fault>
+where
+    C: Drop,
+    R: Drop,
+{
+    match put {
+        Put::Done => None,
+        Put::Unknown => Some(Fault::Unknown),
+        Put::OutOfRemainders => Some(Fault::OutOfRemainders),
+        Put::Compressed(_) => Some(Fault::Compressed),
+        Put::Remainders(_) => Some(Fault::Remainders),
+    }
+}
+
+/// Whether a coder takes and puts symbols as an act expects.
+fn steps<Word, State, C, R, Probability, const PRECISION: usize>(
+    coder: &mut ChainCoder<Word, State, C, R, PRECISION>,
+    table: &WeightTable<Probability, PRECISION>,
+    act: &Act<'_, Word>,
+) -> bool
+where
+    Word: WordOf<State>,
+    State: BitArray,
+    C: ReadWords<Word, Stack> + WriteWords<Word>,
+    C::ReadError: Drop,
+    C::WriteError: Drop,
+    R: ReadWords<Word, Stack> + WriteWords<Word>,
+    R::ReadError: Drop,
+    R::WriteError: Drop,
+    Probability: WordOf<Word>,
+{
+    match act {
+        Act::Gives(symbols) => gives(coder, table, symbols),
+        Act::GivesNone(fault) => fault_of_take(take(coder, table)) == Some(*fault),
+        Act::Puts(symbols) => puts(coder, table, symbols),
+        Act::PutsBack(symbols) => puts_back(coder, table, symbols),
+        Act::PutsNone(symbol, fault) => {
+            fault_of_put(put_one(coder, table, *symbol)) == Some(*fault)
+        }
+        _ => false,
+    }
+}
+
+/// Whether the words of a coder are as an act expects.
+fn stands<Word, State, C, R, const PRECISION: usize>(
+    coder: &ChainCoder<Word, State, C, R, PRECISION>,
+    act: &Act<'_, Word>,
+) -> bool
+where
+    Word: WordOf<State> + PartialEq,
+    State: BitArray,
+    C: ReadWords<Word, Stack> + WriteWords<Word> + Below<Word> + Clone + Drop,
+    C::WriteError: Drop,
+    R: ReadWords<Word, Stack> + WriteWords<Word> + Below<Word> + Clone + Drop,
+    R::WriteError: Drop,
+{
+    match act {
+        Act::Is(compressed, remainders) => is_at(coder, compressed, remainders),
+        Act::Exports(remainders, words) => exports(coder, remainders, words),
+        Act::ExportsBinary(remainders, words) => exports_binary(coder, remainders, words),
+        Act::NotExported(compressed, remainders) => {
+            is_handed_back(coder, compressed, remainders)
+        }
+        Act::Whole(is_whole) => coder.is_whole() == *is_whole,
+        Act::Exhausted(is_exhausted) => seems_exhausted(coder) == *is_exhausted,
+        Act::Full(is_full) => seems_full(coder) == *is_full,
+        _ => false,
+    }
+}
+
+/// Whether a coder does as an act expects.
+fn does<Word, State, C, R, Probability, const PRECISION: usize>(
+    coder: &mut ChainCoder<Word, State, C, R, PRECISION>,
+    table: &WeightTable<Probability, PRECISION>,
+    act: &Act<'_, Word>,
+) -> bool
+where
+    Word: WordOf<State> + PartialEq,
+    State: BitArray + PartialEq,
+    C: ReadWords<Word, Stack> + WriteWords<Word> + Below<Word> + Clone + Drop,
+    C::ReadError: Drop,
+    C::WriteError: Drop,
+    R: ReadWords<Word, Stack> + WriteWords<Word> + Below<Word> + Clone + Drop,
+    R::ReadError: Drop,
+    R::WriteError: Drop,
+    Probability: WordOf<Word>,
+{
+    match act {
+        Act::Gives(_) | Act::Puts(_) | Act::PutsBack(_) => steps(coder, table, act),
+        Act::GivesNone(_) | Act::PutsNone(_, _) => {
+            let heads = heads_of(coder);
+            steps(coder, table, act) && heads_of(coder) == heads
+        }
+        _ => stands(coder, act),
+    }
+}
+
+/// Whether a coder does as expected, act by act.
+pub fn follows<Word, State, C, R, Probability, const PRECISION: usize>(
+    coder: &mut ChainCoder<Word, State, C, R, PRECISION>,
+    table: &WeightTable<Probability, PRECISION>,
+    acts: &[Act<'_, Word>],
+) -> bool
+where
+    Word: WordOf<State> + PartialEq,
+    State: BitArray + PartialEq,
+    C: ReadWords<Word, Stack> + WriteWords<Word> + Below<Word> + Clone + Drop,
+    C::ReadError: Drop,
+    C::WriteError: Drop,
+    R: ReadWords<Word, Stack> + WriteWords<Word> + Below<Word> + Clone + Drop,
+    R::ReadError: Drop,
+    R::WriteError: Drop,
+    Probability: WordOf<Word>,
+{
+    for act in acts {
+        if !does(coder, table, act) {
+            return false;
+        }
+    }
+    true
+}

@@ -1,0 +1,98 @@
+//! Decodes, and what they return.
+
+use constriction_base::backends::{ReadWords, Stack, WriteWords};
+use constriction_base::errors::CoderError;
+use constriction_base::weights::WeightTable;
+use constriction_chain::{BackendError, ChainCoder, DecoderError};
+use constriction_stream::decoding::Decode;
+use constriction_words::{BitArray, WordOf};
+
+/// What a decode returns.
+#[derive(Drop)]
+pub enum Taken<C, R> {
+    Symbol(usize),
+    OutOfData,
+    /// The compressed words refused a call.
+    Compressed(C),
+    /// The remainders refused a call.
+    Remainders(R),
+}
+
+/// The answer of a decode.
+pub fn answer_of<C, R>(answer: Result<usize, DecoderError<C, R>>) -> Taken<C, R> {
+    match answer {
+        Ok(symbol) => Taken::Symbol(symbol),
+        Err(CoderError::Frontend(_)) => Taken::OutOfData,
+        Err(CoderError::Backend(BackendError::Compressed(error))) => Taken::Compressed(error),
+        Err(CoderError::Backend(BackendError::Remainders(error))) => Taken::Remainders(error),
+    }
+}
+
+/// Takes a symbol.
+pub fn take<Word, State, C, R, Probability, const PRECISION: usize>(
+    coder: &mut ChainCoder<Word, State, C, R, PRECISION>,
+    table: &WeightTable<Probability, PRECISION>,
+) -> Taken<C::ReadError, R::WriteError>
+where
+    Word: WordOf<State>,
+    State: BitArray,
+    C: ReadWords<Word, Stack>,
+    R: WriteWords<Word>,
+    Probability: WordOf<Word>,
+{
+    answer_of(coder.decode_symbol(table))
+}
+
+/// Takes symbols one by one, and compares each.
+pub fn gives<Word, State, C, R, Probability, const PRECISION: usize>(
+    coder: &mut ChainCoder<Word, State, C, R, PRECISION>,
+    table: &WeightTable<Probability, PRECISION>,
+    symbols: &[usize],
+) -> bool
+where
+    Word: WordOf<State>,
+    State: BitArray,
+    C: ReadWords<Word, Stack>,
+    C::ReadError: Drop,
+    R: WriteWords<Word>,
+    R::WriteError: Drop,
+    Probability: WordOf<Word>,
+{
+    for symbol in symbols {
+        match take(coder, table) {
+            Taken::Symbol(found) if found == *symbol => {}
+            _ => return false,
+        }
+    }
+    true
+}
+
+/// Whether a word is needed and none is left.
+pub fn is_out<Word, State, C, R, Probability, const PRECISION: usize>(
+    coder: &mut ChainCoder<Word, State, C, R, PRECISION>,
+    table: &WeightTable<Probability, PRECISION>,
+) -> bool
+where
+    Word: WordOf<State>,
+    State: BitArray,
+    C: ReadWords<Word, Stack>,
+    C::ReadError: Drop,
+    R: WriteWords<Word>,
+    R::WriteError: Drop,
+    Probability: WordOf<Word>,
+{
+    matches!(take(coder, table), Taken::OutOfData)
+}
+
+/// Whether the compressed words may have ended, or the remainders may be full.
+pub fn seems_exhausted<Word, State, C, R, const PRECISION: usize>(
+    coder: &ChainCoder<Word, State, C, R, PRECISION>,
+) -> bool
+where
+    Word: WordOf<State>,
+    State: BitArray,
+    C: ReadWords<Word, Stack>,
+    R: WriteWords<Word>,
+{
+    Decode::<PRECISION>::maybe_exhausted(coder)
+}
