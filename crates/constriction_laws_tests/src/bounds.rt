@@ -14,6 +14,7 @@ use std::alloc::Global;
 use std::test::Fail;
 
 type Stack = AnsCoder<u8, u16, Vec<u8>>;
+
 type Range = RangeEncoder<u8, u16, Vec<u8>>;
 
 /// The symbols of two tables: their parts, those of the whole table, and two to the bits that a state has to spare.
@@ -160,7 +161,9 @@ fn ans_product(rt: HostRuntime) -> Result<(), Fail> {
         return Err(Fail::from("no table"));
     };
     assert!(rt; words_on_stack(rt.alloc(), &tables, &[1, 1, 1]) == Some(3));
-    assert!(rt; above_words(2, share) == Some(65536) && whole.checked_mul(256) == Some(34359738368));
+    assert!(rt;
+        above_words(2, share) == Some(65536) && whole.checked_mul(256) == Some(34359738368)
+    );
     let few = few_words_of_list::<u8, u16, _, 8>(rt.alloc(), &[1, 1, 1], &tables.fine);
     assert!(rt; few.is_some_and(|words| words.as_slice() == [255, 255, 255].as_slice()));
     Ok(())
@@ -184,7 +187,13 @@ fn ans_net_product(rt: HostRuntime) -> Result<(), Fail> {
 }
 
 /// Whether these symbols come back from the words, with others behind them.
-fn goes_on_with(alloc: Global, weights: &[u8], words: &[u8], others: u8, symbols: &[usize]) -> bool {
+fn goes_on_with(
+    alloc: Global,
+    weights: &[u8],
+    words: &[u8],
+    others: u8,
+    symbols: &[usize],
+) -> bool {
     let Ok(table) = WeightTable::<u8, 8>::new(alloc, weights) else {
         return false;
     };
@@ -223,10 +232,13 @@ fn zero_word_goes_on_with(alloc: Global, others: u8) -> bool {
         return false;
     };
     let words = [1u8, 0, others, others, others, others];
-    let Ok(mut decoder) = RangeDecoder::<u8, u16, Cursor<u8, &[u8]>>::from_compressed(words.as_slice()) else {
+    let Ok(mut decoder) = RangeDecoder::<u8, u16, Cursor<u8, &[u8]>>::from_compressed(
+        words.as_slice(),
+    ) else {
         return false;
     };
-    matches!(decoder.decode_symbol(&first), Ok(0)) && matches!(decoder.decode_symbol(&second), Ok(1))
+    matches!(decoder.decode_symbol(&first), Ok(0))
+        && matches!(decoder.decode_symbol(&second), Ok(1))
 }
 
 #[test]

@@ -27,10 +27,9 @@
 //! - `steps`: what a step does to the head, as functions of numbers.
 //! - `moves`: words that move between a head and a backend, as many as there are.
 //!
-//! Contracts cite the definitions of `specs/Ans.antt` (states, pop and push, the words of a state)
-//! and of `specs/Steps.antt` (what a call over a backend may return and leave). They speak of
-//! numbers and lists: a word, or a head, is its number, and the words below the head are the list
-//! in which they would be read, the top one first.
+//! Contracts cite the definitions of `specs/Ans.antt`: states, pop and push, the words of a state, and
+//! what a step over a backend may return and leave. They speak of numbers and lists: a word, or a head,
+//! is its number, and the words below the head are the list in which they would be read, the top one first.
 #![tactic(auto)]
 
 pub mod coder;
