@@ -1,4 +1,5 @@
 pub mod Backends
+pub mod Bounds
 pub mod Digits
 pub mod Iterators
 pub mod Lists

@@ -109,6 +109,8 @@
 //!
 //! - [`laws::lists`]: where each step is undone, so is a list of them. [`laws::room`]: what a coder that
 //!   isn't full takes. [`laws::round_trips`]: lists that any coder gives.
+//! - [`laws::bounds`]: the words of the stack coder and of the range coder are few, whatever the steps; and what may
+//!   follow those of a range coder.
 //! - [`laws::chain`]: the chain coder. [`laws::chain::isolation`] says that its symbols don't depend on one
 //!   another's models; [`laws::chain::steps`], [`laws::chain::lists`] and [`laws::chain::words`] are of one
 //!   step, of lists, and of words that come back by way of the remainders; [`laws::chain::round_trips`] are
@@ -208,6 +210,24 @@ pub mod laws {
 
     pub mod round_trips {
         pub use constriction_laws::round_trips::{decode_by_models, decode_list};
+    }
+
+    pub mod bounds {
+        pub use constriction_laws::bounds::{
+            range_bound, stack_bound, stack_bound_at_one_precision, stack_net_bound,
+        };
+
+        pub mod following {
+            pub use constriction_laws::bounds::following::{
+                list_before_other_words, symbols_come_back_before_others,
+            };
+        }
+
+        pub mod words {
+            pub use constriction_laws::bounds::words::{
+                exchange, few_sealed_words_of_list, few_words_of_list,
+            };
+        }
     }
 
     pub mod chain {
