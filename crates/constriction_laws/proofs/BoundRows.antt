@@ -1,5 +1,5 @@
 -- Worked values of the bounds, at words of 8 bits and states of 16. They hold by computing.
-use Rattle.std.proofs.Common.{◌≡◌, ℕ, ◌-◌, ◌*◌, ◌^◌, ◌<◌, [], ◌∷◌, length, refl, lit<}
+use Rattle.std.proofs.Common.{◌≡◌, ℕ, ◌-◌, ◌*◌, ◌^◌, [], ◌∷◌, length, refl}
 use Rattle.constriction_base.specs.Steps.{Step}
 use Rattle.constriction_stack.specs.Ans.{AnsState, empty, exported, pop}
 use Rattle.constriction_laws.specs.Bounds.{Decode, Encode, net_share, net_whole, product, rounded_whole, share}
@@ -16,7 +16,7 @@ three_at_most : 2 ^ (16 - 8) * product (rounded_whole 8 16) (last ∷ last ∷ l
 three_at_most = refl
 
 -- of the words 1, 2, 3 a symbol of 16 parts comes off, and the last part goes on: head 13055 above the word 1
-off : Step
+abbrev off : Step
 off = record { precision = 8; left = 0; p = 16 }
 
 net : 2 ^ (8 * (3 - 1)) * product (net_share 8 16) (Decode off ∷ Encode last ∷ []) ≡ 16777216
@@ -27,7 +27,7 @@ net_at_most = refl
 
 -- two symbols of the upper half lead from the empty state to head 384, which is two words; with all words in place of all
 -- but one the bound would fail
-half : Step
+abbrev half : Step
 half = record { precision = 8; left = 128; p = 128 }
 
 first : pop 8 16 half (record { head = 384; words = [] }) ≡ record { head = 128; words = [] }
@@ -39,5 +39,8 @@ second = refl
 two_words : length (exported 8 (record { head = 384; words = [] })) ≡ 2
 two_words = refl
 
-not_all_words : 2 ^ (16 - 8) * product (rounded_whole 8 16) (half ∷ half ∷ []) < 2 ^ (8 * 2) * product (share 8 16) (half ∷ half ∷ [])
-not_all_words = lit< tt
+at_most : 2 ^ (16 - 8) * product (rounded_whole 8 16) (half ∷ half ∷ []) ≡ 67108864
+at_most = refl
+
+above : 2 ^ (8 * 2) * product (share 8 16) (half ∷ half ∷ []) ≡ 1073741824
+above = refl

@@ -105,5 +105,5 @@ none_mapped f [] is = refl
 none_mapped f (x ∷ xs) is = absurd cc
 
 -- what was written, as a queue
-pub queue_words : {W : Type 0} (number : W → ℕ) {queue stack : List W} {all : List ℕ} → queue ≡ reverse stack → reverse (map number stack) ≡ all → map number queue ≡ all
-queue_words number {stack = stack} is sealed_is = queue_is number stack is sealed_is
+pub queue_words : {W : Type 0} (number : W → ℕ) {queue : List W} (stack : List W) {all : List ℕ} → queue ≡ reverse stack → reverse (map number stack) ≡ all → map number queue ≡ all
+queue_words number stack is sealed_is = queue_is number stack is sealed_is

@@ -21,7 +21,7 @@ returns g c = λ new.
     (λ m. (let sized = g.met.M.EntropyModel.sized m in record { some_bits = sized.0; within_word = omega (arith, sized.1, g.met.M.Probability.WordOf.width_law); lawful = g.M.EntropyModel.lawful m })) in
     let known = g.met.Backend.IntoReadWords.BoundedReadWords.knows_words in
     let coded : EncodesAll w s items (start s) last = subst (λ r. EncodesAll w s items r last) new c.in_ok-encode_pairs.ensures in
-    let words = queue_words number (g.met.Backend.BothWays.turned_law c.in-Ok.words) c.in-Ok.ensures.ok in
+    let words = queue_words number (g.Backend.Holds-1.words c.in-Ok.words) (g.met.Backend.BothWays.turned_law c.in-Ok.words) c.in-Ok.ensures.ok in
     let at = rw words at (c.in-Ok-from_compressed.ensures.ok known) in
     let decoded = c.symbols_come_back.ensures.decoded w s items last sizes models coded in
     let back = c.in_ok-again.ensures.back known (sealed w s last) symbols (start s) last at decoded c.requires in
