@@ -1,3 +1,4 @@
+pub mod Answering
 pub mod Answered
 pub mod Chain
 pub mod Codewords
