@@ -43,9 +43,11 @@ fn put_on_stack(coder: &mut Stack, tables: &Tables, kind: usize) -> bool {
 
 fn put_in_queue(coder: &mut Range, tables: &Tables, kind: usize) -> bool {
     if kind < 2 {
-        Encode::<8>::encode_symbol(coder, &kind, &tables.fine).is_ok()
+        Encode::<8>::symbols_left(coder) > 0
+            && Encode::<8>::encode_symbol(coder, &kind, &tables.fine).is_ok()
     } else {
-        Encode::<4>::encode_symbol(coder, &(kind - 2), &tables.coarse).is_ok()
+        Encode::<4>::symbols_left(coder) > 0
+            && Encode::<4>::encode_symbol(coder, &(kind - 2), &tables.coarse).is_ok()
     }
 }
 
