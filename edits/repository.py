@@ -1,5 +1,6 @@
 """The repository: its crates, copies of it, and the stamps of crates whose edits were all refused."""
 
+import collections
 import hashlib
 import os
 import re
@@ -7,6 +8,9 @@ import shutil
 
 ROOT = os.path.dirname(os.path.dirname(os.path.abspath(__file__)))
 STAMPS = f"{ROOT}/edits/STAMPS"
+
+# What the trial of a crate's edits rests on: the sum of what is its own, and the sum of the crates below it.
+Stamp = collections.namedtuple("Stamp", "own below")
 
 
 def read(path):
@@ -36,15 +40,27 @@ class Crates:
         return sorted(self.said, key=lambda name: (len(self.below(name)), name))
 
     def stamp(self, name, version):
-        """Returns a sum over all that the outcome of a crate's edits depends on: its files, the sources and specs of the crates below it,
-        their lines of crates.txt without regard to order, and what `rt version` says."""
+        """Returns a crate's stamp: a sum over all that is its own and what `rt version` says, and one over the crates below it, of which
+        the outcome of its edits depends on the sources and specs alone."""
+        return Stamp(self.sum(name, ("src", "specs", "proofs"), version), self.sum_below(name))
+
+    def sum(self, name, parts, said):
+        """Returns a sum over some folders of a crate, its edits, its line of crates.txt without regard to order, and a text."""
+        files = [path for part in parts for path in files_below(f"{self.folder(name)}/{part}")] + edit_files(f"{self.folder(name)}/edits")
+        return sum_of_lines([said.strip(), self.line(name), *self.sums(files)])
+
+    def sum_below(self, name):
+        """Returns a sum over the sources and specs of the crates below one, and their lines of crates.txt."""
         below = sorted(self.below(name))
-        files = [path for part in ("src", "specs", "proofs") for path in files_below(f"{self.folder(name)}/{part}")]
-        files += [path for it in below for part in ("src", "specs") for path in files_below(f"{self.folder(it)}/{part}")]
-        files += edit_files(f"{self.folder(name)}/edits")
-        sums = [version.strip(), *(f"{head}: {' '.join(used)}" for head, used in (self.said[it] for it in [name, *below]))]
-        sums += sorted(f"{os.path.relpath(path, self.root)} {sum_of(path)}" for path in files)
-        return hashlib.sha256("\n".join(sums).encode()).hexdigest()
+        files = [path for it in below for part in ("src", "specs") for path in files_below(f"{self.folder(it)}/{part}")]
+        return sum_of_lines([*map(self.line, below), *self.sums(files)])
+
+    def line(self, name):
+        head, used = self.said[name]
+        return f"{head}: {' '.join(used)}"
+
+    def sums(self, files):
+        return sorted(f"{os.path.relpath(path, self.root)} {sum_of(path)}" for path in files)
 
 
 def files_below(folder):
@@ -60,6 +76,10 @@ def edit_files(folder):
 def sum_of(path):
     with open(path, "rb") as file:
         return hashlib.sha256(file.read()).hexdigest()
+
+
+def sum_of_lines(lines):
+    return hashlib.sha256("\n".join(lines).encode()).hexdigest()
 
 
 def copy_repository(root, to, kept):
@@ -91,21 +111,25 @@ class Stamps:
 
     def __init__(self):
         text = read(STAMPS) if os.path.exists(STAMPS) else ""
-        if not re.fullmatch(r"(\w+ [0-9a-f]{64}\n)*", text):
-            raise ValueError("edits/STAMPS has a line that is no stamp, as a merge leaves it: take out what is not a crate and its sum")
-        self.kept = dict(line.split() for line in text.splitlines())
+        if not re.fullmatch(r"(\w+ [0-9a-f]{64} [0-9a-f]{64}\n)*", text):
+            raise ValueError("edits/STAMPS has a line that is no stamp, as a merge leaves it: take out what is not a crate and its two sums")
+        self.kept = {name: Stamp(own, below) for name, own, below in map(str.split, text.splitlines())}
 
     def fault(self, name, stamp):
         """Returns what is wrong with a crate's stamp, or '' where it holds."""
         if name not in self.kept:
             return "is missing"
-        return "" if self.kept[name] == stamp else "is stale: the crate, its edits, a crate below it or rt changed"
+        return "" if self.kept[name].own == stamp.own else "is stale: the crate, its edits or rt changed"
+
+    def is_older(self, name, stamp):
+        """Returns whether a stamp holds, but a crate below has changed since."""
+        return not self.fault(name, stamp) and self.kept[name].below != stamp.below
 
 
 def put_stamp(name, stamp):
-    """Writes a crate's stamp, or takes it out where it is ''. The other lines are left as they stand now."""
+    """Writes a crate's stamp, or takes it out where it is None. The other lines are left as they stand now."""
     stamps = {**Stamps().kept, name: stamp}
-    text = "".join(f"{it} {stamps[it]}\n" for it in sorted(stamps) if stamps[it])
+    text = "".join(f"{it} {stamps[it].own} {stamps[it].below}\n" for it in sorted(stamps) if stamps[it])
     with open(STAMPS + ".new", "w", encoding="utf-8") as out:
         out.write(text)
     os.replace(STAMPS + ".new", STAMPS)
