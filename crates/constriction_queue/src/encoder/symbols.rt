@@ -110,8 +110,8 @@ impl<
         let (left, p) = (left.widen().widen(), p.widen().widen());
         match step_onto(
             &mut self.bulk,
-            self.state.lower(),
-            self.state.length(),
+            self.state.lower,
+            self.state.range,
             self.situation,
             left,
             p,
