@@ -177,10 +177,10 @@ impl<Word: WordOf<State>, State: BitArray, Backend: Holds<Word, Stack>> RangeEnc
     {
         let RangeEncoder {
             bulk,
-            state,
-            situation,
+            state: interval,
+            situation: held,
         } = self;
-        (bulk, state, situation)
+        (bulk, interval, held)
     }
 
     /// The backend, with the words that were written so far. Words held back aren't among them.

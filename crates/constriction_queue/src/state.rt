@@ -17,8 +17,8 @@ use std::marker::PhantomData;
 /// ```
 #[derive(Drop, Copy, Debug, PartialEq, Eq, Hash)]
 pub struct RangeCoderState<Word: WordOf<State>, State: BitArray> {
-    lower: State,
-    range: State,
+    pub(crate) lower: State,
+    pub(crate) range: State,
     phantom: PhantomData<Word>,
     ghost wide: { 2 ^ (State.BITS - Word.BITS) ≤ State.number range },
 }

@@ -4,12 +4,10 @@ ghost use Rattle.std.specs.Prelude.{◌≡◌, ◌↔◌, ◌+◌, ◌-◌, ◌*
 ghost use Rattle.std.specs.Int.NonZero.{non_zero_usize_get};
 ghost use Rattle.constriction_base.specs.Steps.{Step, IsStep, IsSizes};
 ghost use Rattle.constriction_queue.specs.Range.{cut, grown};
-ghost use Rattle.constriction_queue.specs.States.{lower_of, range_of};
 ghost use Rattle.constriction_queue.specs.Encoder.{encoder_of, held_of, released_of, word_of, words_held, run_of, PartsFit, HasPlace};
 ghost use Rattle.constriction_queue.specs.Calls.{EncodeCall};
 
 use crate::situation::{EncoderSituation, HeldWords, nonzero_count};
-use crate::state::RangeCoderState;
 use crate::writing::write_step;
 use constriction_base::backends::{Holds, Stack, WriteWords};
 use constriction_words::{BitArray, WordOf};
@@ -56,7 +54,8 @@ pub struct Part<Word, State> {
 /// The part of an interval that belongs to a symbol.
 #[inline(always)]
 pub fn narrowed<Word: WordOf<State>, State: BitArray>(
-    state: RangeCoderState<Word, State>,
+    lower: State,
+    range: State,
     situation: EncoderSituation<Word>,
     left: State,
     p: State,
@@ -64,41 +63,41 @@ pub fn narrowed<Word: WordOf<State>, State: BitArray>(
 ) -> Part<Word, State>
     requires precise { precision < State.BITS }
     requires total { State.number left + State.number p ≤ 2 ^ precision }
-    requires fit { PartsFit Word.number Word.BITS State.BITS situation (lower_of state) (range_of state) }
+    requires fit { PartsFit Word.number Word.BITS State.BITS situation (State.number lower) (State.number range) }
     ensures fit { PartsFit Word.number Word.BITS State.BITS result.situation (State.number result.lower) (State.number result.range) }
     ensures place { HasPlace situation → HasPlace result.situation }
     ensures few { length (released_of Word.number result.released) + 2 < 2 ^ 64 }
     ensures held { length (held_of Word.number Word.BITS result.situation) ≤ length (held_of Word.number Word.BITS situation) }
     ensures none { held_of Word.number Word.BITS situation ≡ [] → result.released ≡ None }
-    ensures range { State.number result.range ≡ range_of state / 2 ^ precision * State.number p }
+    ensures range { State.number result.range ≡ State.number range / 2 ^ precision * State.number p }
     ensures run { (words : List ℕ) →
         run_of Word.BITS State.BITS (held_of Word.number Word.BITS result.situation ++ (released_of Word.number result.released ++ words)) (State.number result.lower) (State.number result.range)
-        ≡ cut (record { precision = precision; left = State.number left; p = State.number p }) (run_of Word.BITS State.BITS (held_of Word.number Word.BITS situation ++ words) (lower_of state) (range_of state)) }
+        ≡ cut (record { precision = precision; left = State.number left; p = State.number p }) (run_of Word.BITS State.BITS (held_of Word.number Word.BITS situation ++ words) (State.number lower) (State.number range)) }
 {
-    let scale = state.length().shifted_right(precision);
-    let range = scale.times(p);
-    let lower = state.lower().wrapping_plus(scale.times(left));
+    let scale = range.shifted_right(precision);
+    let part = scale.times(p);
+    let start = lower.wrapping_plus(scale.times(left));
     match situation {
         EncoderSituation::Normal => Part {
-            lower,
-            range,
+            lower: start,
+            range: part,
             situation: EncoderSituation::Normal,
             released: None,
         },
         EncoderSituation::Inverted(count, first) => {
-            if reaches_over::<State>(lower, range) {
+            if reaches_over::<State>(start, part) {
                 return Part {
-                    lower,
-                    range,
+                    lower: start,
+                    range: part,
                     situation: EncoderSituation::Inverted(count, first),
                     released: None,
                 };
             }
             Part {
-                lower,
-                range,
+                lower: start,
+                range: part,
                 situation: EncoderSituation::Normal,
-                released: Some(carried(count, first, lower.is_below(state.lower()))),
+                released: Some(carried(count, first, start.is_below(lower))),
             }
         }
     }
@@ -106,8 +105,9 @@ pub fn narrowed<Word: WordOf<State>, State: BitArray>(
 
 /// What a shift leaves: an interval that is long enough, and a word that left it and isn't held.
 #[derive(Drop)]
-pub struct Shifted<Word: WordOf<State>, State: BitArray> {
-    pub state: RangeCoderState<Word, State>,
+pub struct Shifted<Word, State> {
+    pub lower: State,
+    pub range: State,
     pub situation: EncoderSituation<Word>,
     pub top: Option<Word>,
 }
@@ -123,16 +123,18 @@ pub fn grow<Word: WordOf<State>, State: BitArray>(
     requires wide { 2 ^ (State.BITS - Word.BITS) ≤ State.number range * 2 ^ Word.BITS }
     requires fit { PartsFit Word.number Word.BITS State.BITS situation (State.number lower) (State.number range) }
     requires place { HasPlace situation }
-    ensures fit { PartsFit Word.number Word.BITS State.BITS result.situation (lower_of result.state) (range_of result.state) }
+    ensures wide { 2 ^ (State.BITS - Word.BITS) ≤ State.number result.range }
+    ensures fit { PartsFit Word.number Word.BITS State.BITS result.situation (State.number result.lower) (State.number result.range) }
     ensures held { length (held_of Word.number Word.BITS result.situation) ≤ length (held_of Word.number Word.BITS situation) + 1 }
     ensures run { (words : List ℕ) →
-        run_of Word.BITS State.BITS (held_of Word.number Word.BITS result.situation ++ (word_of Word.number result.top ++ words)) (lower_of result.state) (range_of result.state)
+        run_of Word.BITS State.BITS (held_of Word.number Word.BITS result.situation ++ (word_of Word.number result.top ++ words)) (State.number result.lower) (State.number result.range)
         ≡ grown Word.BITS State.BITS (run_of Word.BITS State.BITS (held_of Word.number Word.BITS situation ++ words) (State.number lower) (State.number range)) }
 {
     let below = State::BITS - Word::BITS;
     if !range.shifted_right(below).is_nothing() {
         return Shifted {
-            state: RangeCoderState::long(lower, range),
+            lower,
+            range,
             situation,
             top: None,
         };
@@ -140,23 +142,25 @@ pub fn grow<Word: WordOf<State>, State: BitArray>(
     let top = Word::narrow(lower.shifted_right(below));
     let lower = lower.low_bits(below).shifted_left(Word::BITS);
     let range = range.shifted_left(Word::BITS);
-    let state = RangeCoderState::long(lower, range);
     match situation {
         EncoderSituation::Inverted(count, first) => Shifted {
-            state,
+            lower,
+            range,
             situation: EncoderSituation::Inverted(nonzero_count(count.get() + 1), first),
             top: None,
         },
         EncoderSituation::Normal => {
             if reaches_over(lower, range) {
                 Shifted {
-                    state,
+                    lower,
+                    range,
                     situation: EncoderSituation::Inverted(nonzero_count(1), top),
                     top: None,
                 }
             } else {
                 Shifted {
-                    state,
+                    lower,
+                    range,
                     situation: EncoderSituation::Normal,
                     top: Some(top),
                 }
@@ -167,109 +171,35 @@ pub fn grow<Word: WordOf<State>, State: BitArray>(
 
 /// An encoder's interval and situation after a step, whose words are written.
 #[inline(always)]
-pub fn narrowed_onto<Word: WordOf<State>, State: BitArray, Backend: WriteWords<Word>>(
-    bulk: &mut Backend,
-    state: RangeCoderState<Word, State>,
-    situation: EncoderSituation<Word>,
-    left: State,
-    p: State,
-    precision: u32,
-) -> Result<(RangeCoderState<Word, State>, EncoderSituation<Word>), Backend::WriteError>
-    requires sizes { IsSizes Word.BITS State.BITS }
-    requires step { IsStep Word.BITS record { precision = precision; left = State.number left; p = State.number p } }
-    requires fit { PartsFit Word.number Word.BITS State.BITS situation (lower_of state) (range_of state) }
-    requires place { HasPlace situation }
-    ensures ok { IfOk result (λ after. EncodeCall Word.number Backend.words Word.BITS State.BITS Backend.room Backend.makes_room Backend.prepare_fails Backend.write_fails
-        (encoder_of Word.number Backend.words Word.BITS (lower_of state) (range_of state) bulk.old situation)
-        record { precision = precision; left = State.number left; p = State.number p } (Ok tt)
-        (encoder_of Word.number Backend.words Word.BITS (lower_of after.0) (range_of after.0) bulk.new after.1)) }
-    ensures fit { IfOk result (λ after. PartsFit Word.number Word.BITS State.BITS after.1 (lower_of after.0) (range_of after.0)) }
-    ensures err { IfErr result (λ e. EncodeCall Word.number Backend.words Word.BITS State.BITS Backend.room Backend.makes_room Backend.prepare_fails Backend.write_fails
-        (encoder_of Word.number Backend.words Word.BITS (lower_of state) (range_of state) bulk.old situation)
-        record { precision = precision; left = State.number left; p = State.number p } (Err e)
-        (encoder_of Word.number Backend.words Word.BITS (lower_of state) (range_of state) bulk.new situation)) }
-{
-    let part = narrowed(state, situation, left, p, precision);
-    let after = grow(part.lower, part.range, part.situation);
-    match write_step(bulk, part.released, after.top) {
-        Ok(()) => Ok((after.state, after.situation)),
-        Err(refusal) => Err(refusal),
-    }
-}
-
-/// The same while words are held back. This is rare, so it is kept apart from the other steps.
-#[cold]
-#[inline(never)]
-fn narrowed_while_held<Word: WordOf<State>, State: BitArray, Backend: WriteWords<Word>>(
-    bulk: &mut Backend,
-    state: RangeCoderState<Word, State>,
-    situation: EncoderSituation<Word>,
-    left: State,
-    p: State,
-    precision: u32,
-) -> Result<(RangeCoderState<Word, State>, EncoderSituation<Word>), Backend::WriteError>
-    requires sizes { IsSizes Word.BITS State.BITS }
-    requires step { IsStep Word.BITS record { precision = precision; left = State.number left; p = State.number p } }
-    requires fit { PartsFit Word.number Word.BITS State.BITS situation (lower_of state) (range_of state) }
-    requires place { HasPlace situation }
-    ensures ok { IfOk result (λ after. EncodeCall Word.number Backend.words Word.BITS State.BITS Backend.room Backend.makes_room Backend.prepare_fails Backend.write_fails
-        (encoder_of Word.number Backend.words Word.BITS (lower_of state) (range_of state) bulk.old situation)
-        record { precision = precision; left = State.number left; p = State.number p } (Ok tt)
-        (encoder_of Word.number Backend.words Word.BITS (lower_of after.0) (range_of after.0) bulk.new after.1)) }
-    ensures fit { IfOk result (λ after. PartsFit Word.number Word.BITS State.BITS after.1 (lower_of after.0) (range_of after.0)) }
-    ensures err { IfErr result (λ e. EncodeCall Word.number Backend.words Word.BITS State.BITS Backend.room Backend.makes_room Backend.prepare_fails Backend.write_fails
-        (encoder_of Word.number Backend.words Word.BITS (lower_of state) (range_of state) bulk.old situation)
-        record { precision = precision; left = State.number left; p = State.number p } (Err e)
-        (encoder_of Word.number Backend.words Word.BITS (lower_of state) (range_of state) bulk.new situation)) }
-{
-    narrowed_onto(bulk, state, situation, left, p, precision)
-}
-
-/// The same for every situation.
-#[inline(always)]
 pub fn step_onto<Word: WordOf<State>, State: BitArray, Backend: WriteWords<Word>>(
     bulk: &mut Backend,
-    state: RangeCoderState<Word, State>,
+    lower: State,
+    range: State,
     situation: EncoderSituation<Word>,
     left: State,
     p: State,
     precision: u32,
-) -> Result<(RangeCoderState<Word, State>, EncoderSituation<Word>), Backend::WriteError>
+) -> Result<Shifted<Word, State>, Backend::WriteError>
     requires sizes { IsSizes Word.BITS State.BITS }
     requires step { IsStep Word.BITS record { precision = precision; left = State.number left; p = State.number p } }
-    requires fit { PartsFit Word.number Word.BITS State.BITS situation (lower_of state) (range_of state) }
+    requires wide { 2 ^ (State.BITS - Word.BITS) ≤ State.number range }
+    requires fit { PartsFit Word.number Word.BITS State.BITS situation (State.number lower) (State.number range) }
     requires place { HasPlace situation }
     ensures ok { IfOk result (λ after. EncodeCall Word.number Backend.words Word.BITS State.BITS Backend.room Backend.makes_room Backend.prepare_fails Backend.write_fails
-        (encoder_of Word.number Backend.words Word.BITS (lower_of state) (range_of state) bulk.old situation)
+        (encoder_of Word.number Backend.words Word.BITS (State.number lower) (State.number range) bulk.old situation)
         record { precision = precision; left = State.number left; p = State.number p } (Ok tt)
-        (encoder_of Word.number Backend.words Word.BITS (lower_of after.0) (range_of after.0) bulk.new after.1)) }
-    ensures fit { IfOk result (λ after. PartsFit Word.number Word.BITS State.BITS after.1 (lower_of after.0) (range_of after.0)) }
+        (encoder_of Word.number Backend.words Word.BITS (State.number after.lower) (State.number after.range) bulk.new after.situation)) }
+    ensures wide { IfOk result (λ after. 2 ^ (State.BITS - Word.BITS) ≤ State.number after.range) }
+    ensures fit { IfOk result (λ after. PartsFit Word.number Word.BITS State.BITS after.situation (State.number after.lower) (State.number after.range)) }
     ensures err { IfErr result (λ e. EncodeCall Word.number Backend.words Word.BITS State.BITS Backend.room Backend.makes_room Backend.prepare_fails Backend.write_fails
-        (encoder_of Word.number Backend.words Word.BITS (lower_of state) (range_of state) bulk.old situation)
+        (encoder_of Word.number Backend.words Word.BITS (State.number lower) (State.number range) bulk.old situation)
         record { precision = precision; left = State.number left; p = State.number p } (Err e)
-        (encoder_of Word.number Backend.words Word.BITS (lower_of state) (range_of state) bulk.new situation)) }
+        (encoder_of Word.number Backend.words Word.BITS (State.number lower) (State.number range) bulk.new situation)) }
 {
-    match situation {
-        EncoderSituation::Normal => narrowed_onto(
-            bulk,
-            state,
-            EncoderSituation::Normal,
-            left,
-            p,
-            precision,
-        ),
-        EncoderSituation::Inverted(count, first) => {
-            match narrowed_while_held(
-                bulk,
-                state,
-                EncoderSituation::Inverted(count, first),
-                left,
-                p,
-                precision,
-            ) {
-                Ok((state, situation)) => Ok((state, situation)),
-                Err(refusal) => Err(refusal),
-            }
-        }
+    let part = narrowed(lower, range, situation, left, p, precision);
+    let after = grow(part.lower, part.range, part.situation);
+    match write_step(bulk, part.released, after.top) {
+        Ok(()) => Ok(after),
+        Err(refusal) => Err(refusal),
     }
 }

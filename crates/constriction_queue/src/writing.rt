@@ -143,6 +143,68 @@ pub fn write_owed<Word: BitArray, Backend: WriteWords<Word>>(
     write_word(bulk, last)
 }
 
+/// Writes a word, and another behind it if there is one. Room for both is asked for first.
+#[inline(always)]
+fn write_two<Word: BitArray, Backend: WriteWords<Word>>(
+    bulk: &mut Backend,
+    first: Word,
+    second: Option<Word>,
+) -> Result<(), Backend::WriteError>
+    ensures ok { OnOk result (map Word.number (Backend.words bulk.new) ≡ word_of Word.number second ++ (Word.number first ∷ map Word.number (Backend.words bulk.old))) }
+    ensures room { OnOk result (Backend.room bulk.old ≤ Backend.room bulk.new + length (word_of Word.number second) + 1) }
+    ensures begun { OnErr result (IsBegun (word_of Word.number second ++ (Word.number first ∷ [])) (map Word.number (Backend.words bulk.old)) (map Word.number (Backend.words bulk.new))) }
+    ensures short { OnErr result (Backend.room bulk.old < length (word_of Word.number second) + 1) }
+    ensures kept { Backend.makes_room → OnErr result (Backend.words bulk.new ≡ Backend.words bulk.old) }
+    ensures err { IfErr result (λ e. Backend.prepare_fails bulk.old (length (word_of Word.number second) + 1) e
+        ⊎ ((Backend.makes_room → ⊥) × ((last : Backend) × Backend.write_fails last e × (Backend.words last ≡ Backend.words bulk.new)))) }
+    ensures one { second ≡ None → IfErr result (λ e. Backend.prepare_fails bulk.old 1 e
+        ⊎ ((Backend.makes_room → ⊥) × Backend.write_fails bulk.old e)) }
+{
+    let Some(second) = second else {
+        match bulk.prepare(1) {
+            Ok(()) => {}
+            Err(error) => return Err(error),
+        }
+        return match bulk.write(first) {
+            Ok(()) => Ok(()),
+            Err(error) => Err(error),
+        };
+    };
+    match bulk.prepare(2) {
+        Ok(()) => {}
+        Err(error) => return Err(error),
+    }
+    match bulk.write(first) {
+        Ok(()) => {}
+        Err(error) => return Err(error),
+    }
+    match bulk.write(second) {
+        Ok(()) => Ok(()),
+        Err(error) => Err(error),
+    }
+}
+
+/// Writes several words that were held, and then another if there is one. This is rare, so it is kept apart
+/// from the other writes.
+#[cold]
+#[inline(never)]
+fn write_several<Word: BitArray, Backend: WriteWords<Word>>(
+    bulk: &mut Backend,
+    held: HeldWords<Word>,
+    top: Option<Word>,
+) -> Result<(), Backend::WriteError>
+    requires { length (released_of Word.number (Some held)) + 2 < 2 ^ 64 }
+    ensures ok { OnOk result (map Word.number (Backend.words bulk.new) ≡ owed_of Word.number (Some held) top None ++ map Word.number (Backend.words bulk.old)) }
+    ensures room { OnOk result (Backend.room bulk.old ≤ Backend.room bulk.new + length (owed_of Word.number (Some held) top None)) }
+    ensures begun { OnErr result (IsBegun (owed_of Word.number (Some held) top None) (map Word.number (Backend.words bulk.old)) (map Word.number (Backend.words bulk.new))) }
+    ensures short { OnErr result (Backend.room bulk.old < length (owed_of Word.number (Some held) top None)) }
+    ensures kept { Backend.makes_room → OnErr result (Backend.words bulk.new ≡ Backend.words bulk.old) }
+    ensures err { IfErr result (λ e. Backend.prepare_fails bulk.old (length (owed_of Word.number (Some held) top None)) e
+        ⊎ ((Backend.makes_room → ⊥) × ((last : Backend) × Backend.write_fails last e × (Backend.words last ≡ Backend.words bulk.new)))) }
+{
+    write_owed(bulk, Some(held), top, None)
+}
+
 /// The same of what a step owes. Where no held words are let go, this is one word at most.
 #[inline(always)]
 pub fn write_step<Word: BitArray, Backend: WriteWords<Word>>(
@@ -162,21 +224,14 @@ pub fn write_step<Word: BitArray, Backend: WriteWords<Word>>(
     ensures one { held ≡ None → IfErr result (λ e. Backend.prepare_fails bulk.old 1 e
         ⊎ ((Backend.makes_room → ⊥) × Backend.write_fails bulk.old e)) }
 {
-    if let Some(held) = held {
-        return match write_owed(bulk, Some(held), top, None) {
-            Ok(()) => Ok(()),
-            Err(error) => Err(error),
+    let Some(held) = held else {
+        let Some(word) = top else {
+            return Ok(());
         };
-    }
-    let Some(word) = top else {
-        return Ok(());
+        return write_two(bulk, word, None);
     };
-    match bulk.prepare(1) {
-        Ok(()) => {}
-        Err(error) => return Err(error),
+    if held.count.get() == 1 {
+        return write_two(bulk, held.first, top);
     }
-    match bulk.write(word) {
-        Ok(()) => Ok(()),
-        Err(error) => Err(error),
-    }
+    write_several(bulk, held, top)
 }

@@ -88,7 +88,8 @@ impl<
             ↔ (2 ^ PRECISION ≤ quantile_read State.BITS PRECISION self.old) }
     {
         let precision = PRECISION as u32;
-        let quotient = quantile_at(self.state, self.point, precision);
+        let (lower, range) = (self.state.lower, self.state.range);
+        let quotient = quantile_at::<Word, State>(lower, range, self.point, precision);
         if !quotient.shifted_right(precision).is_nothing() {
             return Err(CoderError::Frontend(DecoderFrontendError::InvalidData));
         }
@@ -96,10 +97,10 @@ impl<
         let (symbol, left, p) = model.quantile_function(quantile);
         let p = M::Probability::from_nonzero(p);
         let (left, p) = (left.widen().widen(), p.widen().widen());
-        match narrowed_by_reading(&mut self.bulk, self.state, self.point, left, p, precision) {
-            Ok((state, point)) => {
-                self.state = state;
-                self.point = point;
+        match narrowed_by_reading(&mut self.bulk, lower, range, self.point, left, p, precision) {
+            Ok(now) => {
+                self.state = RangeCoderState::long(now.lower, now.range);
+                self.point = now.point;
                 Ok(symbol)
             }
             Err(error) => Err(CoderError::Backend(error)),

@@ -110,15 +110,16 @@ impl<
         let (left, p) = (left.widen().widen(), p.widen().widen());
         match step_onto(
             &mut self.bulk,
-            self.state,
+            self.state.lower,
+            self.state.range,
             self.situation,
             left,
             p,
             PRECISION as u32,
         ) {
-            Ok((state, situation)) => {
-                self.state = state;
-                self.situation = situation;
+            Ok(after) => {
+                self.state = RangeCoderState::long(after.lower, after.range);
+                self.situation = after.situation;
                 Ok(())
             }
             Err(refusal) => Err(CoderError::Backend(refusal)),

@@ -89,7 +89,6 @@ impl<Word: WordOf<State>, State: BitArray, A: Allocator> RangeEncoder<Word, Stat
         ensures room { OnErr result (⟦<Vec<Word, A> as WriteWords<Word>>⟧.room self.old.bulk + length self.old.words
             < length (sealed_by Word.BITS State.BITS self.old)) }
     {
-        let _ = &self.bulk;
         let count = self.put_seal()?;
         let mut bulk = Cursor::new_at_write_beginning(EncoderGuard { inner: self, count });
         match read_point::<Word, State, Cursor<Word, EncoderGuard<'_, Word, State, A>>>(&mut bulk) {

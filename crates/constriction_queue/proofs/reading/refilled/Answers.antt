@@ -4,8 +4,8 @@ use Rattle.constriction_queue.proofs.Parts.{lower_fits, range_fits}
 use Rattle.constriction_queue.proofs.Pointing.{at_long, at_short, point_room}
 use Rattle.constriction_queue.proofs.reading.refilled.Goals as goal
 
-pub long-requires : goal.long-requires
-long-requires g c =
+pub returns-then-not-is_nothing-clause-wide : goal.returns-then-not-is_nothing-clause-wide
+returns-then-not-is_nothing-clause-wide g c =
     let is = rw (c.BITS.ensures, c.BITS-2.ensures) at c.shifted_right.ensures in
     large_of_shr _ _ (λ e. let off = c.if-not-is_nothing.ensures.1 (is ∙ e) in cc)
 
@@ -33,7 +33,7 @@ pub returns-then-not-is_nothing-clause-list : goal.returns-then-not-is_nothing-c
 returns-then-not-is_nothing-clause-list g c list ws r h =
     let is = rw (c.BITS.ensures, c.BITS-2.ensures) at c.shifted_right.ensures in
     let long = large_of_shr _ _ (λ e. let off = c.if-not-is_nothing.ensures.1 (is ∙ e) in cc) in
-    rw (c.long.ensures.lower, c.long.ensures.range) (at_long _ _ ws r _ _ _ _ long h)
+    at_long _ _ ws r _ _ _ _ long h
 
 pub returns-clause-list : goal.returns-clause-list
 returns-clause-list g c list ws r h =
@@ -42,14 +42,13 @@ returns-clause-list g c list ws r h =
     let lower = rw (c.low_bits.ensures, c.BITS.ensures, c.BITS-2.ensures, c.BITS-3.ensures) at c.shifted_left-lower.ensures in
     let range = rw c.BITS-4.ensures at c.shifted_left-range.ensures in
     let point = rw (c.shifted_left.ensures, c.low_bits-2.ensures, c.BITS.ensures, c.BITS-2.ensures, c.BITS-5.ensures, c.widen.ensures) at c.plus-point.ensures in
-    rw (c.long-2.ensures.lower, c.long-2.ensures.range)
-    (at_short _ _ ws r _ _ _ _ _ _ _ _ _ (omega arith) (g.met.Word.BitArray.number_law _) short lower range point (c.in-Ok.ensures.word list) (c.in-Ok.ensures.rest list) h)
+    at_short _ _ ws r _ _ _ _ _ _ _ _ _ (omega arith) (g.met.Word.BitArray.number_law _) short lower range point (c.in-Ok.ensures.word list) (c.in-Ok.ensures.rest list) h
 
 pub returns-then-not-is_nothing-clause-reads : goal.returns-then-not-is_nothing-clause-reads
 returns-then-not-is_nothing-clause-reads g c =
     let is = rw (c.BITS.ensures, c.BITS-2.ensures) at c.shifted_right.ensures in
     let long = large_of_shr _ _ (λ e. let off = c.if-not-is_nothing.ensures.1 (is ∙ e) in cc) in
-    inr (λ short. absurd (omega arith), refl, λ ws r rest h. rw (c.long.ensures.lower, c.long.ensures.range) (at_long _ _ ws r _ _ _ _ long h))
+    inr (λ short. absurd (omega arith), refl, λ ws r rest h. at_long _ _ ws r _ _ _ _ long h)
 
 pub returns-clause-reads : goal.returns-clause-reads
 returns-clause-reads g c =
@@ -63,7 +62,7 @@ returns-clause-reads g c =
       (
         g.Word.BitArray.number c.in-Ok.word,
         c.in-Ok.ensures.reads,
-        λ ws r rest h. rw (c.long-2.ensures.lower, c.long-2.ensures.range)
-            (at_short _ _ ws r _ _ _ _ _ _ _ (g.Word.BitArray.number c.in-Ok.word ∷ rest) rest (omega arith) (g.met.Word.BitArray.number_law _) short lower range point refl refl h),
+        λ ws r rest h.
+            at_short _ _ ws r _ _ _ _ _ _ _ (g.Word.BitArray.number c.in-Ok.word ∷ rest) rest (omega arith) (g.met.Word.BitArray.number_law _) short lower range point refl refl h,
       ),
     )

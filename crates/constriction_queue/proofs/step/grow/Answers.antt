@@ -3,8 +3,8 @@ use Rattle.constriction_base.proofs.Heads.{large_of_shr, small_of_shr}
 use Rattle.constriction_queue.proofs.Parts.{top_is, shifted_run, held_run, lower_fits, range_fits, over_fits, first_fits}
 use Rattle.constriction_queue.proofs.step.grow.Goals as goal
 
-pub long-requires : goal.long-requires
-long-requires g c =
+pub returns-then-not-is_nothing-clause-wide : goal.returns-then-not-is_nothing-clause-wide
+returns-then-not-is_nothing-clause-wide g c =
     let is = rw (c.BITS.ensures, c.BITS-2.ensures) at c.shifted_right.ensures in
     large_of_shr _ _ (λ e. let no = c.if-not-is_nothing.ensures.1 (is ∙ e) in cc)
 
@@ -28,7 +28,7 @@ returns-in-Inverted-clause-fit g c =
     let fit = rw c.in-Inverted.is at c.requires.fit in
     let place = rw c.in-Inverted.is at c.requires.place in
     let fits = range_fits g.Word.BitArray.BITS g.State.BitArray.BITS _ (omega arith) (omega (arith, g.met.Word.BitArray.bits_law)) short in
-    rw (c.long-state.ensures.lower, c.long-state.ensures.range, c.nonzero_count.ensures) (
+    rw c.nonzero_count.ensures (
       over_fits _ _ _ _ _ _ (omega arith) (g.met.State.BitArray.number_law _) short fit.0 lower range,
       fit.1,
       rw range fits,
@@ -42,7 +42,7 @@ returns-in-Inverted-clause-run g c words =
     let lower = rw (c.low_bits.ensures, c.BITS.ensures, c.BITS-2.ensures, c.BITS-3.ensures) at c.shifted_left-lower.ensures in
     let range = rw c.BITS-4.ensures at c.shifted_left-range.ensures in
     let fit = rw c.in-Inverted.is at c.requires.fit in
-    rw (c.in-Inverted.is, c.long-state.ensures.lower, c.long-state.ensures.range, c.nonzero_count.ensures, c.get.ensures.value)
+    rw (c.in-Inverted.is, c.nonzero_count.ensures, c.get.ensures.value)
     (held_run _ _ _ _ _ _ _ _ words (omega arith) (g.met.State.BitArray.number_law _) short fit.0 (omega arith) lower range)
 
 pub returns-then-reaches_over-clause-fit : goal.returns-then-reaches_over-clause-fit
@@ -56,7 +56,7 @@ returns-then-reaches_over-clause-fit g c =
     let top = rw (c.shifted_right-2.ensures, c.BITS.ensures, c.BITS-2.ensures) at c.narrow-top.ensures in
     let top_same = top ∙ top_is _ _ _ (omega arith) (g.met.State.BitArray.number_law _) in
     let over = c.if-reaches_over.ensures.0 refl in
-    rw (c.long-state.ensures.lower, c.long-state.ensures.range, c.nonzero_count-then-reaches_over.ensures) (
+    rw c.nonzero_count-then-reaches_over.ensures (
       over,
       rw top_same (first_fits _ _ _ _ _ _ (omega arith) fit lower range over),
       rw range fits,
@@ -71,7 +71,7 @@ returns-then-reaches_over-clause-run g c words =
     let range = rw c.BITS-4.ensures at c.shifted_left-range.ensures in
     let top = rw (c.shifted_right-2.ensures, c.BITS.ensures, c.BITS-2.ensures) at c.narrow-top.ensures in
     let top_same = top ∙ top_is _ _ _ (omega arith) (g.met.State.BitArray.number_law _) in
-    rw (c.in-Normal.is, c.long-state.ensures.lower, c.long-state.ensures.range, c.nonzero_count-then-reaches_over.ensures)
+    rw (c.in-Normal.is, c.nonzero_count-then-reaches_over.ensures)
     (shifted_run _ _ _ _ _ _ _ words (omega arith) (g.met.State.BitArray.number_law _) short top_same lower range)
 
 pub returns-else-reaches_over-clause-run : goal.returns-else-reaches_over-clause-run
@@ -82,5 +82,5 @@ returns-else-reaches_over-clause-run g c words =
     let range = rw c.BITS-4.ensures at c.shifted_left-range.ensures in
     let top = rw (c.shifted_right-2.ensures, c.BITS.ensures, c.BITS-2.ensures) at c.narrow-top.ensures in
     let top_same = top ∙ top_is _ _ _ (omega arith) (g.met.State.BitArray.number_law _) in
-    rw (c.in-Normal.is, c.long-state.ensures.lower, c.long-state.ensures.range)
+    rw c.in-Normal.is
     (shifted_run _ _ _ _ _ _ _ words (omega arith) (g.met.State.BitArray.number_law _) short top_same lower range)

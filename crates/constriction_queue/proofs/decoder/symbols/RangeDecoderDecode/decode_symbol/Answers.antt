@@ -30,7 +30,7 @@ returns-in-Ok-clause-step g c =
     let small = small_of_shr _ _ (sym c.shifted_right.ensures ∙ c.if-not-is_nothing.ensures.0 refl) in
     let quantile = (rw c.narrow.ensures at c.narrow-quantile.ensures) ∙ low_in_word _ _ _ _ small (omega (arith, sized.1, g.met.M.Probability.WordOf.width_law)) sized.1 ∙ c.quantile_at-quotient.ensures in
     let covers = c.quantile_function-symbol.ensures.covers in
-    rw (← c.self.view_is) (
+    rw (← c.self.view_is, c.long-self-inside.ensures.lower, c.long-self-inside.ensures.range) (
       _,
       _,
       c.quantile_function-symbol.ensures.found,
@@ -38,7 +38,7 @@ returns-in-Ok-clause-step g c =
         Ok tt,
         record {
           before = is_decoder g.Word.BitArray.number g.Backend.Holds.words _ _ _ _ _ _ c.self.invariant c.self.inside.state.wide (g.met.State.BitArray.number_law _) (g.met.State.BitArray.number_law _) (g.met.State.BitArray.number_law _);
-          after = is_decoder g.Word.BitArray.number g.Backend.Holds.words _ _ _ _ _ _ c.self.invariant c.in-Ok.state.wide (g.met.State.BitArray.number_law _) (g.met.State.BitArray.number_law _) (g.met.State.BitArray.number_law _);
+          after = is_decoder g.Word.BitArray.number g.Backend.Holds.words _ _ _ _ _ _ c.self.invariant c.in-Ok.ensures.wide (g.met.State.BitArray.number_law _) (g.met.State.BitArray.number_law _) (g.met.State.BitArray.number_law _);
           from = rw quantile at covers.0;
           below = rw quantile at covers.1;
           read = λ list. rw (c.widen-left.ensures, c.widen.ensures, c.widen-p.ensures, c.widen-2.ensures, c.from_nonzero-p.ensures) at c.in-Ok.ensures.list list;

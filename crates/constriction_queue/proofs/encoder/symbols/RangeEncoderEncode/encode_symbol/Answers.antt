@@ -17,7 +17,7 @@ step_onto-requires-clause-place g c =
 pub returns-in-Ok-clause-step : goal.returns-in-Ok-clause-step
 returns-in-Ok-clause-step g c =
     let done = rw (c.widen-left.ensures, c.widen.ensures, c.widen-p.ensures, c.widen-2.ensures, c.from_nonzero-p.ensures) at c.in-Ok.ensures.ok in
-    rw (← c.self.view_is) (inl (_, _, c.in-Some.ensures.found, (Ok tt, done, refl)))
+    rw (← c.self.view_is, c.long-self-inside.ensures.lower, c.long-self-inside.ensures.range) (inl (_, _, c.in-Some.ensures.found, (Ok tt, done, refl)))
 
 pub returns-clause-step : goal.returns-clause-step
 returns-clause-step g c =

@@ -3,11 +3,11 @@ use Rattle.constriction_queue.specs.Range.{grown}
 use Rattle.constriction_queue.specs.Encoder.{released_of, word_of}
 use Rattle.constriction_queue.proofs.Encoders.{is_encoder, owed_are_words}
 use Rattle.constriction_queue.proofs.Fits.{cut_wide}
-use Rattle.constriction_queue.proofs.step.narrowed_onto.Goals as goal
+use Rattle.constriction_queue.proofs.step.step_onto.Goals as goal
 
 pub grow-after-requires-clause-wide : goal.grow-after-requires-clause-wide
 grow-after-requires-clause-wide g c =
-    rw c.narrowed-part.ensures.range (cut_wide _ _ _ _ _ c.requires.step.within_word c.requires.sizes.two_words c.requires.step.not_empty c.args.state.wide)
+    rw c.narrowed-part.ensures.range (cut_wide _ _ _ _ _ c.requires.step.within_word c.requires.sizes.two_words c.requires.step.not_empty c.requires.wide)
 
 pub returns-in-Ok-clause-ok : goal.returns-in-Ok-clause-ok
 returns-in-Ok-clause-ok g c =
@@ -18,8 +18,8 @@ returns-in-Ok-clause-ok g c =
     let all = c.grow-after.ensures.run (released ++ words) ∙ ap (grown g.Word.BitArray.BITS g.State.BitArray.BITS) (c.narrowed-part.ensures.run words) in
     let is = rw (sym (append_assoc top released words)) at all in
     record {
-      before = is_encoder number g.Backend.Holds.words _ _ _ _ _ c.args.situation c.requires.sizes c.requires.fit c.args.state.wide (g.met.State.BitArray.number_law _) (g.met.State.BitArray.number_law _);
-      after = is_encoder number g.Backend.Holds.words _ _ _ _ _ c.grow-after.result.situation c.requires.sizes c.grow-after.ensures.fit c.grow-after.result.state.wide (g.met.State.BitArray.number_law _) (g.met.State.BitArray.number_law _);
+      before = is_encoder number g.Backend.Holds.words _ _ _ _ _ c.args.situation c.requires.sizes c.requires.fit c.requires.wide (g.met.State.BitArray.number_law _) (g.met.State.BitArray.number_law _);
+      after = is_encoder number g.Backend.Holds.words _ _ _ _ _ c.grow-after.result.situation c.requires.sizes c.grow-after.ensures.fit c.grow-after.ensures.wide (g.met.State.BitArray.number_law _) (g.met.State.BitArray.number_law _);
       narrowed = rw c.in-Ok.ensures.ok is;
       written = record {
         owed = top ++ released;
@@ -51,8 +51,8 @@ returns-in-Err-clause-err g c =
     let all = c.grow-after.ensures.run (released ++ words) ∙ ap (grown g.Word.BitArray.BITS g.State.BitArray.BITS) (c.narrowed-part.ensures.run words) in
     let is = rw (sym (append_assoc top released words)) at all in
     record {
-      before = is_encoder number g.Backend.Holds.words _ _ _ _ _ c.args.situation c.requires.sizes c.requires.fit c.args.state.wide (g.met.State.BitArray.number_law _) (g.met.State.BitArray.number_law _);
-      after = is_encoder number g.Backend.Holds.words _ _ _ _ _ c.args.situation c.requires.sizes c.requires.fit c.args.state.wide (g.met.State.BitArray.number_law _) (g.met.State.BitArray.number_law _);
+      before = is_encoder number g.Backend.Holds.words _ _ _ _ _ c.args.situation c.requires.sizes c.requires.fit c.requires.wide (g.met.State.BitArray.number_law _) (g.met.State.BitArray.number_law _);
+      after = is_encoder number g.Backend.Holds.words _ _ _ _ _ c.args.situation c.requires.sizes c.requires.fit c.requires.wide (g.met.State.BitArray.number_law _) (g.met.State.BitArray.number_law _);
       narrowed = tt;
       written = tt;
       held = omega arith;
