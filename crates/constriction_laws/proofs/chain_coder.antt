@@ -1,3 +1,5 @@
 pub mod ComingBack
 pub mod Isolated
 pub mod ListCalls
+pub mod OneBinary
+pub mod ThereAndBack
