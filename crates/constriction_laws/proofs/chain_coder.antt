@@ -2,4 +2,3 @@ pub mod ComingBack
 pub mod Isolated
 pub mod ListCalls
 pub mod OneBinary
-pub mod ThereAndBack
