@@ -1,3 +1,4 @@
 pub mod Codewords
-pub mod Words
+pub mod Forms
 pub mod Pairs
+pub mod Words

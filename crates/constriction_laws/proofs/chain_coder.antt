@@ -1,3 +1,4 @@
 pub mod ComingBack
 pub mod Isolated
 pub mod ListCalls
+pub mod OneBinary

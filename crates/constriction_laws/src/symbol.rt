@@ -3,9 +3,11 @@
 //! - [`lists`]: symbols come back from bits that their codewords begin, one behind another, by one codebook or by one
 //!   each.
 //! - [`words`]: words of a stack of bits are those of no other bits, and bits have one list of words.
-//! - [`golomb`]: no Exp-Golomb codeword begins another.
+//! - [`codewords`]: the suffix form of a codeword is the reverse of its prefix form.
+//! - [`golomb`]: no Exp-Golomb codeword begins another, and how they end in suffix form.
 //! - [`round_trips`]: symbols and bits there and back, by the coders' own calls.
 
+pub mod codewords;
 pub mod golomb;
 pub mod lists;
 pub mod round_trips;

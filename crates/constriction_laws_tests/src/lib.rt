@@ -8,6 +8,10 @@
 #[cfg(test)]
 mod bounds;
 #[cfg(test)]
+mod chain;
+#[cfg(test)]
 mod queue;
 #[cfg(test)]
 mod stack;
+#[cfg(test)]
+mod symbol;

@@ -5,7 +5,9 @@
 //! write, or memory.
 //!
 //! - [`coding`]: list calls, said in the words of the laws.
+//! - [`isolation`]: symbols that stay where the model of an earlier one is replaced.
 //! - [`words`]: symbols and words out of a coder, and back.
 
 pub mod coding;
+pub mod isolation;
 pub mod words;

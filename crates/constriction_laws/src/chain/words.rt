@@ -8,10 +8,12 @@ ghost use Rattle.constriction_chain.specs.Imports.{AreBinaryWords, FromBinary, F
 ghost use Rattle.constriction_chain.specs.Symbols.{AreModelsAt, DecodesAll, EncodesAll};
 ghost use Rattle.constriction_chain.specs.Words.{remainder_words};
 
-/// Words stand for one coder, as compressed words and as remainders.
+/// Words stand for one coder, as compressed words, in binary form, and as remainders.
 pub fn one_coder()
     ensures compressed { (w s P : ℕ) (words : List ℕ) (x y : ChainState) → 1 ≤ w →
         FromCompressed w s P words x → FromCompressed w s P words y → x ≡ y }
+    ensures binary { (w s P : ℕ) (words : List ℕ) (x y : ChainState) → IsSized w s P →
+        FromBinary w s P words x → FromBinary w s P words y → x ≡ y }
     ensures remainders { (w s P : ℕ) (words : List ℕ) (x y : ChainState) → 1 ≤ w →
         FromRemainders w s P words x → FromRemainders w s P words y → x ≡ y }
 {}

@@ -83,3 +83,25 @@ where
 {
     coder.encode_iid_symbols_reverse(symbols, model)
 }
+
+/// Symbols that are put back, each by a model of its own, the last one first: an encode of each, one after the other.
+pub fn encode_pairs_reverse<
+    Word: WordOf<State>,
+    State: BitArray,
+    C: WriteWords<Word>,
+    R: ReadWords<Word, Stack>,
+    M: EncoderModel<PRECISION>,
+    const PRECISION: usize,
+>(
+    coder: &mut ChainCoder<Word, State, C, R, PRECISION>,
+    symbols: &[M::Symbol],
+    models: &[M],
+) -> Result<(), EncoderError<C::WriteError, R::ReadError>>
+where
+    M::Probability: WordOf<Word>,
+    requires { length symbols.now ≡ length models.now }
+    ensures { R.is_list → OnOk result (EncodesAll Word.BITS State.BITS
+        (reverse (pairs_of PRECISION M.table symbols.now models.now)) coder.old.state coder.new.state) }
+{
+    coder.encode_symbols_reverse(symbols.iter().zip(models.iter()))
+}
