@@ -1,5 +1,6 @@
 pub mod BitLemmas
 pub mod Coding
+pub mod TopLemmas
 pub mod Lengths
 pub mod Emitted
 pub mod GolombLemmas

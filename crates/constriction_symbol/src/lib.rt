@@ -36,5 +36,6 @@ pub mod queue;
 pub mod reading;
 mod steps;
 mod taking;
+mod top_bits;
 mod word_bits;
 pub mod writing;

@@ -4,6 +4,7 @@ ghost use Rattle.constriction_base.specs.Iterators.{item_of_answer};
 ghost use Rattle.constriction_symbol.specs.Bits.{GivesBit, PutsLast, TakesFirst, TakesLast, bits_above, bits_behind};
 ghost use Rattle.std.specs.Prelude.{reverse};
 
+use crate::top_bits::TopBits;
 use crate::word_bits::WordBits;
 use constriction_base::backends::{Queue, ReadWords, Stack, WriteWords};
 use constriction_words::BitArray;
@@ -12,7 +13,7 @@ use constriction_words::BitArray;
 #[inline]
 pub fn put_last<Word: BitArray, B: WriteWords<Word>>(
     backend: &mut B,
-    last: &mut WordBits<Word>,
+    last: &mut TopBits<Word>,
     bit: bool,
 ) -> Result<(), B::WriteError>
     ensures { PutsLast Word.BITS Word.number B.words B.write_fails last.old backend.old bit result last.new backend.new }
@@ -22,7 +23,7 @@ pub fn put_last<Word: BitArray, B: WriteWords<Word>>(
             Ok(()) => {}
             Err(error) => return Err(error),
         }
-        *last = WordBits::none();
+        *last = TopBits::none();
         last.push(bit);
         return Ok(());
     }
@@ -34,7 +35,7 @@ pub fn put_last<Word: BitArray, B: WriteWords<Word>>(
 #[inline]
 pub fn take_last<Word: BitArray, B: ReadWords<Word, Stack>>(
     backend: &mut B,
-    last: &mut WordBits<Word>,
+    last: &mut TopBits<Word>,
 ) -> Result<Option<bool>, B::ReadError>
     ensures takes { TakesLast Word.BITS Word.number B.reads last.old backend.old (item_of_answer result) last.new backend.new }
     ensures bits { B.is_list → GivesBit (reverse (bits_above Word.BITS Word.number (B.words backend.old) last.old))
@@ -45,7 +46,7 @@ pub fn take_last<Word: BitArray, B: ReadWords<Word, Stack>>(
             Err(error) => return Err(error),
             Ok(None) => return Ok(None),
             Ok(Some(word)) => {
-                *last = WordBits::all(word);
+                *last = TopBits::all(word);
                 return Ok(Some(last.pop()));
             }
         }
