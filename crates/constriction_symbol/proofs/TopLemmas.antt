@@ -1,10 +1,11 @@
 -- Bits at the top of a word: one more and one less.
-use Rattle.std.proofs.Common.{rules, nat_eq, ◌≡◌, ◌<◌, ◌≤◌, ◌+◌, ◌*◌, ◌-◌, ◌/◌, ◌%◌, ◌^◌, ℕ, zero, suc, Bool, true, false, not, [], ◌∷◌, ◌++◌, sym, ap, subst, ◌∙◌, arith, pow_pos, if◌then◌else◌}
+use Rattle.std.proofs.Common.{rules, nat_eq, take, ap₂, refl, add-one, ◌==◌, ◌≡◌, ◌<◌, ◌≤◌, ◌+◌, ◌*◌, ◌-◌, ◌/◌, ◌%◌, ◌^◌, ℕ, zero, suc, Bool, true, false, not, [], ◌∷◌, ◌++◌, sym, ap, subst, ◌∙◌, arith, pow_pos, if◌then◌else◌}
 use Rattle.std.specs.Prelude.{IsTrue, ◌↔◌}
-use Rattle.std.proofs.lemmas.Nat.{pow-add, shr-shr, shl-shr, shr_below, field_of}
-use native.Mathlib.Nat.{add-mul-div_right}
+use Rattle.std.proofs.lemmas.Nat.{pow-add, shr-shr, shl-shr, shr_below, shl_below, field_of, mul-add-lt, mod_below}
+use native.Mathlib.Nat.{add-mul-div_right, mul_assoc, pow-zero}
+use lib.Pow.{mod-mod-pow}
 use Rattle.constriction_symbol.specs.Bits.{bits_of}
-use Rattle.constriction_symbol.proofs.BitLemmas.{set_above, clear_above, top_off}
+use Rattle.constriction_symbol.proofs.BitLemmas.{pow_next, set_above, clear_above, top_off}
 
 -- a bit above k bits, which stand above s + 1 others and then above s
 top_more : (k s n m : ℕ) (bit : Bool) → n < 2 ^ (k + (s + 1)) → m ≡ n / 2 ^ 1 + (if bit then 2 ^ (k + s) else 0) → bits_of (k + 1) (m / 2 ^ s) ≡ bits_of k (n / 2 ^ (s + 1)) ++ bit ∷ []
@@ -70,3 +71,102 @@ above_room b r n within fits =
 pub full_room : (b r : ℕ) → r ≤ b → 8 ≤ b → (IsTrue (nat_eq r 0) → b - r ≡ b) × (b - r ≡ b → IsTrue (nat_eq r 0))
 full_room b zero within wide = (λ is. omega arith, λ is. search rules)
 full_room b (suc s) within wide = (λ is. absurd (search rules), λ is. absurd (omega (arith, is, within, wide)))
+
+-- a highest bit above a number that has none
+pub highest_room : (b n : ℕ) (bit : Bool) → 0 < b → n < 2 ^ (b - 1) → n + (if bit then 2 ^ (b - 1) else 0) < 2 ^ b
+highest_room b n true some small =
+    let whole : b - 1 + 1 ≡ b = omega (arith, some) in
+    let two : 2 ^ (b - 1 + 1) ≡ 2 ^ (b - 1) * 2 ^ 1 = pow-add 2 (b - 1) 1 in
+    subst (λ e. n + 2 ^ (b - 1) < 2 ^ e) whole (omega (arith, two, small))
+highest_room b n false some small =
+    let whole : b - 1 + 1 ≡ b = omega (arith, some) in
+    let two : 2 ^ (b - 1 + 1) ≡ 2 ^ (b - 1) * 2 ^ 1 = pow-add 2 (b - 1) 1 in
+    subst (λ e. n + 0 < 2 ^ e) whole (omega (arith, two, small))
+
+-- bits of a sum of which the second part stands above the first
+pub bits_joined : (k c n v : ℕ) → n < 2 ^ k → bits_of (k + c) (n + v * 2 ^ k) ≡ bits_of k n ++ bits_of c v
+bits_joined zero c n v small =
+    let none : n + v * 2 ^ 0 ≡ v = omega (arith, small, pow-zero 2) in
+    let here : 0 + c ≡ c = omega arith in
+    rw (none, here) refl
+bits_joined (suc k) c n v small =
+    let two = pow_next k in
+    let half : n / 2 < 2 ^ k = omega (arith, small, two) in
+    let split : v * 2 ^ suc k ≡ 2 * (v * 2 ^ k) = ap (λ x. v * x) two ∙ swapped in
+    let low : (n + v * 2 ^ suc k) % 2 ≡ n % 2 = omega (arith, split) in
+    let high : (n + v * 2 ^ suc k) / 2 ≡ n / 2 + v * 2 ^ k = omega (arith, split) in
+    let here : suc k + c ≡ suc (k + c) = omega arith in
+    rw here (ap₂ (λ b x. (b == 1) ∷ bits_of (k + c) x) low high ∙ ap (λ bs. (n % 2 == 1) ∷ bs) (bits_joined k c (n / 2) v half))
+  where
+    swapped : v * (2 * 2 ^ k) ≡ 2 * (v * 2 ^ k)
+    swapped = grind arith
+
+-- the lower of some bits
+pub bits_below : (k c n : ℕ) → take k (bits_of (k + c) n) ≡ bits_of k n
+bits_below zero c n = refl
+bits_below (suc k) c n =
+    let here : suc k + c ≡ suc (k + c) = omega arith in
+    rw here (ap (λ bs. (n % 2 == 1) ∷ bs) (bits_below k c (n / 2)))
+
+-- and as those of what the number leaves
+pub bits_left : (k n : ℕ) → bits_of k (n % 2 ^ k) ≡ bits_of k n
+bits_left zero n = refl
+bits_left (suc k) n =
+    let low : n % 2 ^ suc k % 2 ≡ n % 2 = rw add-one at (mod-mod-pow n k 1) in
+    let high : n % 2 ^ suc k / 2 ≡ n / 2 % 2 ^ k = rw add-one at (field_of n k 1) in
+    ap₂ (λ b x. (b == 1) ∷ bits_of k x) low high ∙ ap (λ bs. (n % 2 == 1) ∷ bs) (bits_left k (n / 2))
+
+-- c bits more in a word of b bits, of which r mean nothing
+pub all_at_top : (b r c n v m : ℕ) → r ≤ b → c ≤ r → n < 2 ^ b → m ≡ n / 2 ^ c + v * 2 ^ (b - c)
+    → bits_of (b - (r - c)) (m / 2 ^ (r - c)) ≡ bits_of (b - r) (n / 2 ^ r) ++ bits_of c v
+all_at_top b r c n v m within fits small is =
+    let count : b - (r - c) ≡ b - r + c = omega (arith, within, fits) in
+    let place : b - c ≡ b - r + (r - c) = omega (arith, within, fits) in
+    let back : c + (r - c) ≡ r = omega (arith, fits) in
+    let power : v * 2 ^ (b - c) ≡ v * 2 ^ (b - r) * 2 ^ (r - c) =
+    ap (λ e. v * 2 ^ e) place ∙ (ap (λ x. v * x) (pow-add 2 (b - r) (r - c)) ∙ sym (mul_assoc v (2 ^ (b - r)) (2 ^ (r - c)))) in
+    let split : m ≡ n / 2 ^ c + v * 2 ^ (b - r) * 2 ^ (r - c) = is ∙ ap (λ x. n / 2 ^ c + x) power in
+    let rest : n / 2 ^ c / 2 ^ (r - c) ≡ n / 2 ^ r = shr-shr n c (r - c) ∙ ap (λ e. n / 2 ^ e) back in
+    let up : m / 2 ^ (r - c) ≡ n / 2 ^ r + v * 2 ^ (b - r) =
+    ap (λ x. x / 2 ^ (r - c)) split ∙ (add-mul-div_right (n / 2 ^ c) (v * 2 ^ (b - r)) (pow_pos (r - c)) ∙ ap (λ x. x + v * 2 ^ (b - r)) rest) in
+    ap₂ (λ k x. bits_of k x) count up ∙ bits_joined (b - r) c (n / 2 ^ r) v (above_room b r n within small)
+
+-- c bits less
+pub some_less : (b r c n m : ℕ) → r + c ≤ b → m ≡ n % 2 ^ (b - c) * 2 ^ c → bits_of (b - (r + c)) (m / 2 ^ (r + c)) ≡ take (b - r - c) (bits_of (b - r) (n / 2 ^ r))
+some_less b r c n m within is =
+    let place : b - c ≡ b - (r + c) + r = omega (arith, within) in
+    let count : b - r ≡ b - (r + c) + c = omega (arith, within) in
+    let kept : b - r - c ≡ b - (r + c) = omega (arith, within) in
+    let turned : r + c ≡ c + r = omega arith in
+    let half : m / 2 ^ c ≡ n % 2 ^ (b - c) = ap (λ x. x / 2 ^ c) is ∙ shl-shr (n % 2 ^ (b - c)) c in
+    let rest : m / 2 ^ (r + c) ≡ n / 2 ^ r % 2 ^ (b - (r + c)) =
+    ap (λ e. m / 2 ^ e) turned ∙ (sym (shr-shr m c r) ∙ (ap (λ x. x / 2 ^ r) (half ∙ ap (λ e. n % 2 ^ e) place) ∙ field_of n (b - (r + c)) r)) in
+    ap (λ x. bits_of (b - (r + c)) x) rest
+    ∙ (bits_left (b - (r + c)) (n / 2 ^ r) ∙ (sym (bits_below (b - (r + c)) c (n / 2 ^ r)) ∙ ap₂ (λ k j. take k (bits_of j (n / 2 ^ r))) (sym kept) (sym count)))
+
+-- the word with c bits more
+pub sum_room : (b c n v : ℕ) → c ≤ b → n < 2 ^ b → v < 2 ^ c → n / 2 ^ c + v * 2 ^ (b - c) < 2 ^ b
+sum_room b c n v within fits small =
+    let whole : b - c + c ≡ b = omega (arith, within) in
+    let low : n / 2 ^ c < 2 ^ (b - c) = above_room b c n within fits in
+    let all : v * 2 ^ (b - c) + n / 2 ^ c < 2 ^ (b - c) * 2 ^ c = mul-add-lt v (2 ^ (b - c)) (n / 2 ^ c) (2 ^ c) small low in
+    let power : 2 ^ (b - c) * 2 ^ c ≡ 2 ^ b = sym (pow-add 2 (b - c) c) ∙ ap (λ e. 2 ^ e) whole in
+    omega (arith, all, power)
+
+pub shifted_room : (b c v : ℕ) → c ≤ b → v < 2 ^ c → v * 2 ^ (b - c) < 2 ^ b
+shifted_room b c v within small =
+    let whole : c + (b - c) ≡ b = omega (arith, within) in
+    subst (λ e. v * 2 ^ (b - c) < 2 ^ e) whole (shl_below v c (b - c) small)
+
+pub left_room : (b c n m : ℕ) → c ≤ b → m ≡ n % 2 ^ (b - c) → m * 2 ^ c < 2 ^ b
+left_room b c n m within is =
+    let whole : b - c + c ≡ b = omega (arith, within) in
+    let small : m < 2 ^ (b - c) = subst (λ x. x < 2 ^ (b - c)) (sym is) (mod_below n (2 ^ (b - c)) (pow_pos (b - c))) in
+    subst (λ e. m * 2 ^ c < 2 ^ e) whole (shl_below m (b - c) c small)
+
+-- as many bits as there is room for; and fewer than there are
+pub put_fits : (b r c : ℕ) → r ≤ b → b - r + c ≤ b → c ≤ r
+put_fits b r c within fits = omega (arith, within, fits)
+
+pub taken_fits : (b r c : ℕ) → r ≤ b → c < b - r → (r + c ≤ b) × (c ≤ b) × (c < b)
+taken_fits b r c within fewer = (omega (arith, within, fewer), omega (arith, within, fewer), omega (arith, within, fewer))

@@ -30,8 +30,8 @@ use std::marker::{Model, PhantomData};
 /// Contracts see a `BitsValue`: all bits, those of the word outside the backend, and the backend.
 #[derive(Debug, Drop)]
 pub struct SymbolCoder<Word: BitArray, S: Semantics, B: Holds<Word, Stack> = Vec<Word>> {
-    backend: B,
-    last: TopBits<Word>,
+    pub(crate) backend: B,
+    pub(crate) last: TopBits<Word>,
     semantics: PhantomData<S>,
 }
 

@@ -24,7 +24,7 @@ impl<Word: BitArray> PartialEq for WordBits<Word> {
 
     /// Whether the bits are the same, and as many.
     fn eq(&self, other: &Self) -> bool {
-        self.count() == other.count() && is_same_word(self.word(), other.word())
+        self.count() == other.count() && is_same_word(self.turned_word(), other.turned_word())
     }
 }
 

@@ -37,5 +37,6 @@ pub mod reading;
 mod steps;
 mod taking;
 mod top_bits;
+mod turning;
 mod word_bits;
 pub mod writing;

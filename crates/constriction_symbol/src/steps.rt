@@ -1,8 +1,8 @@
 //! A bit more and a bit less in words, of which those of one lie outside the backend.
 
 ghost use Rattle.constriction_base.specs.Iterators.{item_of_answer};
-ghost use Rattle.constriction_symbol.specs.Bits.{GivesBit, PutsLast, TakesFirst, TakesLast, bits_above, bits_behind};
-ghost use Rattle.std.specs.Prelude.{reverse};
+ghost use Rattle.constriction_symbol.specs.Bits.{GivesBit, PutsBits, PutsLast, TakesFirst, TakesLast, bits_above, bits_behind, bits_of};
+ghost use Rattle.std.specs.Prelude.{length, reverse, ◌+◌, ◌<◌, ◌^◌};
 
 use crate::top_bits::TopBits;
 use crate::word_bits::WordBits;
@@ -28,6 +28,51 @@ pub fn put_last<Word: BitArray, B: WriteWords<Word>>(
         return Ok(());
     }
     last.push(bit);
+    Ok(())
+}
+
+/// Puts the lowest bits of a word behind those of the last word, the lowest first. Where there is no room for all, the last
+/// word is filled and written, and the others begin the next.
+#[inline]
+pub fn put_bits<Word: BitArray, B: WriteWords<Word>>(
+    backend: &mut B,
+    last: &mut TopBits<Word>,
+    bits: Word,
+    count: u32,
+) -> Result<(), B::WriteError>
+    requires some { 0 < count }
+    requires part { count < Word.BITS }
+    requires small { Word.number bits < 2 ^ count }
+    ensures { PutsBits Word.BITS Word.number B.words B.write_fails last.old backend.old (bits_of count (Word.number bits)) result last.new backend.new }
+{
+    if count <= last.room() {
+        last.push_all(bits, count);
+        return Ok(());
+    }
+    put_across(backend, last, bits, count)
+}
+
+/// The same where there is no room for all.
+#[inline]
+fn put_across<Word: BitArray, B: WriteWords<Word>>(
+    backend: &mut B,
+    last: &mut TopBits<Word>,
+    bits: Word,
+    count: u32,
+) -> Result<(), B::WriteError>
+    requires across { Word.BITS < length last.old + count }
+    requires part { count < Word.BITS }
+    requires small { Word.number bits < 2 ^ count }
+    ensures { PutsBits Word.BITS Word.number B.words B.write_fails last.old backend.old (bits_of count (Word.number bits)) result last.new backend.new }
+{
+    let room = last.room();
+    last.fill(bits);
+    match backend.write(last.word()) {
+        Ok(()) => {}
+        Err(error) => return Err(error),
+    }
+    *last = TopBits::none();
+    last.push_all(bits.shifted_right(room), count - room);
     Ok(())
 }
 

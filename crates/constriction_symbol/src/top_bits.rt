@@ -1,7 +1,7 @@
 //! Bits of which the last one is the highest of a word: one more and one less are shifts by one.
 
 ghost use Rattle.constriction_symbol.specs.Bits.{TopWord, bits_of};
-ghost use Rattle.std.specs.Prelude.{IsTrue, List, MatchOption, [], if◌then◌else◌, length, ◌+◌, ◌++◌, ◌-◌, ◌/◌, ◌<◌, ◌≤◌, ◌∷◌, ◌^◌, ◌↔◌, ◌≡◌};
+ghost use Rattle.std.specs.Prelude.{IsTrue, List, MatchOption, [], if◌then◌else◌, length, take, ◌+◌, ◌++◌, ◌-◌, ◌/◌, ◌<◌, ◌≤◌, ◌∷◌, ◌^◌, ◌↔◌, ◌≡◌};
 
 use constriction_words::BitArray;
 use std::marker::Model;
@@ -13,7 +13,7 @@ use std::marker::Model;
 #[derive(Debug, Drop)]
 pub struct TopBits<Word: BitArray> {
     word: Word,
-    room: u32,
+    room: usize,
 }
 
 impl<Word: BitArray> Model for TopBits<Word> {
@@ -35,7 +35,7 @@ impl<Word: BitArray> TopBits<Word> {
     {
         TopBits {
             word: Word::nothing(),
-            room: Word::BITS,
+            room: Word::BITS as usize,
         }
     }
 
@@ -57,7 +57,7 @@ impl<Word: BitArray> TopBits<Word> {
         let count = word.bit_length() - 1;
         Some(TopBits {
             word: at_top(word.low_bits(count), count),
-            room: Word::BITS - count,
+            room: (Word::BITS - count) as usize,
         })
     }
 
@@ -78,7 +78,7 @@ impl<Word: BitArray> TopBits<Word> {
         ensures value { result ≡ length self.now }
         ensures within { result ≤ Word.BITS }
     {
-        Word::BITS - self.room
+        Word::BITS - self.room as u32
     }
 
     /// Whether there is no bit.
@@ -86,7 +86,7 @@ impl<Word: BitArray> TopBits<Word> {
     pub fn is_empty(&self) -> bool
         ensures { IsTrue result ↔ (self.now ≡ []) }
     {
-        self.room == Word::BITS
+        self.room == Word::BITS as usize
     }
 
     /// Whether there is no room for a bit.
@@ -105,8 +105,9 @@ impl<Word: BitArray> TopBits<Word> {
         ensures small { Word.number result < 2 ^ length self.now }
         ensures within { length self.now ≤ Word.BITS }
     {
-        if self.room < Word::BITS {
-            self.word.shifted_right(self.room)
+        let room = self.room as u32;
+        if room < Word::BITS {
+            self.word.shifted_right(room)
         } else {
             Word::nothing()
         }
@@ -118,7 +119,7 @@ impl<Word: BitArray> TopBits<Word> {
         requires { length self.old < Word.BITS }
         ensures { self.new ≡ self.old ++ bit ∷ [] }
     {
-        self.word = with_highest(self.word.shifted_right(1), bit);
+        self.word = self.word.shifted_right(1).plus(highest(bit));
         self.room -= 1;
     }
 
@@ -134,6 +135,51 @@ impl<Word: BitArray> TopBits<Word> {
         self.room += 1;
         bit
     }
+
+    /// How many bits there is room for.
+    #[inline]
+    pub fn room(&self) -> u32
+        ensures { result + length self.now ≡ Word.BITS }
+    {
+        self.room as u32
+    }
+
+    /// Puts the lowest bits of a word behind the others, the lowest first.
+    #[inline]
+    pub fn push_all(&mut self, bits: Word, count: u32)
+        requires some { 0 < count }
+        requires part { count < Word.BITS }
+        requires small { Word.number bits < 2 ^ count }
+        requires fits { length self.old + count ≤ Word.BITS }
+        ensures { self.new ≡ self.old ++ bits_of count (Word.number bits) }
+    {
+        let above = bits.shifted_left(Word::BITS - count);
+        self.word = self.word.shifted_right(count).plus(above);
+        self.room -= count as usize;
+    }
+
+    /// Puts as many of the lowest bits of a word behind the others as there is room for.
+    #[inline]
+    pub fn fill(&mut self, bits: Word)
+        requires { 0 < length self.old }
+        ensures { self.new ≡ self.old ++ bits_of (Word.BITS - length self.old) (Word.number bits) }
+    {
+        let room = self.room();
+        if room > 0 {
+            self.push_all(bits.low_bits(room), room);
+        }
+    }
+
+    /// Takes so many of the last bits off, and leaves at least one.
+    #[inline]
+    pub fn drop_last(&mut self, count: u32)
+        requires some { 0 < count }
+        requires within { count < length self.old }
+        ensures { self.new ≡ take (length self.old - count) self.old }
+    {
+        self.word = self.word.low_bits(Word::BITS - count).shifted_left(count);
+        self.room += count as usize;
+    }
 }
 
 /// The lowest `count` bits of a word as its highest ones.
@@ -148,15 +194,14 @@ fn at_top<Word: BitArray>(word: Word, count: u32) -> Word
     word.shifted_left(Word::BITS - count)
 }
 
-/// The word, whose highest bit is not set, with this one as the highest.
+/// The word whose highest bit is this one, above zeros.
 #[inline]
-fn with_highest<Word: BitArray>(word: Word, bit: bool) -> Word
-    requires { Word.number word < 2 ^ (Word.BITS - 1) }
-    ensures { Word.number result ≡ Word.number word + (if bit then 2 ^ (Word.BITS - 1) else 0) }
+fn highest<Word: BitArray>(bit: bool) -> Word
+    ensures { Word.number result ≡ (if bit then 2 ^ (Word.BITS - 1) else 0) }
 {
     if bit {
-        word.plus(Word::unit().shifted_left(Word::BITS - 1))
+        Word::unit().shifted_left(Word::BITS - 1)
     } else {
-        word
+        Word::nothing()
     }
 }
