@@ -149,7 +149,7 @@ impl<Word: BitArray, B: ReadWords<Word, Queue> + Drop> ReadBitStream<Queue>
             self.last.drop_first(count);
             return Ok(symbol);
         }
-        C::decode_symbol(&codebook, self)
+        codebook.decode_symbol(self)
     }
 
     ghost list_law = { λ known old item new given. given.1 known };

@@ -80,7 +80,7 @@ impl<Word: BitArray> WordBits<Word> {
         ensures small { Word.number result < 2 ^ length self.now }
         ensures within { length self.now ≤ Word.BITS }
     {
-        self.turned.word()
+        TopBits::word(&self.turned)
     }
 
     /// Takes the first bit off.

@@ -154,7 +154,7 @@ where
 
     #[inline]
     fn put_bit(&mut self, bit: bool) -> Result<(), B::WriteError> {
-        SymbolCoder::<Word, S, B>::write_bit(self, bit)
+        self.write_bit(bit)
     }
 }
 
