@@ -159,3 +159,19 @@ across w number words words' word last full last' front back bits more has whole
 pub filled_length : (w : ℕ) (last full : List Bool) (n room : ℕ) → room + length last ≡ w → full ≡ last ++ bits_of (w - length last) n → length full ≡ w
 filled_length w last full n room all is =
     ap length is ∙ (length-append last (bits_of (w - length last) n) ∙ omega (arith, all, length_bits (w - length last) n))
+
+same_part : (n w len all count : ℕ) → all ≡ len → len ≤ w → count < all → n / 2 ^ (w - len) / 2 ^ (all - count) ≡ n / 2 ^ (w - count)
+same_part n w len all count long within fewer = shr-shr n (w - len) (all - count) ∙ ap (λ e. n / 2 ^ e) (omega (arith, long, within, fewer))
+
+-- the same of bits at the top of a word
+pub queue_begins_top : (last : List Bool) (n w all count : ℕ) → all ≡ length last → length last ≤ w → count < all → reverse (bits_of (length last) (n / 2 ^ (w - length last))) ≡ last
+    → last ≡ reverse (bits_of count (n / 2 ^ (w - count))) ++ drop count last
+queue_begins_top last n w all count long within fewer is =
+    queue_begins last (n / 2 ^ (w - length last)) all count long fewer is
+    ∙ ap (λ x. reverse (bits_of count x) ++ drop count last) (same_part n w (length last) all count long within fewer)
+
+pub stack_ends_top : (last : List Bool) (n w all count : ℕ) → all ≡ length last → length last ≤ w → count < all → bits_of (length last) (n / 2 ^ (w - length last)) ≡ last
+    → last ≡ take (length last - count) last ++ reverse (reverse (bits_of count (n / 2 ^ (w - count))))
+stack_ends_top last n w all count long within fewer is =
+    stack_ends last (n / 2 ^ (w - length last)) all count long fewer is
+    ∙ ap (λ x. take (length last - count) last ++ reverse (reverse (bits_of count x))) (same_part n w (length last) all count long within fewer)

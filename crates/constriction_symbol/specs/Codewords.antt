@@ -64,11 +64,11 @@ pub record IsLowBits (w : ℕ) (codeword : Option (List Bool)) (number count : �
   pub small : number < 2 ^ count
   pub is : codeword ≡ Some (reverse (bits_of count number))
 
--- the codeword is the first so many of the lowest bits of a number, of which the first one is the highest, and not all
-pub record BeginsLowBits (all number : ℕ) (codeword : Option (List Bool)) (count : ℕ) : Type 0 where
+-- the codeword is so many of the w bits of a number, from the highest down, and fewer than `all`
+pub record BeginsTopBits (w all number : ℕ) (codeword : Option (List Bool)) (count : ℕ) : Type 0 where
   pub some : 0 < count
   pub part : count < all
-  pub is : codeword ≡ Some (reverse (bits_of count (number / 2 ^ (all - count))))
+  pub is : codeword ≡ Some (reverse (bits_of count (number / 2 ^ (w - count))))
 
 -- none of the codewords begins the bits
 abbrev pub NoneBegins : {S : Type 0} → (S → Option (List Bool)) → List Bool → Type 0

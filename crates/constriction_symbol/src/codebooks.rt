@@ -2,7 +2,7 @@
 
 ghost use Rattle.constriction_base.specs.declared.errors.CoderError.TheVariants as coder;
 ghost use Rattle.constriction_symbol.specs.Bits.{bits_of};
-ghost use Rattle.constriction_symbol.specs.Codewords.{BeginsLowBits, EmitsCodeword, IsLowBits, NoneBegins, NoneFits, ReadsSymbol, formed};
+ghost use Rattle.constriction_symbol.specs.Codewords.{BeginsTopBits, EmitsCodeword, IsLowBits, NoneBegins, NoneFits, ReadsSymbol, formed};
 ghost use Rattle.std.specs.Iterator.{IsFinite};
 ghost use Rattle.std.specs.Prelude.{Bool, IfSome, List, OnOk, Option, Some, reverse, ◌++◌, ◌<◌, ◌^◌, ◌≡◌, ◌≤◌};
 
@@ -213,13 +213,12 @@ pub trait DecoderCodebook: Codebook {
         ensures finite { IsFinite (I.remaining source.old) → OnOk result (IsFinite (I.remaining source.new)) };
 
     /// The symbol whose codeword the bits begin with, and how many bits it has, where the codebook sees it at once and
-    /// it has fewer: then a coder drops them by a shift. The bits are the `count` lowest of a word, the first one
+    /// it has fewer: then a coder drops them by a shift. The bits are the `count` highest of a word, the first one
     /// highest. `None`, as an implementation answers unless it says otherwise, says nothing of the bits.
     #[inline]
     fn symbol_at_once<Word: BitArray>(&self, bits: Word, count: u32) -> Option<(Self::Symbol, u32)>
-        requires small { Word.number bits < 2 ^ count }
-        requires within { count ≤ Word.BITS }
-        ensures { IfSome result (λ found. BeginsLowBits count (Word.number bits) (Self.codeword self.now found.0) found.1) }
+        requires { count ≤ Word.BITS }
+        ensures { IfSome result (λ found. BeginsTopBits Word.BITS count (Word.number bits) (Self.codeword self.now found.0) found.1) }
     {
         None
     }

@@ -201,12 +201,12 @@ impl<N: BitArray> DecoderCodebook for ExpGolomb<N> {
     /// The number below the greatest whose codeword the bits begin with, where they don't end with it.
     #[inline]
     fn symbol_at_once<Word: BitArray>(&self, bits: Word, count: u32) -> Option<(N, u32)> {
-        let zeros = count - bits.bit_length();
+        let zeros = Word::BITS - bits.bit_length();
         let length = 2 * zeros + 1;
         if length >= count || zeros >= N::BITS {
             return None;
         }
-        let after: N = same_number(bits.shifted_right(count - length));
+        let after: N = same_number(bits.shifted_right(Word::BITS - length));
         Some((after.minus(N::unit()), length))
     }
 }

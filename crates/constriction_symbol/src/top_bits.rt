@@ -113,6 +113,15 @@ impl<Word: BitArray> TopBits<Word> {
         }
     }
 
+    /// The word at whose top the bits stand. What is below them means nothing.
+    #[inline]
+    pub fn top_word(&self) -> Word
+        ensures bits { bits_of (length self.now) (Word.number result / 2 ^ (Word.BITS - length self.now)) ≡ self.now }
+        ensures within { length self.now ≤ Word.BITS }
+    {
+        self.word
+    }
+
     /// Puts a bit behind the others.
     #[inline]
     pub fn push(&mut self, bit: bool)

@@ -1,7 +1,7 @@
 //! Bits of a word that are taken off from the lowest up.
 
 ghost use Rattle.constriction_symbol.specs.Bits.{AreZeros, bits_of};
-ghost use Rattle.std.specs.Prelude.{IsTrue, List, [], drop, length, reverse, ◌<◌, ◌≤◌, ◌∷◌, ◌^◌, ◌↔◌, ◌≡◌};
+ghost use Rattle.std.specs.Prelude.{IsTrue, List, [], drop, length, reverse, ◌-◌, ◌/◌, ◌<◌, ◌≤◌, ◌∷◌, ◌^◌, ◌↔◌, ◌≡◌};
 
 use crate::top_bits::TopBits;
 use crate::turning::turned;
@@ -81,6 +81,15 @@ impl<Word: BitArray> WordBits<Word> {
         ensures within { length self.now ≤ Word.BITS }
     {
         TopBits::word(&self.turned)
+    }
+
+    /// The word at whose top the bits stand, the first one highest. What is below them means nothing.
+    #[inline]
+    pub fn turned_top(&self) -> Word
+        ensures bits { reverse (bits_of (length self.now) (Word.number result / 2 ^ (Word.BITS - length self.now))) ≡ self.now }
+        ensures within { length self.now ≤ Word.BITS }
+    {
+        self.turned.top_word()
     }
 
     /// Takes the first bit off.
