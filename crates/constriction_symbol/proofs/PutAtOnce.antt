@@ -1,8 +1,8 @@
 -- Bits that are put at once, as what a stream of bits owes of a codeword.
-use Rattle.std.proofs.Common.{◌≡◌, ℕ, Bool, List, [], ◌∷◌, ◌++◌, length, map, reverse, Option, Some, Result, Ok, Err, ap, sym, subst, refl, inl, ◌∙◌, append_assoc}
+use Rattle.std.proofs.Common.{◌≡◌, ℕ, Bool, List, ◌++◌, length, map, reverse, Option, Some, Ok, Err, ap, sym, inl, ◌∙◌, append_assoc}
 use Rattle.constriction_base.specs.declared.errors.CoderError.TheVariants.{Backend}
 use Rattle.constriction_symbol.specs.Bits.{BitsValue, PutsBits, bits_above, bits_of_words}
-use Rattle.constriction_symbol.specs.Codewords.{Writes, WritesCodeword, formed}
+use Rattle.constriction_symbol.specs.Codewords.{WritesCodeword, formed}
 
 module _ {W B E : Type 0} (w : ℕ) (number : W → ℕ) (words : B → List W) (write_fails : B → E → Type 0) (wants : E → Type 0) where
   abbrev pub coder_of : List Bool → B → BitsValue B

@@ -1,5 +1,5 @@
 -- Words with their bits in the other order, and numbers that are made again from their bits.
-use Rattle.std.proofs.Common.{◌≡◌, ◌<◌, ◌≤◌, ◌+◌, ◌*◌, ◌-◌, ◌/◌, ◌%◌, ◌^◌, ◌==◌, ℕ, zero, suc, Bool, true, false, not, List, [], ◌∷◌, ◌++◌, length, reverse, replicate, take, drop, refl, sym, ap, subst, ◌∙◌, arith, add-one, pow_pos, pow_mono, if◌then◌else◌, ◌≢◌, length-drop, length-append, ap₂, map, append_assoc}
+use Rattle.std.proofs.Common.{◌≡◌, ◌<◌, ◌≤◌, ◌+◌, ◌*◌, ◌-◌, ◌/◌, ◌%◌, ◌^◌, ℕ, zero, suc, Bool, true, false, not, List, [], ◌∷◌, ◌++◌, length, reverse, replicate, take, drop, refl, sym, ap, subst, ◌∙◌, arith, pow_pos, pow_mono, if◌then◌else◌, ◌≢◌, length-drop, length-append, ap₂, map, append_assoc}
 use Rattle.std.specs.Prelude.{IsTrue, ◌↔◌}
 use Rattle.std.proofs.lemmas.Nat.{shr-shr, shl-shr, shr_le, shr_split, mod_below}
 use Rattle.std.proofs.lemmas.List.{reverse-append, reverse-reverse, length-reverse, length-replicate, take-append-drop}
@@ -81,7 +81,6 @@ down_room (suc k) (suc j) n s wide some fits is =
 pub down_step : (left n s m h t : ℕ) (none : Bool) → 0 < left → s ≡ n / 2 ^ left → m ≡ n / 2 ^ (left - 1) → h ≡ m % 2 ^ 1 → IsTrue none ↔ (h ≡ 0) → t ≡ number_after s (not none ∷ []) → t ≡ n / 2 ^ (left - 1)
 down_step left n s m h t none some is high low clear step =
     let back : left - 1 + 1 ≡ left = omega (arith, some) in
-
     step ∙ (by none clear ∙ high)
   where
     halved : m / 2 ≡ s

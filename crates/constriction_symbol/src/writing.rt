@@ -8,8 +8,8 @@ ghost use Rattle.std.specs.Prelude.{Bool, IfErr, List, length, reverse, ◌≡�
 
 use crate::codebooks::{BitOrder, Codebook, EncoderCodebook};
 use crate::coder::{StackCoder, SymbolCoder};
-use constriction_base::backends::{Stack, WriteWords};
 use crate::steps::put_bits;
+use constriction_base::backends::{Stack, WriteWords};
 use constriction_base::errors::{CoderError, DefaultEncoderError};
 use constriction_stream::encoding::Lent;
 use constriction_words::BitArray;

@@ -8,10 +8,17 @@ pub returns-in-Err : goal.returns-in-Err
 returns-in-Err g c =
     let n = g.Word.BitArray.number c.args.bits in
     let room : g.Word.BitArray.BITS - length c.args.last.now ≡ c.room-room.result = omega (arith, c.room-room.ensures) in
-    let whole : c.room-room.result + (c.args.count - c.room-room.result) ≡ c.args.count = omega (arith, c.room-room.ensures, c.requires.across) in
-    (filled_length g.Word.BitArray.BITS c.args.last.now c.fill.new.self n c.room-room.result c.room-room.ensures c.fill.ensures, c.in-Err.ensures.err, c.in-Err.ensures.kept,
-    (bits_of c.room-room.result n, bits_of (c.args.count - c.room-room.result) (n / 2 ^ c.room-room.result),
-    ap (λ k. bits_of k n) (sym whole) ∙ bits_split c.room-room.result (c.args.count - c.room-room.result) n, rw room at c.fill.ensures))
+    let whole : c.room-room.result + (c.args.count - c.room-room.result) ≡ c.args.count = omega (arith, c.room-room.ensures, c.requires.across) in (
+      filled_length g.Word.BitArray.BITS c.args.last.now c.fill.new.self n c.room-room.result c.room-room.ensures c.fill.ensures,
+      c.in-Err.ensures.err,
+      c.in-Err.ensures.kept,
+      (
+        bits_of c.room-room.result n,
+        bits_of (c.args.count - c.room-room.result) (n / 2 ^ c.room-room.result),
+        ap (λ k. bits_of k n) (sym whole) ∙ bits_split c.room-room.result (c.args.count - c.room-room.result) n,
+        rw room at c.fill.ensures,
+      ),
+    )
 
 pub push_all-requires-clause-small : goal.push_all-requires-clause-small
 push_all-requires-clause-small g c =

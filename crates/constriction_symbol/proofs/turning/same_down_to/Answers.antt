@@ -1,4 +1,4 @@
-use Rattle.std.proofs.Common.{arith, ◌≡◌, ◌≤◌, ◌<◌}
+use Rattle.std.proofs.Common.{arith, ◌≡◌, ◌<◌}
 use Rattle.constriction_symbol.proofs.TurningLemmas.{down_room, down_step}
 use Rattle.constriction_symbol.proofs.turning.same_down_to.Goals as goal
 

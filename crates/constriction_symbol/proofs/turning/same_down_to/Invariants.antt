@@ -1,4 +1,4 @@
-use Rattle.std.proofs.Common.{◌≤◌, ◌≡◌, ◌-◌, ◌/◌, ◌^◌}
+use Rattle.std.proofs.Common.{◌≤◌, ◌≡◌, ◌/◌, ◌^◌}
 use Rattle.constriction_symbol.proofs.turning.same_down_to.Given as goal
 
 abbrev pub invariant-bits : goal.invariant-bits

@@ -1,6 +1,4 @@
-use Rattle.std.proofs.Common.{arith, ◌≡◌, ◌≤◌}
-use Rattle.constriction_symbol.specs.Bits.{bits_of}
-use Rattle.constriction_symbol.specs.Golomb.{number_after}
+use Rattle.std.proofs.Common.{arith, ◌≡◌}
 use Rattle.constriction_symbol.proofs.TurningLemmas.{turned_room, turned_more}
 use Rattle.constriction_symbol.proofs.turning.turned_to.Goals as goal
 

@@ -1,4 +1,4 @@
-use Rattle.std.proofs.Common.{◌≡◌, ◌<◌, ◌+◌, ◌-◌, arith, ap, sym, ◌∙◌, Some, List, Bool}
+use Rattle.std.proofs.Common.{◌≡◌, ◌<◌, ◌-◌, arith, ap, sym, ◌∙◌, Some, List, Bool}
 use Rattle.constriction_symbol.specs.Golomb.{golomb}
 use Rattle.constriction_symbol.proofs.GolombLemmas.{golomb_fits, golomb_once_down}
 use Rattle.constriction_symbol.proofs.exp_golomb.ExpGolombEncoderCodebook.codeword_at_once.Goals as goal

@@ -1,4 +1,4 @@
-use Rattle.std.proofs.Common.{◌≡◌, ◌-◌, ◌/◌, ◌^◌, reverse, drop}
+use Rattle.std.proofs.Common.{◌-◌, ◌/◌, ◌^◌, reverse, drop}
 use Rattle.constriction_symbol.specs.Bits.{bits_of}
 use Rattle.constriction_symbol.proofs.TakenAtOnce.{first_given}
 use Rattle.constriction_symbol.proofs.TurningLemmas.{queue_begins_top}
@@ -13,6 +13,6 @@ returns-in-Some g c =
       code,
       begun.is,
       rw (← c.self.view_is)
-      (first_given g.Word.BitArray.BITS g.Word.BitArray.number g.B.Holds.is_list g.B.ReadWords.reads g.B.Holds.words c.self.inside.backend code last (drop c.in-Some.count last) c.drop_first.new.self
-      (queue_begins_top last n g.Word.BitArray.BITS c.count.result c.in-Some.count c.count.ensures.value c.turned_top-bits.ensures.within begun.part c.turned_top-bits.ensures.bits) c.drop_first.ensures),
+          (first_given g.Word.BitArray.BITS g.Word.BitArray.number g.B.Holds.is_list g.B.ReadWords.reads g.B.Holds.words c.self.inside.backend code last (drop c.in-Some.count last) c.drop_first.new.self
+          (queue_begins_top last n g.Word.BitArray.BITS c.count.result c.in-Some.count c.count.ensures.value c.turned_top-bits.ensures.within begun.part c.turned_top-bits.ensures.bits) c.drop_first.ensures),
     )

@@ -1,4 +1,4 @@
-use Rattle.std.proofs.Common.{◌≡◌, ◌-◌, ◌/◌, ◌^◌, reverse, take, length}
+use Rattle.std.proofs.Common.{◌-◌, ◌/◌, ◌^◌, reverse, take, length}
 use Rattle.constriction_symbol.specs.Bits.{bits_of}
 use Rattle.constriction_symbol.proofs.TakenAtOnce.{last_given}
 use Rattle.constriction_symbol.proofs.TurningLemmas.{stack_ends_top}
@@ -13,6 +13,6 @@ returns-in-Some g c =
       code,
       begun.is,
       rw (← c.self.view_is)
-      (last_given g.Word.BitArray.BITS g.Word.BitArray.number g.B.Holds.is_list g.B.ReadWords.reads g.B.Holds.words c.self.inside.backend code last (take (length last - c.in-Some.count) last) c.drop_last.new.self
-      (stack_ends_top last n g.Word.BitArray.BITS c.count.result c.in-Some.count c.count.ensures.value c.top_word-bits.ensures.within begun.part c.top_word-bits.ensures.bits) c.drop_last.ensures),
+          (last_given g.Word.BitArray.BITS g.Word.BitArray.number g.B.Holds.is_list g.B.ReadWords.reads g.B.Holds.words c.self.inside.backend code last (take (length last - c.in-Some.count) last) c.drop_last.new.self
+          (stack_ends_top last n g.Word.BitArray.BITS c.count.result c.in-Some.count c.count.ensures.value c.top_word-bits.ensures.within begun.part c.top_word-bits.ensures.bits) c.drop_last.ensures),
     )

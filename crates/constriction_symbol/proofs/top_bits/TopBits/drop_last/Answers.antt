@@ -1,4 +1,4 @@
-use Rattle.std.proofs.Common.{◌≡◌, ◌+◌, ◌-◌, ◌/◌, ◌<◌, ◌≤◌, ◌^◌, ◌*◌, arith, take}
+use Rattle.std.proofs.Common.{◌-◌, ◌/◌, ◌^◌}
 use Rattle.constriction_symbol.proofs.Coding.{length_bits}
 use Rattle.constriction_symbol.proofs.TopLemmas.{some_less, left_room, taken_fits}
 use Rattle.constriction_symbol.proofs.top_bits.TopBits.drop_last.Goals as goal

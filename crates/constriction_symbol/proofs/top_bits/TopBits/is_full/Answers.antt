@@ -1,4 +1,4 @@
-use Rattle.std.proofs.Common.{arith, ◌-◌, ◌/◌, ◌^◌, ◌≡◌, ◌≤◌}
+use Rattle.std.proofs.Common.{arith, ◌-◌, ◌/◌, ◌^◌}
 use Rattle.constriction_symbol.proofs.Coding.{length_bits}
 use Rattle.constriction_symbol.proofs.TopLemmas.{full_room}
 use Rattle.constriction_symbol.proofs.top_bits.TopBits.is_full.Goals as goal

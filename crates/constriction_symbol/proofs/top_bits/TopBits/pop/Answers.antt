@@ -1,4 +1,4 @@
-use Rattle.std.proofs.Common.{◌≡◌, ◌+◌, ◌-◌, ◌/◌, ◌<◌, ◌^◌, arith}
+use Rattle.std.proofs.Common.{◌-◌, ◌/◌, ◌<◌, ◌^◌, arith}
 use Rattle.constriction_symbol.proofs.Coding.{length_bits}
 use Rattle.constriction_symbol.proofs.TopLemmas.{less_at_top}
 use Rattle.constriction_symbol.proofs.top_bits.TopBits.pop.Goals as goal

@@ -1,4 +1,4 @@
-use Rattle.std.proofs.Common.{◌≡◌, ◌+◌, ◌-◌, ◌/◌, ◌<◌, ◌^◌, arith}
+use Rattle.std.proofs.Common.{◌-◌, ◌/◌, ◌<◌, ◌^◌, arith}
 use Rattle.constriction_symbol.proofs.Coding.{length_bits}
 use Rattle.constriction_symbol.proofs.TopLemmas.{more_at_top, half_room, highest_room}
 use Rattle.constriction_symbol.proofs.top_bits.TopBits.push.Goals as goal

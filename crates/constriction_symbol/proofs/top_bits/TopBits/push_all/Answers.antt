@@ -1,4 +1,4 @@
-use Rattle.std.proofs.Common.{◌≡◌, ◌+◌, ◌-◌, ◌/◌, ◌<◌, ◌≤◌, ◌^◌, ◌*◌, arith}
+use Rattle.std.proofs.Common.{arith}
 use Rattle.constriction_symbol.proofs.Coding.{length_bits}
 use Rattle.constriction_symbol.proofs.TopLemmas.{all_at_top, shifted_room, sum_room, put_fits}
 use Rattle.constriction_symbol.proofs.top_bits.TopBits.push_all.Goals as goal

@@ -1,4 +1,4 @@
-use Rattle.std.proofs.Common.{ap, ◌∙◌, ◌<◌, ◌≤◌, reverse, arith, length}
+use Rattle.std.proofs.Common.{ap, ◌∙◌, ◌<◌, reverse, arith, length}
 use Rattle.std.proofs.lemmas.List.{length-reverse}
 use Rattle.constriction_symbol.proofs.TurningLemmas.{reverse_kept}
 use Rattle.constriction_symbol.proofs.word_bits.WordBits.drop_first.Goals as goal

@@ -1,4 +1,4 @@
-use Rattle.std.proofs.Common.{◌≡◌, reverse}
+use Rattle.std.proofs.Common.{reverse}
 use Rattle.constriction_symbol.specs.Bits.{bits_of}
 use Rattle.constriction_symbol.proofs.PutAtOnce.{put_ok, put_err}
 use Rattle.constriction_symbol.proofs.writing.SymbolCoderWriteBitStream.encode_symbol.Goals as goal
@@ -12,10 +12,10 @@ returns-in-Some g c =
     let bits = bits_of c.in-Some.code.1 (number c.in_order-ordered.result) in
     rw (← c.self.view_is)
     (elim c.match-put_bits.branch [
-      in-Ok w ↦ rw w.result-is
-        (put_ok g.Word.BitArray.BITS number g.B.Holds.words g.B.WriteWords.write_fails _ g.S.BitOrder.form codeword code bits c.self.inside.last c.put_bits.new.last c.self.inside.backend c.put_bits.new.backend
-        c.in-Some.ensures.is c.in_order-ordered.ensures.bits w.in-Ok.ensures)
+      | in-Ok w ↦ rw w.result-is
+          (put_ok g.Word.BitArray.BITS number g.B.Holds.words g.B.WriteWords.write_fails _ g.S.BitOrder.form codeword code bits c.self.inside.last c.put_bits.new.last c.self.inside.backend c.put_bits.new.backend
+          c.in-Some.ensures.is c.in_order-ordered.ensures.bits w.in-Ok.ensures)
       | in-Err w ↦ rw w.result-is
-        (put_err g.Word.BitArray.BITS number g.B.Holds.words g.B.WriteWords.write_fails _ g.S.BitOrder.form codeword code bits c.self.inside.last c.put_bits.new.last c.self.inside.backend c.put_bits.new.backend w.in-Err.error
-        c.in-Some.ensures.is c.in_order-ordered.ensures.bits w.in-Err.ensures)
+          (put_err g.Word.BitArray.BITS number g.B.Holds.words g.B.WriteWords.write_fails _ g.S.BitOrder.form codeword code bits c.self.inside.last c.put_bits.new.last c.self.inside.backend c.put_bits.new.backend w.in-Err.error
+          c.in-Some.ensures.is c.in_order-ordered.ensures.bits w.in-Err.ensures)
     ])
