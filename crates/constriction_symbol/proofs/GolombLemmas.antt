@@ -11,6 +11,7 @@ use Rattle.std.proofs.lemmas.List.{reverse-append, map_push, length-reverse, len
 use Rattle.std.proofs.Math.Nat.{div-div-eq-div-mul, div-one, mul_comm}
 use Rattle.std.proofs.Math.Pow.{pow_mono}
 use native.Mathlib.Nat.{pow-suc, pow-zero}
+use Rattle.std.proofs.lemmas.Nat.{pow-add, shr_below, le-div}
 use Rattle.constriction_symbol.specs.Bits.{bits_of}
 use Rattle.constriction_symbol.specs.Golomb.{binary, golomb, number_after}
 use Rattle.constriction_symbol.specs.GolombLaws.{binary_after}
@@ -44,7 +45,7 @@ bit_at_top : (k n : ℕ) → bits_of (suc k) n ≡ bits_of k n ++ (n / 2 ^ k % 2
 bit_at_top zero n = let same : n / 2 ^ 0 ≡ n = div-one n in rw same refl
 bit_at_top (suc k) n = ap (λ bs. (n % 2 == 1) ∷ bs) (bit_at_top k (n / 2)) ∙ ap (λ x. (n % 2 == 1) ∷ (bits_of k (n / 2) ++ (x % 2 == 1) ∷ [])) (halves k n)
 
-top_bit : (k n m h : ℕ) (b : Bool) → m ≡ n / 2 ^ k → h ≡ m % 2 ^ 1 → IsTrue b ↔ (h ≡ 0) → bits_of (k + 1) n ≡ bits_of k n ++ not b ∷ []
+pub top_bit : (k n m h : ℕ) (b : Bool) → m ≡ n / 2 ^ k → h ≡ m % 2 ^ 1 → IsTrue b ↔ (h ≡ 0) → bits_of (k + 1) n ≡ bits_of k n ++ not b ∷ []
 top_bit k n m h true high low none =
     let zero_bit : n / 2 ^ k % 2 ≡ 0 = rw (← high) (sym low ∙ none.0 refl) in
     rw add-one (bit_at_top k n ∙ ap (λ x. bits_of k n ++ (x == 1) ∷ []) zero_bit)
@@ -184,3 +185,32 @@ pub golomb_read_greatest : (n b count : ℕ) (bs : List Bool) → n + 1 ≡ 2 ^ 
 golomb_read_greatest n b count bs is all len none =
     let tail : bs ≡ replicate b false = none ∙ ap (λ k. replicate k false) (len ∙ all) in
     golomb_greatest b n is ∙ rw (tail, all) (sym (append_assoc (replicate b false) (true ∷ []) (replicate b false)))
+
+-- so many bits below another power
+pub length_within : (count len n : ℕ) → n < 2 ^ count → 2 ^ len ≤ 2 * n + 1 → len ≤ count
+length_within count len n small low =
+    let no : count < len → ⊥ = λ more. let up : 2 ^ suc count ≤ 2 ^ len = pow_mono more in omega (arith, up, small, low, pow_next count) in
+    omega (arith, no)
+
+-- a number that begins with as many zeros as its codeword has: the zeros, a one and as many bits again
+pub golomb_begins : (count len n : ℕ) → n < 2 ^ len → 2 ^ len ≤ 2 * n + 1 → len ≤ count → 2 * (count - len) + 1 < count
+    → (n / 2 ^ (count - (2 * (count - len) + 1)) < 2 ^ (count - len + 1)) × (2 ^ (count - len + 1) ≤ 2 * (n / 2 ^ (count - (2 * (count - len) + 1))) + 1) × (0 < n / 2 ^ (count - (2 * (count - len) + 1)))
+golomb_begins count len n small low within fewer =
+    let zeros = count - len in
+    let left = count - (2 * zeros + 1) in
+    let whole : zeros + 1 + left ≡ len = omega (arith, within, fewer) in
+    let below : n / 2 ^ left < 2 ^ (zeros + 1) = shr_below n (zeros + 1) left (subst (λ e. n < 2 ^ e) (sym whole) small) in
+    let split : 2 ^ len ≡ 2 * (2 ^ zeros * 2 ^ left) =
+    ap (λ e. 2 ^ e) (sym whole ∙ omega arith) ∙ (pow_next (zeros + left) ∙ ap (λ x. 2 * x) (pow-add 2 zeros left)) in
+    let least : 2 ^ zeros * 2 ^ left ≤ n = omega (arith, split, low) in
+    let above : 2 ^ zeros ≤ n / 2 ^ left = le-div (2 ^ zeros) n (2 ^ left) (pow_pos left) least in
+    let two : 2 ^ (zeros + 1) ≡ 2 * 2 ^ zeros = rw add-one (pow_next zeros) in
+    (below, omega (arith, two, above), omega (arith, above, pow_pos zeros))
+
+-- a codeword within a word
+pub golomb_fits : (r m b : ℕ) → 0 < m → m < 2 ^ r → 2 ^ r ≤ 2 * m + 1 → 2 * r - 1 < b → (m < 2 ^ b) × (m < 2 ^ (2 * r - 1)) × (0 < 2 * r - 1)
+golomb_fits r m b some high low part =
+    let h = length_holds r m some high low in
+    let up : 2 ^ r ≤ 2 ^ (2 * r - 1) = pow_mono (omega (arith, h.0)) in
+    let most : 2 ^ (2 * r - 1) ≤ 2 ^ b = pow_mono (omega (arith, part)) in
+    (omega (arith, high, up, most), omega (arith, high, up), omega (arith, h.0))

@@ -1,5 +1,9 @@
 pub mod BitLemmas
 pub mod Coding
+pub mod TopLemmas
+pub mod TurningLemmas
+pub mod TakenAtOnce
+pub mod PutAtOnce
 pub mod Lengths
 pub mod Emitted
 pub mod GolombLemmas

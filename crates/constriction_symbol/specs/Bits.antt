@@ -82,6 +82,14 @@ TakesFirst {W} w number reads last backend (Some (Ok bit)) last' backend' =
 TakesFirst w number reads last backend None last' backend' = (last ≡ []) × (last' ≡ []) × reads backend (Ok None) backend'
 TakesFirst w number reads last backend (Some (Err e)) last' backend' = (last ≡ []) × (last' ≡ []) × reads backend (Err e) backend'
 
+-- bits are put behind the others; or the first of them, up to a full word whose write is refused
+abbrev pub PutsBits : {W B E : Type 0} → ℕ → (W → ℕ) → (B → List W) → (B → E → Type 0) → List Bool → B → List Bool → Result (Unit {0}) E → List Bool → B → Type 0
+PutsBits w number words write_fails last backend bits (Ok _) last' backend' =
+    bits_above w number (words backend') last' ≡ bits_above w number (words backend) last ++ bits
+PutsBits w number words write_fails last backend bits (Err e) last' backend' =
+    (length last' ≡ w) × write_fails backend e × (words backend' ≡ words backend)
+    × ((front : List Bool) × (back : List Bool) × (bits ≡ front ++ back) × (last' ≡ last ++ front))
+
 -- the next of the bits is given, or there is none; an error leaves them
 abbrev pub GivesBit : {E : Type 0} → List Bool → Option (Result Bool E) → List Bool → Type 0
 GivesBit old (Some (Ok bit)) new = old ≡ bit ∷ new

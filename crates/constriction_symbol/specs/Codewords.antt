@@ -1,6 +1,7 @@
 -- Codewords: what a codebook emits, what a stream of bits then holds, and what a codebook reads.
-use Rattle.std.specs.Prelude.{◌≡◌, Bool, List, [], ◌∷◌, ◌++◌, ◌⊎◌, Option, Some, None, Result, Ok, Err, map, ⊤}
+use Rattle.std.specs.Prelude.{◌≡◌, ℕ, ◌<◌, ◌-◌, ◌/◌, ◌^◌, reverse, Bool, List, [], ◌∷◌, ◌++◌, ◌⊎◌, Option, Some, None, Result, Ok, Err, map, ⊤}
 use Rattle.std.specs.Iterator.{Yields}
+use Rattle.constriction_symbol.specs.Bits.{bits_of}
 use Rattle.std.specs.Fn.{Mut, Called}
 use Rattle.constriction_base.specs.declared.errors.CoderError.{CoderError}
 use Rattle.constriction_base.specs.declared.errors.CoderError.TheVariants.{Frontend, Backend}
@@ -55,6 +56,19 @@ WritesPair bits fails wants codeword form lent old pair r new =
 abbrev pub WritesSymbol : {C L S E : Type 0} → (C → List Bool) → (C → E → Type 0) → (S → E → Type 0) → (S → Option (List Bool)) → (List Bool → List Bool) → (L → S) → C → L → Answer E → C → Type 0
 WritesSymbol bits fails wants codeword form lent old item r new =
     WritesCodeword bits fails (wants (lent item)) old (formed form (codeword (lent item))) r new
+
+-- the codeword is the lowest bits of a number, the first one highest; they are fewer than w, and above them are zeros
+pub record IsLowBits (w : ℕ) (codeword : Option (List Bool)) (number count : ℕ) : Type 0 where
+  pub some : 0 < count
+  pub part : count < w
+  pub small : number < 2 ^ count
+  pub is : codeword ≡ Some (reverse (bits_of count number))
+
+-- the codeword is so many of the w bits of a number, from the highest down, and fewer than `all`
+pub record BeginsTopBits (w all number : ℕ) (codeword : Option (List Bool)) (count : ℕ) : Type 0 where
+  pub some : 0 < count
+  pub part : count < all
+  pub is : codeword ≡ Some (reverse (bits_of count (number / 2 ^ (w - count))))
 
 -- none of the codewords begins the bits
 abbrev pub NoneBegins : {S : Type 0} → (S → Option (List Bool)) → List Bool → Type 0

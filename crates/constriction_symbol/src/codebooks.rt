@@ -1,12 +1,15 @@
 //! Codebooks: a list of bits for each symbol.
 
 ghost use Rattle.constriction_base.specs.declared.errors.CoderError.TheVariants as coder;
-ghost use Rattle.constriction_symbol.specs.Codewords.{EmitsCodeword, NoneBegins, NoneFits, ReadsSymbol, formed};
+ghost use Rattle.constriction_symbol.specs.Bits.{bits_of};
+ghost use Rattle.constriction_symbol.specs.Codewords.{BeginsTopBits, EmitsCodeword, IsLowBits, NoneBegins, NoneFits, ReadsSymbol, formed};
 ghost use Rattle.std.specs.Iterator.{IsFinite};
-ghost use Rattle.std.specs.Prelude.{Bool, List, OnOk, Option, Some, reverse, ◌++◌, ◌≡◌};
+ghost use Rattle.std.specs.Prelude.{Bool, IfSome, List, OnOk, Option, Some, reverse, ◌++◌, ◌<◌, ◌^◌, ◌≡◌, ◌≤◌};
 
+use crate::turning::first_lowest;
 use constriction_base::backends::{Queue, Semantics, Stack};
 use constriction_base::errors::{CoderError, DefaultEncoderError};
+use constriction_words::BitArray;
 use std::alloc::AllocError;
 use std::fmt::Display;
 use thiserror::Error;
@@ -69,12 +72,30 @@ pub trait EncoderCodebook: Codebook {
         requires { F.IsAlwaysCallable emit.old }
         ensures { EmitsCodeword F.FnMut (λ e. suffix_wants self.now symbol.now × ((a : _) × E.From.from_gives a e))
             emit.old (formed reverse (Self.codeword self.now symbol.now)) result emit.new };
+
+    /// The codeword of the symbol as the lowest bits of a word, the first one highest, and how many they are, where the
+    /// codebook has it as such: then a coder writes it by a shift. `None`, as an implementation answers unless it says
+    /// otherwise, says nothing of the symbol.
+    #[inline]
+    fn codeword_at_once<Word: BitArray>(&self, symbol: &Self::Symbol) -> Option<(Word, u32)>
+        ensures { IfSome result (λ found. IsLowBits Word.BITS (Self.codeword self.now symbol.now) (Word.number found.0) found.1) }
+    {
+        None
+    }
 }
 
 /// The order in which the bits of a codeword are written, for bits that are read in this order.
 pub trait BitOrder: Semantics {
     /// The bits of a codeword in the order of writing.
     ghost form: { List Bool → List Bool };
+
+    /// Of the codeword that is the lowest bits of a word, the first one highest: the word whose lowest bits come in the
+    /// order of writing, the lowest first.
+    fn in_order<Word: BitArray>(bits: Word, count: u32) -> Word
+        requires within { count ≤ Word.BITS }
+        requires small { Word.number bits < 2 ^ count }
+        ensures bits { bits_of count (Word.number result) ≡ form (reverse (bits_of count (Word.number bits))) }
+        ensures small { Word.number result < 2 ^ count };
 
     /// Which is said of this order, of what is said of the prefix form and of the suffix form.
     ghost chosen: { Type 0 → Type 0 → Type 0 };
@@ -99,6 +120,12 @@ impl BitOrder for Queue {
 
     ghost chosen = { λ prefix suffix. prefix };
 
+    /// The first bit lowest.
+    #[inline]
+    fn in_order<Word: BitArray>(bits: Word, count: u32) -> Word {
+        first_lowest(bits, count)
+    }
+
     /// Emits the prefix form.
     #[inline]
     fn emit_symbol<C: EncoderCodebook, E: From<AllocError>, F: FnMut(bool) -> Result<(), E>>(
@@ -114,6 +141,12 @@ impl BitOrder for Stack {
     ghost form = { λ bits. reverse bits };
 
     ghost chosen = { λ prefix suffix. suffix };
+
+    /// The last bit lowest.
+    #[inline]
+    fn in_order<Word: BitArray>(bits: Word, count: u32) -> Word {
+        bits
+    }
 
     /// Emits the suffix form.
     #[inline]
@@ -179,6 +212,17 @@ pub trait DecoderCodebook: Codebook {
         ensures can { OnOk result (I.can_next source.new) }
         ensures finite { IsFinite (I.remaining source.old) → OnOk result (IsFinite (I.remaining source.new)) };
 
+    /// The symbol whose codeword the bits begin with, and how many bits it has, where the codebook sees it at once and
+    /// it has fewer: then a coder drops them by a shift. The bits are the `count` highest of a word, the first one
+    /// highest. `None`, as an implementation answers unless it says otherwise, says nothing of the bits.
+    #[inline]
+    fn symbol_at_once<Word: BitArray>(&self, bits: Word, count: u32) -> Option<(Self::Symbol, u32)>
+        requires { count ≤ Word.BITS }
+        ensures { IfSome result (λ found. BeginsTopBits Word.BITS count (Word.number bits) (Self.codeword self.now found.0) found.1) }
+    {
+        None
+    }
+
     // Where it reads on, no codeword was complete.
     ghost on_law: { (c : Self) (bits : List Bool) → reads_on c bits → NoneBegins (Self.codeword c) bits };
 
@@ -220,6 +264,11 @@ impl<C: EncoderCodebook> EncoderCodebook for &C {
     ) -> Result<(), DefaultEncoderError<E>> {
         C::encode_symbol_suffix(*self, symbol, emit)
     }
+
+    #[inline]
+    fn codeword_at_once<Word: BitArray>(&self, symbol: &C::Symbol) -> Option<(Word, u32)> {
+        C::codeword_at_once(*self, symbol)
+    }
 }
 
 impl<C: DecoderCodebook> DecoderCodebook for &C {
@@ -235,6 +284,11 @@ impl<C: DecoderCodebook> DecoderCodebook for &C {
         source: &mut I,
     ) -> Result<C::Symbol, CoderError<SymbolCodeError<C::InvalidCodeword>, E>> {
         C::decode_symbol(*self, source)
+    }
+
+    #[inline]
+    fn symbol_at_once<Word: BitArray>(&self, bits: Word, count: u32) -> Option<(C::Symbol, u32)> {
+        C::symbol_at_once(*self, bits, count)
     }
 
     ghost on_law = { λ c bits on. C.on_law c.now bits on };

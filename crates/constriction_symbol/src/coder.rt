@@ -16,7 +16,7 @@ ghost use Rattle.constriction_symbol.specs.Bits.{BitsValue, PopsBit, PutsBit, Pu
 ghost use Rattle.std.specs.Prelude.{IfErr, IfOk, IsTrue, List, OnErr, OnOk, Result, [], length, reverse, ℕ, ◌*◌, ◌+◌, ◌<◌, ◌↔◌, ◌≡◌, ◌≤◌};
 
 use crate::steps::{put_last, take_last};
-use crate::word_bits::WordBits;
+use crate::top_bits::TopBits;
 use constriction_base::backends::{
     BoundedReadWords, Holds, Queue, ReadWords, Semantics, Stack, WriteWords,
 };
@@ -30,8 +30,8 @@ use std::marker::{Model, PhantomData};
 /// Contracts see a `BitsValue`: all bits, those of the word outside the backend, and the backend.
 #[derive(Debug, Drop)]
 pub struct SymbolCoder<Word: BitArray, S: Semantics, B: Holds<Word, Stack> = Vec<Word>> {
-    backend: B,
-    last: WordBits<Word>,
+    pub(crate) backend: B,
+    pub(crate) last: TopBits<Word>,
     semantics: PhantomData<S>,
 }
 
@@ -65,7 +65,7 @@ impl<Word: BitArray, S: Semantics> SymbolCoder<Word, S, Vec<Word>> {
     pub fn new(alloc: Global) -> Self
         ensures { result.bits ≡ [] }
     {
-        let last = WordBits::none();
+        let last = TopBits::none();
         SymbolCoder {
             backend: Vec::new(alloc),
             last,
@@ -85,7 +85,7 @@ impl<Word: BitArray> StackCoder<Word, Vec<Word>> {
         let backend = Vec::with_capacity(alloc, bit_capacity / Word::BITS as usize + 1)?;
         Ok(SymbolCoder {
             backend,
-            last: WordBits::none(),
+            last: TopBits::none(),
             semantics: PhantomData,
         })
     }
@@ -102,7 +102,7 @@ impl<Word: BitArray> QueueEncoder<Word, Vec<Word>> {
         let backend = Vec::with_capacity(alloc, bit_capacity.div_ceil(Word::BITS as usize))?;
         Ok(SymbolCoder {
             backend,
-            last: WordBits::none(),
+            last: TopBits::none(),
             semantics: PhantomData,
         })
     }

@@ -2,6 +2,7 @@
 
 ghost use Rattle.std.specs.Prelude.{IsTrue, ◌↔◌, ◌≡◌};
 
+use crate::top_bits::TopBits;
 use crate::word_bits::WordBits;
 use constriction_words::BitArray;
 
@@ -23,11 +24,33 @@ impl<Word: BitArray> PartialEq for WordBits<Word> {
 
     /// Whether the bits are the same, and as many.
     fn eq(&self, other: &Self) -> bool {
-        self.count() == other.count() && is_same_word(self.word(), other.word())
+        self.count() == other.count() && is_same_word(self.turned_word(), other.turned_word())
     }
 }
 
 impl<Word: BitArray> Eq for WordBits<Word> {
+    ghost use Rattle.std.specs.Cmp.{bool_eq_equiv};
+    ghost use Rattle.std.specs.Cmp.Lexicographic.{lists_equiv};
+
+    ghost laws = { lists_equiv bool_eq_equiv };
+}
+
+impl<Word: BitArray> PartialEq for TopBits<Word> {
+    ghost use Rattle.std.specs.Bool.{beq};
+    ghost use Rattle.std.specs.Cmp.{bool_eq_equiv, partial_equiv_from_equiv};
+    ghost use Rattle.std.specs.Cmp.Lexicographic.{lists_per, pointwise};
+
+    ghost eq = { λ a b. pointwise beq a b };
+
+    ghost laws = { lists_per (partial_equiv_from_equiv bool_eq_equiv) };
+
+    /// Whether the bits are the same, and as many.
+    fn eq(&self, other: &Self) -> bool {
+        self.count() == other.count() && is_same_word(self.word(), other.word())
+    }
+}
+
+impl<Word: BitArray> Eq for TopBits<Word> {
     ghost use Rattle.std.specs.Cmp.{bool_eq_equiv};
     ghost use Rattle.std.specs.Cmp.Lexicographic.{lists_equiv};
 

@@ -9,6 +9,7 @@ ghost use Rattle.std.specs.Prelude.{Some, false, replicate, reverse, ◌+◌, �
 use crate::codebooks::{Codebook, DecoderCodebook, EncoderCodebook, SymbolCodeError};
 use crate::emitting::{emit_down, emit_lone, emit_up, emit_zeros};
 use crate::taking::{Refusal, count_zeros, read_bits};
+use crate::turning::same_number;
 use constriction_base::errors::{CoderError, DefaultEncoderError};
 use constriction_words::BitArray;
 use std::alloc::AllocError;
@@ -126,6 +127,21 @@ impl<N: BitArray> EncoderCodebook for ExpGolomb<N> {
             emit_lone(N::BITS, emit)
         }
     }
+
+    /// The codeword of a number below the greatest, where it has fewer bits than the word.
+    #[inline]
+    fn codeword_at_once<Word: BitArray>(&self, symbol: &N) -> Option<(Word, u32)> {
+        if !symbol.is_below(N::greatest()) {
+            return None;
+        }
+        let after = symbol.plus(N::unit());
+        let count = 2 * after.bit_length() - 1;
+        if count < Word::BITS {
+            Some((same_number(after), count))
+        } else {
+            None
+        }
+    }
 }
 
 /// No number has a codeword that begins with the bits that were read.
@@ -180,5 +196,17 @@ impl<N: BitArray> DecoderCodebook for ExpGolomb<N> {
                 }
             }
         }
+    }
+
+    /// The number below the greatest whose codeword the bits begin with, where they don't end with it.
+    #[inline]
+    fn symbol_at_once<Word: BitArray>(&self, bits: Word, count: u32) -> Option<(N, u32)> {
+        let zeros = Word::BITS - bits.bit_length();
+        let length = 2 * zeros + 1;
+        if length >= count || zeros >= N::BITS {
+            return None;
+        }
+        let after: N = same_number(bits.shifted_right(Word::BITS - length));
+        Some((after.minus(N::unit()), length))
     }
 }

@@ -36,5 +36,7 @@ pub mod queue;
 pub mod reading;
 mod steps;
 mod taking;
+mod top_bits;
+mod turning;
 mod word_bits;
 pub mod writing;

@@ -18,7 +18,7 @@ use std::marker::Model;
 #[derive(Debug, Drop)]
 pub struct QueueDecoder<Word: BitArray, B: Holds<Word, Queue>> {
     backend: B,
-    last: WordBits<Word>,
+    pub(crate) last: WordBits<Word>,
 }
 
 /// The bits of words of 32 bits.

@@ -112,6 +112,11 @@ impl<Word: BitArray, B: ReadWords<Word, Stack> + Drop> ReadBitStream<Stack>
         &mut self,
         codebook: C,
     ) -> Result<C::Symbol, CoderError<SymbolCodeError<C::InvalidCodeword>, B::ReadError>> {
+        let bits = self.last.top_word();
+        if let Some((symbol, count)) = codebook.symbol_at_once(bits, self.last.count()) {
+            self.last.drop_last(count);
+            return Ok(symbol);
+        }
         C::decode_symbol(&codebook, self)
     }
 
@@ -139,6 +144,11 @@ impl<Word: BitArray, B: ReadWords<Word, Queue> + Drop> ReadBitStream<Queue>
         &mut self,
         codebook: C,
     ) -> Result<C::Symbol, CoderError<SymbolCodeError<C::InvalidCodeword>, B::ReadError>> {
+        let bits = self.last.turned_top();
+        if let Some((symbol, count)) = codebook.symbol_at_once(bits, self.last.count()) {
+            self.last.drop_first(count);
+            return Ok(symbol);
+        }
         codebook.decode_symbol(self)
     }
 

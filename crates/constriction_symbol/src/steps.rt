@@ -1,9 +1,10 @@
 //! A bit more and a bit less in words, of which those of one lie outside the backend.
 
 ghost use Rattle.constriction_base.specs.Iterators.{item_of_answer};
-ghost use Rattle.constriction_symbol.specs.Bits.{GivesBit, PutsLast, TakesFirst, TakesLast, bits_above, bits_behind};
-ghost use Rattle.std.specs.Prelude.{reverse};
+ghost use Rattle.constriction_symbol.specs.Bits.{GivesBit, PutsBits, PutsLast, TakesFirst, TakesLast, bits_above, bits_behind, bits_of};
+ghost use Rattle.std.specs.Prelude.{length, reverse, ◌+◌, ◌<◌, ◌^◌};
 
+use crate::top_bits::TopBits;
 use crate::word_bits::WordBits;
 use constriction_base::backends::{Queue, ReadWords, Stack, WriteWords};
 use constriction_words::BitArray;
@@ -12,7 +13,7 @@ use constriction_words::BitArray;
 #[inline]
 pub fn put_last<Word: BitArray, B: WriteWords<Word>>(
     backend: &mut B,
-    last: &mut WordBits<Word>,
+    last: &mut TopBits<Word>,
     bit: bool,
 ) -> Result<(), B::WriteError>
     ensures { PutsLast Word.BITS Word.number B.words B.write_fails last.old backend.old bit result last.new backend.new }
@@ -22,7 +23,7 @@ pub fn put_last<Word: BitArray, B: WriteWords<Word>>(
             Ok(()) => {}
             Err(error) => return Err(error),
         }
-        *last = WordBits::none();
+        *last = TopBits::none();
         last.push(bit);
         return Ok(());
     }
@@ -30,11 +31,56 @@ pub fn put_last<Word: BitArray, B: WriteWords<Word>>(
     Ok(())
 }
 
+/// Puts the lowest bits of a word behind those of the last word, the lowest first. Where there is no room for all, the last
+/// word is filled and written, and the others begin the next.
+#[inline]
+pub fn put_bits<Word: BitArray, B: WriteWords<Word>>(
+    backend: &mut B,
+    last: &mut TopBits<Word>,
+    bits: Word,
+    count: u32,
+) -> Result<(), B::WriteError>
+    requires some { 0 < count }
+    requires part { count < Word.BITS }
+    requires small { Word.number bits < 2 ^ count }
+    ensures { PutsBits Word.BITS Word.number B.words B.write_fails last.old backend.old (bits_of count (Word.number bits)) result last.new backend.new }
+{
+    if count <= last.room() {
+        last.push_all(bits, count);
+        return Ok(());
+    }
+    put_across(backend, last, bits, count)
+}
+
+/// The same where there is no room for all.
+#[inline]
+fn put_across<Word: BitArray, B: WriteWords<Word>>(
+    backend: &mut B,
+    last: &mut TopBits<Word>,
+    bits: Word,
+    count: u32,
+) -> Result<(), B::WriteError>
+    requires across { Word.BITS < length last.old + count }
+    requires part { count < Word.BITS }
+    requires small { Word.number bits < 2 ^ count }
+    ensures { PutsBits Word.BITS Word.number B.words B.write_fails last.old backend.old (bits_of count (Word.number bits)) result last.new backend.new }
+{
+    let room = last.room();
+    last.fill(bits);
+    match backend.write(last.word()) {
+        Ok(()) => {}
+        Err(error) => return Err(error),
+    }
+    *last = TopBits::none();
+    last.push_all(bits.shifted_right(room), count - room);
+    Ok(())
+}
+
 /// Takes the last bit off those of the last word. Where there are none, the next word is read first.
 #[inline]
 pub fn take_last<Word: BitArray, B: ReadWords<Word, Stack>>(
     backend: &mut B,
-    last: &mut WordBits<Word>,
+    last: &mut TopBits<Word>,
 ) -> Result<Option<bool>, B::ReadError>
     ensures takes { TakesLast Word.BITS Word.number B.reads last.old backend.old (item_of_answer result) last.new backend.new }
     ensures bits { B.is_list → GivesBit (reverse (bits_above Word.BITS Word.number (B.words backend.old) last.old))
@@ -45,7 +91,7 @@ pub fn take_last<Word: BitArray, B: ReadWords<Word, Stack>>(
             Err(error) => return Err(error),
             Ok(None) => return Ok(None),
             Ok(Some(word)) => {
-                *last = WordBits::all(word);
+                *last = TopBits::all(word);
                 return Ok(Some(last.pop()));
             }
         }

@@ -6,6 +6,7 @@ ghost use Rattle.std.specs.Iterator.{IsFinite};
 ghost use Rattle.std.specs.Prelude.{Bool, IfErr, IfOk, List, MatchOption, OnOk, [], false, length, replicate, true, ℕ, ◌*◌, ◌+◌, ◌++◌, ◌<◌, ◌^◌, ◌∷◌, ◌≡◌, ◌≤◌};
 
 use crate::codebooks::SymbolCodeError;
+use crate::turning::doubled;
 use constriction_base::errors::CoderError;
 use constriction_words::BitArray;
 
@@ -83,14 +84,4 @@ pub fn read_bits<V, N: BitArray, E, I: Iterator<Item = Result<bool, E>>>(
         left -= 1;
     }
     Ok(number)
-}
-
-/// Twice the number, and one more where the bit is set.
-#[inline]
-fn doubled<N: BitArray>(number: N, bit: bool) -> N
-    requires { 2 * N.number number + 1 < 2 ^ N.BITS }
-    ensures { N.number result ≡ number_after (N.number number) (bit ∷ []) }
-{
-    let twice = number.plus(number);
-    if bit { twice.plus(N::unit()) } else { twice }
 }

@@ -1,29 +1,28 @@
-//! Bits of which a word holds as many as there are.
+//! Bits of a word that are taken off from the lowest up.
 
-ghost use Rattle.constriction_symbol.specs.Bits.{AreZeros, TopWord, bits_of};
-ghost use Rattle.std.specs.Prelude.{IsTrue, List, MatchOption, [], length, ◌+◌, ◌++◌, ◌<◌, ◌≤◌, ◌∷◌, ◌^◌, ◌↔◌, ◌≡◌};
+ghost use Rattle.constriction_symbol.specs.Bits.{AreZeros, bits_of};
+ghost use Rattle.std.specs.Prelude.{IsTrue, List, [], drop, length, reverse, ◌-◌, ◌/◌, ◌<◌, ◌≤◌, ◌∷◌, ◌^◌, ◌↔◌, ◌≡◌};
 
+use crate::top_bits::TopBits;
+use crate::turning::turned;
 use constriction_words::BitArray;
 use std::marker::Model;
 
-/// A list of bits, as many as a word has at most. The first one is the word's lowest.
+/// A list of bits, as many as a word has at most, which are taken off from the first on. The word is held turned round, so
+/// the first one is the highest.
 ///
 /// Contracts see the list.
 #[derive(Debug, Drop)]
 pub struct WordBits<Word: BitArray> {
-    word: Word,
-    count: u32,
+    turned: TopBits<Word>,
 }
 
 impl<Word: BitArray> Model for WordBits<Word> {
-    ghost use Rattle.std.specs.Prelude.{Bool, List, ◌<◌, ◌≤◌, ◌^◌};
-    ghost use Rattle.constriction_symbol.specs.Bits.{bits_of};
+    ghost use Rattle.std.specs.Prelude.{Bool, List, reverse};
 
     ghost Value = { List Bool };
 
-    ghost view = { λ b. bits_of b.count (Word.number b.word) };
-
-    ghost invariant = { λ b. (b.count ≤ Word.BITS) × (Word.number b.word < 2 ^ b.count) };
+    ghost view = { λ b. reverse b.turned };
 }
 
 impl<Word: BitArray> WordBits<Word> {
@@ -33,8 +32,7 @@ impl<Word: BitArray> WordBits<Word> {
         ensures { result ≡ [] }
     {
         WordBits {
-            word: Word::nothing(),
-            count: 0,
+            turned: TopBits::none(),
         }
     }
 
@@ -44,23 +42,8 @@ impl<Word: BitArray> WordBits<Word> {
         ensures { result ≡ bits_of Word.BITS (Word.number word) }
     {
         WordBits {
-            word,
-            count: Word::BITS,
+            turned: TopBits::all(turned(word)),
         }
-    }
-
-    /// The bits below the highest one that is set. `None` for 0, and only for 0.
-    pub fn below_highest(word: Word) -> Option<Self>
-        ensures { MatchOption result (Word.number word ≡ 0) (λ bits. TopWord Word.BITS bits (Word.number word)) }
-    {
-        if word.is_nothing() {
-            return None;
-        }
-        let count = word.bit_length() - 1;
-        Some(WordBits {
-            word: word.low_bits(count),
-            count,
-        })
     }
 
     /// The same bits.
@@ -69,8 +52,7 @@ impl<Word: BitArray> WordBits<Word> {
         ensures { result ≡ self.now }
     {
         WordBits {
-            word: self.word,
-            count: self.count,
+            turned: self.turned.copied(),
         }
     }
 
@@ -80,7 +62,7 @@ impl<Word: BitArray> WordBits<Word> {
         ensures value { result ≡ length self.now }
         ensures within { result ≤ Word.BITS }
     {
-        self.count
+        self.turned.count()
     }
 
     /// Whether there is no bit.
@@ -88,48 +70,26 @@ impl<Word: BitArray> WordBits<Word> {
     pub fn is_empty(&self) -> bool
         ensures { IsTrue result ↔ (self.now ≡ []) }
     {
-        self.count == 0
+        self.turned.is_empty()
     }
 
-    /// Whether there is no room for a bit.
+    /// The bits as the lowest of a word, the first one highest.
     #[inline]
-    pub fn is_full(&self) -> bool
-        ensures full { IsTrue result ↔ (length self.now ≡ Word.BITS) }
-        ensures within { length self.now ≤ Word.BITS }
-    {
-        self.count() == Word::BITS
-    }
-
-    /// The word, with zeros above the bits.
-    #[inline]
-    pub fn word(&self) -> Word
-        ensures bits { bits_of (length self.now) (Word.number result) ≡ self.now }
+    pub fn turned_word(&self) -> Word
+        ensures bits { reverse (bits_of (length self.now) (Word.number result)) ≡ self.now }
         ensures small { Word.number result < 2 ^ length self.now }
         ensures within { length self.now ≤ Word.BITS }
     {
-        self.word
+        TopBits::word(&self.turned)
     }
 
-    /// Puts a bit behind the others.
+    /// The word at whose top the bits stand, the first one highest. What is below them means nothing.
     #[inline]
-    pub fn push(&mut self, bit: bool)
-        requires { length self.old < Word.BITS }
-        ensures { self.new ≡ self.old ++ bit ∷ [] }
+    pub fn turned_top(&self) -> Word
+        ensures bits { reverse (bits_of (length self.now) (Word.number result / 2 ^ (Word.BITS - length self.now))) ≡ self.now }
+        ensures within { length self.now ≤ Word.BITS }
     {
-        self.word = with_bit(self.word, self.count, bit);
-        self.count += 1;
-    }
-
-    /// Takes the last bit off.
-    #[inline]
-    pub fn pop(&mut self) -> bool
-        requires { 0 < length self.old }
-        ensures { self.old ≡ self.new ++ result ∷ [] }
-    {
-        self.count -= 1;
-        let bit = !self.word.shifted_right(self.count).is_nothing();
-        self.word = self.word.low_bits(self.count);
-        bit
+        self.turned.top_word()
     }
 
     /// Takes the first bit off.
@@ -138,10 +98,17 @@ impl<Word: BitArray> WordBits<Word> {
         requires { 0 < length self.old }
         ensures { self.old ≡ result ∷ self.new }
     {
-        self.count -= 1;
-        let bit = !self.word.low_bits(1).is_nothing();
-        self.word = self.word.shifted_right(1);
-        bit
+        self.turned.pop()
+    }
+
+    /// Takes so many of the first bits off, and leaves at least one.
+    #[inline]
+    pub fn drop_first(&mut self, count: u32)
+        requires some { 0 < count }
+        requires within { count < length self.old }
+        ensures { self.new ≡ drop count self.old }
+    {
+        self.turned.drop_last(count);
     }
 
     /// Whether all bits are zeros.
@@ -149,21 +116,6 @@ impl<Word: BitArray> WordBits<Word> {
     pub fn is_zeros(&self) -> bool
         ensures { IsTrue result ↔ AreZeros self.now }
     {
-        self.word.is_nothing()
-    }
-}
-
-/// The word with one more bit above the `count` bits that it has.
-#[inline]
-fn with_bit<Word: BitArray>(word: Word, count: u32, bit: bool) -> Word
-    requires room { count < Word.BITS }
-    requires small { Word.number word < 2 ^ count }
-    ensures bits { bits_of (count + 1) (Word.number result) ≡ bits_of count (Word.number word) ++ bit ∷ [] }
-    ensures small { Word.number result < 2 ^ (count + 1) }
-{
-    if bit {
-        word.plus(Word::unit().shifted_left(count))
-    } else {
-        word
+        self.turned.word().is_nothing()
     }
 }

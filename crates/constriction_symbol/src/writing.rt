@@ -8,8 +8,9 @@ ghost use Rattle.std.specs.Prelude.{Bool, IfErr, List, length, reverse, ◌≡�
 
 use crate::codebooks::{BitOrder, Codebook, EncoderCodebook};
 use crate::coder::{StackCoder, SymbolCoder};
+use crate::steps::put_bits;
 use constriction_base::backends::{Stack, WriteWords};
-use constriction_base::errors::DefaultEncoderError;
+use constriction_base::errors::{CoderError, DefaultEncoderError};
 use constriction_stream::encoding::Lent;
 use constriction_words::BitArray;
 use std::alloc::AllocError;
@@ -122,6 +123,56 @@ pub trait WriteBitStream<S: BitOrder> {
     }
 }
 
+/// What takes bits one after another, as a `WriteBitStream` does, and no more.
+trait BitSink {
+    type Refusal: From<AllocError>;
+
+    /// The bits, in the order of writing.
+    ghost bits: { Self → List Bool };
+
+    /// Which error the next bit may be refused with.
+    ghost bit_fails: { Self → Self.Refusal → Type 0 };
+
+    /// Puts a bit behind the others.
+    ///
+    /// # Errors
+    /// Where there is no room for it. The bits are as before.
+    fn put_bit(&mut self, bit: bool) -> Result<(), Self::Refusal>
+        ensures bits { PutsBit (bits self.old) bit result (bits self.new) }
+        ensures err { IfErr result (λ e. bit_fails self.old e) };
+}
+
+impl<Word: BitArray, S: BitOrder, B: WriteWords<Word>> BitSink for SymbolCoder<Word, S, B>
+where
+    B::WriteError: From<AllocError>,
+{
+    type Refusal = B::WriteError;
+
+    ghost bits = { λ c. c.bits };
+
+    ghost bit_fails = { λ c e. (length c.last ≡ Word.BITS) × B.write_fails c.backend e };
+
+    #[inline]
+    fn put_bit(&mut self, bit: bool) -> Result<(), B::WriteError> {
+        self.write_bit(bit)
+    }
+}
+
+/// Writes the codeword of a symbol bit by bit.
+#[inline]
+fn write_emitted<S: BitOrder, W: BitSink, C: EncoderCodebook>(
+    stream: &mut W,
+    symbol: &C::Symbol,
+    codebook: C,
+) -> Result<(), DefaultEncoderError<W::Refusal>>
+    ensures { WritesCodeword W.bits W.bit_fails
+        (λ e. S.chosen (C.prefix_wants codebook symbol.now) (C.suffix_wants codebook symbol.now) × ((a : _) × W.Refusal.from_gives a e))
+        stream.old (formed S.form (C.codeword codebook symbol.now)) result stream.new }
+{
+    let mut push = |bit: bool| -> Result<(), W::Refusal> { stream.put_bit(bit) };
+    S::emit_symbol(&codebook, symbol, &mut push)
+}
+
 impl<Word: BitArray, S: BitOrder, B: WriteWords<Word>> WriteBitStream<S> for SymbolCoder<Word, S, B>
 where
     B::WriteError: From<AllocError>,
@@ -136,6 +187,23 @@ where
     #[inline]
     fn write_bit(&mut self, bit: bool) -> Result<(), B::WriteError> {
         SymbolCoder::<Word, S, B>::write_bit(self, bit)
+    }
+
+    /// Writes the codeword of a symbol, by a shift where the codebook has it at once.
+    #[inline]
+    fn encode_symbol<C: EncoderCodebook>(
+        &mut self,
+        symbol: &C::Symbol,
+        codebook: C,
+    ) -> Result<(), DefaultEncoderError<B::WriteError>> {
+        if let Some(code) = codebook.codeword_at_once::<Word>(symbol) {
+            let ordered = S::in_order(code.0, code.1);
+            return match put_bits(&mut self.backend, &mut self.last, ordered, code.1) {
+                Ok(()) => Ok(()),
+                Err(error) => Err(CoderError::Backend(error)),
+            };
+        }
+        write_emitted::<S, SymbolCoder<Word, S, B>, C>(self, symbol, codebook)
     }
 }
 

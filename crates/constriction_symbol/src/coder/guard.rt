@@ -6,7 +6,7 @@ ghost use Rattle.std.specs.Borrow.{RestsIfErr, sem};
 ghost use Rattle.std.specs.Prelude.{IfErr, IfOk, OnErr, OnOk, [], drop, map, reverse, vec_capacity, vec_len, ◌-◌, ◌≡◌, ◌≤◌};
 
 use crate::coder::{QueueEncoder, StackCoder, SymbolCoder};
-use crate::word_bits::WordBits;
+use crate::top_bits::TopBits;
 use constriction_base::backends::{Queue, Semantics, Stack, WriteWords, take_back};
 use constriction_words::BitArray;
 use std::alloc::{AllocError, Allocator, Global};
@@ -74,7 +74,7 @@ impl<Word: BitArray, A: Allocator> StackCoder<Word, Vec<Word, A>> {
         if last.is_full() {
             WriteWords::<Word>::prepare(&mut self.backend, 2)?;
             WriteWords::<Word>::write(&mut self.backend, last.word())?;
-            let mut end = WordBits::<Word>::none();
+            let mut end = TopBits::<Word>::none();
             end.push(true);
             WriteWords::<Word>::write(&mut self.backend, end.word())?;
             return Ok(2);

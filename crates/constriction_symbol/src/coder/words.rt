@@ -6,7 +6,7 @@ ghost use Rattle.std.specs.Prelude.{Err, IfErr, IfOk, None, Ok, Some, [], map, r
 
 use crate::coder::{QueueEncoder, StackCoder, SymbolCoder};
 use crate::steps::put_last;
-use crate::word_bits::WordBits;
+use crate::top_bits::TopBits;
 use constriction_base::backends::{Holds, ReadWords, Stack, WriteWords};
 use constriction_base::errors::CoderError;
 use constriction_words::BitArray;
@@ -64,13 +64,13 @@ impl<Word: BitArray, B: ReadWords<Word, Stack>> StackCoder<Word, B> {
             Ok(None) => {
                 return Ok(SymbolCoder {
                     backend: compressed,
-                    last: WordBits::none(),
+                    last: TopBits::none(),
                     semantics: PhantomData,
                 });
             }
             Ok(Some(word)) => word,
         };
-        let Some(last) = WordBits::below_highest(word) else {
+        let Some(last) = TopBits::below_highest(word) else {
             return Err(CoderError::Frontend(compressed));
         };
         Ok(SymbolCoder {
@@ -116,7 +116,7 @@ impl<Word: BitArray, B: Holds<Word, Stack>> QueueEncoder<Word, B> {
         ensures last { result.last ≡ [] }
         ensures backend { result.backend ≡ compressed }
     {
-        let last = WordBits::none();
+        let last = TopBits::none();
         SymbolCoder {
             backend: compressed,
             last,

@@ -1,7 +1,10 @@
+use Rattle.std.proofs.Common.{length}
 use Rattle.constriction_symbol.proofs.Coding.{zeros_of}
+use Rattle.constriction_symbol.proofs.TurningLemmas.{zeros_both}
 use Rattle.constriction_symbol.proofs.word_bits.WordBits.is_zeros.Goals as goal
 
 pub returns : goal.returns
 returns g c =
-    let zeros = zeros_of c.self.inside.count (g.Word.BitArray.number c.self.inside.word) c.self.invariant.1 in
-    rw (← c.self.view_is) (λ is. zeros.1 (c.is_nothing.ensures.0 is), λ all. c.is_nothing.ensures.1 (zeros.0 all))
+    let zeros = rw c.word.ensures.bits at (zeros_of (length c.self.inside.turned) (g.Word.BitArray.number c.word.result) c.word.ensures.small) in
+    let both = zeros_both c.self.inside.turned in
+    rw (← c.self.view_is) (λ is. both.0 (zeros.1 (c.is_nothing.ensures.0 is)), λ all. c.is_nothing.ensures.1 (zeros.0 (both.1 all)))

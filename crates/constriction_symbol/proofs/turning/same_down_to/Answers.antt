@@ -1,0 +1,22 @@
+use Rattle.std.proofs.Common.{arith, ◌≡◌, ◌<◌}
+use Rattle.constriction_symbol.proofs.TurningLemmas.{down_room, down_step}
+use Rattle.constriction_symbol.proofs.turning.same_down_to.Goals as goal
+
+pub doubled-same-requires : goal.doubled-same-requires
+doubled-same-requires g c =
+    let some : 0 < c.bits.left = omega (arith, c.bits-test.true) in
+    down_room g.To.BitArray.BITS c.bits.left (g.From.BitArray.number c.args.number) _ (omega (arith, g.met.To.BitArray.bits_law.0)) some c.requires.fits c.bits.invariant.done
+
+pub bits-preserved : goal.bits-preserved
+bits-preserved g c =
+    let some : 0 < c.bits.left = omega (arith, c.bits-test.true) in
+    record {
+      above = omega (arith, c.bits-test.true);
+      within = omega (arith, c.bits.invariant.within);
+      done = down_step c.bits.left (g.From.BitArray.number c.args.number) _ _ _ _ _ some c.bits.invariant.done c.shifted_right.ensures c.low_bits.ensures c.is_nothing.ensures c.doubled-same.ensures;
+    }
+
+pub returns : goal.returns
+returns g c =
+    let all : c.bits.left ≡ c.args.to = omega (arith, c.bits.invariant.above, c.bits-test.false) in
+    rw all at c.bits.invariant.done

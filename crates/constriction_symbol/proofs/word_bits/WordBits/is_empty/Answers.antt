@@ -1,0 +1,6 @@
+use Rattle.std.proofs.Common.{ap, sym, ◌∙◌, reverse}
+use Rattle.std.proofs.lemmas.List.{reverse-reverse}
+use Rattle.constriction_symbol.proofs.word_bits.WordBits.is_empty.Goals as goal
+
+pub returns : goal.returns
+returns g c = rw (← c.self.view_is) (λ is. ap reverse (c.is_empty.ensures.0 is), λ none. c.is_empty.ensures.1 (sym (reverse-reverse c.self.inside.turned) ∙ ap reverse none))

@@ -1,0 +1,216 @@
+//! Bits of which the last one is the highest of a word: one more and one less are shifts by one.
+
+ghost use Rattle.constriction_symbol.specs.Bits.{TopWord, bits_of};
+ghost use Rattle.std.specs.Prelude.{IsTrue, List, MatchOption, [], if◌then◌else◌, length, take, ◌+◌, ◌++◌, ◌-◌, ◌/◌, ◌<◌, ◌≤◌, ◌∷◌, ◌^◌, ◌↔◌, ◌≡◌};
+
+use constriction_words::BitArray;
+use std::marker::Model;
+
+/// A list of bits, as many as a word has at most. They stand at the top of the word, the last one highest, above the
+/// bits of `room`, which mean nothing.
+///
+/// Contracts see the list.
+#[derive(Debug, Drop)]
+pub struct TopBits<Word: BitArray> {
+    word: Word,
+    room: usize,
+}
+
+impl<Word: BitArray> Model for TopBits<Word> {
+    ghost use Rattle.std.specs.Prelude.{Bool, List, ◌-◌, ◌/◌, ◌≤◌, ◌^◌};
+    ghost use Rattle.constriction_symbol.specs.Bits.{bits_of};
+
+    ghost Value = { List Bool };
+
+    ghost view = { λ b. bits_of (Word.BITS - b.room) (Word.number b.word / 2 ^ b.room) };
+
+    ghost invariant = { λ b. b.room ≤ Word.BITS };
+}
+
+impl<Word: BitArray> TopBits<Word> {
+    /// No bits.
+    #[inline]
+    pub fn none() -> Self
+        ensures { result ≡ [] }
+    {
+        TopBits {
+            word: Word::nothing(),
+            room: Word::BITS as usize,
+        }
+    }
+
+    /// All bits of a word.
+    #[inline]
+    pub fn all(word: Word) -> Self
+        ensures { result ≡ bits_of Word.BITS (Word.number word) }
+    {
+        TopBits { word, room: 0 }
+    }
+
+    /// The bits below the highest one that is set. `None` for 0, and only for 0.
+    pub fn below_highest(word: Word) -> Option<Self>
+        ensures { MatchOption result (Word.number word ≡ 0) (λ bits. TopWord Word.BITS bits (Word.number word)) }
+    {
+        if word.is_nothing() {
+            return None;
+        }
+        let count = word.bit_length() - 1;
+        Some(TopBits {
+            word: at_top(word.low_bits(count), count),
+            room: (Word::BITS - count) as usize,
+        })
+    }
+
+    /// The same bits.
+    #[inline]
+    pub fn copied(&self) -> Self
+        ensures { result ≡ self.now }
+    {
+        TopBits {
+            word: self.word,
+            room: self.room,
+        }
+    }
+
+    /// How many bits there are.
+    #[inline]
+    pub fn count(&self) -> u32
+        ensures value { result ≡ length self.now }
+        ensures within { result ≤ Word.BITS }
+    {
+        Word::BITS - self.room as u32
+    }
+
+    /// Whether there is no bit.
+    #[inline]
+    pub fn is_empty(&self) -> bool
+        ensures { IsTrue result ↔ (self.now ≡ []) }
+    {
+        self.room == Word::BITS as usize
+    }
+
+    /// Whether there is no room for a bit.
+    #[inline]
+    pub fn is_full(&self) -> bool
+        ensures full { IsTrue result ↔ (length self.now ≡ Word.BITS) }
+        ensures within { length self.now ≤ Word.BITS }
+    {
+        self.room == 0
+    }
+
+    /// The word whose lowest bits these are, with zeros above them.
+    #[inline]
+    pub fn word(&self) -> Word
+        ensures bits { bits_of (length self.now) (Word.number result) ≡ self.now }
+        ensures small { Word.number result < 2 ^ length self.now }
+        ensures within { length self.now ≤ Word.BITS }
+    {
+        let room = self.room as u32;
+        if room < Word::BITS {
+            self.word.shifted_right(room)
+        } else {
+            Word::nothing()
+        }
+    }
+
+    /// The word at whose top the bits stand. What is below them means nothing.
+    #[inline]
+    pub fn top_word(&self) -> Word
+        ensures bits { bits_of (length self.now) (Word.number result / 2 ^ (Word.BITS - length self.now)) ≡ self.now }
+        ensures within { length self.now ≤ Word.BITS }
+    {
+        self.word
+    }
+
+    /// Puts a bit behind the others.
+    #[inline]
+    pub fn push(&mut self, bit: bool)
+        requires { length self.old < Word.BITS }
+        ensures { self.new ≡ self.old ++ bit ∷ [] }
+    {
+        self.word = self.word.shifted_right(1).plus(highest(bit));
+        self.room -= 1;
+    }
+
+    /// Takes the last bit off.
+    #[inline]
+    pub fn pop(&mut self) -> bool
+        requires { 0 < length self.old }
+        ensures { self.old ≡ self.new ++ result ∷ [] }
+    {
+        let bit = !self.word.shifted_right(Word::BITS - 1).is_nothing();
+        let rest = self.word.low_bits(Word::BITS - 1);
+        self.word = rest.plus(rest);
+        self.room += 1;
+        bit
+    }
+
+    /// How many bits there is room for.
+    #[inline]
+    pub fn room(&self) -> u32
+        ensures { result + length self.now ≡ Word.BITS }
+    {
+        self.room as u32
+    }
+
+    /// Puts the lowest bits of a word behind the others, the lowest first.
+    #[inline]
+    pub fn push_all(&mut self, bits: Word, count: u32)
+        requires some { 0 < count }
+        requires part { count < Word.BITS }
+        requires small { Word.number bits < 2 ^ count }
+        requires fits { length self.old + count ≤ Word.BITS }
+        ensures { self.new ≡ self.old ++ bits_of count (Word.number bits) }
+    {
+        let above = bits.shifted_left(Word::BITS - count);
+        self.word = self.word.shifted_right(count).plus(above);
+        self.room -= count as usize;
+    }
+
+    /// Puts as many of the lowest bits of a word behind the others as there is room for.
+    #[inline]
+    pub fn fill(&mut self, bits: Word)
+        requires { 0 < length self.old }
+        ensures { self.new ≡ self.old ++ bits_of (Word.BITS - length self.old) (Word.number bits) }
+    {
+        let room = self.room();
+        if room > 0 {
+            self.push_all(bits.low_bits(room), room);
+        }
+    }
+
+    /// Takes so many of the last bits off, and leaves at least one.
+    #[inline]
+    pub fn drop_last(&mut self, count: u32)
+        requires some { 0 < count }
+        requires within { count < length self.old }
+        ensures { self.new ≡ take (length self.old - count) self.old }
+    {
+        self.word = self.word.low_bits(Word::BITS - count).shifted_left(count);
+        self.room += count as usize;
+    }
+}
+
+/// The lowest `count` bits of a word as its highest ones.
+fn at_top<Word: BitArray>(word: Word, count: u32) -> Word
+    requires within { count < Word.BITS }
+    requires small { Word.number word < 2 ^ count }
+    ensures { Word.number result / 2 ^ (Word.BITS - count) ≡ Word.number word }
+{
+    if count == 0 {
+        return word;
+    }
+    word.shifted_left(Word::BITS - count)
+}
+
+/// The word whose highest bit is this one, above zeros.
+#[inline]
+fn highest<Word: BitArray>(bit: bool) -> Word
+    ensures { Word.number result ≡ (if bit then 2 ^ (Word.BITS - 1) else 0) }
+{
+    if bit {
+        Word::unit().shifted_left(Word::BITS - 1)
+    } else {
+        Word::nothing()
+    }
+}

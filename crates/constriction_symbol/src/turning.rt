@@ -1,0 +1,100 @@
+//! Words with their bits in the other order, and the same numbers as words of other types.
+//!
+//! A generic word has no operation for either, so both go bit by bit. Compiled code has neither a loop nor a branch: the
+//! steps of a word become a few masks and shifts, or a move, where no loop is longer than some twenty steps. So a
+//! word is gone through in quarters.
+
+ghost use Rattle.constriction_symbol.specs.Bits.{bits_of};
+ghost use Rattle.constriction_symbol.specs.Golomb.{number_after};
+ghost use Rattle.std.specs.Prelude.{[], reverse, ◌*◌, ◌+◌, ◌/◌, ◌<◌, ◌^◌, ◌∷◌, ◌≡◌, ◌≤◌};
+
+use constriction_words::BitArray;
+
+/// The word of which the highest bit is the lowest of this one, and so on.
+#[inline]
+pub fn turned<Word: BitArray>(word: Word) -> Word
+    ensures { Word.number result ≡ number_after 0 (bits_of Word.BITS (Word.number word)) }
+{
+    let quarter = Word::BITS / 4;
+    let first = turned_to(word, Word::nothing(), 0, quarter);
+    let half = turned_to(word, first, quarter, 2 * quarter);
+    let most = turned_to(word, half, 2 * quarter, 3 * quarter);
+    turned_to(word, most, 3 * quarter, Word::BITS)
+}
+
+/// Of the lowest bits of a word, with zeros above them, the word whose lowest bits are these in the other order.
+#[inline]
+pub fn first_lowest<Word: BitArray>(bits: Word, count: u32) -> Word
+    requires within { count ≤ Word.BITS }
+    requires small { Word.number bits < 2 ^ count }
+    ensures bits { bits_of count (Word.number result) ≡ reverse (bits_of count (Word.number bits)) }
+    ensures small { Word.number result < 2 ^ count }
+{
+    if count == 0 {
+        return bits;
+    }
+    turned(bits).shifted_right(Word::BITS - count)
+}
+
+/// The bits of a word up to a place, the lowest of them highest, where those up to an earlier place are given so.
+#[inline]
+fn turned_to<Word: BitArray>(word: Word, done: Word, from: u32, to: u32) -> Word
+    requires order { from ≤ to }
+    requires within { to ≤ Word.BITS }
+    requires done { Word.number done ≡ number_after 0 (bits_of from (Word.number word)) }
+    ensures { Word.number result ≡ number_after 0 (bits_of to (Word.number word)) }
+{
+    let mut turned = done;
+    let mut place = from;
+    'bits: while place < to {
+        turned = doubled(turned, !word.shifted_right(place).low_bits(1).is_nothing());
+        place += 1;
+    }
+    turned
+}
+
+/// The same number as a word of another type, which has it.
+#[inline]
+pub fn same_number<From: BitArray, To: BitArray>(number: From) -> To
+    requires { From.number number < 2 ^ To.BITS }
+    ensures { To.number result ≡ From.number number }
+{
+    let bits = if To::BITS < From::BITS {
+        To::BITS
+    } else {
+        From::BITS
+    };
+    let quarter = bits / 4;
+    let first = same_down_to(number, To::nothing(), bits, 3 * quarter);
+    let half = same_down_to(number, first, 3 * quarter, 2 * quarter);
+    let most = same_down_to(number, half, 2 * quarter, quarter);
+    same_down_to(number, most, quarter, 0)
+}
+
+/// The number without so many of its lowest bits, where it is given without more of them.
+#[inline]
+fn same_down_to<From: BitArray, To: BitArray>(number: From, done: To, from: u32, to: u32) -> To
+    requires order { to ≤ from }
+    requires within { from ≤ From.BITS }
+    requires fits { From.number number < 2 ^ To.BITS }
+    requires done { To.number done ≡ From.number number / 2 ^ from }
+    ensures { To.number result ≡ From.number number / 2 ^ to }
+{
+    let mut same = done;
+    let mut left = from;
+    'bits: while left > to {
+        left -= 1;
+        same = doubled(same, !number.shifted_right(left).low_bits(1).is_nothing());
+    }
+    same
+}
+
+/// Twice the number, and one more where the bit is set.
+#[inline]
+pub fn doubled<N: BitArray>(number: N, bit: bool) -> N
+    requires { 2 * N.number number + 1 < 2 ^ N.BITS }
+    ensures { N.number result ≡ number_after (N.number number) (bit ∷ []) }
+{
+    let twice = number.plus(number);
+    if bit { twice.plus(N::unit()) } else { twice }
+}
