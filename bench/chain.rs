@@ -111,9 +111,12 @@ fn large_cases(bench: &Bench) {
     let (start, len) = (weights.as_ptr(), weights.len());
     let words = random_words(24, |number| number as u32);
 
-    let table = decoder!("chain_decode_u32u64p24_table", u32; start: *const u32 = start, len: usize = len);
-    let bucket = decoder!("chain_decode_u32u64p24_bucket", u32; start: *const u32 = start, len: usize = len);
-    let back = encoder!("chain_encode_u32u64p24_table", u32; start: *const u32 = start, len: usize = len);
+    let table =
+        decoder!("chain_decode_u32u64p24_table", u32; start: *const u32 = start, len: usize = len);
+    let bucket =
+        decoder!("chain_decode_u32u64p24_bucket", u32; start: *const u32 = start, len: usize = len);
+    let back =
+        encoder!("chain_encode_u32u64p24_table", u32; start: *const u32 = start, len: usize = len);
     let split = Split::new(&words, table);
     split.decoding(bench, "chain_decode_u32u64p24_table", table);
     split.encoding(bench, "chain_encode_u32u64p24_table", back);
@@ -132,9 +135,12 @@ fn small_cases(bench: &Bench) {
     let (start, len) = (weights.as_ptr(), weights.len());
     let words = random_words(12, |number| number as u16);
 
-    let table = decoder!("chain_decode_u16u32p12_table", u16; start: *const u16 = start, len: usize = len);
-    let lookup = decoder!("chain_decode_u16u32p12_lookup", u16; start: *const u16 = start, len: usize = len);
-    let back = encoder!("chain_encode_u16u32p12_table", u16; start: *const u16 = start, len: usize = len);
+    let table =
+        decoder!("chain_decode_u16u32p12_table", u16; start: *const u16 = start, len: usize = len);
+    let lookup =
+        decoder!("chain_decode_u16u32p12_lookup", u16; start: *const u16 = start, len: usize = len);
+    let back =
+        encoder!("chain_encode_u16u32p12_table", u16; start: *const u16 = start, len: usize = len);
     let split = Split::new(&words, table);
     split.decoding(bench, "chain_decode_u16u32p12_table", table);
     split.encoding(bench, "chain_encode_u16u32p12_table", back);
