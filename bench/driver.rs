@@ -9,6 +9,7 @@
 //! symbol of each quantile listed), `flat` (equal weights, no table at all).
 
 mod bits;
+mod chain;
 mod input;
 
 use input::{COUNT, Random, drawn_symbols, weights};
@@ -280,8 +281,12 @@ impl Bench {
         let mut out = vec![T::default(); COUNT];
         let all = self.least(|| assert!(decode(words, &mut out)));
         assert_eq!(out, symbols);
-        let copying = self.least(|| black_box(words).to_vec());
-        println!("{name} {:.2}", all - copying);
+        println!("{name} {:.2}", all - self.copying(words));
+    }
+
+    /// The least time of a copy of the words.
+    fn copying<W: Word>(&self, words: &[W]) -> f64 {
+        self.least(|| black_box(words).to_vec())
     }
 }
 
@@ -297,7 +302,7 @@ fn report<W: Word>(name: &str, words: &[W], information: f64) {
 }
 
 /// All words that `encode` makes.
-fn all_words<W: Word>(encode: impl Fn(&mut [W]) -> usize) -> Vec<W> {
+fn all_words<W: Word>(mut encode: impl FnMut(&mut [W]) -> usize) -> Vec<W> {
     let mut words = vec![W::default(); encode(&mut [])];
     encode(&mut words);
     words
@@ -420,5 +425,6 @@ fn main() {
     let small = library!(u16, "range", "u16u32p12", 12, "lookup");
     cases(&bench, &large, &drawn, &equal);
     cases(&bench, &small, &drawn, &equal);
+    chain::cases(&bench);
     bits::cases(&bench, &drawn);
 }

@@ -7,11 +7,13 @@
 //! - `large`: the cases at words of 32 bits, states of 64 and a precision of 24.
 //! - `small`: the cases at words of 16 bits, states of 32 and a precision of 12.
 //! - `ranges`: the measured loops of the range coder, and its cases at the same sizes.
+//! - `chains`: the measured loops of the chain coder, and its cases at the same sizes.
 //! - `bits`: the cases of bit coders, with words of 32 bits.
 #![tactic(auto)]
 
 pub mod bits;
 mod bucket;
+pub mod chains;
 mod flat;
 pub mod large;
 mod lookup;

@@ -32,6 +32,8 @@ mod precisions;
 #[cfg(test)]
 mod put;
 #[cfg(test)]
+mod readers;
+#[cfg(test)]
 mod refusals;
 #[cfg(test)]
 mod rows;

@@ -2,12 +2,12 @@
 
 ghost use Rattle.std.specs.Iterator.{IsFinite};
 
-use crate::cases::stays;
+use crate::cases::{bytes_do, stays};
 use crate::coders::{Bytes, Source, made, table_of};
-use crate::script::Act;
+use crate::script::{Act, Fault};
 use constriction_base::errors::CoderError;
 use constriction_base::weights::WeightTable;
-use constriction_chain::{EncoderError, EncoderFrontendError};
+use constriction_chain::{BackendError, EncoderError, EncoderFrontendError};
 use constriction_stream::decoding::Decode;
 use constriction_stream::encoding::Encode;
 use constriction_stream::errors::TryCodingError;
@@ -96,13 +96,12 @@ fn lists(rt: HostRuntime) -> Result<(), Fail> {
     Ok(())
 }
 
+/// The coder of the words 10, 20 and 30 once the symbol 0 was put back.
+const HAS_ONE: Act<'static, u8> = Act::Is(&[10, 20, 14], &[1, 1]);
+
 /// The symbol 0 was put back, and is taken again.
 pub fn has_one(coder: &mut Bytes<8>, table: &WeightTable<u8, 8>) -> bool {
-    let acts = [
-        Act::Is(&[10, 20, 14], &[1, 1]),
-        Act::Gives(&[0]),
-        Act::Is(&[10, 20], &[30, 1]),
-    ];
+    let acts = [HAS_ONE, Act::Gives(&[0]), Act::Is(&[10, 20], &[30, 1])];
     stays(coder, table, &acts)
 }
 
@@ -129,6 +128,45 @@ fn lists_stop_at_the_first_fault(rt: HostRuntime) -> Result<(), Fail> {
     };
     assert!(rt; stop(&mut coder, &table) && run_out(&mut coder, &table));
     Ok(())
+}
+
+/// The six symbols come back by each call that begins with the last one.
+#[test]
+fn reversed_lists(rt: HostRuntime) {
+    let acts = [
+        Act::Gives(&[0, 1, 1, 0, 1, 0]),
+        AFTER,
+        Act::PutsPairs(1, 0, None),
+        Act::PutsItems(Ok(1), 0, None),
+        Act::PutsList(&[0, 1], None),
+        BEFORE,
+        Act::Gives(&[0, 1, 1, 0, 1, 0]),
+        Act::PutsList(&[], None),
+        AFTER,
+    ];
+    assert!(rt; bytes_do(rt.alloc(), Source::Words(&WORDS), &acts));
+}
+
+/// Such a list ends at a symbol that the table doesn't know, at an error, and where no remainders are left. Exactly
+/// the symbols behind are put back.
+#[test]
+fn reversed_lists_stop_at_the_first_fault(rt: HostRuntime) {
+    let acts = [
+        Act::PutsPairs(5, 0, Some(Fault::Unknown)),
+        HAS_ONE,
+        Act::Gives(&[0]),
+        Act::PutsItems(Err(7), 0, Some(Fault::BadModel(7))),
+        HAS_ONE,
+        Act::Gives(&[0]),
+        Act::PutsItems(Ok(2), 0, Some(Fault::Unknown)),
+        HAS_ONE,
+        Act::Gives(&[0]),
+        Act::PutsList(&[0, 1, 0], Some(Fault::OutOfRemainders)),
+        HAS_ONE,
+        Act::Gives(&[0]),
+        Act::Is(&[10, 20], &[30, 1]),
+    ];
+    assert!(rt; bytes_do(rt.alloc(), Source::Words(&[10, 20, 30]), &acts));
 }
 
 /// Compares all symbols that an iterator gives, and how many it says that there are.
@@ -181,17 +219,6 @@ fn gives_by_tables(
     given.next().is_none()
 }
 
-/// What is returned in place of a symbol.
-#[derive(Clone, Copy, PartialEq, Eq)]
-enum Fault {
-    /// A word is needed, and none is left.
-    OutOfData,
-    /// The table was this error.
-    BadModel(u8),
-    /// A backend refused a call.
-    Backend,
-}
-
 /// The same, where a table may be an error, which is returned in the place of a symbol.
 fn gives_by_items(
     coder: &mut Bytes<8>,
@@ -209,7 +236,12 @@ fn gives_by_items(
             Some(Err(TryCodingError::CodingError(CoderError::Frontend(_)))) => Err(
                 Fault::OutOfData,
             ),
-            Some(Err(TryCodingError::CodingError(CoderError::Backend(_)))) => Err(Fault::Backend),
+            Some(
+                Err(TryCodingError::CodingError(CoderError::Backend(BackendError::Compressed(_)))),
+            ) => { Err(Fault::Compressed) }
+            Some(
+                Err(TryCodingError::CodingError(CoderError::Backend(BackendError::Remainders(_)))),
+            ) => { Err(Fault::Remainders) }
             None => return false,
         };
         if found != *answer {

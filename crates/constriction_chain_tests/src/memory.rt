@@ -3,7 +3,7 @@
 //!
 //! A vector that was copied has no room for more words than it holds, so each coder here is a copy.
 
-use crate::coders::{of_binary, of_remainders, of_words, table_of};
+use crate::coders::{coarse_table_of, of_binary, of_remainders, of_words, table_of};
 use crate::expect::{Exported, copy_of, export, export_binary, has_parts, parts_of};
 use crate::put::puts;
 use crate::script::{Act, Fault, follows};
@@ -95,6 +95,47 @@ fn chain_growth_refused(rt: HostRuntime) -> Result<(), Fail> {
     Ok(())
 }
 
+/// The coder of the number 2249 at 4 bits of precision, with the bits 0101 left over, and with its remainders in the
+/// heap.
+fn with_bits_left<'a>(alloc: Global, heap: &'a LocalHeap) -> Option<ToHeap<'a, 4>> {
+    let suffix = [201u8, 8, 21].to_vec(heap).ok()?;
+    let coder: ToHeap<'_, 4> = of_remainders(alloc, suffix)?;
+    copy_of(&coder).ok()
+}
+
+/// The same, at 4 bits of precision.
+fn coarse_to_heap_does(
+    coder: &mut ToHeap<'_, 4>,
+    table: &WeightTable<u8, 4>,
+    acts: &[Act<'_, u8>],
+) -> bool {
+    follows(coder, table, acts)
+}
+
+/// No word is read for the quantile 5, and so no room is asked for, but the number 24739 moves a word out.
+#[test]
+fn a_full_heap_refuses_a_decode_of_bits_left_over(rt: HostRuntime) -> Result<(), Fail> {
+    let table = coarse_table_of(rt.alloc(), &[5, 11])?;
+    let heap = LocalHeap::new(rt.alloc(), 512)?;
+    let Some(mut coder) = with_bits_left(rt.alloc(), &heap) else {
+        return Err(Fail::from("there is memory"));
+    };
+    let filler: Vec<u8, &LocalHeap> = Vec::with_capacity(&heap, 512)?;
+    let refused = [
+        Act::GivesNone(Fault::Remainders),
+        Act::GivesNone(Fault::Remainders),
+    ];
+    let is_refused = coarse_to_heap_does(&mut coder, &table, &refused);
+    drop(filler);
+    let goes = [
+        Act::Is(&[], &[201, 8, 21]),
+        Act::Gives(&[1]),
+        Act::Is(&[], &[163, 96, 1]),
+    ];
+    assert!(rt; is_refused && coarse_to_heap_does(&mut coder, &table, &goes));
+    Ok(())
+}
+
 /// The suffix has no room for the words of the heads.
 #[test]
 fn a_full_heap_refuses_a_suffix(rt: HostRuntime) -> Result<(), Fail> {
@@ -156,6 +197,9 @@ fn a_full_heap_refuses_an_encode(rt: HostRuntime) -> Result<(), Fail> {
     let refused = [
         Act::PutsNone(1, Fault::Compressed),
         Act::PutsNone(1, Fault::Compressed),
+        Act::PutsList(&[0, 1], Some(Fault::Compressed)),
+        Act::PutsPairs(0, 1, Some(Fault::Compressed)),
+        Act::PutsItems(Ok(0), 1, Some(Fault::Compressed)),
     ];
     let is_refused = from_heap_does(&mut coder, &table, &refused);
     drop(filler);

@@ -1,23 +1,57 @@
 //! Changes of the precision, and what they refuse.
 
+ghost use Rattle.std.specs.Prelude.{◌≤◌};
+
 use crate::cases::{coarse_stays, stays};
-use crate::coders::{Bytes, Source, coarse_table_of, made, table_of};
+use crate::coders::{Bytes, Source, Whole, coarse_table_of, made, table_of};
 use crate::expect::{has_parts, places_of};
 use crate::script::Act;
+use constriction_base::backends::{Holds, ReadWords, Stack, WriteWords};
 use constriction_base::errors::CoderError;
 use constriction_base::weights::WeightTable;
-use constriction_chain::{ChangePrecisionError, EncoderFrontendError};
+use constriction_chain::{ChainCoder, ChangePrecisionError, EncoderFrontendError};
+use constriction_words::{BitArray, WordOf};
 use std::alloc::Global;
 use std::test::Fail;
 
+/// The coder at a precision that is no less, if a word that moves out finds a place.
+pub fn up<Word, State, C, R, const PRECISION: usize, const N: usize>(
+    coder: ChainCoder<Word, State, C, R, PRECISION>,
+) -> Option<ChainCoder<Word, State, C, R, N>>
+where
+    Word: WordOf<State>,
+    State: BitArray,
+    C: Holds<Word, Stack> + Drop,
+    R: WriteWords<Word> + Drop,
+    R::WriteError: Drop,
+    requires { (PRECISION ≤ N) × (N ≤ Word.BITS) }
+{
+    coder.increase_precision().ok()
+}
+
+/// The coder at a precision that is no greater, if a word that moves in is found.
+pub fn down<Word, State, C, R, const PRECISION: usize, const N: usize>(
+    coder: ChainCoder<Word, State, C, R, PRECISION>,
+) -> Option<ChainCoder<Word, State, C, R, N>>
+where
+    Word: WordOf<State>,
+    State: BitArray,
+    C: Holds<Word, Stack> + Drop,
+    R: ReadWords<Word, Stack> + Drop,
+    R::ReadError: Drop,
+    requires { (1 ≤ N) × (N ≤ PRECISION) }
+{
+    coder.decrease_precision().ok()
+}
+
 /// The coder at 8 bits of precision in place of 4.
 fn raised(coder: Bytes<4>) -> Option<Bytes<8>> {
-    coder.increase_precision().ok()
+    up(coder)
 }
 
 /// The coder at 4 bits of precision in place of 8.
 fn lowered(coder: Bytes<8>) -> Option<Bytes<4>> {
-    coder.decrease_precision().ok()
+    down(coder)
 }
 
 /// The same by the call that knows both ways.
@@ -88,6 +122,45 @@ fn changes_both_ways(rt: HostRuntime) -> Result<(), Fail> {
     assert!(rt; is_coarse(down, 0, &[], &[201, 8, 1]));
     assert!(rt; is_coarse(same, 0, &[], &[201, 8, 1]));
     Ok(())
+}
+
+/// Whether the lowest word of the number moves out at a greater precision, and in again.
+fn goes_up_and_down<Word, State, const LOW: usize, const HIGH: usize>(
+    found: Option<Whole<Word, State, LOW>>,
+    suffix: &[Word],
+) -> bool
+where
+    Word: WordOf<State> + PartialEq,
+    State: BitArray,
+    requires { (1 ≤ LOW) × (LOW ≤ HIGH) × (HIGH ≤ Word.BITS) }
+{
+    let Some(low) = found else {
+        return false;
+    };
+    let Some(high) = up::<Word, State, Vec<Word>, Vec<Word>, LOW, HIGH>(low) else {
+        return false;
+    };
+    if places_of(&high).1 != 1 {
+        return false;
+    }
+    match down::<Word, State, Vec<Word>, Vec<Word>, HIGH, LOW>(high) {
+        Some(low) => places_of(&low).1 == 0 && has_parts(low, &[], suffix),
+        None => false,
+    }
+}
+
+/// The numbers 70000, 4600387192 and 67305985, of which the last has bytes 4, 3, 2 and 1.
+#[test]
+fn changes_at_other_widths(rt: HostRuntime) {
+    let suffix = [4464u16, 1, 5];
+    let found: Option<Whole<u16, u32, 12>> = made(rt.alloc(), Source::Remainders(&suffix));
+    assert!(rt; goes_up_and_down::<u16, u32, 12, 16>(found, &suffix));
+    let suffix = [0x12345678u32, 1, 7];
+    let found: Option<Whole<u32, u64, 24>> = made(rt.alloc(), Source::Remainders(&suffix));
+    assert!(rt; goes_up_and_down::<u32, u64, 24, 32>(found, &suffix));
+    let suffix = [1u8, 2, 3, 4, 9];
+    let found: Option<Whole<u8, u32, 5>> = made(rt.alloc(), Source::Remainders(&suffix));
+    assert!(rt; goes_up_and_down::<u8, u32, 5, 8>(found, &suffix));
 }
 
 /// The first symbol is taken at 8 bits of precision, two at 4 bits.

@@ -4,7 +4,8 @@ use constriction_base::backends::{ReadWords, Stack, WriteWords};
 use constriction_base::errors::CoderError;
 use constriction_base::weights::WeightTable;
 use constriction_chain::{BackendError, ChainCoder, EncoderError, EncoderFrontendError};
-use constriction_stream::encoding::Encode;
+use constriction_stream::encoding::{Encode, EncodeReverse};
+use constriction_stream::errors::TryCodingError;
 use constriction_words::{BitArray, WordOf};
 
 /// What a call that puts symbols back returns.
@@ -17,6 +18,8 @@ pub enum Put<C, R> {
     Compressed(C),
     /// The remainders refused a call.
     Remainders(R),
+    /// An item of a list was this error.
+    BadModel(u8),
 }
 
 /// The answer of a step or a list.
@@ -44,6 +47,69 @@ where
     Probability: WordOf<Word>,
 {
     answer_of(coder.encode_symbol(&symbol, table))
+}
+
+/// The answer of a list whose items may be errors.
+fn tried_answer_of<C, R>(answer: Result<(), TryCodingError<EncoderError<C, R>, u8>>) -> Put<C, R> {
+    match answer {
+        Ok(()) => Put::Done,
+        Err(TryCodingError::InvalidEntropyModel(error)) => Put::BadModel(error),
+        Err(TryCodingError::CodingError(error)) => answer_of(Err(error)),
+    }
+}
+
+/// Puts a list back, the last symbol first.
+pub fn put_list<Word, State, C, R, Probability, const PRECISION: usize>(
+    coder: &mut ChainCoder<Word, State, C, R, PRECISION>,
+    table: &WeightTable<Probability, PRECISION>,
+    symbols: &[usize],
+) -> Put<C::WriteError, R::ReadError>
+where
+    Word: WordOf<State>,
+    State: BitArray,
+    C: WriteWords<Word>,
+    R: ReadWords<Word, Stack>,
+    Probability: WordOf<Word>,
+{
+    answer_of(coder.encode_iid_symbols_reverse(symbols, table))
+}
+
+/// Puts two symbols back, a table for each, the last one first.
+pub fn put_pairs<Word, State, C, R, Probability, const PRECISION: usize>(
+    coder: &mut ChainCoder<Word, State, C, R, PRECISION>,
+    table: &WeightTable<Probability, PRECISION>,
+    first: usize,
+    second: usize,
+) -> Put<C::WriteError, R::ReadError>
+where
+    Word: WordOf<State>,
+    State: BitArray,
+    C: WriteWords<Word>,
+    R: ReadWords<Word, Stack>,
+    Probability: WordOf<Word>,
+{
+    answer_of(coder.encode_symbols_reverse([(&first, table), (&second, table)]))
+}
+
+/// Puts two items back, the last one first, of which the first may be an error.
+pub fn put_items<Word, State, C, R, Probability, const PRECISION: usize>(
+    coder: &mut ChainCoder<Word, State, C, R, PRECISION>,
+    table: &WeightTable<Probability, PRECISION>,
+    first: Result<usize, u8>,
+    second: usize,
+) -> Put<C::WriteError, R::ReadError>
+where
+    Word: WordOf<State>,
+    State: BitArray,
+    C: WriteWords<Word>,
+    R: ReadWords<Word, Stack>,
+    Probability: WordOf<Word>,
+{
+    let pair = match &first {
+        Ok(symbol) => Ok((symbol, table)),
+        Err(error) => Err(*error),
+    };
+    tried_answer_of(coder.try_encode_symbols_reverse([pair, Ok((&second, table))]))
 }
 
 /// Whether symbols are put back one by one.

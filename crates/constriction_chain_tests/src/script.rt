@@ -1,7 +1,7 @@
 //! What a test does with a coder, act by act, and what it expects of each.
 
 use crate::expect::{Below, exports, exports_binary, heads_of, is_at, is_handed_back};
-use crate::put::{Put, put_one, puts, puts_back, seems_full};
+use crate::put::{Put, put_items, put_list, put_one, put_pairs, puts, puts_back, seems_full};
 use crate::take::{Taken, gives, seems_exhausted, take};
 use constriction_base::backends::{ReadWords, Stack, WriteWords};
 use constriction_base::weights::WeightTable;
@@ -21,6 +21,8 @@ pub enum Fault {
     Compressed,
     /// The remainders refused a call.
     Remainders,
+    /// An item of a list was this error.
+    BadModel(u8),
 }
 
 /// An act on a coder, and what is expected of it.
@@ -34,6 +36,12 @@ pub enum Act<'a, Word> {
     Puts(&'a [usize]),
     /// The same, the last one first.
     PutsBack(&'a [usize]),
+    /// The same, by one call.
+    PutsList(&'a [usize], Option<Fault>),
+    /// The same of two symbols, a table for each.
+    PutsPairs(usize, usize, Option<Fault>),
+    /// The same of two items, of which the first may be an error.
+    PutsItems(Result<usize, u8>, usize, Option<Fault>),
     /// A symbol isn't put back, and the heads stay.
     PutsNone(usize, Fault),
     /// The compressed words, and the remainders with the words of both heads on top.
@@ -78,6 +86,34 @@ where
         Put::OutOfRemainders => Some(Fault::OutOfRemainders),
         Put::Compressed(_) => Some(Fault::Compressed),
         Put::Remainders(_) => Some(Fault::Remainders),
+        Put::BadModel(error) => Some(Fault::BadModel(error)),
+    }
+}
+
+/// Whether lists are put back as an act expects, and end at the fault that it names.
+fn puts_lists<Word, State, C, R, Probability, const PRECISION: usize>(
+    coder: &mut ChainCoder<Word, State, C, R, PRECISION>,
+    table: &WeightTable<Probability, PRECISION>,
+    act: &Act<'_, Word>,
+) -> bool
+where
+    Word: WordOf<State>,
+    State: BitArray,
+    C: WriteWords<Word>,
+    C::WriteError: Drop,
+    R: ReadWords<Word, Stack>,
+    R::ReadError: Drop,
+    Probability: WordOf<Word>,
+{
+    match act {
+        Act::PutsList(symbols, fault) => fault_of_put(put_list(coder, table, symbols)) == *fault,
+        Act::PutsPairs(first, second, fault) => {
+            fault_of_put(put_pairs(coder, table, *first, *second)) == *fault
+        }
+        Act::PutsItems(first, second, fault) => {
+            fault_of_put(put_items(coder, table, *first, *second)) == *fault
+        }
+        _ => false,
     }
 }
 
@@ -156,6 +192,9 @@ where
 {
     match act {
         Act::Gives(_) | Act::Puts(_) | Act::PutsBack(_) => steps(coder, table, act),
+        Act::PutsList(_, _) | Act::PutsPairs(_, _, _) | Act::PutsItems(_, _, _) => {
+            puts_lists(coder, table, act)
+        }
         Act::GivesNone(_) | Act::PutsNone(_, _) => {
             let heads = heads_of(coder);
             steps(coder, table, act) && heads_of(coder) == heads

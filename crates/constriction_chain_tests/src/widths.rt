@@ -29,7 +29,13 @@ where
     State: BitArray + PartialEq,
 {
     let there = [Act::Gives(run.symbols), Act::Is(run.prefix, run.suffix)];
-    let back = [Act::PutsBack(run.symbols), run.back];
+    let back = [
+        Act::PutsBack(run.symbols),
+        run.back,
+        Act::Gives(run.symbols),
+        Act::PutsList(run.symbols, None),
+        run.back,
+    ];
     made_does(first, table, &there) && made_does(second, table, &back)
 }
 
@@ -52,7 +58,7 @@ fn u8_and_u16(rt: HostRuntime) -> Result<(), Fail> {
     Ok(())
 }
 
-/// Words of 16 bits, of which a symbol takes 12.
+/// Words of 16 bits, of which a symbol takes 12, in both forms.
 #[test]
 fn u16_and_u32(rt: HostRuntime) -> Result<(), Fail> {
     let table = WeightTable::<u16, 12>::new(rt.alloc(), &[1000, 3000, 96])?;
@@ -68,10 +74,22 @@ fn u16_and_u32(rt: HostRuntime) -> Result<(), Fail> {
     );
     let second: Option<Whole<u16, u32, 12>> = made(rt.alloc(), Source::Remainders(run.suffix));
     assert!(rt; comes_back(first, second, &table, &run));
+    let run: Run<'_, u16> = Run {
+        symbols: &[1, 0, 0, 0, 1, 0],
+        prefix: &[31190],
+        suffix: &[48757, 64276, 16455, 61818, 31710, 436],
+        back: Act::ExportsBinary(&[], &[17094, 48490, 62135, 8588, 1725, 300]),
+    };
+    let first: Option<Whole<u16, u32, 12>> = made(
+        rt.alloc(),
+        Source::Binary(&[31190, 17094, 48490, 62135, 8588, 1725, 300]),
+    );
+    let second: Option<Whole<u16, u32, 12>> = made(rt.alloc(), Source::Remainders(run.suffix));
+    assert!(rt; comes_back(first, second, &table, &run));
     Ok(())
 }
 
-/// Words of 32 bits, of which a symbol takes 24.
+/// Words of 32 bits, of which a symbol takes 24, in both forms.
 #[test]
 fn u32_and_u64(rt: HostRuntime) -> Result<(), Fail> {
     let table = WeightTable::<u32, 24>::new(rt.alloc(), &[8388608, 8388607, 1])?;
@@ -84,6 +102,20 @@ fn u32_and_u64(rt: HostRuntime) -> Result<(), Fail> {
     let first: Option<Whole<u32, u64, 24>> = made(
         rt.alloc(),
         Source::Words(&[
+            2675342405, 3185950873, 4051686260, 2787324501, 3869338171, 777,
+        ]),
+    );
+    let second: Option<Whole<u32, u64, 24>> = made(rt.alloc(), Source::Remainders(run.suffix));
+    assert!(rt; comes_back(first, second, &table, &run));
+    let run: Run<'_, u32> = Run {
+        symbols: &[1, 0, 0],
+        prefix: &[2675342405, 3185950873],
+        suffix: &[2225170226, 2306645, 8377204, 32, 31893233],
+        back: Act::ExportsBinary(&[], &[4051686260, 2787324501, 3869338171, 777]),
+    };
+    let first: Option<Whole<u32, u64, 24>> = made(
+        rt.alloc(),
+        Source::Binary(&[
             2675342405, 3185950873, 4051686260, 2787324501, 3869338171, 777,
         ]),
     );
