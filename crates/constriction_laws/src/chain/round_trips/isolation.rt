@@ -1,9 +1,8 @@
 //! Isolation through the calls: where another model replaces that of the first symbol, all symbols after it stay.
 
-ghost use Rattle.std.specs.Prelude.{◌≡◌, length, IfSome};
+ghost use Rattle.std.specs.Prelude.{◌≡◌, ◌∷◌, length, IfSome};
 ghost use Rattle.constriction_base.specs.Models.{pairs_of};
-ghost use Rattle.constriction_chain.specs.Chain.{ChainState};
-ghost use Rattle.constriction_chain.specs.Symbols.{Decodes, DecodesAll};
+ghost use Rattle.constriction_chain.specs.Symbols.{DecodesAll};
 
 use crate::chain::isolation::symbols_are_isolated;
 use crate::chain::round_trips::coding::decode_pairs;
@@ -34,9 +33,8 @@ where
     C::ReadError: Drop,
     R::WriteError: Drop,
     ensures count { IfSome result (λ symbols. length symbols.1.items ≡ length later.now) }
-    ensures decoded { C.is_list → IfSome result (λ symbols. (next : ChainState)
-        × Decodes Word.BITS State.BITS record { precision = PRECISION; table = M.table first.now } symbols.0 coder.old.state next
-        × DecodesAll Word.BITS State.BITS (pairs_of PRECISION M.table symbols.1.items later.now) next coder.new.state) }
+    ensures decoded { C.is_list → IfSome result (λ symbols. DecodesAll Word.BITS State.BITS
+        (pairs_of PRECISION M.table (symbols.0 ∷ symbols.1.items) (first.now ∷ later.now)) coder.old.state coder.new.state) }
 {
     let Ok(symbol) = coder.decode_symbol(first) else {
         return None;
@@ -67,7 +65,11 @@ where
     M::Symbol: Drop,
     C::ReadError: Drop,
     R::WriteError: Drop,
-    ensures { C.is_list → coder.old.state.h ≡ same.old.state.h → coder.old.state.compressed ≡ same.old.state.compressed →
+    ensures first { C.is_list → IfSome result (λ both. DecodesAll Word.BITS State.BITS
+        (pairs_of PRECISION M.table (both.0.0 ∷ both.0.1.items) (first.now ∷ later.now)) coder.old.state coder.new.state) }
+    ensures other { C.is_list → IfSome result (λ both. DecodesAll Word.BITS State.BITS
+        (pairs_of PRECISION M.table (both.1.0 ∷ both.1.1.items) (other.now ∷ later.now)) same.old.state same.new.state) }
+    ensures isolated { C.is_list → coder.old.state.h ≡ same.old.state.h → coder.old.state.compressed ≡ same.old.state.compressed →
         IfSome result (λ both. both.0.1.items ≡ both.1.1.items) }
 {
     let by_first = decode_first_and_later(alloc, coder, first, later)?;

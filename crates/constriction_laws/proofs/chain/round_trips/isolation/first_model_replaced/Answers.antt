@@ -3,8 +3,14 @@ use Rattle.constriction_base.specs.Models.{IsModel}
 use Rattle.constriction_laws.proofs.chain_coder.Isolated.{later_same}
 use Rattle.constriction_laws.proofs.chain.round_trips.isolation.first_model_replaced.Goals as goal
 
-pub returns : goal.returns
-returns g c = λ known h compressed.
+pub returns-clause-first : goal.returns-clause-first
+returns-clause-first g c = λ known. c.in_ok-by_first.ensures.decoded known
+
+pub returns-clause-other : goal.returns-clause-other
+returns-clause-other g c = λ known. c.in_ok-by_other.ensures.decoded known
+
+pub returns-clause-isolated : goal.returns-clause-isolated
+returns-clause-isolated g c = λ known h compressed.
     let w = g.Word.BitArray.BITS in
     let P = g.row.PRECISION in
     let table = g.M.EntropyModel.table in
