@@ -205,7 +205,8 @@ fn write_several<Word: BitArray, Backend: WriteWords<Word>>(
     write_owed(bulk, Some(held), top, None)
 }
 
-/// The same of what a step owes. Where no held words are let go, this is one word at most.
+/// Writes what a step owes: the held words that it lets go, and then another if there is one. Mostly this is
+/// one word, or none.
 #[inline(always)]
 pub fn write_step<Word: BitArray, Backend: WriteWords<Word>>(
     bulk: &mut Backend,
