@@ -1,12 +1,16 @@
-//! Cases of bit coders over words of 32 bits: bits alone, and Exp-Golomb codewords of numbers.
+//! Cases of bit coders over words of 32 bits: bits alone, Exp-Golomb codewords of numbers, and codewords of a Huffman tree.
 
 use crate::{
-    input::{Random, COUNT},
+    input::{weights, Random, COUNT},
     Bench,
 };
 use constriction::symbol::{
-    exp_golomb::ExpGolomb, DefaultQueueEncoder, DefaultStackCoder, ReadBitStream, WriteBitStream,
+    exp_golomb::ExpGolomb,
+    huffman::{DecoderHuffmanTree, EncoderHuffmanTree},
+    DecoderCodebook, DefaultQueueEncoder, DefaultStackCoder, EncoderCodebook, ReadBitStream,
+    WriteBitStream,
 };
+use std::hint::black_box;
 
 /// A million bits, each as likely to be set.
 fn equal_bits() -> Vec<bool> {
@@ -58,53 +62,83 @@ pub fn bits_alone(bench: &Bench) {
     assert!(!bench.wants("bits_read_stack") || read.iter().eq(bits.iter().rev()));
 }
 
-/// Codewords of numbers, to a queue and from it, to a stack and from it.
-pub fn codewords(bench: &Bench, drawn: &[usize]) {
+/// Codewords of numbers by Exp-Golomb.
+pub fn exp_golomb(bench: &Bench, drawn: &[usize]) {
     let numbers: Vec<u32> = drawn.iter().map(|&symbol| symbol as u32).collect();
     let golomb = ExpGolomb::<u32>::new();
+    codewords(bench, "golomb", &numbers, &golomb, &golomb);
+}
+
+/// Codewords of symbols by the Huffman tree of their weights.
+pub fn huffman(bench: &Bench, drawn: &[usize]) {
+    let weights = black_box(weights(24));
+    let encoder = EncoderHuffmanTree::from_probabilities::<u32, _>(&weights);
+    let decoder = DecoderHuffmanTree::from_probabilities::<u32, _>(&weights);
+    codewords(bench, "huffman", drawn, &encoder, &decoder);
+}
+
+/// Codewords, to a queue and from it, to a stack and from it.
+fn codewords<E, D>(bench: &Bench, name: &str, symbols: &[E::Symbol], encoder: &E, decoder: &D)
+where
+    E: EncoderCodebook,
+    E::Symbol: Copy + Default + PartialEq,
+    D: DecoderCodebook<Symbol = E::Symbol>,
+{
     let queue = || {
         let mut coder = DefaultQueueEncoder::new();
         coder
-            .encode_iid_symbols(numbers.iter().copied(), &golomb)
+            .encode_iid_symbols(symbols.iter().copied(), encoder)
+            .ok()
             .unwrap();
         coder
     };
     let stack = || {
         let mut coder = DefaultStackCoder::new();
         coder
-            .encode_iid_symbols_reverse(numbers.iter().copied(), &golomb)
+            .encode_iid_symbols_reverse(symbols.iter().copied(), encoder)
+            .ok()
             .unwrap();
         coder
     };
-    let mut read = vec![0; COUNT];
-    bench.case("golomb_encode_queue", || (), |()| queue().into_compressed());
-    let written = queue();
+    let mut read = vec![E::Symbol::default(); COUNT];
     bench.case(
-        "golomb_decode_queue",
+        &format!("{name}_encode_queue"),
+        || (),
+        |()| queue().into_compressed(),
+    );
+    let written = queue();
+    let case = format!("{name}_decode_queue");
+    bench.case(
+        &case,
         || written.clone().into_decoder().unwrap(),
-        |mut decoder| {
-            for (place, number) in read
+        |mut coder| {
+            for (place, symbol) in read
                 .iter_mut()
-                .zip(decoder.decode_iid_symbols(COUNT, &golomb))
+                .zip(coder.decode_iid_symbols(COUNT, decoder))
             {
-                *place = number.unwrap();
+                *place = symbol.ok().unwrap();
             }
         },
     );
-    assert!(!bench.wants("golomb_decode_queue") || read == numbers);
-    bench.case("golomb_encode_stack", || (), |()| stack().into_compressed());
-    let written = stack();
+    assert!(!bench.wants(&case) || read == symbols);
     bench.case(
-        "golomb_decode_stack",
+        &format!("{name}_encode_stack"),
+        || (),
+        |()| stack().into_compressed(),
+    );
+    let written = stack();
+    let case = format!("{name}_decode_stack");
+    bench.case(
+        &case,
         || written.clone(),
         |mut coder| {
-            for (place, number) in read
+            for (place, symbol) in read
                 .iter_mut()
-                .zip(coder.decode_iid_symbols(COUNT, &golomb))
+                .zip(coder.decode_iid_symbols(COUNT, decoder))
             {
-                *place = number.unwrap();
+                *place = symbol.ok().unwrap();
             }
         },
     );
-    assert!(!bench.wants("golomb_decode_stack") || read == numbers);
+    assert!(!bench.wants(&case) || read == symbols);
 }

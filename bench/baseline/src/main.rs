@@ -122,5 +122,6 @@ fn main() {
 
     chain::cases(&bench);
     bits::bits_alone(&bench);
-    bits::codewords(&bench, &drawn);
+    bits::exp_golomb(&bench, &drawn);
+    bits::huffman(&bench, &drawn);
 }

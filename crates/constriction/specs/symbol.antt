@@ -3,4 +3,7 @@ pub mod Codewords
 pub mod Golomb
 pub mod Guarded
 pub mod Guards
+pub mod Huffman
 pub mod Lists
+pub mod Merging
+pub mod Reversed

@@ -101,6 +101,10 @@
 //!   [`symbol::WriteBitStream`] and [`symbol::ReadBitStream`].
 //! - [`symbol::EncoderCodebook`], [`symbol::DecoderCodebook`]: a list of bits for each symbol;
 //!   [`symbol::exp_golomb::ExpGolomb`] is one for all numbers.
+//! - [`symbol::huffman::EncoderHuffmanTree`], [`symbol::huffman::DecoderHuffmanTree`]: the codebook of some weights, for either
+//!   side; [`symbol::huffman::HuffmanError`] says why weights make none.
+//! - [`symbol::reversed_codeword`]: a codeword that is found from its last bit on ([`symbol::SuffixCodebook`]), turned round in a
+//!   [`symbol::SmallBitStack`].
 //!
 //! # [`laws`]: what holds for a whole run
 //!
@@ -119,7 +123,7 @@
 //!   coder's own calls; [`laws::queue::words`], [`laws::queue::lists`] and [`laws::queue::positions`] are the
 //!   laws of sealed words, of lists of symbols, and of recorded positions; the others are of guards and room.
 //! - [`laws::symbol`]: bit coders and codebooks: lists of symbols come back from queues and from stacks,
-//!   under mixed codebooks too, and no Exp-Golomb codeword begins another.
+//!   under mixed codebooks too, and no codeword of Exp-Golomb or of a Huffman tree begins another.
 //! - [`laws::stack`]: the stack coder. [`laws::stack::round_trips`] are whole lists there and back, by
 //!   the coder's own calls; [`laws::stack::steps`], [`laws::stack::lists`] and [`laws::stack::words`] are
 //!   the laws of one symbol, of lists, and of words that are exported and imported; the others are of
@@ -187,15 +191,23 @@ pub mod symbol {
     };
     pub use constriction_symbol::coder::guard::{QueueEncoderGuard, StackCoderGuard};
     pub use constriction_symbol::coder::{
-        DefaultQueueEncoder, DefaultStackCoder, QueueEncoder, StackCoder, SymbolCoder,
+        DefaultQueueEncoder, DefaultStackCoder, NewSmallStack, QueueEncoder, SmallBitStack,
+        StackCoder, SymbolCoder,
     };
     pub use constriction_symbol::iterators::{DecodeSymbols, RepeatCodebook};
     pub use constriction_symbol::queue::{DefaultQueueDecoder, QueueDecoder};
     pub use constriction_symbol::reading::ReadBitStream;
+    pub use constriction_symbol::reversed::{SuffixCodebook, reversed_codeword};
     pub use constriction_symbol::writing::WriteBitStream;
 
     pub mod exp_golomb {
         pub use constriction_symbol::exp_golomb::{ExpGolomb, InvalidCodeword};
+    }
+
+    pub mod huffman {
+        pub use constriction_symbol::huffman::{
+            DecoderHuffmanTree, EncoderHuffmanTree, HuffmanError,
+        };
     }
 }
 
@@ -246,8 +258,16 @@ pub mod laws {
                 };
             }
 
+            pub mod isolation {
+                pub use constriction_laws::chain::round_trips::isolation::{
+                    decode_first_and_later, first_model_replaced,
+                };
+            }
+
             pub mod words {
-                pub use constriction_laws::chain::round_trips::words::{put_back, take_symbols};
+                pub use constriction_laws::chain::round_trips::words::{
+                    put_back, put_back_pairs, take_pairs, take_symbols,
+                };
             }
         }
 
@@ -436,8 +456,20 @@ pub mod laws {
     }
 
     pub mod symbol {
+        pub mod codewords {
+            pub use constriction_laws::symbol::codewords::suffix_turns_prefix;
+        }
+
         pub mod golomb {
-            pub use constriction_laws::symbol::golomb::golomb_is_prefix_free;
+            pub use constriction_laws::symbol::golomb::{
+                golomb_is_prefix_free, golomb_suffix_ends_in_zeros,
+            };
+        }
+
+        pub mod huffman {
+            pub use constriction_laws::symbol::huffman::{
+                huffman_is_prefix_free, huffman_knows_its_symbols, one_tree,
+            };
         }
 
         pub mod lists {
@@ -468,6 +500,12 @@ pub mod laws {
 
             pub mod steps {
                 pub use constriction_laws::symbol::round_trips::steps::symbol_comes_back;
+            }
+
+            pub mod trees {
+                pub use constriction_laws::symbol::round_trips::trees::{
+                    list_through_queue_by_trees, list_through_stack_by_trees,
+                };
             }
 
             pub mod words {

@@ -8,6 +8,7 @@
 //! - [`backends`]: the traits of backends, `ReadWords`, `WriteWords` and those around them, for the
 //!   two ways to read, `Stack` and `Queue`.
 //! - [`vectors`], [`slices`]: backends that lend their words, and a `Vec` as a stack that grows.
+//! - [`small_vectors`]: a `SmallVec` as a stack, whose first word takes no memory.
 //! - [`cursor`]: `Cursor`, a buffer and a position in it, which reads both ways and has an end.
 //! - [`reverse`]: `Reverse`, the other way to read a cursor.
 //! - [`iterators`]: an iterator of words, or of refusals, to be read.
@@ -25,5 +26,6 @@ pub mod iterators;
 pub mod model;
 pub mod reverse;
 pub mod slices;
+pub mod small_vectors;
 pub mod vectors;
 pub mod weights;

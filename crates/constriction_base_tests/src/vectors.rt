@@ -1,58 +1,77 @@
 //! A vector as a stack, in memory enough and in a small heap, and the words that buffers lend.
 
 use crate::calls::{filled, pops, prepares, puts, seeks, seems_full, seems_popped, stacks, stands};
-use constriction_base::backends::{Words, WordsMut};
+use constriction_base::backends::{
+    BoundedReadWords, Pos, PosSeek, ReadWords, Seek, Stack, Words, WordsMut, WriteWords,
+};
 use linked_list_allocator::LocalHeap;
-use std::alloc::Allocator;
+use std::alloc::AllocError;
+use std::convert::Infallible;
 use std::test::Fail;
 
-/// A vector grows by writes, and reads take its last words.
-fn grows_and_shrinks(words: &mut Vec<u32>) -> bool {
-    seems_popped(words)
-        && stacks(words, 0)
-        && pops(words, None)
-        && prepares(words, 3)
-        && puts(words, 7)
-        && puts(words, 8)
-        && puts(words, 9)
-        && !seems_full(words)
-        && !seems_popped(words)
-        && stacks(words, 3)
-        && words.words() == [7u32, 8, 9].as_slice()
-        && pops(words, Some(9))
-        && pops(words, Some(8))
-        && stacks(words, 1)
-        && words.as_slice() == [7u32].as_slice()
+/// A backend with no words grows by writes, and reads take its last words.
+fn grows_and_shrinks<B>(backend: &mut B) -> bool
+where
+    B: BoundedReadWords<u32, Stack> + ReadWords<u32, Stack, ReadError = Infallible>,
+    B: WriteWords<u32, WriteError = AllocError> + Words<u32>,
+{
+    seems_popped(backend)
+        && stacks(backend, 0)
+        && pops(backend, None)
+        && prepares(backend, 3)
+        && puts(backend, 7)
+        && puts(backend, 8)
+        && puts(backend, 9)
+        && !seems_full(backend)
+        && !seems_popped(backend)
+        && stacks(backend, 3)
+        && backend.words() == [7u32, 8, 9].as_slice()
+        && pops(backend, Some(9))
+        && pops(backend, Some(8))
+        && stacks(backend, 1)
+        && backend.words() == [7u32].as_slice()
 }
 
 /// The positions of the words `[7, 8, 9]` are lengths, of which the greater ones are refused.
-fn seeks_by_length(words: &mut Vec<u32>) -> bool {
-    stands(words, 3)
-        && !seeks(words, 4)
-        && words.as_slice() == [7u32, 8, 9].as_slice()
-        && seeks(words, 3)
-        && seeks(words, 1)
-        && words.as_slice() == [7u32].as_slice()
-        && !seeks(words, 2)
-        && stands(words, 1)
+fn seeks_by_length<B>(backend: &mut B) -> bool
+where
+    B: Pos + Seek + PosSeek<Position = usize> + Words<u32>,
+    requires { (other : B) → B.can_tell other }
+{
+    stands(backend, 3)
+        && !seeks(backend, 4)
+        && backend.words() == [7u32, 8, 9].as_slice()
+        && seeks(backend, 3)
+        && seeks(backend, 1)
+        && backend.words() == [7u32].as_slice()
+        && !seeks(backend, 2)
+        && stands(backend, 1)
 }
 
-/// Where a vector is full it is refused memory, and takes the word for which it has room.
-fn is_refused<A: Allocator>(words: &mut Vec<u32, A>) -> bool {
-    let count = filled(words);
+/// Where a backend is full it is refused memory, and takes the word for which it has room.
+fn is_refused<B>(backend: &mut B) -> bool
+where
+    B: BoundedReadWords<u32, Stack> + ReadWords<u32, Stack, ReadError = Infallible>,
+    B: WriteWords<u32, WriteError = AllocError>,
+{
+    let count = filled(backend);
     count > 0
-        && words.len() == count as usize
-        && pops(words, Some(count - 1))
-        && !prepares(words, 200)
-        && stacks(words, count as usize - 1)
-        && puts(words, 6)
-        && !puts(words, 7)
-        && pops(words, Some(6))
+        && stacks(backend, count as usize)
+        && pops(backend, Some(count - 1))
+        && !prepares(backend, 200)
+        && stacks(backend, count as usize - 1)
+        && puts(backend, 6)
+        && !puts(backend, 7)
+        && pops(backend, Some(6))
 }
 
-/// A vector that was refused memory goes on once there is some.
-fn goes_on<A: Allocator>(words: &mut Vec<u32, A>) -> bool {
-    prepares(words, 4) && puts(words, 7) && pops(words, Some(7))
+/// A backend that was refused memory goes on once there is some.
+fn goes_on<B>(backend: &mut B) -> bool
+where
+    B: ReadWords<u32, Stack, ReadError = Infallible>,
+    B: WriteWords<u32, WriteError = AllocError>,
+{
+    prepares(backend, 4) && puts(backend, 7) && pops(backend, Some(7))
 }
 
 /// A vector's words `[1, 2, 3]` are changed and turned round.

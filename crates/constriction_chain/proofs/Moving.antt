@@ -11,7 +11,7 @@ use Rattle.constriction_base.specs.Readings.{BeginsHigh}
 use Rattle.constriction_base.specs.Steps.{AreWords}
 use Rattle.constriction_base.proofs.Exporting.{digit_alone, digit_in, gives_push, word_grows}
 use Rattle.constriction_base.proofs.Sizes.{pow_le}
-use Rattle.constriction_chain.specs.Words.{Begins, IsBeginning, IsOneAbove, MovesIn, NotWritten}
+use Rattle.constriction_chain.specs.Words.{BeginsNonzero, LacksLast, IsOneAbove, MovesIn, NotWritten}
 
 -- a number that isn't above 0
 pub none_left : (n : ℕ) → (0 < n → ⊥) → n ≡ 0
@@ -38,7 +38,7 @@ moves_more {W = W} number held is_list reads w from r new_r old last new word i 
 -- words that moved in below a first one that isn't 0
 pub begins_of : {W E B : Type 0} (number : W → ℕ) (held : B → List W) (is_list : Type 0) (reads : B → Result (Option W) E → B → Type 0) (w r : ℕ) (old between new : B) (word : W)
     → reads old (Ok (Some word)) between → (is_list → held old ≡ word ∷ held between) → 0 < number word
-    → MovesIn number held is_list reads w (number word) between r new → Begins number held is_list reads w old r new
+    → MovesIn number held is_list reads w (number word) between r new → BeginsNonzero number held is_list reads w old r new
 begins_of {W = W} number held is_list reads w r old between new word read top some i =
     let first : 0 * 2 ^ w + number word ≡ number word = omega arith in
     record {
@@ -51,7 +51,7 @@ begins_of {W = W} number held is_list reads w r old between new word read top so
 
 -- no word was read
 pub begins_none : {W E B : Type 0} (number : W → ℕ) (held : B → List W) (is_list : Type 0) (reads : B → Result (Option W) E → B → Type 0) (w : ℕ) (old : B)
-    → Begins number held is_list reads w old 0 old
+    → BeginsNonzero number held is_list reads w old 0 old
 begins_none number held is_list reads w old = record { words = []; given = refl; taken = λ list. refl; high = tt; is = refl }
 
 -- the digits of a number that words moved into
@@ -75,7 +75,7 @@ digits_from w some (v ∷ vs) ws fit high pos =
 
 -- words that a number begins with are its words
 pub digits_begin : {W E B : Type 0} (number : W → ℕ) (held : B → List W) (is_list : Type 0) (reads : B → Result (Option W) E → B → Type 0) (w r : ℕ) (old new : B)
-    → 1 ≤ w → ((x : W) → number x < 2 ^ w) → 0 < r → Begins number held is_list reads w old r new
+    → 1 ≤ w → ((x : W) → number x < 2 ^ w) → 0 < r → BeginsNonzero number held is_list reads w old r new
     → is_list → map number (held old) ≡ digits_of (2 ^ w) r ++ map number (held new)
 digits_begin {W = W} number held is_list reads w r old new some law pos i list =
     ap (λ (ws : List W). map number ws) (i.taken list) ∙ (map-append number i.words (held new)
@@ -181,7 +181,7 @@ module _ {W B E : Type 0} (number : W → ℕ) (held : B → List W) (room : B �
 
   -- a write was refused after room was asked for
   pub not_written : (all : List ℕ) (old mid last : B) (e : E) → room old ≤ room mid → held mid ≡ held old → (makes_room → length all ≤ room mid) → room mid < length all
-      → write_fails last e → IsBeginning all (map number (held mid)) (map number (held last))
+      → write_fails last e → LacksLast all (map number (held mid)) (map number (held last))
       → NotWritten number held room makes_room prepare_fails write_fails all old e
   not_written all old mid last e more same made few fails beginning = (
     omega (arith, more, few),
@@ -189,7 +189,7 @@ module _ {W B E : Type 0} (number : W → ℕ) (held : B → List W) (room : B �
   )
 
 -- words that were to be written below a last one
-pub below_last : (h : ℕ) (all below words : List ℕ) → IsBeginning all below words → IsBeginning (h ∷ all) below words
+pub below_last : (h : ℕ) (all below words : List ℕ) → LacksLast all below words → LacksLast (h ∷ all) below words
 below_last h all below words i = record {
   missing = h ∷ i.missing;
   written = i.written;
@@ -199,5 +199,5 @@ below_last h all below words i = record {
 }
 
 -- the last one alone is missing
-pub last_missing : (h : ℕ) (all below words : List ℕ) → words ≡ all ++ below → IsBeginning (h ∷ all) below words
+pub last_missing : (h : ℕ) (all below words : List ℕ) → words ≡ all ++ below → LacksLast (h ∷ all) below words
 last_missing h all below words is = record { missing = h ∷ []; written = all; some_missing = omega arith; parts = refl; holds = is }

@@ -5,14 +5,14 @@ use Rattle.std.proofs.Math.Nat.{pow-le-pow_right}
 use native.Mathlib.Nat.{pow-suc}
 use Rattle.constriction_base.specs.Steps.{Step, AreWords}
 use Rattle.constriction_base.specs.Windows.{IsInWindow}
-use Rattle.constriction_chain.specs.Walk.{number_of, IsQuantile}
+use Rattle.constriction_chain.specs.Walk.{number_of_bits, IsQuantile}
 use Rattle.constriction_chain.specs.Chain.{ChainState, IsBroughtBelow, IsChain, IsDecode, IsSized, least}
 use Rattle.constriction_chain.proofs.Bits.{number_below, under_short}
 use Rattle.constriction_chain.proofs.Walks.{quantile_some}
 use Rattle.constriction_chain.proofs.Windows.{gain_below, gain_low}
 
 -- a 1 above fewer than k bits is below 2 ^ k
-under_fits : (bits : List Bool) (k : ℕ) → length bits < k → number_of (true ∷ bits) < 2 ^ k
+under_fits : (bits : List Bool) (k : ℕ) → length bits < k → number_of_bits (true ∷ bits) < 2 ^ k
 under_fits bits k short =
     let m : 2 ^ suc (length bits) ≤ 2 ^ k = pow-le-pow_right {n = 2} (lit< tt) short in
     omega (arith, number_below bits, pow-suc 2 (length bits), m)

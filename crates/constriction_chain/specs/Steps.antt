@@ -126,12 +126,12 @@ pub record FoundNoPlace {W E C R F : Type 0} (number : W → ℕ) (is_list : Typ
   pub kept : makes_room → new.state ≡ old.state
 
 -- what a decode at a step may answer
-abbrev pub Decodes : {W E C R F : Type 0} → (W → ℕ) → Type 0 → (C → Result (Option W) E → C → Type 0) → (R → F → Type 0) → (R → ℕ) → Type 0
+abbrev pub DecodeAnswers : {W E C R F : Type 0} → (W → ℕ) → Type 0 → (C → Result (Option W) E → C → Type 0) → (R → F → Type 0) → (R → ℕ) → Type 0
     → ℕ → ℕ → ChainValue C R → Step → Result (Unit {0}) (CoderError DecoderFrontendError (BackendError E F)) → ChainValue C R → Type 0
-Decodes number is_list reads write_fails room makes_room w s old e (Ok u) new = Decoded number is_list reads room w s old e new
-Decodes number is_list reads write_fails room makes_room w s old e (Err (Frontend x)) new = ⊥
-Decodes number is_list reads write_fails room makes_room w s old e (Err (Backend (Compressed x))) new = ⊥
-Decodes number is_list reads write_fails room makes_room w s old e (Err (Backend (Remainders x))) new =
+DecodeAnswers number is_list reads write_fails room makes_room w s old e (Ok u) new = Decoded number is_list reads room w s old e new
+DecodeAnswers number is_list reads write_fails room makes_room w s old e (Err (Frontend x)) new = ⊥
+DecodeAnswers number is_list reads write_fails room makes_room w s old e (Err (Backend (Compressed x))) new = ⊥
+DecodeAnswers number is_list reads write_fails room makes_room w s old e (Err (Backend (Remainders x))) new =
     FoundNoPlace number is_list reads write_fails makes_room w s old e x new
 
 -- a decode at a step
@@ -141,7 +141,7 @@ pub record DecodeCall {W E C R F : Type 0} (number : W → ℕ) (is_list : Type 
   -- before and after it is a coder, whatever the answer
   pub before : IsChainCoder number held held' w s e.precision old
   pub after : IsChainCoder number held held' w s e.precision new
-  pub outcome : Decodes number is_list reads write_fails room makes_room w s old e answer new
+  pub outcome : DecodeAnswers number is_list reads write_fails room makes_room w s old e answer new
 
 -- ---- encodes
 
@@ -173,15 +173,15 @@ pub record FoundNoRoom {W E C R F : Type 0} (number : W → ℕ) (reads : R → 
       × ((v : ℕ) × RegainedBy number reads w (e.p * least w s e.precision) old.state.r old.remainders v new.remainders))
 
 -- what an encode of a step may answer
-abbrev pub Encodes : {W E C R F : Type 0} → (W → ℕ) → Type 0 → (R → Result (Option W) F → R → Type 0) → (C → ℕ → E → Type 0) → (C → E → Type 0) → (C → ℕ) → Type 0
+abbrev pub EncodeAnswers : {W E C R F : Type 0} → (W → ℕ) → Type 0 → (R → Result (Option W) F → R → Type 0) → (C → ℕ → E → Type 0) → (C → E → Type 0) → (C → ℕ) → Type 0
     → ℕ → ℕ → ChainValue C R → Step → Result (Unit {0}) (CoderError EncoderFrontendError (BackendError E F)) → ChainValue C R → Type 0
-Encodes number is_list reads prepare_fails write_fails room makes_room w s old e (Ok u) new = Encoded number is_list reads room w s old e new
-Encodes number is_list reads prepare_fails write_fails room makes_room w s old e (Err (Frontend OutOfRemainders)) new =
+EncodeAnswers number is_list reads prepare_fails write_fails room makes_room w s old e (Ok u) new = Encoded number is_list reads room w s old e new
+EncodeAnswers number is_list reads prepare_fails write_fails room makes_room w s old e (Err (Frontend OutOfRemainders)) new =
     (old.state.r < e.p * least w s e.precision) × reads old.remainders (Ok None) new.remainders × Stays is_list (λ x. x.compressed) old.state new.state
-Encodes number is_list reads prepare_fails write_fails room makes_room w s old e (Err (Frontend ImpossibleSymbol)) new = ⊥
-Encodes number is_list reads prepare_fails write_fails room makes_room w s old e (Err (Backend (Remainders x))) new =
+EncodeAnswers number is_list reads prepare_fails write_fails room makes_room w s old e (Err (Frontend ImpossibleSymbol)) new = ⊥
+EncodeAnswers number is_list reads prepare_fails write_fails room makes_room w s old e (Err (Backend (Remainders x))) new =
     (old.state.r < e.p * least w s e.precision) × reads old.remainders (Err x) new.remainders × Stays is_list (λ x. x.compressed) old.state new.state
-Encodes number is_list reads prepare_fails write_fails room makes_room w s old e (Err (Backend (Compressed x))) new =
+EncodeAnswers number is_list reads prepare_fails write_fails room makes_room w s old e (Err (Backend (Compressed x))) new =
     FoundNoRoom number reads prepare_fails write_fails makes_room w s old e x new
 
 -- an encode of a step
@@ -191,7 +191,7 @@ pub record EncodeCall {W E C R F : Type 0} (number : W → ℕ) (is_list : Type 
   -- before and after it is a coder, whatever the answer
   pub before : IsChainCoder number held held' w s e.precision old
   pub after : IsChainCoder number held held' w s e.precision new
-  pub outcome : Encodes number is_list reads prepare_fails write_fails room makes_room w s old e answer new
+  pub outcome : EncodeAnswers number is_list reads prepare_fails write_fails room makes_room w s old e answer new
 
 -- an impossible symbol is no step's own refusal
 pub never_encoded : {W E C R F : Type 0} {number : W → ℕ} {is_list : Type 0} {held : C → List W} {held' : R → List W} {reads : R → Result (Option W) F → R → Type 0}

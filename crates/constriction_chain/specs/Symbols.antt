@@ -7,20 +7,20 @@ use Rattle.constriction_base.specs.Models.{Model, Item}
 use Rattle.constriction_chain.specs.Chain.{ChainState, IsDecode, IsEncode}
 
 -- a decode of the symbol leads from the old state to the new one, by the step of its entry
-abbrev pub Decodes : {S : Type 0} → ℕ → ℕ → Model S → S → ChainState → ChainState → Type 0
-Decodes w s model symbol old new = AtEntry model.precision model.table symbol (λ e. IsDecode w s e old new)
+abbrev pub TakesOff : {S : Type 0} → ℕ → ℕ → Model S → S → ChainState → ChainState → Type 0
+TakesOff w s model symbol old new = AtEntry model.precision model.table symbol (λ e. IsDecode w s e old new)
 
 -- an encode of the symbol leads from the old state to the new one, by the step of its entry
-abbrev pub Encodes : {S : Type 0} → ℕ → ℕ → Model S → S → ChainState → ChainState → Type 0
-Encodes w s model symbol old new = AtEntry model.precision model.table symbol (λ e. IsEncode w s e old new)
+abbrev pub PutsBack : {S : Type 0} → ℕ → ℕ → Model S → S → ChainState → ChainState → Type 0
+PutsBack w s model symbol old new = AtEntry model.precision model.table symbol (λ e. IsEncode w s e old new)
 
 -- decodes of the items, one after the other, lead from the old state to the new one
-abbrev pub DecodesAll : {S : Type 0} → ℕ → ℕ → List (Item S) → ChainState → ChainState → Type 0
-DecodesAll w s items old new = InTurn (λ item. Decodes w s item.model item.symbol) items old new
+abbrev pub TakesOffAll : {S : Type 0} → ℕ → ℕ → List (Item S) → ChainState → ChainState → Type 0
+TakesOffAll w s items old new = InTurn (λ item. TakesOff w s item.model item.symbol) items old new
 
 -- encodes of the items, one after the other, lead from the old state to the new one
-abbrev pub EncodesAll : {S : Type 0} → ℕ → ℕ → List (Item S) → ChainState → ChainState → Type 0
-EncodesAll w s items old new = InTurn (λ item. Encodes w s item.model item.symbol) items old new
+abbrev pub PutsBackAll : {S : Type 0} → ℕ → ℕ → List (Item S) → ChainState → ChainState → Type 0
+PutsBackAll w s items old new = InTurn (λ item. PutsBack w s item.model item.symbol) items old new
 
 -- a model of the precision: its table cuts the numbers below two to it
 pub record IsModelAt {S : Type 0} (P : ℕ) (model : Model S) : Type 0 where

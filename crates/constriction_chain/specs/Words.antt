@@ -21,7 +21,7 @@ pub record IsOneAbove (w m r : ℕ) : Type 0 where
   pub below : r < 2 ^ (m * w + 1)
 
 -- of words that were to be written above others, the last to be written are missing
-pub record IsBeginning (all below words : List ℕ) : Type 0 where
+pub record LacksLast (all below words : List ℕ) : Type 0 where
   pub missing : List ℕ
   pub written : List ℕ
   pub some_missing : 0 < length missing
@@ -34,7 +34,7 @@ abbrev pub NotWritten : {W B E : Type 0} → (W → ℕ) → (B → List W) → 
 NotWritten {W} {B} {E} number held room makes_room prepare_fails write_fails all old e =
     (room old < length all)
     × (prepare_fails old (length all) e
-    ⊎ ((makes_room → ⊥) × ((last : B) × write_fails last e × IsBeginning all (map number (held old)) (map number (held last)))))
+    ⊎ ((makes_room → ⊥) × ((last : B) × write_fails last e × LacksLast all (map number (held old)) (map number (held last)))))
 
 -- ---- read
 
@@ -51,7 +51,7 @@ pub record MovesIn {W E B : Type 0} (number : W → ℕ) (held : B → List W) (
   pub is : r ≡ number_from_digits_after (2 ^ w) from (map number words)
 
 -- words that reads gave, of which the first isn't 0, and the number that they are
-pub record Begins {W E B : Type 0} (number : W → ℕ) (held : B → List W) (is_list : Type 0) (reads : B → Result (Option W) E → B → Type 0) (w : ℕ) (old : B) (r : ℕ) (new : B) : Type 0 where
+pub record BeginsNonzero {W E B : Type 0} (number : W → ℕ) (held : B → List W) (is_list : Type 0) (reads : B → Result (Option W) E → B → Type 0) (w : ℕ) (old : B) (r : ℕ) (new : B) : Type 0 where
   pub words : List W
   pub given : Gives reads old words new
   pub taken : is_list → held old ≡ words ++ held new
@@ -66,7 +66,7 @@ StopsAt {W} {E} {B} number held is_list reads w bound from old answer new =
 -- the same of a number whose first word was read too
 abbrev pub BeginsAndStops : {W E B : Type 0} → (W → ℕ) → (B → List W) → Type 0 → (B → Result (Option W) E → B → Type 0) → ℕ → ℕ → B → Result (Option W) E → B → Type 0
 BeginsAndStops {W} {E} {B} number held is_list reads w bound old answer new =
-    (x : ℕ) × (last : B) × Begins number held is_list reads w old x last × (x < bound) × ReadsAs held is_list reads last answer new
+    (x : ℕ) × (last : B) × BeginsNonzero number held is_list reads w old x last × (x < bound) × ReadsAs held is_list reads last answer new
 
 -- no number of the remainders came of the words below a one: they are too few, and all were read; or a read was refused
 abbrev pub TooFew : {W E B : Type 0} → (W → ℕ) → (B → List W) → Type 0 → (B → Result (Option W) E → B → Type 0) → ℕ → ℕ → ℕ → B → CoderError B E → Type 0

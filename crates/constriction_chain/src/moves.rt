@@ -5,7 +5,7 @@ ghost use Rattle.constriction_base.specs.Steps.{IsSizes};
 ghost use Rattle.constriction_base.specs.Windows.{IsInWindow};
 ghost use Rattle.constriction_base.specs.declared.errors.CoderError.TheVariants.{Frontend, Backend};
 ghost use Rattle.constriction_chain.specs.Chain.{IsSized, least};
-ghost use Rattle.constriction_chain.specs.Words.{Begins, IsBeginning, IsOneAbove, MovesIn, NoStart, NotWritten, StopsAt};
+ghost use Rattle.constriction_chain.specs.Words.{BeginsNonzero, LacksLast, IsOneAbove, MovesIn, NoStart, NotWritten, StopsAt};
 ghost use Rattle.std.specs.Int.Digits.{digits_of};
 ghost use Rattle.std.specs.Prelude.{Err, IfNone, IfSome, MatchBool, MatchOption, MatchResult, None, Ok, map, ℕ, ◌+◌, ◌-◌, ◌++◌, ◌<◌, ◌^◌, ◌≡◌, ◌≤◌, ◌∷◌};
 
@@ -58,7 +58,7 @@ pub fn begin_window<Word: WordOf<State>, State: BitArray, B: ReadWords<Word, Sta
     ensures { MatchResult result (λ found. MatchOption found
         (NoStart Word.number B.words B.is_list B.reads Word.BITS (least Word.BITS State.BITS precision) source.old (Frontend source.new))
         (λ x. IsInWindow Word.BITS (least Word.BITS State.BITS precision) (State.number x)
-        × Begins Word.number B.words B.is_list B.reads Word.BITS source.old (State.number x) source.new))
+        × BeginsNonzero Word.number B.words B.is_list B.reads Word.BITS source.old (State.number x) source.new))
         (λ e. NoStart Word.number B.words B.is_list B.reads Word.BITS (least Word.BITS State.BITS precision) source.old (Backend e)) }
 {
     let first = match source.read() {
@@ -104,7 +104,7 @@ fn write_words<Word: WordOf<State>, State: BitArray, B: WriteWords<Word>>(
         ≡ fixed_digits (2 ^ Word.BITS) count (State.number number) ++ map Word.number (B.words backend.old))
         × (B.room backend.old ≤ B.room backend.new + count))
         (λ e. (B.room backend.old < count) × ((last : B) × B.write_fails last e
-        × IsBeginning (fixed_digits (2 ^ Word.BITS) count (State.number number))
+        × LacksLast (fixed_digits (2 ^ Word.BITS) count (State.number number))
         (map Word.number (B.words backend.old)) (map Word.number (B.words last)))) }
 {
     let mut rest = number;

@@ -6,7 +6,7 @@ use constriction_base::backends::{ReadWords, Stack};
 use constriction_base::weights::{TableError, WeightTable};
 use constriction_chain::ChainCoder;
 use constriction_words::{BitArray, WordOf};
-use std::alloc::Global;
+use std::alloc::{AllocError, Global};
 
 /// A coder over vectors.
 pub type Whole<Word, State, const PRECISION: usize> = ChainCoder<
@@ -78,30 +78,48 @@ where
     ChainCoder::from_remainders(alloc, remainders).ok()
 }
 
-/// From which words a coder is made.
+/// Of which words a coder is made.
 #[derive(Clone, Copy)]
-pub enum Source<'a, Word> {
+pub enum Form {
     /// Compressed words.
-    Words(&'a [Word]),
+    Words,
     /// Compressed words in the binary form.
-    Binary(&'a [Word]),
+    Binary,
     /// Remainders.
-    Remainders(&'a [Word]),
+    Remainders,
 }
 
-/// The coder over vectors that some words stand for, if there is one.
-pub fn made<Word, State, const PRECISION: usize>(
+/// The coder over vectors that a list of words stands for, if there is one.
+fn made_of<Word, State, const PRECISION: usize>(
     alloc: Global,
-    words: Source<'_, Word>,
+    form: Form,
+    words: Vec<Word>,
 ) -> Option<Whole<Word, State, PRECISION>>
 where
     Word: WordOf<State>,
     State: BitArray,
     requires { IsSized Word.BITS State.BITS PRECISION }
 {
-    match words {
-        Source::Words(words) => of_words(alloc, words.to_vec(alloc).ok()?),
-        Source::Binary(words) => of_binary(alloc, words.to_vec(alloc).ok()?),
-        Source::Remainders(words) => of_remainders(alloc, words.to_vec(alloc).ok()?),
+    match form {
+        Form::Words => of_words(alloc, words),
+        Form::Binary => of_binary(alloc, words),
+        Form::Remainders => of_remainders(alloc, words),
+    }
+}
+
+/// The same of a copy of some words.
+pub fn made<Word, State, const PRECISION: usize>(
+    alloc: Global,
+    form: Form,
+    words: &[Word],
+) -> Option<Whole<Word, State, PRECISION>>
+where
+    Word: WordOf<State>,
+    State: BitArray,
+    requires { IsSized Word.BITS State.BITS PRECISION }
+{
+    match words.to_vec(alloc) {
+        Ok(words) => made_of(alloc, form, words),
+        Err(AllocError) => None,
     }
 }

@@ -54,7 +54,7 @@ where
     R::WriteError: Drop,
 {
     match parts_of(coder) {
-        Ok((prefix, suffix)) => prefix.below() == compressed && suffix.below() == remainders,
+        Ok((prefix, suffix)) => { (prefix.below() == compressed) & (suffix.below() == remainders) }
         Err(_) => false,
     }
 }
@@ -104,50 +104,17 @@ where
     coder.state()
 }
 
-/// What an export returns.
-#[derive(Drop)]
-pub enum Exported<T, B, E> {
-    Words(B),
-    /// The coder is as it was.
-    Refused(T),
-    NoRoom(E),
-}
-
-/// The words that a coder exports. The remainders that are left are compared.
-pub fn export<Word, State, C, R, const PRECISION: usize>(
-    coder: ChainCoder<Word, State, C, R, PRECISION>,
-    remainders: &[Word],
-) -> Exported<ChainCoder<Word, State, C, R, PRECISION>, Option<C>, C::WriteError>
+/// Compares what an export gives: the remainders that are left, and the words.
+fn is_export<Word, C, R, E>(answer: Result<(R, C), E>, remainders: &[Word], words: &[Word]) -> bool
 where
-    Word: WordOf<State> + PartialEq,
-    State: BitArray,
-    C: WriteWords<Word> + Drop,
-    R: Holds<Word, Stack> + Below<Word> + Drop,
+    Word: BitArray + PartialEq,
+    C: Below<Word> + Drop,
+    R: Below<Word> + Drop,
+    E: Drop,
 {
-    match coder.into_compressed() {
-        Ok((left, words)) if left.below() == remainders => Exported::Words(Some(words)),
-        Ok(_) => Exported::Words(None),
-        Err(CoderError::Frontend(coder)) => Exported::Refused(coder),
-        Err(CoderError::Backend(error)) => Exported::NoRoom(error),
-    }
-}
-
-/// The same in the binary form.
-pub fn export_binary<Word, State, C, R, const PRECISION: usize>(
-    coder: ChainCoder<Word, State, C, R, PRECISION>,
-    remainders: &[Word],
-) -> Exported<ChainCoder<Word, State, C, R, PRECISION>, Option<C>, C::WriteError>
-where
-    Word: WordOf<State> + PartialEq,
-    State: BitArray,
-    C: WriteWords<Word> + Drop,
-    R: Holds<Word, Stack> + Below<Word> + Drop,
-{
-    match coder.into_binary() {
-        Ok((left, words)) if left.below() == remainders => Exported::Words(Some(words)),
-        Ok(_) => Exported::Words(None),
-        Err(CoderError::Frontend(coder)) => Exported::Refused(coder),
-        Err(CoderError::Backend(error)) => Exported::NoRoom(error),
+    match answer {
+        Ok((left, all)) => (left.below() == remainders) & (all.below() == words),
+        Err(_) => false,
     }
 }
 
@@ -165,10 +132,7 @@ where
     R: Holds<Word, Stack> + Below<Word> + Clone + Drop,
 {
     match copy_of(coder) {
-        Ok(copy) => match export(copy, remainders) {
-            Exported::Words(Some(all)) => all.below() == words,
-            _ => false,
-        },
+        Ok(copy) => is_export(copy.into_compressed(), remainders, words),
         Err(AllocError) => false,
     }
 }
@@ -187,15 +151,38 @@ where
     R: Holds<Word, Stack> + Below<Word> + Clone + Drop,
 {
     match copy_of(coder) {
-        Ok(copy) => match export_binary(copy, remainders) {
-            Exported::Words(Some(all)) => all.below() == words,
-            _ => false,
-        },
+        Ok(copy) => is_export(copy.into_binary(), remainders, words),
         Err(AllocError) => false,
     }
 }
 
-/// Whether a copy of a coder is handed back by both exports, with these words in it.
+/// What an export of a coder returns.
+type Export<Word, State, C, R, E, const PRECISION: usize> = Result<
+    (R, C),
+    CoderError<ChainCoder<Word, State, C, R, PRECISION>, E>,
+>;
+
+/// Compares the words of the coder that an export hands back.
+fn is_back<Word, State, C, R, E, const PRECISION: usize>(
+    answer: Export<Word, State, C, R, E, PRECISION>,
+    compressed: &[Word],
+    remainders: &[Word],
+) -> bool
+where
+    Word: WordOf<State> + PartialEq,
+    State: BitArray,
+    C: Holds<Word, Stack> + Below<Word> + Drop,
+    R: WriteWords<Word> + Below<Word> + Drop,
+    R::WriteError: Drop,
+    E: Drop,
+{
+    match answer {
+        Err(CoderError::Frontend(coder)) => has_parts(coder, compressed, remainders),
+        _ => false,
+    }
+}
+
+/// Whether a copy of a coder is handed back by the export, with these words in it.
 pub fn is_handed_back<Word, State, C, R, const PRECISION: usize>(
     coder: &ChainCoder<Word, State, C, R, PRECISION>,
     compressed: &[Word],
@@ -209,14 +196,29 @@ where
     R: WriteWords<Word> + Below<Word> + Clone + Drop,
     R::WriteError: Drop,
 {
-    match (copy_of(coder), copy_of(coder)) {
-        (Ok(first), Ok(second)) => match (export(first, &[]), export_binary(second, &[])) {
-            (Exported::Refused(one), Exported::Refused(two)) => {
-                is_at(&one, compressed, remainders) && is_at(&two, compressed, remainders)
-            }
-            _ => false,
-        },
-        _ => false,
+    match copy_of(coder) {
+        Ok(copy) => is_back(copy.into_compressed(), compressed, remainders),
+        Err(AllocError) => false,
+    }
+}
+
+/// The same in the binary form.
+pub fn is_handed_back_binary<Word, State, C, R, const PRECISION: usize>(
+    coder: &ChainCoder<Word, State, C, R, PRECISION>,
+    compressed: &[Word],
+    remainders: &[Word],
+) -> bool
+where
+    Word: WordOf<State> + PartialEq,
+    State: BitArray,
+    C: WriteWords<Word> + Below<Word> + Clone + Drop,
+    C::WriteError: Drop,
+    R: WriteWords<Word> + Below<Word> + Clone + Drop,
+    R::WriteError: Drop,
+{
+    match copy_of(coder) {
+        Ok(copy) => is_back(copy.into_binary(), compressed, remainders),
+        Err(AllocError) => false,
     }
 }
 

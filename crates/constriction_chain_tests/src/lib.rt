@@ -24,6 +24,8 @@ mod cursors;
 #[cfg(test)]
 mod expect;
 #[cfg(test)]
+mod faults;
+#[cfg(test)]
 mod lists;
 #[cfg(test)]
 mod memory;

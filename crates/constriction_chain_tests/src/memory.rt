@@ -1,18 +1,21 @@
 //! Calls over a heap that is full, and then isn't. Each that is refused leaves the coder as it was, and
 //! succeeds once there is memory.
 //!
-//! A vector that was copied has no room for more words than it holds, so each coder here is a copy.
+//! A vector that was copied has no room for more words than it holds, so each coder here is a copy. Who fills
+//! the heap owns nothing else.
 
+ghost use Rattle.constriction_chain.specs.Chain.{IsSized};
+
+use crate::cases::stays;
 use crate::coders::{coarse_table_of, of_binary, of_remainders, of_words, table_of};
-use crate::expect::{Exported, copy_of, export, export_binary, has_parts, parts_of};
-use crate::put::puts;
-use crate::script::{Act, Fault, follows};
-use crate::take::gives;
+use crate::expect::{copy_of, has_parts, parts_of};
+use crate::faults::Fault;
+use crate::script::Act;
 use constriction_base::errors::CoderError;
 use constriction_base::weights::WeightTable;
 use constriction_chain::{BackendError, ChainCoder, ChangePrecisionError};
 use linked_list_allocator::LocalHeap;
-use std::alloc::{AllocError, Global};
+use std::alloc::{AllocError, Allocator, Global};
 use std::test::Fail;
 
 /// A coder whose compressed words are in a heap of their own.
@@ -33,27 +36,117 @@ type ToHeap<'a, const PRECISION: usize> = ChainCoder<
     PRECISION,
 >;
 
-/// Whether a coder does as expected.
-fn to_heap_does(
-    coder: &mut ToHeap<'_, 8>,
-    table: &WeightTable<u8, 8>,
-    acts: &[Act<'_, u8>],
-) -> bool {
-    follows(coder, table, acts)
+/// The coder of some remainders in a heap, if there is one.
+fn remainders_in<'a, const PRECISION: usize>(
+    alloc: Global,
+    heap: &'a LocalHeap,
+    suffix: &[u8],
+) -> Option<ToHeap<'a, PRECISION>>
+    requires { IsSized 8 16 PRECISION }
+{
+    match suffix.to_vec(heap) {
+        Ok(words) => of_remainders(alloc, words),
+        Err(AllocError) => None,
+    }
 }
 
-/// The same of a coder of words in a heap.
-fn from_heap_does(
-    coder: &mut FromHeap<'_, 8>,
-    table: &WeightTable<u8, 8>,
-    acts: &[Act<'_, u8>],
-) -> bool {
-    follows(coder, table, acts)
+/// The coder of some compressed words in a heap, if there is one.
+fn words_in<'a, const PRECISION: usize>(
+    alloc: Global,
+    heap: &'a LocalHeap,
+    words: &[u8],
+) -> Option<FromHeap<'a, PRECISION>>
+    requires { IsSized 8 16 PRECISION }
+{
+    match words.to_vec(heap) {
+        Ok(words) => of_words(alloc, words),
+        Err(AllocError) => None,
+    }
 }
 
-/// Puts the symbols back that leave the compressed words 10 and 20 and the number 30.
-fn puts_both(coder: &mut ToHeap<'_, 8>, table: &WeightTable<u8, 8>) -> bool {
-    puts(coder, table, &[0, 1])
+/// The same in the binary form.
+fn binary_words_in<'a>(
+    alloc: Global,
+    heap: &'a LocalHeap,
+    words: &[u8],
+) -> Option<FromHeap<'a, 4>> {
+    match words.to_vec(heap) {
+        Ok(words) => of_binary(alloc, words),
+        Err(AllocError) => None,
+    }
+}
+
+/// A copy of a coder, if there is one.
+fn copied<A, B, const PRECISION: usize>(
+    found: Option<ChainCoder<u8, u16, Vec<u8, A>, Vec<u8, B>, PRECISION>>,
+) -> Option<ChainCoder<u8, u16, Vec<u8, A>, Vec<u8, B>, PRECISION>>
+where
+    A: Allocator + Clone,
+    B: Allocator + Clone,
+{
+    match found {
+        Some(coder) => copy_of(&coder).ok(),
+        None => None,
+    }
+}
+
+/// The same of one that did as expected.
+fn copied_after<A, B, const PRECISION: usize>(
+    found: Option<ChainCoder<u8, u16, Vec<u8, A>, Vec<u8, B>, PRECISION>>,
+    table: &WeightTable<u8, PRECISION>,
+    acts: &[Act<'_, u8>],
+) -> Option<ChainCoder<u8, u16, Vec<u8, A>, Vec<u8, B>, PRECISION>>
+where
+    A: Allocator + Clone,
+    B: Allocator + Clone,
+{
+    match found {
+        Some(mut coder) => {
+            if stays(&mut coder, table, acts) {
+                copy_of(&coder).ok()
+            } else {
+                None
+            }
+        }
+        None => None,
+    }
+}
+
+/// All memory that there is.
+fn all_of(heap: &LocalHeap) -> Result<Vec<u8, &LocalHeap>, AllocError> {
+    Vec::with_capacity(heap, 512)
+}
+
+/// Whether a coder does as expected while the heap is full, and then while it isn't.
+fn goes_later<A, B, const PRECISION: usize>(
+    coder: &mut ChainCoder<u8, u16, Vec<u8, A>, Vec<u8, B>, PRECISION>,
+    table: &WeightTable<u8, PRECISION>,
+    heap: &LocalHeap,
+    refused: &[Act<'_, u8>],
+    goes: &[Act<'_, u8>],
+) -> bool
+where
+    A: Allocator + Clone,
+    B: Allocator + Clone,
+{
+    stays_in_full(coder, table, heap, refused) & stays(coder, table, goes)
+}
+
+/// The first of the two.
+fn stays_in_full<A, B, const PRECISION: usize>(
+    coder: &mut ChainCoder<u8, u16, Vec<u8, A>, Vec<u8, B>, PRECISION>,
+    table: &WeightTable<u8, PRECISION>,
+    heap: &LocalHeap,
+    refused: &[Act<'_, u8>],
+) -> bool
+where
+    A: Allocator + Clone,
+    B: Allocator + Clone,
+{
+    match all_of(heap) {
+        Ok(_filler) => stays(coder, table, refused),
+        Err(AllocError) => false,
+    }
 }
 
 /// The coder of the compressed words 10, 20 and 30, with its remainders in the heap.
@@ -62,113 +155,85 @@ fn to_heap<'a>(
     heap: &'a LocalHeap,
     table: &WeightTable<u8, 8>,
 ) -> Option<ToHeap<'a, 8>> {
-    let suffix = [36u8, 202, 1, 1].to_vec(heap).ok()?;
-    let mut coder: ToHeap<'_, 8> = of_remainders(alloc, suffix)?;
-    if puts_both(&mut coder, table) {
-        copy_of(&coder).ok()
-    } else {
-        None
-    }
+    let found = remainders_in::<8>(alloc, heap, &[36, 202, 1, 1]);
+    copied_after(found, table, &[Act::Puts(&[0, 1])])
 }
 
 /// A decode is refused twice, and then goes.
-#[test]
-fn chain_growth_refused(rt: HostRuntime) -> Result<(), Fail> {
-    let table = table_of(rt.alloc(), &[16, 240])?;
-    let heap = LocalHeap::new(rt.alloc(), 512)?;
-    let Some(mut coder) = to_heap(rt.alloc(), &heap, &table) else {
-        return Err(Fail::from("there is memory"));
-    };
-    let filler: Vec<u8, &LocalHeap> = Vec::with_capacity(&heap, 512)?;
+fn growth_goes_later(alloc: Global, heap: &LocalHeap, table: &WeightTable<u8, 8>) -> bool {
     let refused = [
         Act::GivesNone(Fault::Remainders),
         Act::GivesNone(Fault::Remainders),
     ];
-    let is_refused = to_heap_does(&mut coder, &table, &refused);
-    drop(filler);
     let goes = [
         Act::Is(&[10, 20], &[30, 1]),
         Act::Gives(&[1]),
         Act::Is(&[10], &[36, 28, 1]),
     ];
-    assert!(rt; is_refused && to_heap_does(&mut coder, &table, &goes));
+    match to_heap(alloc, heap, table) {
+        Some(mut coder) => goes_later(&mut coder, table, heap, &refused, &goes),
+        None => false,
+    }
+}
+
+#[test]
+fn chain_growth_refused(rt: HostRuntime) -> Result<(), Fail> {
+    let table = table_of(rt.alloc(), &[16, 240])?;
+    let heap = LocalHeap::new(rt.alloc(), 512)?;
+    assert!(rt; growth_goes_later(rt.alloc(), &heap, &table));
     Ok(())
 }
 
 /// The coder of the number 2249 at 4 bits of precision, with the bits 0101 left over, and with its remainders in the
 /// heap.
-fn with_bits_left<'a>(alloc: Global, heap: &'a LocalHeap) -> Option<ToHeap<'a, 4>> {
-    let suffix = [201u8, 8, 21].to_vec(heap).ok()?;
-    let coder: ToHeap<'_, 4> = of_remainders(alloc, suffix)?;
-    copy_of(&coder).ok()
-}
-
-/// The same, at 4 bits of precision.
-fn coarse_to_heap_does(
-    coder: &mut ToHeap<'_, 4>,
-    table: &WeightTable<u8, 4>,
-    acts: &[Act<'_, u8>],
-) -> bool {
-    follows(coder, table, acts)
-}
-
+///
 /// No word is read for the quantile 5, and so no room is asked for, but the number 24739 moves a word out.
-#[test]
-fn a_full_heap_refuses_a_decode_of_bits_left_over(rt: HostRuntime) -> Result<(), Fail> {
-    let table = coarse_table_of(rt.alloc(), &[5, 11])?;
-    let heap = LocalHeap::new(rt.alloc(), 512)?;
-    let Some(mut coder) = with_bits_left(rt.alloc(), &heap) else {
-        return Err(Fail::from("there is memory"));
-    };
-    let filler: Vec<u8, &LocalHeap> = Vec::with_capacity(&heap, 512)?;
+fn bits_left_go_later(alloc: Global, heap: &LocalHeap, table: &WeightTable<u8, 4>) -> bool {
     let refused = [
         Act::GivesNone(Fault::Remainders),
         Act::GivesNone(Fault::Remainders),
     ];
-    let is_refused = coarse_to_heap_does(&mut coder, &table, &refused);
-    drop(filler);
     let goes = [
         Act::Is(&[], &[201, 8, 21]),
         Act::Gives(&[1]),
         Act::Is(&[], &[163, 96, 1]),
     ];
-    assert!(rt; is_refused && coarse_to_heap_does(&mut coder, &table, &goes));
+    match copied(remainders_in::<4>(alloc, heap, &[201, 8, 21])) {
+        Some(mut coder) => goes_later(&mut coder, table, heap, &refused, &goes),
+        None => false,
+    }
+}
+
+#[test]
+fn a_full_heap_refuses_a_decode_of_bits_left_over(rt: HostRuntime) -> Result<(), Fail> {
+    let table = coarse_table_of(rt.alloc(), &[5, 11])?;
+    let heap = LocalHeap::new(rt.alloc(), 512)?;
+    assert!(rt; bits_left_go_later(rt.alloc(), &heap, &table));
     Ok(())
 }
 
-/// The suffix has no room for the words of the heads.
+/// Whether the suffix has no room for the words of the heads.
+fn has_no_suffix(coder: ToHeap<'_, 8>, heap: &LocalHeap) -> bool {
+    match all_of(heap) {
+        Ok(_filler) => matches!(parts_of(coder), Err(AllocError)),
+        Err(AllocError) => false,
+    }
+}
+
+/// The same of the coder of the compressed words 10, 20 and 30.
+fn suffix_is_refused(alloc: Global, heap: &LocalHeap, table: &WeightTable<u8, 8>) -> bool {
+    match to_heap(alloc, heap, table) {
+        Some(coder) => has_no_suffix(coder, heap),
+        None => false,
+    }
+}
+
 #[test]
 fn a_full_heap_refuses_a_suffix(rt: HostRuntime) -> Result<(), Fail> {
     let table = table_of(rt.alloc(), &[16, 240])?;
     let heap = LocalHeap::new(rt.alloc(), 512)?;
-    let Some(coder) = to_heap(rt.alloc(), &heap, &table) else {
-        return Err(Fail::from("there is memory"));
-    };
-    let filler: Vec<u8, &LocalHeap> = Vec::with_capacity(&heap, 512)?;
-    let is_refused = matches!(parts_of(coder), Err(AllocError));
-    drop(filler);
-    assert!(rt; is_refused);
+    assert!(rt; suffix_is_refused(rt.alloc(), &heap, &table));
     Ok(())
-}
-
-/// Takes the first symbol of the words 10, 20 and 30.
-fn takes_one(coder: &mut FromHeap<'_, 8>, table: &WeightTable<u8, 8>) -> bool {
-    gives(coder, table, &[1])
-}
-
-/// The coder of the compressed words 10, 20 and 30 in the heap, of which one was taken.
-fn from_heap<'a>(
-    alloc: Global,
-    heap: &'a LocalHeap,
-    table: &WeightTable<u8, 8>,
-) -> Option<FromHeap<'a, 8>> {
-    let words = [10u8, 20, 30].to_vec(heap).ok()?;
-    let mut coder: FromHeap<'_, 8> = of_words(alloc, words)?;
-    if takes_one(&mut coder, table) {
-        copy_of(&coder).ok()
-    } else {
-        None
-    }
 }
 
 /// What memory there is beside vectors of 16 bytes, of which one that isn't the last was freed.
@@ -178,22 +243,42 @@ struct Filler<'a> {
     above: Vec<u8, &'a LocalHeap>,
 }
 
-/// Takes what memory there is beside so many bytes of such vectors.
-fn fill(heap: &LocalHeap, used: usize) -> Result<Filler<'_>, AllocError> {
+/// Takes what memory there is beside 32 bytes of such vectors.
+fn fill(heap: &LocalHeap) -> Result<Filler<'_>, AllocError> {
     let below = Vec::with_capacity(heap, 16)?;
-    let above = Vec::with_capacity(heap, 512usize.saturating_sub(used))?;
+    let above = Vec::with_capacity(heap, 480)?;
     Ok(Filler { below, above })
 }
 
-/// An encode is refused twice, and then goes.
-#[test]
-fn a_full_heap_refuses_an_encode(rt: HostRuntime) -> Result<(), Fail> {
-    let table = table_of(rt.alloc(), &[16, 240])?;
-    let heap = LocalHeap::new(rt.alloc(), 512)?;
-    let Some(mut coder) = from_heap(rt.alloc(), &heap, &table) else {
-        return Err(Fail::from("there is memory"));
-    };
-    let filler = fill(&heap, 32)?;
+/// The coder of the compressed words 10, 20 and 30 in the heap, of which one was taken.
+fn from_heap<'a>(
+    alloc: Global,
+    heap: &'a LocalHeap,
+    table: &WeightTable<u8, 8>,
+) -> Option<FromHeap<'a, 8>> {
+    let found = words_in::<8>(alloc, heap, &[10, 20, 30]);
+    copied_after(found, table, &[Act::Gives(&[1])])
+}
+
+/// Whether a coder of words in a heap does as expected while the heap is full.
+fn stays_beside(
+    coder: &mut FromHeap<'_, 8>,
+    table: &WeightTable<u8, 8>,
+    heap: &LocalHeap,
+    acts: &[Act<'_, u8>],
+) -> bool {
+    match fill(heap) {
+        Ok(_filler) => stays(coder, table, acts),
+        Err(AllocError) => false,
+    }
+}
+
+/// Encodes are refused, and then one goes.
+fn encodes_go_later(
+    coder: &mut FromHeap<'_, 8>,
+    table: &WeightTable<u8, 8>,
+    heap: &LocalHeap,
+) -> bool {
     let refused = [
         Act::PutsNone(1, Fault::Compressed),
         Act::PutsNone(1, Fault::Compressed),
@@ -201,94 +286,113 @@ fn a_full_heap_refuses_an_encode(rt: HostRuntime) -> Result<(), Fail> {
         Act::PutsPairs(0, 1, Some(Fault::Compressed)),
         Act::PutsItems(Ok(0), 1, Some(Fault::Compressed)),
     ];
-    let is_refused = from_heap_does(&mut coder, &table, &refused);
-    drop(filler);
     let goes = [
         Act::Is(&[10], &[36, 28, 1]),
         Act::Puts(&[1]),
         Act::Is(&[10, 20], &[30, 1]),
         Act::Exports(&[], &[10, 20, 30]),
     ];
-    assert!(rt; is_refused && from_heap_does(&mut coder, &table, &goes));
+    stays_beside(coder, table, heap, &refused) & stays(coder, table, &goes)
+}
+
+/// The same of the coder of the compressed words 10, 20 and 30.
+fn encode_goes_later(alloc: Global, heap: &LocalHeap, table: &WeightTable<u8, 8>) -> bool {
+    match from_heap(alloc, heap, table) {
+        Some(mut coder) => encodes_go_later(&mut coder, table, heap),
+        None => false,
+    }
+}
+
+/// An encode is refused twice, and then goes.
+#[test]
+fn a_full_heap_refuses_an_encode(rt: HostRuntime) -> Result<(), Fail> {
+    let table = table_of(rt.alloc(), &[16, 240])?;
+    let heap = LocalHeap::new(rt.alloc(), 512)?;
+    assert!(rt; encode_goes_later(rt.alloc(), &heap, &table));
     Ok(())
 }
 
-/// The coder of the compressed words 10, 20 and 30 in the heap.
-fn untouched<'a>(alloc: Global, heap: &'a LocalHeap) -> Option<FromHeap<'a, 4>> {
-    let words = [10u8, 20, 30].to_vec(heap).ok()?;
-    let coder: FromHeap<'_, 4> = of_words(alloc, words)?;
-    copy_of(&coder).ok()
+/// Whether neither an export nor a copy before it finds memory.
+fn exports_none(coder: FromHeap<'_, 4>, heap: &LocalHeap) -> bool {
+    match fill(heap) {
+        Ok(_filler) => {
+            let is_not_copied = copy_of(&coder).is_err();
+            is_not_copied
+                & matches!(
+                    coder.into_compressed(),
+                    Err(CoderError::Backend(AllocError))
+                )
+        }
+        Err(AllocError) => false,
+    }
 }
 
-/// The same in the binary form.
-fn untouched_binary<'a>(alloc: Global, heap: &'a LocalHeap) -> Option<FromHeap<'a, 4>> {
-    let words = [10u8, 20, 30].to_vec(heap).ok()?;
-    let coder: FromHeap<'_, 4> = of_binary(alloc, words)?;
-    copy_of(&coder).ok()
+/// Whether an export in the binary form finds no memory.
+fn exports_none_binary(coder: FromHeap<'_, 4>, heap: &LocalHeap) -> bool {
+    match fill(heap) {
+        Ok(_filler) => matches!(coder.into_binary(), Err(CoderError::Backend(AllocError))),
+        Err(AllocError) => false,
+    }
 }
 
-/// Whether an export finds no memory.
-fn exports_none(coder: FromHeap<'_, 4>) -> bool {
-    matches!(export(coder, &[]), Exported::NoRoom(AllocError))
-}
-
-/// The same in the binary form.
-fn exports_none_binary(coder: FromHeap<'_, 4>) -> bool {
-    matches!(export_binary(coder, &[]), Exported::NoRoom(AllocError))
-}
-
-/// Whether a copy finds no memory.
-fn copies_none(coder: &FromHeap<'_, 4>) -> bool {
-    copy_of(coder).is_err()
+/// The export of the compressed words 10, 20 and 30 in the heap.
+fn export_is_refused(alloc: Global, heap: &LocalHeap) -> bool {
+    match copied(words_in::<4>(alloc, heap, &[10, 20, 30])) {
+        Some(coder) => exports_none(coder, heap),
+        None => false,
+    }
 }
 
 #[test]
 fn a_full_heap_refuses_an_export(rt: HostRuntime) -> Result<(), Fail> {
     let heap = LocalHeap::new(rt.alloc(), 512)?;
-    let Some(coder) = untouched(rt.alloc(), &heap) else {
-        return Err(Fail::from("there is memory"));
-    };
-    let filler = fill(&heap, 32)?;
-    let is_refused = copies_none(&coder) && exports_none(coder);
-    drop(filler);
-    assert!(rt; is_refused);
+    assert!(rt; export_is_refused(rt.alloc(), &heap));
     Ok(())
+}
+
+/// The same in the binary form.
+fn binary_export_is_refused(alloc: Global, heap: &LocalHeap) -> bool {
+    match copied(binary_words_in(alloc, heap, &[10, 20, 30])) {
+        Some(coder) => exports_none_binary(coder, heap),
+        None => false,
+    }
 }
 
 #[test]
 fn a_full_heap_refuses_a_binary_export(rt: HostRuntime) -> Result<(), Fail> {
     let heap = LocalHeap::new(rt.alloc(), 512)?;
-    let Some(coder) = untouched_binary(rt.alloc(), &heap) else {
-        return Err(Fail::from("there is memory"));
-    };
-    let filler = fill(&heap, 32)?;
-    let is_refused = exports_none_binary(coder);
-    drop(filler);
-    assert!(rt; is_refused);
+    assert!(rt; binary_export_is_refused(rt.alloc(), &heap));
     Ok(())
+}
+
+/// Whether a copy finds no memory for the remainders.
+fn copies_none(coder: &ToHeap<'_, 8>, heap: &LocalHeap) -> bool {
+    match Vec::<u8, &LocalHeap>::with_capacity(heap, 496) {
+        Ok(_filler) => copy_of(coder).is_err(),
+        Err(AllocError) => false,
+    }
+}
+
+/// The same, and the coder stays.
+fn clone_is_refused(coder: ToHeap<'_, 8>, heap: &LocalHeap) -> bool {
+    let is_refused = copies_none(&coder, heap);
+    is_refused & has_parts(coder, &[], &[7, 30, 1])
 }
 
 /// A copy wants memory for the remainders, too.
 #[test]
 fn a_full_heap_refuses_a_clone(rt: HostRuntime) -> Result<(), Fail> {
     let heap = LocalHeap::new(rt.alloc(), 512)?;
-    let suffix = [7u8, 30, 1].to_vec(&heap)?;
-    let made: Option<ToHeap<'_, 8>> = of_remainders(rt.alloc(), suffix);
-    let Some(coder) = made else {
+    let Some(coder) = remainders_in::<8>(rt.alloc(), &heap, &[7, 30, 1]) else {
         return Err(Fail::from("there are enough words"));
     };
-    let filler: Vec<u8, &LocalHeap> = Vec::with_capacity(&heap, 496)?;
-    let is_refused = copy_of(&coder).is_err();
-    drop(filler);
-    assert!(rt; is_refused && has_parts(coder, &[], &[7, 30, 1]));
+    assert!(rt; clone_is_refused(coder, &heap));
     Ok(())
 }
 
 /// The coder with the number 2249 of the remainders, at 4 bits of precision, and no word below it.
 fn to_be_raised<'a>(alloc: Global, heap: &'a LocalHeap) -> Option<ToHeap<'a, 4>> {
-    let suffix = [201u8, 8, 1].to_vec(heap).ok()?;
-    let coder: ToHeap<'_, 4> = of_remainders(alloc, suffix)?;
-    copy_of(&coder).ok()
+    copied(remainders_in::<4>(alloc, heap, &[201, 8, 1]))
 }
 
 /// Whether an increase finds no memory.
@@ -311,18 +415,25 @@ fn is_not_changed(coder: ToHeap<'_, 4>) -> bool {
     )
 }
 
+/// Whether neither finds memory.
+fn are_not_changed(first: ToHeap<'_, 4>, second: ToHeap<'_, 4>, heap: &LocalHeap) -> bool {
+    match all_of(heap) {
+        Ok(_filler) => is_not_raised(first) & is_not_changed(second),
+        Err(AllocError) => false,
+    }
+}
+
+/// The same of coders that are made.
+fn changes_are_refused(alloc: Global, heap: &LocalHeap) -> bool {
+    match (to_be_raised(alloc, heap), to_be_raised(alloc, heap)) {
+        (Some(first), Some(second)) => are_not_changed(first, second, heap),
+        _ => false,
+    }
+}
+
 #[test]
 fn a_full_heap_refuses_changes(rt: HostRuntime) -> Result<(), Fail> {
     let heap = LocalHeap::new(rt.alloc(), 512)?;
-    let (Some(first), Some(second)) = (
-        to_be_raised(rt.alloc(), &heap),
-        to_be_raised(rt.alloc(), &heap),
-    ) else {
-        return Err(Fail::from("there is memory"));
-    };
-    let filler: Vec<u8, &LocalHeap> = Vec::with_capacity(&heap, 512)?;
-    let are_refused = is_not_raised(first) && is_not_changed(second);
-    drop(filler);
-    assert!(rt; are_refused);
+    assert!(rt; changes_are_refused(rt.alloc(), &heap));
     Ok(())
 }

@@ -2,8 +2,8 @@
 
 ghost use Rattle.std.specs.Prelude.{◌≤◌};
 
-use crate::cases::{coarse_stays, stays};
-use crate::coders::{Bytes, Source, Whole, coarse_table_of, made, table_of};
+use crate::cases::stays;
+use crate::coders::{Bytes, Form, Whole, coarse_table_of, made, table_of};
 use crate::expect::{has_parts, places_of};
 use crate::script::Act;
 use constriction_base::backends::{Holds, ReadWords, Stack, WriteWords};
@@ -69,59 +69,136 @@ fn changed_to_same(coder: Bytes<4>) -> Option<Bytes<4>> {
     coder.change_precision().ok()
 }
 
-/// A coder at 4 bits of precision, if there is one.
-fn coarse(alloc: Global, words: Source<'_, u8>) -> Option<Bytes<4>> {
-    made(alloc, words)
-}
-
-/// A coder at 8 bits of precision, if there is one.
-fn fine(alloc: Global, words: Source<'_, u8>) -> Option<Bytes<8>> {
-    made(alloc, words)
-}
-
-/// Compares how many words of remainders are below the number, and then the words with the heads on top.
-fn is_coarse(coder: Bytes<4>, remainders: usize, compressed: &[u8], suffix: &[u8]) -> bool {
-    places_of(&coder).1 == remainders && has_parts(coder, compressed, suffix)
+/// The coder at 4 bits of precision of some remainders, if there is one.
+fn coarse(alloc: Global, suffix: &[u8]) -> Option<Bytes<4>> {
+    made(alloc, Form::Remainders, suffix)
 }
 
 /// The same at 8 bits of precision.
-fn is_fine(coder: Bytes<8>, remainders: usize, compressed: &[u8], suffix: &[u8]) -> bool {
-    places_of(&coder).1 == remainders && has_parts(coder, compressed, suffix)
+fn fine(alloc: Global, suffix: &[u8]) -> Option<Bytes<8>> {
+    made(alloc, Form::Remainders, suffix)
+}
+
+/// Compares how many words of remainders are below the number, and then the words with the heads on top, of a
+/// coder, if there is one.
+fn is_changed<Word, State, const PRECISION: usize>(
+    found: Option<Whole<Word, State, PRECISION>>,
+    remainders: usize,
+    compressed: &[Word],
+    suffix: &[Word],
+) -> bool
+where
+    Word: WordOf<State> + PartialEq,
+    State: BitArray,
+{
+    match found {
+        Some(coder) => {
+            let is_below = places_of(&coder).1 == remainders;
+            is_below & has_parts(coder, compressed, suffix)
+        }
+        None => false,
+    }
+}
+
+/// The coder of remainders after its precision is increased.
+fn up_of(alloc: Global, form: Form, words: &[u8]) -> Option<Bytes<8>> {
+    match made(alloc, form, words) {
+        Some(coder) => raised(coder),
+        None => None,
+    }
+}
+
+/// The same, decreased.
+fn down_of(alloc: Global, suffix: &[u8]) -> Option<Bytes<4>> {
+    match fine(alloc, suffix) {
+        Some(coder) => lowered(coder),
+        None => None,
+    }
 }
 
 /// The number 2249 is the number 8 above the word 201. It is in the window of 4 bits of precision, and 8 in that
 /// of 8 bits. The number 18 is in both.
 #[test]
-fn chain_precision_changes(rt: HostRuntime) -> Result<(), Fail> {
+fn chain_precision_changes(rt: HostRuntime) {
     let alloc = rt.alloc();
-    let suffix = Source::Remainders(&[201, 8, 1]);
-    let up = coarse(alloc, suffix).and_then(raised);
-    let down = fine(alloc, suffix).and_then(lowered);
-    let fresh = coarse(alloc, Source::Words(&[0xab, 18])).and_then(raised);
-    let (Some(up), Some(down), Some(fresh)) = (up, down, fresh) else {
-        return Err(Fail::from("there are enough words"));
-    };
-    assert!(rt; is_fine(up, 1, &[], &[201, 8, 1]));
-    assert!(rt; is_coarse(down, 0, &[], &[201, 8, 1]));
-    assert!(rt; is_fine(fresh, 0, &[0xab], &[18, 1]));
-    Ok(())
+    let suffix = [201u8, 8, 1];
+    assert!(rt;
+        is_changed(up_of(alloc, Form::Remainders, &suffix), 1, &[], &suffix)
+            & is_changed(down_of(alloc, &suffix), 0, &[], &suffix)
+            & is_changed(up_of(alloc, Form::Words, &[0xab, 18]), 0, &[0xab], &[18, 1])
+    );
+}
+
+/// The coder of remainders after its precision is changed up by the call that knows both ways.
+fn up_both_ways(alloc: Global, suffix: &[u8]) -> Option<Bytes<8>> {
+    match coarse(alloc, suffix) {
+        Some(coder) => changed_up(coder),
+        None => None,
+    }
+}
+
+/// The same, down.
+fn down_both_ways(alloc: Global, suffix: &[u8]) -> Option<Bytes<4>> {
+    match fine(alloc, suffix) {
+        Some(coder) => changed_down(coder),
+        None => None,
+    }
+}
+
+/// The same, to the precision that it has.
+fn same_both_ways(alloc: Global, suffix: &[u8]) -> Option<Bytes<4>> {
+    match coarse(alloc, suffix) {
+        Some(coder) => changed_to_same(coder),
+        None => None,
+    }
 }
 
 /// The same by the call that knows both ways.
 #[test]
-fn changes_both_ways(rt: HostRuntime) -> Result<(), Fail> {
+fn changes_both_ways(rt: HostRuntime) {
     let alloc = rt.alloc();
-    let suffix = Source::Remainders(&[201, 8, 1]);
-    let up = coarse(alloc, suffix).and_then(changed_up);
-    let down = fine(alloc, suffix).and_then(changed_down);
-    let same = coarse(alloc, suffix).and_then(changed_to_same);
-    let (Some(up), Some(down), Some(same)) = (up, down, same) else {
-        return Err(Fail::from("there are enough words"));
-    };
-    assert!(rt; is_fine(up, 1, &[], &[201, 8, 1]));
-    assert!(rt; is_coarse(down, 0, &[], &[201, 8, 1]));
-    assert!(rt; is_coarse(same, 0, &[], &[201, 8, 1]));
-    Ok(())
+    let suffix = [201u8, 8, 1];
+    assert!(rt;
+        is_changed(up_both_ways(alloc, &suffix), 1, &[], &suffix)
+            & is_changed(down_both_ways(alloc, &suffix), 0, &[], &suffix)
+            & is_changed(same_both_ways(alloc, &suffix), 0, &[], &suffix)
+    );
+}
+
+/// Whether the lowest word of the number has moved out, and moves in again.
+fn comes_down<Word, State, const LOW: usize, const HIGH: usize>(
+    high: Whole<Word, State, HIGH>,
+    suffix: &[Word],
+) -> bool
+where
+    Word: WordOf<State> + PartialEq,
+    State: BitArray,
+    requires { (1 ≤ LOW) × (LOW ≤ HIGH) }
+{
+    let is_out = places_of(&high).1 == 1;
+    is_out
+        & is_changed(
+            down::<Word, State, Vec<Word>, Vec<Word>, HIGH, LOW>(high),
+            0,
+            &[],
+            suffix,
+        )
+}
+
+/// The same of a coder that goes up first.
+fn goes_up<Word, State, const LOW: usize, const HIGH: usize>(
+    low: Whole<Word, State, LOW>,
+    suffix: &[Word],
+) -> bool
+where
+    Word: WordOf<State> + PartialEq,
+    State: BitArray,
+    requires { (1 ≤ LOW) × (LOW ≤ HIGH) × (HIGH ≤ Word.BITS) }
+{
+    match up::<Word, State, Vec<Word>, Vec<Word>, LOW, HIGH>(low) {
+        Some(high) => comes_down::<Word, State, LOW, HIGH>(high, suffix),
+        None => false,
+    }
 }
 
 /// Whether the lowest word of the number moves out at a greater precision, and in again.
@@ -134,17 +211,8 @@ where
     State: BitArray,
     requires { (1 ≤ LOW) × (LOW ≤ HIGH) × (HIGH ≤ Word.BITS) }
 {
-    let Some(low) = found else {
-        return false;
-    };
-    let Some(high) = up::<Word, State, Vec<Word>, Vec<Word>, LOW, HIGH>(low) else {
-        return false;
-    };
-    if places_of(&high).1 != 1 {
-        return false;
-    }
-    match down::<Word, State, Vec<Word>, Vec<Word>, HIGH, LOW>(high) {
-        Some(low) => places_of(&low).1 == 0 && has_parts(low, &[], suffix),
+    match found {
+        Some(low) => goes_up::<Word, State, LOW, HIGH>(low, suffix),
         None => false,
     }
 }
@@ -152,51 +220,67 @@ where
 /// The numbers 70000, 4600387192 and 67305985, of which the last has bytes 4, 3, 2 and 1.
 #[test]
 fn changes_at_other_widths(rt: HostRuntime) {
-    let suffix = [4464u16, 1, 5];
-    let found: Option<Whole<u16, u32, 12>> = made(rt.alloc(), Source::Remainders(&suffix));
-    assert!(rt; goes_up_and_down::<u16, u32, 12, 16>(found, &suffix));
-    let suffix = [0x12345678u32, 1, 7];
-    let found: Option<Whole<u32, u64, 24>> = made(rt.alloc(), Source::Remainders(&suffix));
-    assert!(rt; goes_up_and_down::<u32, u64, 24, 32>(found, &suffix));
-    let suffix = [1u8, 2, 3, 4, 9];
-    let found: Option<Whole<u8, u32, 5>> = made(rt.alloc(), Source::Remainders(&suffix));
-    assert!(rt; goes_up_and_down::<u8, u32, 5, 8>(found, &suffix));
+    let alloc = rt.alloc();
+    let small = [4464u16, 1, 5];
+    let wide = [0x12345678u32, 1, 7];
+    let long = [1u8, 2, 3, 4, 9];
+    assert!(rt;
+        goes_up_and_down::<u16, u32, 12, 16>(made(alloc, Form::Remainders, &small), &small)
+            & goes_up_and_down::<u32, u64, 24, 32>(made(alloc, Form::Remainders, &wide), &wide)
+            & goes_up_and_down::<u8, u32, 5, 8>(made(alloc, Form::Remainders, &long), &long)
+    );
 }
 
-/// The first symbol is taken at 8 bits of precision, two at 4 bits.
-fn takes_two(coder: Bytes<8>, table: &WeightTable<u8, 4>) -> Option<Bytes<4>> {
-    let mut coder = lowered(coder)?;
-    let acts = [Act::Gives(&[0, 1]), Act::Is(&[77, 10], &[36, 43, 6, 1])];
-    if coarse_stays(&mut coder, table, &acts) {
-        Some(coder)
-    } else {
-        None
+/// The symbol 1 is put back at 8 bits of precision.
+fn puts_last(coder: Option<Bytes<8>>, table: &WeightTable<u8, 8>) -> bool {
+    let acts = [Act::Puts(&[1]), Act::Is(&[77, 10, 0xb3, 20], &[30, 1])];
+    match coder {
+        Some(mut coder) => stays(&mut coder, table, &acts),
+        None => false,
     }
 }
 
-/// The two symbols are put back, and the coder is at 8 bits again.
-fn puts_two(mut coder: Bytes<4>, table: &WeightTable<u8, 4>) -> Option<Bytes<8>> {
-    if coarse_stays(&mut coder, table, &[Act::PutsBack(&[0, 1])]) {
-        raised(coder)
-    } else {
-        None
+/// Two symbols are taken at 4 bits of precision, and put back.
+fn goes_at_four(
+    mut coder: Bytes<4>,
+    table: &WeightTable<u8, 8>,
+    other: &WeightTable<u8, 4>,
+) -> bool {
+    let acts = [
+        Act::Gives(&[0, 1]),
+        Act::Is(&[77, 10], &[36, 43, 6, 1]),
+        Act::PutsBack(&[0, 1]),
+    ];
+    let goes = stays(&mut coder, other, &acts);
+    goes & puts_last(raised(coder), table)
+}
+
+/// The first symbol is taken at 8 bits of precision.
+fn goes_at_eight(
+    mut coder: Bytes<8>,
+    table: &WeightTable<u8, 8>,
+    other: &WeightTable<u8, 4>,
+) -> bool {
+    let is_taken = stays(&mut coder, table, &[Act::Gives(&[1])]);
+    match lowered(coder) {
+        Some(coder) => is_taken & goes_at_four(coder, table, other),
+        None => false,
     }
 }
 
 /// Words are taken at two precisions, and come back.
+fn goes_at_both(alloc: Global, table: &WeightTable<u8, 8>, other: &WeightTable<u8, 4>) -> bool {
+    match made(alloc, Form::Words, &[77, 10, 0xb3, 20, 30]) {
+        Some(coder) => goes_at_eight(coder, table, other),
+        None => false,
+    }
+}
+
 #[test]
 fn symbols_at_two_precisions(rt: HostRuntime) -> Result<(), Fail> {
     let table = table_of(rt.alloc(), &[16, 240])?;
     let other = coarse_table_of(rt.alloc(), &[5, 11])?;
-    let Some(mut first) = fine(rt.alloc(), Source::Words(&[77, 10, 0xb3, 20, 30])) else {
-        return Err(Fail::from("there are enough words"));
-    };
-    assert!(rt; stays(&mut first, &table, &[Act::Gives(&[1])]));
-    let Some(mut last) = takes_two(first, &other).and_then(|coder| puts_two(coder, &other)) else {
-        return Err(Fail::from("the words change"));
-    };
-    let acts = [Act::Puts(&[1]), Act::Is(&[77, 10, 0xb3, 20], &[30, 1])];
-    assert!(rt; stays(&mut last, &table, &acts));
+    assert!(rt; goes_at_both(rt.alloc(), &table, &other));
     Ok(())
 }
 
@@ -220,13 +304,17 @@ fn cannot_change(coder: Bytes<8>) -> bool {
     )
 }
 
+/// Whether neither finds a word.
+fn are_short(first: Option<Bytes<8>>, second: Option<Bytes<8>>) -> bool {
+    match (first, second) {
+        (Some(first), Some(second)) => cannot_decrease(first) & cannot_change(second),
+        _ => false,
+    }
+}
+
 /// The number 8 with no word below it, where 4 bits of precision want 16 at least.
 #[test]
-fn a_decrease_without_a_word(rt: HostRuntime) -> Result<(), Fail> {
-    let words = Source::Remainders(&[8, 1]);
-    let (Some(first), Some(second)) = (fine(rt.alloc(), words), fine(rt.alloc(), words)) else {
-        return Err(Fail::from("there are enough words"));
-    };
-    assert!(rt; cannot_decrease(first) && cannot_change(second));
-    Ok(())
+fn a_decrease_without_a_word(rt: HostRuntime) {
+    let alloc = rt.alloc();
+    assert!(rt; are_short(fine(alloc, &[8, 1]), fine(alloc, &[8, 1])));
 }

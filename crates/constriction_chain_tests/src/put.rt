@@ -1,9 +1,11 @@
 //! Encodes, and what they return.
 
+use crate::faults::{Fault, fault_of_put, is_same};
 use constriction_base::backends::{ReadWords, Stack, WriteWords};
 use constriction_base::errors::CoderError;
 use constriction_base::weights::WeightTable;
 use constriction_chain::{BackendError, ChainCoder, EncoderError, EncoderFrontendError};
+use constriction_stream::coder::Code;
 use constriction_stream::encoding::{Encode, EncodeReverse};
 use constriction_stream::errors::TryCodingError;
 use constriction_words::{BitArray, WordOf};
@@ -50,12 +52,35 @@ where
 }
 
 /// The answer of a list whose items may be errors.
-fn tried_answer_of<C, R>(answer: Result<(), TryCodingError<EncoderError<C, R>, u8>>) -> Put<C, R> {
+pub fn tried_answer_of<C, R>(
+    answer: Result<(), TryCodingError<EncoderError<C, R>, u8>>,
+) -> Put<C, R> {
     match answer {
         Ok(()) => Put::Done,
         Err(TryCodingError::InvalidEntropyModel(error)) => Put::BadModel(error),
         Err(TryCodingError::CodingError(error)) => answer_of(Err(error)),
     }
+}
+
+/// Whether a symbol isn't put back for this reason, and the heads stay.
+pub fn puts_none<Word, State, C, R, Probability, const PRECISION: usize>(
+    coder: &mut ChainCoder<Word, State, C, R, PRECISION>,
+    table: &WeightTable<Probability, PRECISION>,
+    symbol: usize,
+    fault: Fault,
+) -> bool
+where
+    Word: WordOf<State> + PartialEq,
+    State: BitArray + PartialEq,
+    C: WriteWords<Word>,
+    C::WriteError: Drop,
+    R: ReadWords<Word, Stack>,
+    R::ReadError: Drop,
+    Probability: WordOf<Word>,
+{
+    let heads = coder.state();
+    let found = fault_of_put(put_one(coder, table, symbol));
+    is_same(found, Some(fault)) & (coder.state() == heads)
 }
 
 /// Puts a list back, the last symbol first.
@@ -74,7 +99,7 @@ where
     answer_of(coder.encode_iid_symbols_reverse(symbols, table))
 }
 
-/// Puts two symbols back, a table for each, the last one first.
+/// The same of two symbols, a table for each.
 pub fn put_pairs<Word, State, C, R, Probability, const PRECISION: usize>(
     coder: &mut ChainCoder<Word, State, C, R, PRECISION>,
     table: &WeightTable<Probability, PRECISION>,
@@ -91,11 +116,22 @@ where
     answer_of(coder.encode_symbols_reverse([(&first, table), (&second, table)]))
 }
 
-/// Puts two items back, the last one first, of which the first may be an error.
+/// An item of a list: the symbol with its table, or the error.
+fn item_of<'a, Probability: BitArray, const PRECISION: usize>(
+    item: &'a Result<usize, u8>,
+    table: &'a WeightTable<Probability, PRECISION>,
+) -> Result<(&'a usize, &'a WeightTable<Probability, PRECISION>), u8> {
+    match item {
+        Ok(symbol) => Ok((symbol, table)),
+        Err(error) => Err(*error),
+    }
+}
+
+/// The same of two items, of which the first may be an error.
 pub fn put_items<Word, State, C, R, Probability, const PRECISION: usize>(
     coder: &mut ChainCoder<Word, State, C, R, PRECISION>,
     table: &WeightTable<Probability, PRECISION>,
-    first: Result<usize, u8>,
+    first: &Result<usize, u8>,
     second: usize,
 ) -> Put<C::WriteError, R::ReadError>
 where
@@ -105,11 +141,7 @@ where
     R: ReadWords<Word, Stack>,
     Probability: WordOf<Word>,
 {
-    let pair = match &first {
-        Ok(symbol) => Ok((symbol, table)),
-        Err(error) => Err(*error),
-    };
-    tried_answer_of(coder.try_encode_symbols_reverse([pair, Ok((&second, table))]))
+    tried_answer_of(coder.try_encode_symbols_reverse([item_of(first, table), Ok((&second, table))]))
 }
 
 /// Whether symbols are put back one by one.
@@ -151,8 +183,9 @@ where
     R::ReadError: Drop,
     Probability: WordOf<Word>,
 {
-    for symbol in symbols.iter().rev() {
-        match put_one(coder, table, *symbol) {
+    for place in 0..symbols.len() {
+        let symbol = symbols[symbols.len() - 1 - place];
+        match put_one(coder, table, symbol) {
             Put::Done => {}
             _ => return false,
         }

@@ -1,8 +1,9 @@
 //! What is refused, and what stays then.
 
 use crate::cases::{bytes_do, coarse_bytes_do};
-use crate::coders::Source;
-use crate::script::{Act, Fault};
+use crate::coders::Form;
+use crate::faults::Fault;
+use crate::script::Act;
 use constriction_base::errors::CoderError;
 use constriction_chain::{ChainCoder, SmallChainCoder};
 use std::alloc::Global;
@@ -55,14 +56,14 @@ fn chain_too_short(rt: HostRuntime) {
     let alloc = rt.alloc();
     assert!(rt;
         leaves(alloc, &[], &[])
-            && leaves_binary(alloc, &[], &[])
-            && leaves(alloc, &[7, 0], &[7])
-            && leaves(alloc, &[15], &[])
-            && !leaves(alloc, &[16], &[])
-            && leaves_remainders(alloc, &[7, 5, 0], &[7, 5])
-            && leaves_remainders(alloc, &[7, 0, 5], &[7])
-            && leaves_remainders(alloc, &[15, 5], &[])
-            && !leaves_remainders(alloc, &[16, 5], &[])
+            & leaves_binary(alloc, &[], &[])
+            & leaves(alloc, &[7, 0], &[7])
+            & leaves(alloc, &[15], &[])
+            & !leaves(alloc, &[16], &[])
+            & leaves_remainders(alloc, &[7, 5, 0], &[7, 5])
+            & leaves_remainders(alloc, &[7, 0, 5], &[7])
+            & leaves_remainders(alloc, &[15, 5], &[])
+            & !leaves_remainders(alloc, &[16, 5], &[])
     );
 }
 
@@ -75,19 +76,40 @@ fn exports_of_a_coder_that_is_not_whole(rt: HostRuntime) {
         Act::NotExported(&[9], &[204, 26]),
         Act::Is(&[9], &[204, 26]),
     ];
-    let words = Source::Words(&[9, 0xab, 0x12]);
-    assert!(rt; coarse_bytes_do(rt.alloc(), words, (&[5, 11], &begin), (&[5, 11], &end)));
+    assert!(rt;
+        coarse_bytes_do(
+            rt.alloc(),
+            Form::Words,
+            &[9, 0xab, 0x12],
+            (&[5, 11], &begin),
+            (&[5, 11], &end)
+        )
+    );
 }
 
 /// The binary form wants a number that is a 1 above whole words: 256, and not 18.
 #[test]
 fn binary_exports(rt: HostRuntime) {
     let goes = [Act::Is(&[7], &[0, 1, 1]), Act::ExportsBinary(&[], &[7, 0])];
-    let words = Source::Binary(&[7, 0]);
-    assert!(rt; coarse_bytes_do(rt.alloc(), words, (&[5, 11], &goes), (&[5, 11], &[])));
-    let words = Source::Words(&[7, 18]);
+    assert!(rt;
+        coarse_bytes_do(
+            rt.alloc(),
+            Form::Binary,
+            &[7, 0],
+            (&[5, 11], &goes),
+            (&[5, 11], &[])
+        )
+    );
     let stays = [Act::ExportsBinary(&[], &[7, 18])];
-    assert!(rt; !coarse_bytes_do(rt.alloc(), words, (&[5, 11], &stays), (&[5, 11], &[])));
+    assert!(rt;
+        !coarse_bytes_do(
+            rt.alloc(),
+            Form::Words,
+            &[7, 18],
+            (&[5, 11], &stays),
+            (&[5, 11], &[])
+        )
+    );
 }
 
 /// The number 30 is enough for the symbol 0, of weight 16, and not for the symbol 1.
@@ -102,7 +124,7 @@ fn encodes_that_are_refused(rt: HostRuntime) {
         Act::Puts(&[0]),
         Act::Is(&[10, 20, 14], &[1, 1]),
     ];
-    assert!(rt; bytes_do(rt.alloc(), Source::Words(&[10, 20, 30]), &acts));
+    assert!(rt; bytes_do(rt.alloc(), Form::Words, &[10, 20, 30], &acts));
 }
 
 /// What the calls that look ahead say, and the end of the compressed words.
@@ -117,5 +139,5 @@ fn the_end_of_the_words(rt: HostRuntime) {
         Act::GivesNone(Fault::OutOfData),
         Act::Is(&[], &[36, 202, 1, 1]),
     ];
-    assert!(rt; bytes_do(rt.alloc(), Source::Words(&[10, 20, 30]), &acts));
+    assert!(rt; bytes_do(rt.alloc(), Form::Words, &[10, 20, 30], &acts));
 }

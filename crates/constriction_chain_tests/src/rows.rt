@@ -1,8 +1,9 @@
 //! Worked values: words, the symbols that they stand for, and what is left of them.
 
 use crate::cases::{bytes_do, coarse_bytes_do, made_does};
-use crate::coders::{Source, made};
-use crate::script::{Act, Fault};
+use crate::coders::{Form, made};
+use crate::faults::Fault;
+use crate::script::Act;
 use constriction_base::errors::CoderError;
 use constriction_base::weights::WeightTable;
 use constriction_chain::{ChainCoder, DefaultChainCoder, EncoderFrontendError};
@@ -13,7 +14,7 @@ use std::test::Fail;
 fn default_does(alloc: Global, words: &[u32], weights: &[u32], acts: &[Act<'_, u32>]) -> bool {
     match WeightTable::<u32, 24>::new(alloc, weights) {
         Ok(table) => {
-            let found: Option<DefaultChainCoder> = made(alloc, Source::Words(words));
+            let found: Option<DefaultChainCoder> = made(alloc, Form::Words, words);
             made_does(found, &table, acts)
         }
         Err(_) => false,
@@ -22,7 +23,7 @@ fn default_does(alloc: Global, words: &[u32], weights: &[u32], acts: &[Act<'_, u
 
 /// Whether the default coder of some words finds no word for a precision of 16 bits.
 fn cannot_decrease(alloc: Global, words: &[u32]) -> bool {
-    let found: Option<DefaultChainCoder> = made(alloc, Source::Words(words));
+    let found: Option<DefaultChainCoder> = made(alloc, Form::Words, words);
     match found {
         Some(coder) => is_short(coder),
         None => false,
@@ -51,7 +52,7 @@ fn chain_default(rt: HostRuntime) {
     let words = [0x11223344u32, 0x100];
     assert!(rt;
         default_does(rt.alloc(), &words, &[0x223344, 1, 0xddccbb], &acts)
-            && cannot_decrease(rt.alloc(), &words)
+            & cannot_decrease(rt.alloc(), &words)
     );
 }
 
@@ -70,8 +71,8 @@ fn chain_there_and_back(rt: HostRuntime) {
     ];
     let back = [Act::Puts(&[1]), Act::Exports(&[], &[20, 30])];
     assert!(rt;
-        bytes_do(rt.alloc(), Source::Words(&[10, 20, 30]), &there)
-            && bytes_do(rt.alloc(), Source::Remainders(&[36, 28, 1]), &back)
+        bytes_do(rt.alloc(), Form::Words, &[10, 20, 30], &there)
+            & bytes_do(rt.alloc(), Form::Remainders, &[36, 28, 1], &back)
     );
 }
 
@@ -85,7 +86,8 @@ fn both_given(alloc: Global, first: &[u8], begin: &[Act<'_, u8>]) -> bool {
     ];
     coarse_bytes_do(
         alloc,
-        Source::Words(&[0xab, 0x12]),
+        Form::Words,
+        &[0xab, 0x12],
         (first, begin),
         (&[10, 1, 5], &end),
     )
@@ -96,13 +98,20 @@ fn both_given(alloc: Global, first: &[u8], begin: &[Act<'_, u8>]) -> bool {
 fn chain_isolation(rt: HostRuntime) {
     let begin = [Act::Gives(&[1]), Act::Is(&[], &[204, 26])];
     let end = [Act::Gives(&[1]), Act::Is(&[], &[201, 8, 1])];
-    let words = Source::Words(&[0xab, 0x12]);
-    assert!(rt; coarse_bytes_do(rt.alloc(), words, (&[5, 11], &begin), (&[5, 11], &end)));
+    assert!(rt;
+        coarse_bytes_do(
+            rt.alloc(),
+            Form::Words,
+            &[0xab, 0x12],
+            (&[5, 11], &begin),
+            (&[5, 11], &end)
+        )
+    );
     assert!(rt;
         both_given(rt.alloc(), &[11, 1, 4], &[Act::Gives(&[1])])
-            && both_given(rt.alloc(), &[5, 11], &[Act::Gives(&[1])])
-            && both_given(rt.alloc(), &[12, 4], &[Act::Gives(&[0])])
-            && both_given(rt.alloc(), &[1, 15], &[Act::Gives(&[1])])
+            & both_given(rt.alloc(), &[5, 11], &[Act::Gives(&[1])])
+            & both_given(rt.alloc(), &[12, 4], &[Act::Gives(&[0])])
+            & both_given(rt.alloc(), &[1, 15], &[Act::Gives(&[1])])
     );
 }
 
@@ -111,7 +120,7 @@ fn chain_binary(rt: HostRuntime) {
     let there = [Act::Gives(&[1]), Act::Is(&[10, 20], &[254, 1])];
     let back = [Act::Puts(&[1]), Act::ExportsBinary(&[], &[30])];
     assert!(rt;
-        bytes_do(rt.alloc(), Source::Binary(&[10, 20, 30]), &there)
-            && bytes_do(rt.alloc(), Source::Remainders(&[254, 1]), &back)
+        bytes_do(rt.alloc(), Form::Binary, &[10, 20, 30], &there)
+            & bytes_do(rt.alloc(), Form::Remainders, &[254, 1], &back)
     );
 }

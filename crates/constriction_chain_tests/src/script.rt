@@ -1,29 +1,13 @@
 //! What a test does with a coder, act by act, and what it expects of each.
 
-use crate::expect::{Below, exports, exports_binary, heads_of, is_at, is_handed_back};
-use crate::put::{Put, put_items, put_list, put_one, put_pairs, puts, puts_back, seems_full};
-use crate::take::{Taken, gives, seems_exhausted, take};
+use crate::expect::{Below, exports, exports_binary, is_at, is_handed_back, is_handed_back_binary};
+use crate::faults::{Fault, fault_of_put, is_same};
+use crate::put::{put_items, put_list, put_pairs, puts, puts_back, puts_none, seems_full};
+use crate::take::{gives, gives_none, seems_exhausted};
 use constriction_base::backends::{ReadWords, Stack, WriteWords};
 use constriction_base::weights::WeightTable;
 use constriction_chain::ChainCoder;
 use constriction_words::{BitArray, WordOf};
-
-/// Why a step is refused.
-#[derive(Clone, Copy, PartialEq, Eq)]
-pub enum Fault {
-    /// A word of the compressed words is needed, and none is left.
-    OutOfData,
-    /// A word of the remainders is needed, and none is left.
-    OutOfRemainders,
-    /// The table doesn't know the symbol.
-    Unknown,
-    /// The compressed words refused a call.
-    Compressed,
-    /// The remainders refused a call.
-    Remainders,
-    /// An item of a list was this error.
-    BadModel(u8),
-}
 
 /// An act on a coder, and what is expected of it.
 #[derive(Clone, Copy)]
@@ -60,92 +44,6 @@ pub enum Act<'a, Word> {
     Full(bool),
 }
 
-/// Why a decode was refused, if it was.
-fn fault_of_take<C, R>(taken: Taken<C, R>) -> Option<Fault>
-where
-    C: Drop,
-    R: Drop,
-{
-    match taken {
-        Taken::Symbol(_) => None,
-        Taken::OutOfData => Some(Fault::OutOfData),
-        Taken::Compressed(_) => Some(Fault::Compressed),
-        Taken::Remainders(_) => Some(Fault::Remainders),
-    }
-}
-
-/// Why an encode was refused, if it was.
-fn fault_of_put<C, R>(put: Put<C, R>) -> Option<Fault>
-where
-    C: Drop,
-    R: Drop,
-{
-    match put {
-        Put::Done => None,
-        Put::Unknown => Some(Fault::Unknown),
-        Put::OutOfRemainders => Some(Fault::OutOfRemainders),
-        Put::Compressed(_) => Some(Fault::Compressed),
-        Put::Remainders(_) => Some(Fault::Remainders),
-        Put::BadModel(error) => Some(Fault::BadModel(error)),
-    }
-}
-
-/// Whether lists are put back as an act expects, and end at the fault that it names.
-fn puts_lists<Word, State, C, R, Probability, const PRECISION: usize>(
-    coder: &mut ChainCoder<Word, State, C, R, PRECISION>,
-    table: &WeightTable<Probability, PRECISION>,
-    act: &Act<'_, Word>,
-) -> bool
-where
-    Word: WordOf<State>,
-    State: BitArray,
-    C: WriteWords<Word>,
-    C::WriteError: Drop,
-    R: ReadWords<Word, Stack>,
-    R::ReadError: Drop,
-    Probability: WordOf<Word>,
-{
-    match act {
-        Act::PutsList(symbols, fault) => fault_of_put(put_list(coder, table, symbols)) == *fault,
-        Act::PutsPairs(first, second, fault) => {
-            fault_of_put(put_pairs(coder, table, *first, *second)) == *fault
-        }
-        Act::PutsItems(first, second, fault) => {
-            fault_of_put(put_items(coder, table, *first, *second)) == *fault
-        }
-        _ => false,
-    }
-}
-
-/// Whether a coder takes and puts symbols as an act expects.
-fn steps<Word, State, C, R, Probability, const PRECISION: usize>(
-    coder: &mut ChainCoder<Word, State, C, R, PRECISION>,
-    table: &WeightTable<Probability, PRECISION>,
-    act: &Act<'_, Word>,
-) -> bool
-where
-    Word: WordOf<State>,
-    State: BitArray,
-    C: ReadWords<Word, Stack> + WriteWords<Word>,
-    C::ReadError: Drop,
-    C::WriteError: Drop,
-    R: ReadWords<Word, Stack> + WriteWords<Word>,
-    R::ReadError: Drop,
-    R::WriteError: Drop,
-    Probability: WordOf<Word>,
-{
-    match act {
-        Act::Gives(symbols) => gives(coder, table, symbols),
-        Act::GivesNone(fault) => fault_of_take(take(coder, table)) == Some(*fault),
-        Act::Puts(symbols) => puts(coder, table, symbols),
-        Act::PutsBack(symbols) => puts_back(coder, table, symbols),
-        Act::PutsNone(symbol, fault) => {
-            fault_of_put(put_one(coder, table, *symbol)) == Some(*fault)
-        }
-        _ => false,
-    }
-}
-
 /// Whether the words of a coder are as an act expects.
 fn stands<Word, State, C, R, const PRECISION: usize>(
     coder: &ChainCoder<Word, State, C, R, PRECISION>,
@@ -165,6 +63,7 @@ where
         Act::ExportsBinary(remainders, words) => exports_binary(coder, remainders, words),
         Act::NotExported(compressed, remainders) => {
             is_handed_back(coder, compressed, remainders)
+                & is_handed_back_binary(coder, compressed, remainders)
         }
         Act::Whole(is_whole) => coder.is_whole() == *is_whole,
         Act::Exhausted(is_exhausted) => seems_exhausted(coder) == *is_exhausted,
@@ -191,13 +90,26 @@ where
     Probability: WordOf<Word>,
 {
     match act {
-        Act::Gives(_) | Act::Puts(_) | Act::PutsBack(_) => steps(coder, table, act),
-        Act::PutsList(_, _) | Act::PutsPairs(_, _, _) | Act::PutsItems(_, _, _) => {
-            puts_lists(coder, table, act)
+        Act::Gives(symbols) => gives(coder, table, symbols),
+        Act::GivesNone(fault) => gives_none(coder, table, *fault),
+        Act::Puts(symbols) => puts(coder, table, symbols),
+        Act::PutsBack(symbols) => puts_back(coder, table, symbols),
+        Act::PutsNone(symbol, fault) => puts_none(coder, table, *symbol, *fault),
+        Act::PutsList(symbols, fault) => is_same(
+            fault_of_put(put_list(coder, table, symbols)),
+            *fault,
+        ),
+        Act::PutsPairs(first, second, fault) => {
+            is_same(
+                fault_of_put(put_pairs(coder, table, *first, *second)),
+                *fault,
+            )
         }
-        Act::GivesNone(_) | Act::PutsNone(_, _) => {
-            let heads = heads_of(coder);
-            steps(coder, table, act) && heads_of(coder) == heads
+        Act::PutsItems(first, second, fault) => {
+            is_same(
+                fault_of_put(put_items(coder, table, first, *second)),
+                *fault,
+            )
         }
         _ => stands(coder, act),
     }

@@ -1,9 +1,11 @@
 //! Decodes, and what they return.
 
+use crate::faults::{Fault, fault_of_take, is_same};
 use constriction_base::backends::{ReadWords, Stack, WriteWords};
 use constriction_base::errors::CoderError;
 use constriction_base::weights::WeightTable;
 use constriction_chain::{BackendError, ChainCoder, DecoderError};
+use constriction_stream::coder::Code;
 use constriction_stream::decoding::Decode;
 use constriction_words::{BitArray, WordOf};
 
@@ -67,21 +69,23 @@ where
     true
 }
 
-/// Whether a word is needed and none is left.
-pub fn is_out<Word, State, C, R, Probability, const PRECISION: usize>(
+/// Whether a decode is refused for this reason, and the heads stay.
+pub fn gives_none<Word, State, C, R, Probability, const PRECISION: usize>(
     coder: &mut ChainCoder<Word, State, C, R, PRECISION>,
     table: &WeightTable<Probability, PRECISION>,
+    fault: Fault,
 ) -> bool
 where
-    Word: WordOf<State>,
-    State: BitArray,
+    Word: WordOf<State> + PartialEq,
+    State: BitArray + PartialEq,
     C: ReadWords<Word, Stack>,
     C::ReadError: Drop,
     R: WriteWords<Word>,
     R::WriteError: Drop,
     Probability: WordOf<Word>,
 {
-    matches!(take(coder, table), Taken::OutOfData)
+    let heads = coder.state();
+    is_same(fault_of_take(take(coder, table)), Some(fault)) & (coder.state() == heads)
 }
 
 /// Whether the compressed words may have ended, or the remainders may be full.

@@ -1,53 +1,79 @@
 //! The texts of coders, heads, positions and errors, and their equality.
 
-use crate::coders::{Bytes, Source, made, table_of};
+use crate::cases::stays;
+use crate::coders::{Bytes, Form, made, table_of};
 use crate::expect::{copy_of, heads_of};
-use crate::take::gives;
+use crate::script::Act;
 use constriction_base::errors::{BoundedWriteError, CoderError};
+use constriction_base::weights::WeightTable;
 use constriction_chain::{
-    BackendError, BackendPosition, ChangePrecisionError, DecoderFrontendError, EncoderFrontendError,
+    BackendError, BackendPosition, ChainCoderHeads, ChangePrecisionError, DecoderFrontendError,
+    EncoderFrontendError,
 };
-use std::alloc::AllocError;
+use std::alloc::{AllocError, Global};
 use std::convert::Infallible;
+use std::fmt::{Debug, Display};
 use std::test::Fail;
 
-#[test]
-fn texts_of_refused_symbols(rt: HostRuntime) -> Result<(), Fail> {
-    let data = format!(in rt.alloc(); "{}", DecoderFrontendError::OutOfCompressedData)?;
-    let rest = format!(in rt.alloc(); "{}", EncoderFrontendError::OutOfRemainders)?;
-    let symbol = format!(in rt.alloc(); "{}", EncoderFrontendError::ImpossibleSymbol)?;
-    assert_eq!(rt; data.as_str(), "Out of compressed data.");
-    assert_eq!(rt;
-        rest.as_str(),
-        "Out of remainders information from previous decoding."
-    );
-    assert_eq!(rt; symbol.as_str(), "Impossible symbol.");
-    Ok(())
+/// Whether an error has this text.
+fn says<E: Display + Drop>(alloc: Global, error: E, text: &str) -> bool {
+    match format!(in alloc; "{error}") {
+        Ok(written) => written.as_str() == text,
+        Err(_) => false,
+    }
+}
+
+/// Whether a value's text for debugging is this one.
+fn prints<T: Debug>(alloc: Global, value: &T, text: &str) -> bool {
+    match format!(in alloc; "{:?}", value) {
+        Ok(written) => written.as_str() == text,
+        Err(_) => false,
+    }
 }
 
 #[test]
-fn texts_of_refused_words(rt: HostRuntime) -> Result<(), Fail> {
+fn texts_of_refused_symbols(rt: HostRuntime) {
+    let alloc = rt.alloc();
+    assert!(rt;
+        says(
+            alloc,
+            DecoderFrontendError::OutOfCompressedData,
+            "Out of compressed data."
+        ) & says(
+            alloc,
+            EncoderFrontendError::OutOfRemainders,
+            "Out of remainders information from previous decoding."
+        ) & says(
+            alloc,
+            EncoderFrontendError::ImpossibleSymbol,
+            "Impossible symbol."
+        )
+    );
+}
+
+#[test]
+fn texts_of_refused_words(rt: HostRuntime) {
     let first: BackendError<BoundedWriteError, u8> = BackendError::Compressed(
         BoundedWriteError::OutOfSpace,
     );
     let second: BackendError<u8, BoundedWriteError> = BackendError::Remainders(
         BoundedWriteError::Memory,
     );
-    let one = format!(in rt.alloc(); "{first}")?;
-    let two = format!(in rt.alloc(); "{second}")?;
-    assert_eq!(rt;
-        one.as_str(),
-        "Read/write error when accessing compressed: out of space"
+    assert!(rt;
+        says(
+            rt.alloc(),
+            first,
+            "Read/write error when accessing compressed: out of space"
+        ) & says(
+            rt.alloc(),
+            second,
+            "Read/write error when accessing remainders: out of memory"
+        )
     );
-    assert_eq!(rt;
-        two.as_str(),
-        "Read/write error when accessing remainders: out of memory"
-    );
-    Ok(())
 }
 
 #[test]
-fn texts_of_refused_changes(rt: HostRuntime) -> Result<(), Fail> {
+fn texts_of_refused_changes(rt: HostRuntime) {
     let refused: BackendError<Infallible, BoundedWriteError> = BackendError::Remainders(
         BoundedWriteError::OutOfSpace,
     );
@@ -56,37 +82,45 @@ fn texts_of_refused_changes(rt: HostRuntime) -> Result<(), Fail> {
     );
     let second: ChangePrecisionError<BoundedWriteError, Infallible> =
         ChangePrecisionError::Decrease(CoderError::Frontend(EncoderFrontendError::OutOfRemainders));
-    let one = format!(in rt.alloc(); "{first}")?;
-    let two = format!(in rt.alloc(); "{second}")?;
-    assert_eq!(rt;
-        one.as_str(),
-        "Error while increasing precision of chain coder: Read/write error when accessing remainders: out of space"
+    assert!(rt;
+        says(
+            rt.alloc(),
+            first,
+            "Error while increasing precision of chain coder: Read/write error when accessing remainders: out of space"
+        ) & says(
+            rt.alloc(),
+            second,
+            "Error while decreasing precision of chain coder: Out of remainders information from previous decoding."
+        )
     );
-    assert_eq!(rt;
-        two.as_str(),
-        "Error while decreasing precision of chain coder: Out of remainders information from previous decoding."
-    );
-    Ok(())
+}
+
+/// A coder of the words 10, 20 and 30, of which one was taken.
+fn taken(alloc: Global, table: &WeightTable<u8, 8>) -> Option<Bytes<8>> {
+    match made(alloc, Form::Words, &[10, 20, 30]) {
+        Some(mut coder) => {
+            let is_taken = stays(&mut coder, table, &[Act::Gives(&[1])]);
+            if is_taken { Some(coder) } else { None }
+        }
+        None => None,
+    }
 }
 
 #[test]
 fn the_text_of_a_coder(rt: HostRuntime) -> Result<(), Fail> {
     let table = table_of(rt.alloc(), &[16, 240])?;
-    let found: Option<Bytes<8>> = made(rt.alloc(), Source::Words(&[10, 20, 30]));
-    let Some(mut coder) = found else {
+    let Some(coder) = taken(rt.alloc(), &table) else {
         return Err(Fail::from("there are enough words"));
     };
-    assert!(rt; gives(&mut coder, &table, &[1]));
-    let text = format!(in rt.alloc(); "{:?}", coder)?;
-    assert_eq!(rt;
-        text.as_str(),
-        "ChainCoder { compressed: [10], remainders: [36], heads: ChainCoderHeads { compressed: 1, remainders: 28 } }"
-    );
+    let text =
+        "ChainCoder { compressed: [10], remainders: [36], heads: ChainCoderHeads { compressed: 1, remainders: 28 } }";
+    assert!(rt; prints(rt.alloc(), &coder, text));
     Ok(())
 }
 
 #[test]
-fn texts_of_positions_and_errors(rt: HostRuntime) -> Result<(), Fail> {
+fn texts_of_positions_and_errors(rt: HostRuntime) {
+    let alloc = rt.alloc();
     let place = BackendPosition {
         compressed: 1usize,
         remainders: 2usize,
@@ -95,40 +129,64 @@ fn texts_of_positions_and_errors(rt: HostRuntime) -> Result<(), Fail> {
     let change: ChangePrecisionError<u8, u8> = ChangePrecisionError::Decrease(CoderError::Frontend(
         EncoderFrontendError::OutOfRemainders,
     ));
-    let one = format!(in rt.alloc(); "{:?} {:?}", place, refused)?;
-    let two = format!(in rt.alloc();
-        "{:?} {:?}",
-        DecoderFrontendError::OutOfCompressedData,
-        change
-    )?;
-    assert_eq!(rt;
-        one.as_str(),
-        "BackendPosition { compressed: 1, remainders: 2 } Compressed(7)"
+    assert!(rt;
+        prints(
+            alloc,
+            &place,
+            "BackendPosition { compressed: 1, remainders: 2 }"
+        ) & prints(alloc, &refused, "Compressed(7)")
+            & prints(
+                alloc,
+                &DecoderFrontendError::OutOfCompressedData,
+                "OutOfCompressedData"
+            )
+            & prints(alloc, &change, "Decrease(Frontend(OutOfRemainders))")
     );
-    assert_eq!(rt;
-        two.as_str(),
-        "OutOfCompressedData Decrease(Frontend(OutOfRemainders))"
-    );
-    Ok(())
+}
+
+/// The heads of a coder of bytes.
+type Heads = ChainCoderHeads<u8, u16, 8>;
+
+/// Heads are equal to their clones and to themselves.
+fn are_heads(heads: &Heads, others: &Heads) -> bool {
+    match heads.clone() {
+        Ok(clone) => (clone == *heads) & (*heads == *others),
+        Err(AllocError) => false,
+    }
+}
+
+/// The heads are no more those of before when a symbol was taken.
+fn heads_move(coder: &mut Bytes<8>, table: &WeightTable<u8, 8>) -> bool {
+    let first = heads_of(coder);
+    let is_first = are_heads(&first, &heads_of(coder));
+    let is_taken = stays(coder, table, &[Act::Gives(&[1])]);
+    is_first & is_taken & (heads_of(coder) != first) & first.is_whole()
+}
+
+/// Those of a copy are those of its coder, and have a text.
+fn copy_has_heads(alloc: Global, coder: &Bytes<8>) -> bool {
+    match copy_of(coder) {
+        Ok(copy) => {
+            let heads = heads_of(&copy);
+            are_heads(&heads, &heads_of(coder))
+                & prints(
+                    alloc,
+                    &heads,
+                    "ChainCoderHeads { compressed: 1, remainders: 28 }",
+                )
+        }
+        Err(AllocError) => false,
+    }
 }
 
 #[test]
 fn heads_and_positions_are_equal(rt: HostRuntime) -> Result<(), Fail> {
     let table = table_of(rt.alloc(), &[16, 240])?;
-    let found: Option<Bytes<8>> = made(rt.alloc(), Source::Words(&[10, 20, 30]));
+    let found: Option<Bytes<8>> = made(rt.alloc(), Form::Words, &[10, 20, 30]);
     let Some(mut coder) = found else {
         return Err(Fail::from("there are enough words"));
     };
-    let first = heads_of(&coder);
-    assert!(rt; first.is_whole() && first == heads_of(&coder) && gives(&mut coder, &table, &[1]));
-    let copy = copy_of(&coder)?;
-    let heads = heads_of(&copy);
-    let text = format!(in rt.alloc(); "{:?}", heads)?;
-    assert!(rt; heads == heads_of(&coder) && heads != first && heads.clone()? == heads);
-    assert_eq!(rt;
-        text.as_str(),
-        "ChainCoderHeads { compressed: 1, remainders: 28 }"
-    );
+    assert!(rt; heads_move(&mut coder, &table) & copy_has_heads(rt.alloc(), &coder));
     Ok(())
 }
 
@@ -144,14 +202,14 @@ fn errors_are_equal(rt: HostRuntime) {
         CoderError::Backend(BackendError::Remainders(AllocError)),
     );
     assert!(rt;
-        first == BackendError::Compressed(7)
-            && first != BackendError::Compressed(8)
-            && first != second
-            && third
+        (first == BackendError::Compressed(7))
+            & (first != BackendError::Compressed(8))
+            & (first != second)
+            & (third
                 == ChangePrecisionError::Decrease(CoderError::Frontend(
                     EncoderFrontendError::OutOfRemainders
-                ))
-            && third != fourth
-            && EncoderFrontendError::OutOfRemainders != EncoderFrontendError::ImpossibleSymbol
+                )))
+            & (third != fourth)
+            & (EncoderFrontendError::OutOfRemainders != EncoderFrontendError::ImpossibleSymbol)
     );
 }

@@ -1,11 +1,12 @@
 pub mod Answering
 pub mod Answered
 pub mod Chain
-pub mod Codewords
+pub mod CodewordTexts
 pub mod Faults
 pub mod OwnNumbers
 pub mod Ranges
 pub mod Reading
 pub mod Symbols
+pub mod TreeTexts
 pub mod Taken
 pub mod Writing

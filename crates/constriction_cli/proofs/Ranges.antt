@@ -7,18 +7,18 @@ use Rattle.constriction.specs.declared.stream.queue.DecoderFrontendError.TheVari
 use Rattle.constriction.specs.queue.Range.{Run, start, offset, number_read, IsAt}
 use Rattle.constriction.specs.queue.Decoder.{Decoder, quantile_read}
 use Rattle.constriction.proofs.InTurn.{InTurn-symbol}
-use Rattle.constriction_cli.specs.Ranges.{Narrows, NarrowsAll}
+use Rattle.constriction.specs.queue.Symbols.{Narrows, NarrowsAll}
 use Rattle.constriction_cli.proofs.OwnNumbers.{map-reverse}
 
 -- ---- encoding
 
 -- the symbol behind those that were encoded
 pub narrowed-more : (model : Model ℕ) (symbols : List ℕ) (place : ℕ) (old new : Run) → place < length symbols
-    → NarrowsAll (items_of model (take place symbols)) (start 64) old → Narrows model (get_or symbols place 0) old new
-    → NarrowsAll (items_of model (take (place + 1) symbols)) (start 64) new
+    → NarrowsAll 32 64 (items_of model (take place symbols)) (start 64) old → Narrows 32 64 model (get_or symbols place 0) old new
+    → NarrowsAll 32 64 (items_of model (take (place + 1) symbols)) (start 64) new
 narrowed-more model symbols place old new inside before one =
-    subst (λ (xs : List ℕ). NarrowsAll (items_of model xs) (start 64) new) (sym (take_more symbols place 0 inside))
-    (InTurn-symbol (λ item. Narrows item.model item.symbol) model (take place symbols) (get_or symbols place 0) (start 64) old new before one)
+    subst (λ (xs : List ℕ). NarrowsAll 32 64 (items_of model xs) (start 64) new) (sym (take_more symbols place 0 inside))
+    (InTurn-symbol (λ item. Narrows 32 64 item.model item.symbol) model (take place symbols) (get_or symbols place 0) (start 64) old new before one)
 
 -- words in the order in which they were written
 pub in_order : (f : ℕ → ℕ) (words : List ℕ) → map f words ≡ reverse (map f (reverse words))

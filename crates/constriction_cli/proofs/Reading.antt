@@ -5,7 +5,7 @@ use Rattle.std.specs.List.{slice_split, onto_first}
 use Rattle.std.specs.Char.{is_ascii_digit}
 use Rattle.std.specs.Str.{all_ascii_digits}
 use Rattle.std.proofs.lemmas.Bool.{and_cases, and_from, and_left, and_right, and_parts, leb-true, leb-false, le-leb, lt-leb, cases_Bool}
-use Rattle.constriction_cli.specs.Lines.{is_blank, has_bytes, value_after, number_of, in_front, all_numbers, numbers_of, with_digit, pieces_of}
+use Rattle.constriction_cli.specs.Lines.{is_blank, has_bytes, value_after, number_spelled, in_front, all_numbers, numbers_of, with_digit, pieces_of}
 
 -- ---- a reader that goes from byte to byte
 
@@ -71,7 +71,7 @@ onto-onto_first : (digits : List ℕ) (byte : ℕ) (pieces : List (List ℕ)) �
 onto-onto_first digits byte [] = refl
 onto-onto_first digits byte (piece ∷ pieces) = ap (λ (p : List ℕ). p ∷ pieces) (sym (append_assoc digits (byte ∷ []) piece))
 
-judged-cons : (greatest : ℕ) (digits : List ℕ) (byte : ℕ) (rest : List ℕ) (pieces : List (List ℕ)) → judged greatest ((digits ++ byte ∷ rest) ∷ pieces) ≡ in_front (number_of greatest (digits ++ byte ∷ rest)) (judged greatest pieces)
+judged-cons : (greatest : ℕ) (digits : List ℕ) (byte : ℕ) (rest : List ℕ) (pieces : List (List ℕ)) → judged greatest ((digits ++ byte ∷ rest) ∷ pieces) ≡ in_front (number_spelled greatest (digits ++ byte ∷ rest)) (judged greatest pieces)
 judged-cons greatest [] byte rest pieces = refl
 judged-cons greatest (digit ∷ digits) byte rest pieces = refl
 
@@ -86,18 +86,18 @@ digit_refused : (test : Bool) (v : ℕ) → cond test (Some v) None ≡ None →
 digit_refused true v e = cc
 digit_refused false v e = refl
 
-number_of-none : (greatest : ℕ) (piece : List ℕ) → (all_ascii_digits piece && leb (value_after 0 piece) greatest) ≡ false → number_of greatest piece ≡ None
-number_of-none greatest piece e = rw e refl
+number_spelled-none : (greatest : ℕ) (piece : List ℕ) → (all_ascii_digits piece && leb (value_after 0 piece) greatest) ≡ false → number_spelled greatest piece ≡ None
+number_spelled-none greatest piece e = rw e refl
 
-number_of-some : (greatest : ℕ) (piece : List ℕ) → all_ascii_digits piece ≡ true → value_after 0 piece ≤ greatest → number_of greatest piece ≡ Some (value_after 0 piece)
-number_of-some greatest piece digits small = rw (and_from _ _ digits (le-leb _ _ small)) refl
+number_spelled-some : (greatest : ℕ) (piece : List ℕ) → all_ascii_digits piece ≡ true → value_after 0 piece ≤ greatest → number_spelled greatest piece ≡ Some (value_after 0 piece)
+number_spelled-some greatest piece digits small = rw (and_from _ _ digits (le-leb _ _ small)) refl
 
 -- a byte that can't go on a number spoils the piece that it stands in
-number_of-spoilt : (greatest : ℕ) (digits : List ℕ) (byte : ℕ) (rest : List ℕ) → with_digit greatest (value_after 0 digits) byte ≡ None → number_of greatest (digits ++ byte ∷ rest) ≡ None
-number_of-spoilt greatest digits byte rest e =
+number_spelled-spoilt : (greatest : ℕ) (digits : List ℕ) (byte : ℕ) (rest : List ℕ) → with_digit greatest (value_after 0 digits) byte ≡ None → number_spelled greatest (digits ++ byte ∷ rest) ≡ None
+number_spelled-spoilt greatest digits byte rest e =
     elim (and_cases _ _ (digit_refused (is_ascii_digit byte && leb (10 * value_after 0 digits + (byte - 48)) greatest) (10 * value_after 0 digits + (byte - 48)) e)) [
-      | inl no_digit ↦ number_of-none greatest (digits ++ byte ∷ rest) (and_left _ _ (all_ascii_digits-append digits (byte ∷ rest) ∙ and_right _ _ (and_left _ _ no_digit)))
-      | inr too_great ↦ number_of-none greatest (digits ++ byte ∷ rest) (and_right _ _ (past greatest digits byte rest (leb-false _ _ too_great)))
+      | inl no_digit ↦ number_spelled-none greatest (digits ++ byte ∷ rest) (and_left _ _ (all_ascii_digits-append digits (byte ∷ rest) ∙ and_right _ _ (and_left _ _ no_digit)))
+      | inr too_great ↦ number_spelled-none greatest (digits ++ byte ∷ rest) (and_right _ _ (past greatest digits byte rest (leb-false _ _ too_great)))
     ]
   where
     past : (greatest : ℕ) (digits : List ℕ) (byte : ℕ) (rest : List ℕ) → greatest < 10 * value_after 0 digits + (byte - 48) → leb (value_after 0 (digits ++ byte ∷ rest)) greatest ≡ false
@@ -118,7 +118,7 @@ ends greatest [] pieces all small = refl
 ends greatest (digit ∷ digits) pieces all small =
     sym (
     ap (λ (p : List ℕ). judged greatest (p ∷ pieces)) (append-nil (digit ∷ digits))
-    ∙ ap (λ (o : Option ℕ). in_front o (judged greatest pieces)) (number_of-some greatest (digit ∷ digits) all small)
+    ∙ ap (λ (o : Option ℕ). in_front o (judged greatest pieces)) (number_spelled-some greatest (digit ∷ digits) all small)
     )
 
 -- a blank ends a piece
@@ -135,8 +135,8 @@ at_byte : (greatest byte : ℕ) (bytes : List ℕ) (digits : List ℕ) (next : O
 at_byte greatest byte bytes digits None e again all = spoilt (slice_split is_blank bytes)
   where
     spoilt : (pieces : List (List ℕ)) → None ≡ judged greatest (onto digits (onto_first byte pieces))
-    spoilt [] = sym (judged-cons greatest digits byte [] [] ∙ ap (λ (o : Option ℕ). in_front o (Some [])) (number_of-spoilt greatest digits byte [] e))
-    spoilt (piece ∷ pieces) = sym (judged-cons greatest digits byte piece pieces ∙ ap (λ (o : Option ℕ). in_front o (judged greatest pieces)) (number_of-spoilt greatest digits byte piece e))
+    spoilt [] = sym (judged-cons greatest digits byte [] [] ∙ ap (λ (o : Option ℕ). in_front o (Some [])) (number_spelled-spoilt greatest digits byte [] e))
+    spoilt (piece ∷ pieces) = sym (judged-cons greatest digits byte piece pieces ∙ ap (λ (o : Option ℕ). in_front o (judged greatest pieces)) (number_spelled-spoilt greatest digits byte piece e))
 at_byte greatest byte bytes digits (Some n) e again all =
     let read = digit_read (is_ascii_digit byte && leb (10 * value_after 0 digits + (byte - 48)) greatest) _ n e in
     let parts = and_parts _ _ read.0 in
@@ -254,8 +254,8 @@ at_none greatest line ns ms all i old past old_is same kept =
 -- ---- how great numbers are
 
 -- a number of a piece is not past the greatest
-number_of-small : (greatest : ℕ) (piece : List ℕ) (n : ℕ) → number_of greatest piece ≡ Some n → n ≤ greatest
-number_of-small greatest piece n e =
+number_spelled-small : (greatest : ℕ) (piece : List ℕ) (n : ℕ) → number_spelled greatest piece ≡ Some n → n ≤ greatest
+number_spelled-small greatest piece n e =
     let read = digit_read (all_ascii_digits piece && leb (value_after 0 piece) greatest) (value_after 0 piece) n e in
     let within : leb (value_after 0 piece) greatest ≡ true = (and_parts (all_ascii_digits piece) _ read.0).1 in
     omega (arith, leb-true (value_after 0 piece) greatest within, read.1)
@@ -271,8 +271,8 @@ all_numbers-small greatest [] ns e = λ i.
     let none : ns ≡ [] = cc in
     rw none (omega arith)
 all_numbers-small greatest (piece ∷ pieces) ns e =
-    let parts = in_front-some (number_of greatest piece) (all_numbers greatest pieces) ns e in
-    small parts.0 parts.1 parts.4 (number_of-small greatest piece parts.0 parts.2) (all_numbers-small greatest pieces parts.1 parts.3)
+    let parts = in_front-some (number_spelled greatest piece) (all_numbers greatest pieces) ns e in
+    small parts.0 parts.1 parts.4 (number_spelled-small greatest piece parts.0 parts.2) (all_numbers-small greatest pieces parts.1 parts.3)
   where
     small : (n : ℕ) (ms : List ℕ) → ns ≡ n ∷ ms → n ≤ greatest → ((i : ℕ) → get_or ms i 0 ≤ greatest) → (i : ℕ) → get_or ns i 0 ≤ greatest
     small n ms is first rest zero = rw is first

@@ -7,8 +7,9 @@ use Rattle.constriction_cli.specs.commands.RangeEncode.{IsRangeEncoded}
 use Rattle.constriction_cli.specs.commands.RangeDecode.{IsRangeDecoded, RangeDecodeFails}
 use Rattle.constriction_cli.specs.commands.ChainSplit.{IsChainSplit, ChainSplitFails}
 use Rattle.constriction_cli.specs.commands.Golomb.{IsGolomb, GolombFails}
+use Rattle.constriction_cli.specs.commands.Huffman.{IsHuffmanLine, HuffmanFails}
 use Rattle.constriction_cli.specs.declared.commands.Command.{Command}
-use Rattle.constriction_cli.specs.declared.commands.Command.TheVariants.{AnsEncode, AnsDecode, RangeEncode, RangeDecode, ChainSplit, Golomb}
+use Rattle.constriction_cli.specs.declared.commands.Command.TheVariants.{AnsEncode, AnsDecode, RangeEncode, RangeDecode, ChainSplit, Golomb, Huffman}
 use Rattle.constriction_cli.specs.declared.fault.Fault.{Fault}
 use Rattle.constriction_cli.specs.declared.fault.Fault.TheVariants.{Unreadable, Unwritable, OutOfMemory}
 
@@ -20,6 +21,7 @@ name_of RangeEncode = codes "range-encode"
 name_of RangeDecode = codes "range-decode"
 name_of ChainSplit = codes "chain-split"
 name_of Golomb = codes "golomb"
+name_of Huffman = codes "huffman"
 
 -- the arguments are the command's name alone
 abbrev pub Names : List (List ℕ) → Command → Type 0
@@ -33,6 +35,7 @@ Fails RangeEncode text fault = EncodeFails text fault
 Fails RangeDecode text fault = RangeDecodeFails text fault
 Fails ChainSplit text fault = ChainSplitFails text fault
 Fails Golomb text fault = GolombFails text fault
+Fails Huffman text fault = HuffmanFails text fault
 
 -- why a run stops: reading, writing or memory failed, or the command that the arguments name fails for the text
 abbrev pub Stops : List (List ℕ) → Option (List ℕ) → Fault → Type 0
@@ -47,6 +50,7 @@ Answers RangeEncode text answer = IsRangeEncoded text answer
 Answers RangeDecode text answer = IsRangeDecoded text answer
 Answers ChainSplit text answer = IsChainSplit text answer
 Answers Golomb text answer = IsGolomb text answer
+Answers Huffman text answer = IsHuffmanLine text answer
 
 -- what the command that the arguments name answers a text
 abbrev pub IsAnswered : List (List ℕ) → List ℕ → List ℕ → Type 0

@@ -43,8 +43,8 @@ abbrev pub with_digit : ℕ → ℕ → ℕ → Option ℕ
 with_digit greatest n byte = if is_ascii_digit byte && nat_le (10 * n + (byte - 48)) greatest then Some (10 * n + (byte - 48)) else None
 
 -- the number that a piece of digits spells; none where a byte is no digit, or the number is past the greatest
-abbrev pub number_of : ℕ → List ℕ → Option ℕ
-number_of greatest piece = if all_ascii_digits piece && nat_le (value_after 0 piece) greatest then Some (value_after 0 piece) else None
+abbrev pub number_spelled : ℕ → List ℕ → Option ℕ
+number_spelled greatest piece = if all_ascii_digits piece && nat_le (value_after 0 piece) greatest then Some (value_after 0 piece) else None
 
 -- a number in front of others, where both are there
 abbrev pub in_front : Option ℕ → Option (List ℕ) → Option (List ℕ)
@@ -55,7 +55,7 @@ in_front (Some n) (Some ns) = Some (n ∷ ns)
 -- the numbers of pieces; none where one of them spells no number
 abbrev pub all_numbers : ℕ → List (List ℕ) → Option (List ℕ)
 all_numbers greatest [] = Some []
-all_numbers greatest (piece ∷ pieces) = in_front (number_of greatest piece) (all_numbers greatest pieces)
+all_numbers greatest (piece ∷ pieces) = in_front (number_spelled greatest piece) (all_numbers greatest pieces)
 
 -- the numbers up to the greatest that a line lists; none where it is no list of such numbers
 abbrev pub numbers_of : ℕ → List ℕ → Option (List ℕ)

@@ -2,5 +2,6 @@ pub mod AnsDecode
 pub mod AnsEncode
 pub mod ChainSplit
 pub mod Golomb
+pub mod Huffman
 pub mod RangeDecode
 pub mod RangeEncode

@@ -5,7 +5,7 @@ ghost use Rattle.std.specs.Io.KnownBytes.{Appends};
 ghost use Rattle.std.specs.IoError.{error_kind};
 ghost use Rattle.std.specs.Process.{exit_status};
 ghost use Rattle.constriction_cli.specs.Answers.{Names, Answers, IsAnswered, Fails, Stops};
-ghost use Rattle.constriction_cli.specs.Written.{Begins, fault_line, usage_line};
+ghost use Rattle.constriction_cli.specs.Written.{GrowsByBeginning, fault_line, usage_line};
 ghost use Rattle.constriction_cli.specs.declared.fault.Fault.{Fault};
 ghost use Rattle.constriction_cli.specs.declared.fault.Fault.TheVariants.{OutOfMemory, Unreadable, Unwritable};
 ghost use Rattle.constriction_cli.specs.declared.commands.Command.{Command};
@@ -46,7 +46,7 @@ fn arguments(alloc: Global, given: io::Result<Args>) -> Result<Vec<String>, Faul
 /// Says how the program is called. Answers the status of wrong arguments, 2, also where the line can't be written.
 fn refuse<E: Write>(faults: &mut E) -> u8
     ensures status { result ≡ 2 }
-    ensures line { Begins (E.contents faults.old) (E.contents faults.new) usage_line }
+    ensures line { GrowsByBeginning (E.contents faults.old) (E.contents faults.new) usage_line }
 {
     let _ = write_out(faults, USAGE);
     2
@@ -55,7 +55,7 @@ fn refuse<E: Write>(faults: &mut E) -> u8
 /// Writes the line of a fault. Answers the status of a fault, 1, also where the line can't be written.
 fn report<E: Write>(fault: &Fault, faults: &mut E) -> u8
     ensures status { result ≡ 1 }
-    ensures line { Begins (E.contents faults.old) (E.contents faults.new) (fault_line fault.now) }
+    ensures line { GrowsByBeginning (E.contents faults.old) (E.contents faults.new) (fault_line fault.now) }
 {
     let _ = write_out(faults, fault.line());
     1
@@ -71,7 +71,7 @@ fn answer_to<R: Read, O: Write>(
     ensures ok { OnOk result (IfSome (R.remaining input.old) (λ text. (answer : List ℕ)
         × Answers command text answer × Appends (O.contents output.old) (O.contents output.new) answer)) }
     ensures whole { (output.new ≡ output.old) ⊎ IfSome (R.remaining input.old) (λ text. (answer : List ℕ)
-        × Answers command text answer × Begins (O.contents output.old) (O.contents output.new) answer) }
+        × Answers command text answer × GrowsByBeginning (O.contents output.old) (O.contents output.new) answer) }
     ensures err { IfErr result (λ fault. (fault ≡ Unreadable) ⊎ (fault ≡ Unwritable) ⊎ (fault ≡ OutOfMemory)
         ⊎ IfSome (R.remaining input.old) (λ text. Fails command text fault)) }
 {
@@ -97,10 +97,10 @@ pub fn run<R: Read, O: Write, E: Write>(
     ensures kept { result ≡ 2 → (output.new ≡ output.old) × (input.new ≡ input.old) }
     // Whatever the status, what was written is a beginning of the answer.
     ensures whole { (output.new ≡ output.old) ⊎ IfSome (R.remaining input.old) (λ text. (answer : List ℕ)
-        × IsAnswered (map string_bytes args.now) text answer × Begins (O.contents output.old) (O.contents output.new) answer) }
+        × IsAnswered (map string_bytes args.now) text answer × GrowsByBeginning (O.contents output.old) (O.contents output.new) answer) }
     ensures err { result ≡ 1 → (fault : Fault) × Stops (map string_bytes args.now) (R.remaining input.old) fault
-        × Begins (E.contents faults.old) (E.contents faults.new) (fault_line fault) }
-    ensures usage_line { result ≡ 2 → Begins (E.contents faults.old) (E.contents faults.new) usage_line }
+        × GrowsByBeginning (E.contents faults.old) (E.contents faults.new) (fault_line fault) }
+    ensures usage_line { result ≡ 2 → GrowsByBeginning (E.contents faults.old) (E.contents faults.new) usage_line }
     ensures statuses { result ≤ 2 }
 {
     let Some(command) = Command::parse(args) else {

@@ -4,6 +4,7 @@ mod ans_decode;
 mod ans_encode;
 mod chain_split;
 mod golomb;
+mod huffman;
 mod range_decode;
 mod range_encode;
 
@@ -23,6 +24,7 @@ pub enum Command {
     RangeDecode,
     ChainSplit,
     Golomb,
+    Huffman,
 }
 
 impl Command {
@@ -41,6 +43,7 @@ impl Command {
             "range-decode" => Some(Command::RangeDecode),
             "chain-split" => Some(Command::ChainSplit),
             "golomb" => Some(Command::Golomb),
+            "huffman" => Some(Command::Huffman),
             _ => None,
         }
     }
@@ -57,6 +60,7 @@ impl Command {
             Command::RangeDecode => range_decode::answer(alloc, text),
             Command::ChainSplit => chain_split::answer(alloc, text),
             Command::Golomb => golomb::answer(alloc, text),
+            Command::Huffman => huffman::answer(alloc, text),
         }
     }
 }

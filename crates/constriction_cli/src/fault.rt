@@ -21,6 +21,10 @@ pub enum Fault {
     NoCount,
     NoWeights,
     WrongTotal,
+    /// The weights are more than a Huffman tree can have.
+    TooManySymbols,
+    /// The weights of a Huffman tree add up to more than 64 bits.
+    WeightOverflow,
     Encoder(DefaultEncoderFrontendError),
     /// The last of the compressed words is zero.
     ZeroWord(CompressedDataEndsWithZeroWord),
@@ -45,6 +49,8 @@ impl Fault {
             Fault::NoCount => b"no count\n",
             Fault::NoWeights => b"no weights\n",
             Fault::WrongTotal => b"weights do not sum to 16777216\n",
+            Fault::TooManySymbols => b"too many symbols\n",
+            Fault::WeightOverflow => b"sum of weights too large\n",
             Fault::Encoder(_) => b"Impossible symbol.\n",
             Fault::ZeroWord(_) =>
                 b"Tried to decode from compressed data that ends with a zero word, which is invalid for an ANS coder.\n",

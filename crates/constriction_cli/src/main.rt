@@ -2,6 +2,7 @@
 #![tactic(auto)]
 
 mod cli;
+mod codewords;
 mod commands;
 mod fault;
 mod given;

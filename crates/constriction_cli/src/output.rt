@@ -4,7 +4,7 @@ ghost use Rattle.std.specs.Prelude.{◌≡◌, ◌%◌, ◌^◌, ◌++◌, ◌�
 ghost use Rattle.std.specs.List.{join_with_byte};
 ghost use Rattle.std.specs.Io.KnownBytes.{Appends};
 ghost use Rattle.constriction_cli.specs.Lines.{line_of};
-ghost use Rattle.constriction_cli.specs.Written.{Begins};
+ghost use Rattle.constriction_cli.specs.Written.{GrowsByBeginning};
 ghost use Rattle.constriction_cli.specs.declared.fault.Fault.TheVariants.{Unwritable};
 
 use crate::fault::Fault;
@@ -53,7 +53,7 @@ pub fn push_words(out: &mut Vec<u8>, words: &[u32]) -> Result<(), AllocError>
 /// Writes bytes until the writer has taken all of them, or fails.
 fn write_bytes<O: Write>(output: &mut O, bytes: &[u8]) -> Result<(), Fault>
     ensures ok { OnOk result (Appends (O.contents output.old) (O.contents output.new) bytes.now) }
-    ensures begun { Begins (O.contents output.old) (O.contents output.new) bytes.now }
+    ensures begun { GrowsByBeginning (O.contents output.old) (O.contents output.new) bytes.now }
     ensures err { IfErr result (λ fault. fault ≡ Unwritable) }
 {
     let mut count = 0;
@@ -74,7 +74,7 @@ fn write_bytes<O: Write>(output: &mut O, bytes: &[u8]) -> Result<(), Fault>
 /// Writes all of the bytes, and hands on what the writer holds back.
 pub fn write_out<O: Write>(output: &mut O, bytes: &[u8]) -> Result<(), Fault>
     ensures ok { OnOk result (Appends (O.contents output.old) (O.contents output.new) bytes.now) }
-    ensures begun { Begins (O.contents output.old) (O.contents output.new) bytes.now }
+    ensures begun { GrowsByBeginning (O.contents output.old) (O.contents output.new) bytes.now }
     ensures err { IfErr result (λ fault. fault ≡ Unwritable) }
 {
     write_bytes(output, bytes)?;

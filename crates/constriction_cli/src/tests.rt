@@ -5,6 +5,7 @@ mod chain;
 mod failures;
 mod faults;
 mod golomb;
+mod huffman;
 mod ranges;
 mod writers;
 

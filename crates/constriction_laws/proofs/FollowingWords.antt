@@ -5,12 +5,12 @@ use Rattle.constriction_base.specs.Models.{Item, AreModels}
 use Rattle.constriction_queue.specs.Range.{Run, Within, run, sealed, start}
 use Rattle.constriction_queue.proofs.ReadingRuns.{law_reads}
 use Rattle.constriction_queue.proofs.SealedRuns.{sealed_reads_followed, words-append}
-use Rattle.constriction_laws.specs.queue.Symbols.{EncodesAll, DecodesAll}
+use Rattle.constriction_laws.specs.queue.Symbols.{NarrowsAll, FindsAll}
 use Rattle.constriction_laws.proofs.queue_coder.Entries.{entries, are_steps, run_is}
 use Rattle.constriction_laws.proofs.queue_coder.Sealing.{sealed_words}
 
 within_before : {S : Type 0} (w s : ℕ) (item : Item S) (items : List (Item S)) (last : Run) (rest : List ℕ) → IsSizes w s → s / w ≡ 2
-    → AreModels w (item ∷ items) → AreWords w rest → EncodesAll w s (item ∷ items) (start s) last → Within w s (sealed w s last ++ rest) last
+    → AreModels w (item ∷ items) → AreWords w rest → NarrowsAll w s (item ∷ items) (start s) last → Within w s (sealed w s last ++ rest) last
 within_before w s item items last rest z two ms words h =
     let e : Step = record { precision = item.model.precision; left = h.1.0; p = h.1.1 } in
     let es : List Step = entries w s items h.0 last h.2 in
@@ -21,8 +21,8 @@ within_before w s item items last rest z two ms words h =
     (sealed_reads_followed w s (e ∷ es) rest z two steps words))
 
 pub read_before : {S : Type 0} (w s : ℕ) (items : List (Item S)) (last : Run) (rest : List ℕ) → IsSizes w s → s / w ≡ 2
-    → AreModels w items → AreWords w rest → EncodesAll w s items (start s) last
-    → (Within w s (sealed w s last ++ rest) last → DecodesAll w s (sealed w s last ++ rest) items (start s) last)
-    → DecodesAll w s (sealed w s last ++ rest) items (start s) last
+    → AreModels w items → AreWords w rest → NarrowsAll w s items (start s) last
+    → (Within w s (sealed w s last ++ rest) last → FindsAll w s (sealed w s last ++ rest) items (start s) last)
+    → FindsAll w s (sealed w s last ++ rest) items (start s) last
 read_before w s [] last rest z two ms words h law = h
 read_before w s (item ∷ items) last rest z two ms words h law = law (within_before w s item items last rest z two ms words h)

@@ -21,7 +21,7 @@ steps_of_encodes w s (item ∷ items) old new h =
     (step ∷ rest.0, ((h.1.0, h.1.1, h.1.2, refl), rest.1), (h.0, h.1.3, rest.2))
 
 -- the entries to which a run was narrowed
-pub narrowed_entries : {S : Type 0} (w s : ℕ) (items : List (Item S)) (old new : Run) (h : queue.EncodesAll w s items old new) → AreEntries items (entries w s items old new h)
+pub narrowed_entries : {S : Type 0} (w s : ℕ) (items : List (Item S)) (old new : Run) (h : queue.NarrowsAll w s items old new) → AreEntries items (entries w s items old new h)
 narrowed_entries w s [] old new h = tt
 narrowed_entries w s (item ∷ items) old new h = ((h.1.0, h.1.1, h.1.2, refl), narrowed_entries w s items h.0 new h.2)
 

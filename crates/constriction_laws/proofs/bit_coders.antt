@@ -1,4 +1,5 @@
 pub mod Codewords
 pub mod Forms
 pub mod Pairs
+pub mod Trees
 pub mod Words

@@ -4,11 +4,13 @@
 //!   each.
 //! - [`words`]: words of a stack of bits are those of no other bits, and bits have one list of words.
 //! - [`codewords`]: the suffix form of a codeword is the reverse of its prefix form.
+//! - [`huffman`]: merging gives one tree, whose codewords begin no other.
 //! - [`golomb`]: no Exp-Golomb codeword begins another, and how they end in suffix form.
 //! - [`round_trips`]: symbols and bits there and back, by the coders' own calls.
 
 pub mod codewords;
 pub mod golomb;
+pub mod huffman;
 pub mod lists;
 pub mod round_trips;
 pub mod words;

@@ -15,3 +15,5 @@ mod queue;
 mod stack;
 #[cfg(test)]
 mod symbol;
+#[cfg(test)]
+mod trees;

@@ -31,7 +31,7 @@ pub enum Put {
 }
 
 /// How a step ended that takes a symbol off a pile.
-#[derive(Drop)]
+#[derive(Clone, Copy, PartialEq, Eq)]
 pub enum Took {
     /// This symbol was taken.
     Symbol(usize),

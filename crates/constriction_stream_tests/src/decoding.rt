@@ -7,21 +7,34 @@ use crate::callers::{
 use crate::calls::{
     Put, Table, Took, how_put, put_list, seems_exhausted, seems_full, what_came, what_came_or_bad,
 };
-use crate::pile::Pile;
+use crate::pile::{Empty, Pile};
 use crate::sources::{Mixed, Ones};
+use constriction_stream::coder::Code;
 use constriction_stream::decoding::Decode;
 use constriction_stream::encoding::Encode;
+use constriction_words::{BitArray, WordOf};
+use std::alloc::AllocError;
 use std::test::Fail;
 
 /// A symbol for each table, then an error, then the end.
-fn of_each(pile: &mut Pile, tables: &[Table; 3]) -> bool {
-    let mut answers = pile.decode_symbols(tables.iter());
-    answers.size_hint() == (3, Some(3))
-        && matches!(what_came(answers.next()), Took::Symbol(1))
-        && answers.len() == 2
-        && matches!(what_came(answers.next()), Took::Symbol(0))
-        && matches!(what_came(answers.next()), Took::Empty)
-        && matches!(what_came(answers.next()), Took::End)
+fn of_each<C>(coder: &mut C, tables: &[Table; 3]) -> bool
+where
+    C: Decode<8, FrontendError = Empty, BackendError = AllocError>,
+    u8: WordOf<C::Word>,
+{
+    let mut answers = coder.decode_symbols(tables.iter());
+    let hint = answers.size_hint();
+    let first = what_came(answers.next());
+    let left = answers.len();
+    let more = [
+        what_came(answers.next()),
+        what_came(answers.next()),
+        what_came(answers.next()),
+    ];
+    hint == (3, Some(3))
+        && left == 2
+        && first == Took::Symbol(1)
+        && more == [Took::Symbol(0), Took::Empty, Took::End]
 }
 
 #[test]
@@ -39,19 +52,29 @@ fn decode_each_of_many(rt: HostRuntime) -> Result<(), Fail> {
 }
 
 /// A symbol for each table but the one that is an error, then an error, then the end.
-fn of_some(pile: &mut Pile, table: &Table) -> bool {
-    let mut answers = pile.try_decode_symbols(Mixed {
+fn of_some<C>(coder: &mut C, table: &Table) -> bool
+where
+    C: Decode<8, FrontendError = Empty, BackendError = AllocError>,
+    u8: WordOf<C::Word>,
+{
+    let mut answers = coder.try_decode_symbols(Mixed {
         count: 4,
         bad: 2,
         one: table,
     });
-    answers.size_hint() == (4, Some(4))
-        && matches!(what_came_or_bad(answers.next()), Took::Symbol(1))
-        && answers.len() == 3
-        && matches!(what_came_or_bad(answers.next()), Took::Bad(7))
-        && matches!(what_came_or_bad(answers.next()), Took::Symbol(0))
-        && matches!(what_came_or_bad(answers.next()), Took::Empty)
-        && matches!(what_came_or_bad(answers.next()), Took::End)
+    let hint = answers.size_hint();
+    let first = what_came_or_bad(answers.next());
+    let left = answers.len();
+    let more = [
+        what_came_or_bad(answers.next()),
+        what_came_or_bad(answers.next()),
+        what_came_or_bad(answers.next()),
+        what_came_or_bad(answers.next()),
+    ];
+    hint == (4, Some(4))
+        && left == 3
+        && first == Took::Symbol(1)
+        && more == [Took::Bad(7), Took::Symbol(0), Took::Empty, Took::End]
 }
 
 #[test]
@@ -65,18 +88,29 @@ fn decode_some_of_many(rt: HostRuntime) -> Result<(), Fail> {
 }
 
 /// Two answers by one table, the second of which is an error.
-fn by_one(pile: &mut Pile, table: &Table) -> bool {
-    let mut answers = pile.decode_iid_symbols(2, table);
-    answers.size_hint() == (2, Some(2))
-        && matches!(what_came(answers.next()), Took::Symbol(1))
-        && answers.len() == 1
-        && matches!(what_came(answers.next()), Took::Empty)
-        && matches!(what_came(answers.next()), Took::End)
+fn by_one<C>(coder: &mut C, table: &Table) -> bool
+where
+    C: Decode<8, FrontendError = Empty, BackendError = AllocError>,
+    u8: WordOf<C::Word>,
+{
+    let mut answers = coder.decode_iid_symbols(2, table);
+    let hint = answers.size_hint();
+    let first = what_came(answers.next());
+    let left = answers.len();
+    let more = [what_came(answers.next()), what_came(answers.next())];
+    hint == (2, Some(2))
+        && left == 1
+        && first == Took::Symbol(1)
+        && more == [Took::Empty, Took::End]
 }
 
 /// The hint is that of the models.
-fn hints_nothing(pile: &mut Pile, table: &Table) -> bool {
-    let answers = pile.decode_symbols(Ones {
+fn hints_nothing<C>(coder: &mut C, table: &Table) -> bool
+where
+    C: Decode<8, FrontendError = Empty, BackendError = AllocError>,
+    u8: WordOf<C::Word>,
+{
+    let answers = coder.decode_symbols(Ones {
         count: 3,
         one: table,
     });

@@ -11,3 +11,11 @@ pub mod BitsGiven
 pub mod ReadBack
 pub mod Words
 pub mod Equal
+pub mod HuffmanRows
+pub mod Merged
+pub mod HuffmanMerging
+pub mod DecoderTrees
+pub mod Walking
+pub mod Climbing
+pub mod EncoderTrees
+pub mod Turned

@@ -21,8 +21,8 @@ zeros_one count tail = replicate count false ++ true ∷ tail
 
 -- bits of a reader of numbers of b bits that wants one more: no more zeros than b, alone or with a one and fewer bits
 -- than zeros behind them
-abbrev pub ReadsOn : ℕ → List Bool → Type 0
-ReadsOn b bits =
+abbrev pub WantsBit : ℕ → List Bool → Type 0
+WantsBit b bits =
     ((count : ℕ) × (count ≤ b) × (bits ≡ replicate count false))
     ⊎ ((count : ℕ) × (tail : List Bool) × (count ≤ b) × (length tail < count) × (bits ≡ zeros_one count tail))
 

@@ -6,7 +6,7 @@ use Rattle.std.proofs.lemmas.Int.Digits.{digits_of_step}
 use Rattle.std.proofs.lemmas.List.{map_push}
 use Rattle.std.proofs.Math.Pow.{pow-lt}
 use native.Mathlib.Nat.{pow-zero, pow-suc}
-use Rattle.constriction_symbol.specs.Golomb.{binary, golomb, number_after, zeros_one, ReadsOn, IsInvalid}
+use Rattle.constriction_symbol.specs.Golomb.{binary, golomb, number_after, zeros_one, WantsBit, IsInvalid}
 
 pow_next : (k : ℕ) → 2 ^ suc k ≡ 2 * 2 ^ k
 pow_next k = rw pow-suc (omega arith)
@@ -140,7 +140,7 @@ golomb_prefix_free m n tail is =
     no_items (x ∷ xs) e = absurd (omega (arith, e))
 
 -- where one more bit is wanted no codeword is complete
-pub wanted_more : (b n : ℕ) (bits tail : List Bool) → ReadsOn b bits → bits ≡ golomb n ++ tail → ⊥
+pub wanted_more : (b n : ℕ) (bits tail : List Bool) → WantsBit b bits → bits ≡ golomb n ++ tail → ⊥
 wanted_more b n bits tail (inl (count, within, zeros)) is =
     let shape = golomb_shape n in
     only_zeros count (length shape.0) (shape.0 ++ tail) (sym zeros ∙ (is ∙ (ap (λ bs. bs ++ tail) shape.1 ∙ zeros_one_then (length shape.0) shape.0 tail)))
@@ -184,7 +184,7 @@ pub known_prefix_free : (m n : ℕ) (bits tail : List Bool) → Some (golomb m) 
 known_prefix_free m n bits tail first second =
     golomb_prefix_free m n tail (some_same _ _ second ∙ ap (λ bs. bs ++ tail) (sym (some_same _ _ first)))
 
-pub known_on : (b n : ℕ) (bits code tail : List Bool) → ReadsOn b bits → Some (golomb n) ≡ Some code → bits ≡ code ++ tail → ⊥
+pub known_on : (b n : ℕ) (bits code tail : List Bool) → WantsBit b bits → Some (golomb n) ≡ Some code → bits ≡ code ++ tail → ⊥
 known_on b n bits code tail on known is = wanted_more b n bits tail on (is ∙ ap (λ bs. bs ++ tail) (sym (some_same _ _ known)))
 
 pub known_invalid : (b n : ℕ) (bits rest code tail : List Bool) → n < 2 ^ b → IsInvalid b bits → Some (golomb n) ≡ Some code → bits ++ rest ≡ code ++ tail → ⊥

@@ -2,5 +2,14 @@ pub mod Bits
 pub mod Codewords
 pub mod Golomb
 pub mod GolombLaws
+pub mod Huffman
 pub mod Guards
 pub mod Guarded
+pub mod Merging
+pub mod HuffmanLaws
+pub mod HuffmanMerge
+pub mod HuffmanParents
+pub mod TreeCode
+pub mod DecoderTree
+pub mod EncoderTree
+pub mod Reversed

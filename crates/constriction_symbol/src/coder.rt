@@ -21,6 +21,7 @@ use constriction_base::backends::{
     BoundedReadWords, Holds, Queue, ReadWords, Semantics, Stack, WriteWords,
 };
 use constriction_words::BitArray;
+use smallvec::SmallVec;
 use std::alloc::{AllocError, Global};
 use std::marker::{Model, PhantomData};
 
@@ -46,6 +47,10 @@ pub type DefaultStackCoder<B = Vec<u32>> = StackCoder<u32, B>;
 
 /// A queue of bits over words of 32 bits, for writing.
 pub type DefaultQueueEncoder<B = Vec<u32>> = QueueEncoder<u32, B>;
+
+/// A stack of bits for one codeword. Its first two words of bits take no memory: one lies in the backend's value,
+/// and the other stays outside the backend.
+pub type SmallBitStack = StackCoder<usize, SmallVec<usize, 1>>;
 
 impl<Word: BitArray, S: Semantics, B: Holds<Word, Stack>> Model for SymbolCoder<Word, S, B> {
     ghost use Rattle.constriction_symbol.specs.Bits.{BitsValue, bits_above};
@@ -105,6 +110,26 @@ impl<Word: BitArray> QueueEncoder<Word, Vec<Word>> {
             last: TopBits::none(),
             semantics: PhantomData,
         })
+    }
+}
+
+/// How a [`SmallBitStack`] is made. As a method of its type beside that of the coders over vectors, it would leave open
+/// which of the two `StackCoder::new` is.
+pub trait NewSmallStack {
+    /// A stack without bits. It takes no memory for the first `2 * usize::BITS`; `alloc` is where further words go.
+    fn new(alloc: Global) -> Self;
+}
+
+impl NewSmallStack for SmallBitStack {
+    #[inline]
+    fn new(alloc: Global) -> Self
+        ensures { result.bits ≡ [] }
+    {
+        SymbolCoder {
+            backend: SmallVec::new(alloc),
+            last: TopBits::none(),
+            semantics: PhantomData,
+        }
     }
 }
 

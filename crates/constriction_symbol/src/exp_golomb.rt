@@ -2,7 +2,7 @@
 
 ghost use Rattle.constriction_symbol.specs.Bits.{bits_of};
 ghost use Rattle.constriction_symbol.specs.Codewords.{Emits};
-ghost use Rattle.constriction_symbol.specs.Golomb.{IsInvalid, ReadsOn, golomb};
+ghost use Rattle.constriction_symbol.specs.Golomb.{IsInvalid, WantsBit, golomb};
 ghost use Rattle.constriction_symbol.specs.GolombLaws.{known_invalid, known_on, known_prefix_free, same_codeword};
 ghost use Rattle.std.specs.Prelude.{Some, false, replicate, reverse, ◌+◌, ◌++◌, ◌-◌, ◌<◌, ◌^◌, ◌≡◌, ◌≤◌};
 
@@ -152,7 +152,7 @@ pub struct InvalidCodeword;
 impl<N: BitArray> DecoderCodebook for ExpGolomb<N> {
     type InvalidCodeword = InvalidCodeword;
 
-    ghost reads_on = { λ _ bits. ReadsOn N.BITS bits };
+    ghost reads_on = { λ _ bits. WantsBit N.BITS bits };
 
     ghost is_invalid = { λ _ bits _. IsInvalid N.BITS bits };
 

@@ -19,11 +19,14 @@
 //! - [`coder`]: `SymbolCoder`, bits that grow: a queue for writing, or a stack. Its words, and its guards.
 //! - [`queue`]: `QueueDecoder`, the bits of words.
 //! - [`writing`], [`reading`]: streams of bits, to which symbols are written and from which they are read, with lists.
+//! - [`reversed`]: codewords that are given from the last bit to the first, turned round.
 //! - [`iterators`]: the iterators of symbols.
 //! - [`exp_golomb`]: the Exp-Golomb codebook of numbers.
+//! - [`huffman`]: Huffman trees, the codebooks of least cost for given weights, one for encoding and one for decoding.
 //!
 //! Contracts cite the definitions of `specs/Bits.antt` (bits of words), `specs/Codewords.antt` (what is emitted, written
-//! and read) and `specs/Golomb.antt` (the grammar).
+//! and read), `specs/Golomb.antt` (the grammar), `specs/Huffman.antt` (the tree that merging weights gives, and its
+//! codewords) and `specs/Merging.antt` (which weights make a tree, and which refusal comes when).
 #![tactic(auto)]
 
 pub mod codebooks;
@@ -31,9 +34,11 @@ pub mod coder;
 mod emitting;
 mod equality;
 pub mod exp_golomb;
+pub mod huffman;
 pub mod iterators;
 pub mod queue;
 pub mod reading;
+pub mod reversed;
 mod steps;
 mod taking;
 mod top_bits;

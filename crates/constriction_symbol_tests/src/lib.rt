@@ -28,9 +28,13 @@ mod golomb;
 #[cfg(test)]
 mod guards;
 #[cfg(test)]
+mod huffman;
+#[cfg(test)]
 mod lists;
 #[cfg(test)]
 mod memory;
+#[cfg(test)]
+mod reversed;
 #[cfg(test)]
 mod rows;
 #[cfg(test)]

@@ -25,8 +25,6 @@
 #![tactic(auto)]
 
 pub mod bit_array;
-#[cfg(test)]
-mod tests;
 pub mod word_of;
 
 pub use crate::bit_array::BitArray;

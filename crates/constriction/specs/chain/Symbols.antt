@@ -1,2 +1,2 @@
 -- What coding symbols, each under its model, does to a chain coder's state.
-pub use Rattle.constriction_chain.specs.Symbols.{Decodes, Encodes, DecodesAll, EncodesAll, IsModelAt, AreModelsAt}
+pub use Rattle.constriction_chain.specs.Symbols.{TakesOff, PutsBack, TakesOffAll, PutsBackAll, IsModelAt, AreModelsAt}

@@ -1,2 +1,2 @@
 -- Quantiles of a chain coder, as a walk on bits.
-pub use Rattle.constriction_chain.specs.Walk.{number_of, Source, IsTakenFromWord, IsTakenFromBits, IsTaken, IsQuantile, NeedsWord, OwesWord, TakenBy}
+pub use Rattle.constriction_chain.specs.Walk.{number_of_bits, Source, IsTakenFromWord, IsTakenFromBits, IsTaken, IsQuantile, NeedsWord, OwesWord, TakenBy}

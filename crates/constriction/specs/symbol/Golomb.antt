@@ -1,2 +1,2 @@
 -- The grammar of Exp-Golomb codewords.
-pub use Rattle.constriction_symbol.specs.Golomb.{binary, golomb, number_after, zeros_one, ReadsOn, IsInvalid}
+pub use Rattle.constriction_symbol.specs.Golomb.{binary, golomb, number_after, zeros_one, WantsBit, IsInvalid}

@@ -1,22 +1,14 @@
 -- What `golomb` answers a text, and when it gives which fault.
-use Rattle.std.specs.Prelude.{◌≡◌, ℕ, ◌-◌, ◌^◌, Some, Bool, true, false, List, [], ◌∷◌, ◌++◌, map, flat_map, ⊤}
+use Rattle.std.specs.Prelude.{◌≡◌, ℕ, ◌-◌, ◌^◌, Some, List, [], ◌∷◌, ◌++◌, map, flat_map, ⊤}
 use Rattle.std.specs.List.{join_with_byte}
 use Rattle.constriction.specs.Steps.{AreWords}
 use Rattle.constriction.specs.symbol.Bits.{IsQueueWords}
 use Rattle.constriction.specs.symbol.Golomb.{golomb}
+use Rattle.constriction_cli.specs.Codewords.{digits}
 use Rattle.constriction_cli.specs.Lines.{first_line, numbers_of, line_of}
 use Rattle.constriction_cli.specs.Inputs.{IsBad}
 use Rattle.constriction_cli.specs.declared.fault.Fault.{Fault}
 use Rattle.constriction_cli.specs.declared.fault.Fault.TheVariants.{BadNumber, OutOfMemory}
-
--- a bit as a digit
-abbrev pub digit : Bool → ℕ
-digit true = 49
-digit false = 48
-
--- bits as digits, the first one first
-abbrev pub digits : List Bool → List ℕ
-digits bits = map digit bits
 
 -- the codewords of numbers with a space between each two, as a line
 abbrev pub codewords_line : List ℕ → List ℕ

@@ -5,7 +5,8 @@ use Rattle.constriction.specs.queue.Range.{Run, start}
 use Rattle.constriction_cli.specs.Lines.{line_of}
 use Rattle.constriction_cli.specs.Inputs.{GivesWords, NoWords}
 use Rattle.constriction_cli.specs.Coding.{of_24_bits}
-use Rattle.constriction_cli.specs.Ranges.{ReadsAll, ReadingFails}
+use Rattle.constriction.specs.queue.Symbols.{FindsAll}
+use Rattle.constriction_cli.specs.Ranges.{ReadingFails}
 use Rattle.constriction_cli.specs.declared.fault.Fault.{Fault}
 use Rattle.constriction_cli.specs.declared.fault.Fault.TheVariants.{InvalidData}
 
@@ -17,7 +18,7 @@ pub record IsRangeDecoded (text answer : List ℕ) : Type 0 where
   pub symbols : List ℕ
   pub run : Run
   pub given : GivesWords text table count words
-  pub decoded : ReadsAll words (items_of (of_24_bits table) symbols) (start 64) run
+  pub decoded : FindsAll 32 64 words (items_of (of_24_bits table) symbols) (start 64) run
   pub counted : length symbols ≡ count
   pub printed : answer ≡ line_of symbols
 

@@ -5,7 +5,7 @@ use Rattle.constriction.specs.queue.Range.{Run, start, sealed}
 use Rattle.constriction_cli.specs.Lines.{line_of}
 use Rattle.constriction_cli.specs.Inputs.{GivesSymbols}
 use Rattle.constriction_cli.specs.Coding.{of_24_bits}
-use Rattle.constriction_cli.specs.Ranges.{NarrowsAll}
+use Rattle.constriction.specs.queue.Symbols.{NarrowsAll}
 
 -- the seal of the run of the symbols, as a line
 pub record IsRangeEncoded (text answer : List ℕ) : Type 0 where
@@ -13,5 +13,5 @@ pub record IsRangeEncoded (text answer : List ℕ) : Type 0 where
   pub symbols : List ℕ
   pub run : Run
   pub given : GivesSymbols text table symbols
-  pub encoded : NarrowsAll (items_of (of_24_bits table) symbols) (start 64) run
+  pub encoded : NarrowsAll 32 64 (items_of (of_24_bits table) symbols) (start 64) run
   pub printed : answer ≡ line_of (sealed 32 64 run)

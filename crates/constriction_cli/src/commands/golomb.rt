@@ -1,66 +1,24 @@
 //! `golomb`: numbers to their Exp-Golomb codewords, as texts and in the words of a queue of bits.
 
-ghost use Rattle.std.specs.Prelude.{◌≡◌, ◌%◌, ◌^◌, ◌++◌, ⊤, map, flat_map, IfOk, IfErr, OnOk};
+ghost use Rattle.std.specs.Prelude.{◌≡◌, ◌%◌, ◌^◌, ◌++◌, map, flat_map, IfOk, IfErr, OnOk};
 ghost use Rattle.constriction.specs.symbol.Bits.{IsQueueWords};
 ghost use Rattle.constriction.specs.symbol.Golomb.{golomb};
-ghost use Rattle.constriction_cli.specs.commands.Golomb.{GolombFails, IsGolomb, codewords_line, digits};
+ghost use Rattle.constriction_cli.specs.Codewords.{digits};
+ghost use Rattle.constriction_cli.specs.commands.Golomb.{GolombFails, IsGolomb, codewords_line};
 
+use crate::codewords::{codeword, push_digits};
 use crate::fault::Fault;
 use crate::input::{parse_numbers, split_line};
 use crate::output::push_words;
-use constriction::Queue;
 use constriction::symbol::exp_golomb::ExpGolomb;
 use constriction::symbol::{DefaultQueueEncoder, WriteBitStream};
 use std::alloc::{AllocError, Global};
-
-/// A list of bits.
-#[derive(Drop)]
-struct Bits {
-    list: Vec<bool>,
-}
-
-impl WriteBitStream<Queue> for Bits {
-    type WriteError = AllocError;
-
-    ghost bits = { λ b. b.list.items };
-
-    ghost bit_fails = { λ _ _. ⊤ };
-
-    fn write_bit(&mut self, bit: bool) -> Result<(), AllocError> {
-        self.list.push(bit)?;
-        Ok(())
-    }
-}
-
-/// The bits of the codeword of a number.
-fn codeword(alloc: Global, number: u32) -> Result<Vec<bool>, AllocError>
-    ensures { IfOk result (λ bits. bits.items ≡ golomb number) }
-{
-    let mut bits = Bits {
-        list: Vec::new(alloc),
-    };
-    match bits.encode_symbol(&number, ExpGolomb::<u32>::new()) {
-        Ok(()) => Ok(bits.list),
-        // Each number has a codeword, so that only memory was missing.
-        Err(_) => Err(AllocError),
-    }
-}
-
-/// Adds bits as digits.
-fn push_digits(line: &mut Vec<u8>, bits: &[bool]) -> Result<(), AllocError>
-    ensures { OnOk result (line.new.items ≡ line.old.items ++ digits bits.now) }
-{
-    for bit in bits {
-        line.push(if *bit { b'1' } else { b'0' })?;
-    }
-    Ok(())
-}
 
 /// Adds the codeword of a number as digits.
 fn push_codeword(alloc: Global, line: &mut Vec<u8>, number: u32) -> Result<(), AllocError>
     ensures { OnOk result (line.new.items ≡ line.old.items ++ digits (golomb number)) }
 {
-    let bits = codeword(alloc, number)?;
+    let bits = codeword(alloc, &number, ExpGolomb::<u32>::new())?;
     push_digits(line, bits.as_slice())
 }
 

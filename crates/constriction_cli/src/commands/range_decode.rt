@@ -4,7 +4,8 @@ ghost use Rattle.std.specs.Prelude.{◌≡◌, length, IfOk, IfErr};
 ghost use Rattle.constriction.specs.Models.{items_of};
 ghost use Rattle.constriction.specs.queue.Range.{Run, start, IsAt};
 ghost use Rattle.constriction_cli.specs.Coding.{of_24_bits};
-ghost use Rattle.constriction_cli.specs.Ranges.{ReadsAll, ReadingFails};
+ghost use Rattle.constriction.specs.queue.Symbols.{FindsAll};
+ghost use Rattle.constriction_cli.specs.Ranges.{ReadingFails};
 ghost use Rattle.constriction_cli.specs.commands.RangeDecode.{IsRangeDecoded, RangeDecodeFails};
 
 use crate::fault::Fault;
@@ -39,7 +40,7 @@ fn decode<M: DecoderModel<PRECISION, Symbol = usize, Probability = u32>>(
     words: &[u32],
 ) -> Result<Vec<usize>, Fault>
     ensures ok { IfOk result (λ symbols. (run : Run)
-        × ReadsAll words.now (items_of (of_24_bits (M.table model.now)) symbols.items) (start 64) run) }
+        × FindsAll 32 64 words.now (items_of (of_24_bits (M.table model.now)) symbols.items) (start 64) run) }
     ensures counted { IfOk result (λ symbols. length symbols.items ≡ count) }
     ensures err { IfErr result (ReadingFails words.now (M.table model.now) count) }
 {

@@ -134,7 +134,7 @@ fn fault_line_that_cannot_be_written(rt: HostRuntime) -> Result<(), Fail> {
 /// passes too; run it once for each allocation that it makes.
 #[test]
 fn refused_memory(rt: HostRuntime) -> Result<(), Fail> {
-    let cases: [(&str, &[u8], &[u8]); 6] = [
+    let cases: [(&str, &[u8], &[u8]); 7] = [
         (
             "ans-encode",
             b"3 2 16777211\n0 1 2 0 1 0 0\n",
@@ -161,6 +161,7 @@ fn refused_memory(rt: HostRuntime) -> Result<(), Fail> {
             b"0\n\n2149724996 273\n",
         ),
         ("golomb", b"0 5 7\n", b"1 00110 0001000\n537\n"),
+        ("huffman", b"2 2 4 1 1\n", b"00 01 11 100 101\n"),
     ];
     for (command, text, line) in cases.iter() {
         // where the arguments or the lists of the test itself find no memory, there was no run

@@ -89,7 +89,7 @@ fn usage(rt: HostRuntime) -> Result<(), Fail> {
         &["ANS-ENCODE"],
         &["ans-encode", "ans-encode"],
         &["range"],
-        &["huffman"],
+        &["huffmann"],
         &["--help"],
     ];
     for words in lists.iter() {

@@ -4,14 +4,14 @@ use Rattle.std.proofs.Common.{◌≡◌, ℕ, List, [], ◌∷◌, length, map, 
 use Rattle.constriction_base.specs.Models.{AreModels, IsModel, Item, Model, item_of, pairs_of}
 use Rattle.constriction_chain.specs.Chain.{ChainState}
 use Rattle.constriction_chain.specs.Runs.{AreIsolated, Decode, Event, IsRun, decodings}
-use Rattle.constriction_chain.specs.Symbols.{Decodes, DecodesAll}
+use Rattle.constriction_chain.specs.Symbols.{TakesOff, TakesOffAll}
 
 -- a decode of an item, as an event of a run
 abbrev event_of : {S : Type 0} → Item S → Event S
 event_of item = Decode (record { precision = item.model.precision; table = item.model.table; symbol = item.symbol })
 
 -- decodes of items are a run
-run_of : {S : Type 0} (w s : ℕ) (items : List (Item S)) (old new : ChainState) → AreModels w items → DecodesAll w s items old new → IsRun w s old (map event_of items) new
+run_of : {S : Type 0} (w s : ℕ) (items : List (Item S)) (old new : ChainState) → AreModels w items → TakesOffAll w s items old new → IsRun w s old (map event_of items) new
 run_of w s [] old new ms all = all
 run_of w s (item ∷ items) old new ms (next, (left, p, has, d), all) =
     (next, left, p, ms.0.within_word, ms.0.lawful, has, d, run_of w s items next new ms.1 all)
@@ -43,7 +43,7 @@ module _ {S M : Type 0} (w s P : ℕ) (table : M → List (S × ℕ × ℕ)) whe
       → ((w s : ℕ) (x x' y y' : ChainState) (es es' : List (Event S)) → x.h ≡ x'.h → x.compressed ≡ x'.compressed → IsRun w s x es y → IsRun w s x' es' y' → AreIsolated (decodings es) (decodings es'))
       → (first replaced : M) (a b : S) (ms : List M) (xs ys : List S) (x x' y y' z z' : ChainState) → x.h ≡ x'.h → x.compressed ≡ x'.compressed
       → length xs ≡ length ms → length ys ≡ length ms
-      → Decodes w s (model first) a x y → Decodes w s (model replaced) b x' y' → DecodesAll w s (pairs_of P table xs ms) y z → DecodesAll w s (pairs_of P table ys ms) y' z'
+      → TakesOff w s (model first) a x y → TakesOff w s (model replaced) b x' y' → TakesOffAll w s (pairs_of P table xs ms) y z → TakesOffAll w s (pairs_of P table ys ms) y' z'
       → xs ≡ ys
   later_same law isolated first replaced a b ms xs ys x x' y y' z z' eh ec e f d d' all all' =
       let one = run_of w s (item_of (model first) a ∷ pairs_of P table xs ms) x z (law first, pairs_are law xs ms) (y, d, all) in

@@ -8,7 +8,7 @@ use Rattle.constriction_stream.specs.Lists.{StepsAll}
 use Rattle.constriction_stream.specs.Symbols.{EncodesSymbol}
 use Rattle.constriction_chain.specs.Chain.{ChainValue}
 use Rattle.constriction_chain.specs.Steps.{DecodeCall, EncodeCall}
-use Rattle.constriction_chain.specs.Symbols.{AreModelsAt, Decodes, DecodesAll, Encodes, EncodesAll, IsModelAt}
+use Rattle.constriction_chain.specs.Symbols.{AreModelsAt, TakesOff, TakesOffAll, PutsBack, PutsBackAll, IsModelAt}
 use Rattle.constriction_chain.specs.declared.errors.BackendError.{BackendError}
 use Rattle.constriction_chain.specs.declared.errors.EncoderFrontendError.{EncoderFrontendError}
 
@@ -18,7 +18,7 @@ module _ {S W C R E F : Type 0} (number : W → ℕ) (is_list : Type 0) (held : 
   -- a step of the coder that went well is an encode of the symbol
   encode_of : (model : Model S) (symbol : S) (old new : ChainValue C R) → is_list
       → EncodesSymbol (EncodeCall number is_list held held' reads prepare_fails write_fails room makes_room w s) is_impossible model.precision model.table symbol old (Ok tt) new
-      → Encodes w s model symbol old.state new.state
+      → PutsBack w s model symbol old.state new.state
   encode_of model symbol old new list (inl (left, p, has, call)) = (left, p, has, call.outcome.encoded list)
   encode_of model symbol old new list (inr (never, e, impossible, is, same)) = absurd cc
 
@@ -26,7 +26,7 @@ module _ {S W C R E F : Type 0} (number : W → ℕ) (is_list : Type 0) (held : 
   pub encodes_of : {A T : Type 0} (lent : A → T) (item : T → Item S) (xs : List A) (old new : ChainValue C R) → is_list
       → StepsAll {E = CoderError EncoderFrontendError (BackendError E F)} (λ old x answer new. EncodesSymbol (EncodeCall number is_list held held' reads prepare_fails write_fails room makes_room w s) is_impossible
       (item (lent x)).model.precision (item (lent x)).model.table (item (lent x)).symbol old answer new) old xs new
-      → EncodesAll w s (map item (map lent xs)) old.state new.state
+      → PutsBackAll w s (map item (map lent xs)) old.state new.state
   encodes_of lent item [] old new list all = ap (λ (c : ChainValue C R). c.state) all
   encodes_of lent item (x ∷ xs) old new list all =
       (all.0.state, encode_of (item (lent x)).model (item (lent x)).symbol old all.0 list all.1, encodes_of lent item xs all.0 new list all.2)
@@ -39,12 +39,12 @@ module _ {S W C R E F : Type 0} (number : W → ℕ) (is_list : Type 0) (held : 
   Given model symbol old new =
       AtEntry model.precision model.table symbol (λ step. DecodeCall number is_list held held' reads write_fails room makes_room w s old step (Ok tt) new)
 
-  pub decode_of : (model : Model S) (symbol : S) (old new : ChainValue C R) → is_list → Given model symbol old new → Decodes w s model symbol old.state new.state
+  pub decode_of : (model : Model S) (symbol : S) (old new : ChainValue C R) → is_list → Given model symbol old new → TakesOff w s model symbol old.state new.state
   decode_of model symbol old new list (left, p, has, call) = (left, p, has, call.outcome.decoded list)
 
   -- so is a list of them, each at the item that stands for what was given
   pub decodes_of : {T : Type 0} (item : T → Item S) (xs : List T) (old new : ChainValue C R) → is_list → InTurn (λ x. Given (item x).model (item x).symbol) xs old new
-      → DecodesAll w s (map item xs) old.state new.state
+      → TakesOffAll w s (map item xs) old.state new.state
   decodes_of item [] old new list all = ap (λ (c : ChainValue C R). c.state) all
   decodes_of item (x ∷ xs) old new list all =
       (all.0.state, decode_of (item x).model (item x).symbol old all.0 list all.1, decodes_of item xs all.0 new list all.2)

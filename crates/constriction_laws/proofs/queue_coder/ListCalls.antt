@@ -14,7 +14,7 @@ use Rattle.constriction_queue.specs.Decoder.{Decoder, distance, quantile_read}
 use Rattle.constriction_queue.specs.Calls as calls
 use Rattle.constriction_queue.proofs.Pointing.{takes_is, mod_sum}
 use Rattle.constriction_queue.proofs.Showing.{queue_is}
-use Rattle.constriction_laws.specs.queue.Symbols.{Encodes, Decodes, EncodesAll, DecodesAll, StandsAt, MayEnd}
+use Rattle.constriction_laws.specs.queue.Symbols.{Narrows, Finds, NarrowsAll, FindsAll, StandsAt, MayEnd}
 use Rattle.constriction_laws.proofs.queue_coder.ComingBack.{decodes_unique}
 use Rattle.constriction_laws.proofs.stack_coder.SameModel.{are_models, models-alike, symbols-items_of}
 use Rattle.constriction_laws.proofs.stack_coder.PairCalls.{are_pairs, same_models, their_symbols}
@@ -24,7 +24,7 @@ module _ {S W B E F : Type 0} (number : W → ℕ) (held : B → List W) (w s : 
   -- a step of the encoder that went well is an encode of the symbol
   pub encode_of : (model : Model S) (symbol : S) (old new : Encoder B)
       → EncodesSymbol {F = F} (ByBackend (calls.EncodeCall number held w s room makes_room prepare_fails write_fails)) is_impossible model.precision model.table symbol old (Ok tt) new
-      → Encodes w s model symbol (run_by w s old) (run_by w s new)
+      → Narrows w s model symbol (run_by w s old) (run_by w s new)
   encode_of model symbol old new (inl (left, p, has, (Ok u, e, is))) = (left, p, has, e.narrowed)
   encode_of model symbol old new (inl (left, p, has, (Err x, e, is))) = absurd cc
   encode_of model symbol old new (inr (never, e, impossible, is, same)) = absurd cc
@@ -33,7 +33,7 @@ module _ {S W B E F : Type 0} (number : W → ℕ) (held : B → List W) (w s : 
   pub encodes_of : {A T : Type 0} (lent : A → T) (item : T → Item S) (xs : List A) (old new : Encoder B)
       → StepsAll {E = CoderError F E} (λ old x answer new. EncodesSymbol (ByBackend (calls.EncodeCall number held w s room makes_room prepare_fails write_fails)) is_impossible
       (item (lent x)).model.precision (item (lent x)).model.table (item (lent x)).symbol old answer new) old xs new
-      → EncodesAll w s (map item (map lent xs)) (run_by w s old) (run_by w s new)
+      → NarrowsAll w s (map item (map lent xs)) (run_by w s old) (run_by w s new)
   encodes_of lent item [] old new all = ap (λ (c : Encoder B). run_by w s c) all
   encodes_of lent item (x ∷ xs) old new all =
       let first = encode_of (item (lent x)).model (item (lent x)).symbol old all.0 all.1 in
@@ -42,7 +42,7 @@ module _ {S W B E F : Type 0} (number : W → ℕ) (held : B → List W) (w s : 
 -- ---- decodes
 -- what is left of a list of decodes
 abbrev pub ReadTo : {S B : Type 0} → ℕ → ℕ → List ℕ → List (Item S) → Run → Decoder B → Type 0
-ReadTo w s words items old new = (last : Run) × DecodesAll w s words items old last × StandsAt w s words last new
+ReadTo w s words items old new = (last : Run) × FindsAll w s words items old last × StandsAt w s words last new
 
 module _ {S W B E : Type 0} (F : Type 0) (number : W → ℕ) (held : B → List W) (is_list : Type 0) (reads : B → Result (Option W) E → B → Type 0) (w s : ℕ) (words : List ℕ) (known : is_list) where
   -- a step of the decoder that went well is a decode of the symbol
@@ -50,7 +50,7 @@ module _ {S W B E : Type 0} (F : Type 0) (number : W → ℕ) (held : B → List
   Given model symbol old new = AtEntry model.precision model.table symbol (λ step. ByBackend {F = F} (calls.DecodeCall number held is_list reads w s) old step (Ok tt) new)
 
   decode_of : (model : Model S) (symbol : S) (r : Run) (old new : Decoder B) → StandsAt w s words r old → Given model symbol old new
-      → (last : Run) × Decodes w s words model symbol r last × StandsAt w s words last new
+      → (last : Run) × Finds w s words model symbol r last × StandsAt w s words last new
   decode_of model symbol r old new at (left, p, has, (Ok u, d, is)) =
       let e : Step = record { precision = model.precision; left = left; p = p } in
       let takes = takes_is w s model.precision left p words r old.lower old.range old.point (quantile_read s model.precision old) old.words refl d.from d.below at in
@@ -69,7 +69,7 @@ module _ {S W B E : Type 0} (F : Type 0) (number : W → ℕ) (held : B → List
 -- ---- symbols that come back
 -- under one model
 pub back_of : {S B : Type 0} (w s : ℕ) (words : List ℕ) (model : Model S) (symbols again : List S) (old last : Run) (new : Decoder B) → IsModel w model → length symbols ≡ length again
-    → DecodesAll w s words (items_of model symbols) old last → ReadTo w s words (items_of model again) old new
+    → FindsAll w s words (items_of model symbols) old last → ReadTo w s words (items_of model again) old new
     → (again ≡ symbols) × StandsAt w s words last new
 back_of {S} w s words model symbols again old last new m count decoded read =
     let back = decodes_unique w s words (items_of model symbols) (items_of model again) old last read.0 (are_models w model symbols m) (models-alike model again symbols (sym count)) decoded read.1 in (
@@ -80,7 +80,7 @@ back_of {S} w s words model symbols again old last new m count decoded read =
 -- under a model each
 pub pairs_back : {S M B : Type 0} (precision : ℕ) (table : M → List (S × ℕ × ℕ)) (w s : ℕ) (words : List ℕ) (symbols again : List S) (ms : List M) (old last : Run) (new : Decoder B)
     → ((m : M) → IsModel w (record { precision = precision; table = table m })) → length symbols ≡ length ms → length again ≡ length ms
-    → DecodesAll w s words (pairs_of precision table symbols ms) old last → ReadTo w s words (pairs_of precision table again ms) old new
+    → FindsAll w s words (pairs_of precision table symbols ms) old last → ReadTo w s words (pairs_of precision table again ms) old new
     → (again ≡ symbols) × StandsAt w s words last new
 pairs_back {S} precision table w s words symbols again ms old last new lawful count many decoded read =
     let back = decodes_unique w s words (pairs_of precision table symbols ms) (pairs_of precision table again ms) old last read.0 (are_pairs precision table w symbols ms lawful)

@@ -11,7 +11,7 @@ use Rattle.constriction_queue.proofs.Cuts.{offset_is}
 use Rattle.constriction_queue.proofs.Narrowing.{valid_start}
 use Rattle.constriction_queue.proofs.ReadingRuns.{law_reads}
 use Rattle.constriction_queue.proofs.SealedRuns.{ceil_below, ceil_from, length-fixed_digits, less_after, number_zeros, seal_point, sealed_reads_alone, tail, words-append, words-fixed_digits}
-use Rattle.constriction_laws.specs.queue.Symbols.{EncodesAll, MayEnd}
+use Rattle.constriction_laws.specs.queue.Symbols.{NarrowsAll, MayEnd}
 use Rattle.constriction_laws.proofs.queue_coder.Entries.{entries, are_steps, run_is, intervals}
 
 -- ---- the words of a seal, by cases
@@ -38,7 +38,7 @@ sealed_words w s r = elim (cases_eq r.range (2 ^ s - 1)) [
 -- ---- the run of symbols
 module _ {S : Type 0} (w s : ℕ) (z : IsSizes w s) where
   -- the sealed words of some symbols lie within their run
-  pub sealed_within : (item : Item S) (items : List (Item S)) (last : Run) → AreModels w (item ∷ items) → EncodesAll w s (item ∷ items) (start s) last → Within w s (sealed w s last) last
+  pub sealed_within : (item : Item S) (items : List (Item S)) (last : Run) → AreModels w (item ∷ items) → NarrowsAll w s (item ∷ items) (start s) last → Within w s (sealed w s last) last
   sealed_within item items last ms h =
       let e : Step = record { precision = item.model.precision; left = h.1.0; p = h.1.1 } in
       let es : List Step = entries w s items h.0 last h.2 in
@@ -47,7 +47,7 @@ module _ {S : Type 0} (w s : ℕ) (z : IsSizes w s) where
       subst (λ (r : Run). Within w s (sealed w s r) r) (run_is w s (item ∷ items) (start s) last h)
       ((law_reads w s (sealed w s r) z (sealed_words w s r) e es steps).0 (sealed_reads_alone w s (e ∷ es) z steps))
 
-  less_than_all : (item : Item S) (items : List (Item S)) (last : Run) → AreModels w (item ∷ items) → EncodesAll w s (item ∷ items) (start s) last → last.range + 1 < 2 ^ s
+  less_than_all : (item : Item S) (items : List (Item S)) (last : Run) → AreModels w (item ∷ items) → NarrowsAll w s (item ∷ items) (start s) last → last.range + 1 < 2 ^ s
   less_than_all item items last ms h =
       let e : Step = record { precision = item.model.precision; left = h.1.0; p = h.1.1 } in
       let es : List Step = entries w s items h.0 last h.2 in
@@ -99,7 +99,7 @@ end_of w s r z v h =
     (drop_all (r.moves + s / w) (sealed w s r) short, inr (omega (arith, off, read, from, below, some)))
 
 -- the sealed words of a list of symbols have ended where it is read
-pub sealed_end : {S : Type 0} (w s : ℕ) (items : List (Item S)) (last : Run) → IsSizes w s → AreModels w items → EncodesAll w s items (start s) last → MayEnd w s (sealed w s last) last
+pub sealed_end : {S : Type 0} (w s : ℕ) (items : List (Item S)) (last : Run) → IsSizes w s → AreModels w items → NarrowsAll w s items (start s) last → MayEnd w s (sealed w s last) last
 sealed_end w s [] last z ms h =
     let one : 0 < 2 ^ s = pow_pos s in
     subst (λ (r : Run). MayEnd w s (sealed w s r) r) (sym h)

@@ -7,21 +7,21 @@ use Rattle.constriction_queue.specs.Decoder.{Decoder}
 use Rattle.constriction_queue.specs.Range.{Run, IsAt, Takes, narrow, offset}
 
 -- an encode of the symbol leads from the old run to the new one: the run is narrowed to the symbol's entry
-abbrev pub Encodes : {S : Type 0} → ℕ → ℕ → Model S → S → Run → Run → Type 0
-Encodes w s model symbol old new = AtEntry model.precision model.table symbol (λ e. new ≡ narrow w s e old)
+abbrev pub Narrows : {S : Type 0} → ℕ → ℕ → Model S → S → Run → Run → Type 0
+Narrows w s model symbol old new = AtEntry model.precision model.table symbol (λ e. new ≡ narrow w s e old)
 
 -- a decode of the symbol from these words leads from the old run to the new one: the symbol's entry holds the quantile that
 -- is read at the old run, which is narrowed to it
-abbrev pub Decodes : {S : Type 0} → ℕ → ℕ → List ℕ → Model S → S → Run → Run → Type 0
-Decodes w s words model symbol old new = AtEntry model.precision model.table symbol (λ e. Takes w s words e old × (new ≡ narrow w s e old))
+abbrev pub Finds : {S : Type 0} → ℕ → ℕ → List ℕ → Model S → S → Run → Run → Type 0
+Finds w s words model symbol old new = AtEntry model.precision model.table symbol (λ e. Takes w s words e old × (new ≡ narrow w s e old))
 
 -- encodes of the items, one after the other, lead from the old run to the new one
-abbrev pub EncodesAll : {S : Type 0} → ℕ → ℕ → List (Item S) → Run → Run → Type 0
-EncodesAll w s items old new = InTurn (λ item. Encodes w s item.model item.symbol) items old new
+abbrev pub NarrowsAll : {S : Type 0} → ℕ → ℕ → List (Item S) → Run → Run → Type 0
+NarrowsAll w s items old new = InTurn (λ item. Narrows w s item.model item.symbol) items old new
 
 -- decodes of the items from these words, one after the other, lead from the old run to the new one
-abbrev pub DecodesAll : {S : Type 0} → ℕ → ℕ → List ℕ → List (Item S) → Run → Run → Type 0
-DecodesAll w s words items old new = InTurn (λ item. Decodes w s words item.model item.symbol) items old new
+abbrev pub FindsAll : {S : Type 0} → ℕ → ℕ → List ℕ → List (Item S) → Run → Run → Type 0
+FindsAll w s words items old new = InTurn (λ item. Finds w s words item.model item.symbol) items old new
 
 -- the words may have ended where reading them came to this run: none is left, and their number lies where a seal puts it,
 -- or the run is that of no symbol

@@ -4,7 +4,7 @@ ghost use Rattle.std.specs.Prelude.{◌≡◌, ◌/◌, ◌++◌, ℕ, List, IfS
 ghost use Rattle.constriction_base.specs.Models.{Item, AreModels};
 ghost use Rattle.constriction_base.specs.Steps.{IsSizes, AreWords};
 ghost use Rattle.constriction_queue.specs.Range.{Run, sealed, start};
-ghost use Rattle.constriction_laws.specs.queue.Symbols.{EncodesAll, DecodesAll};
+ghost use Rattle.constriction_laws.specs.queue.Symbols.{NarrowsAll, FindsAll};
 
 use crate::queue::lists::decodes_undo_encodes;
 use crate::queue::round_trips::coding::{decode_list, encode_list};
@@ -18,8 +18,8 @@ use std::alloc::Global;
 /// Symbols that a new encoder was given come back from its sealed words, whatever words follow them.
 pub fn symbols_come_back_before_others<Symbol>()
     ensures { (w s : ℕ) (items : List (Item Symbol)) (last : Run) (rest : List ℕ) → IsSizes w s → s / w ≡ 2 →
-        AreModels w items → AreWords w rest → EncodesAll w s items (start s) last →
-        DecodesAll w s (sealed w s last ++ rest) items (start s) last }
+        AreModels w items → AreWords w rest → NarrowsAll w s items (start s) last →
+        FindsAll w s (sealed w s last ++ rest) items (start s) last }
 {
     decodes_undo_encodes::<Symbol>()
 }

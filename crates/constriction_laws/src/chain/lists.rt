@@ -6,7 +6,7 @@
 ghost use Rattle.std.specs.Prelude.{◌≡◌, ℕ, List, reverse, ⊤};
 ghost use Rattle.constriction_base.specs.Models.{Item};
 ghost use Rattle.constriction_chain.specs.Chain.{ChainState, IsChain, IsSized};
-ghost use Rattle.constriction_chain.specs.Symbols.{AreModelsAt, Decodes, DecodesAll, Encodes, EncodesAll, IsModelAt};
+ghost use Rattle.constriction_chain.specs.Symbols.{AreModelsAt, TakesOff, TakesOffAll, PutsBack, PutsBackAll, IsModelAt};
 ghost use Rattle.constriction_laws.specs.chain.Undone.{Sizes, decode_back, encode_back, decoded_at};
 
 use crate::lists::{StepsUndo, lists_undo};
@@ -28,9 +28,9 @@ impl<Symbol> StepsUndo for Encoding<Symbol> {
 
     ghost valid = { λ sizes state. ⊤ };
 
-    ghost does = { λ sizes item old new. Encodes sizes.0 sizes.1 item.model item.symbol old new };
+    ghost does = { λ sizes item old new. PutsBack sizes.0 sizes.1 item.model item.symbol old new };
 
-    ghost undoes = { λ sizes item old new. Decodes sizes.0 sizes.1 item.model item.symbol old new };
+    ghost undoes = { λ sizes item old new. TakesOff sizes.0 sizes.1 item.model item.symbol old new };
 
     ghost one_undone = { λ sizes item old new allowed valid does.
         (decode_back sizes.0 sizes.1 item.model item.symbol old new does, tt) };
@@ -52,9 +52,9 @@ impl<Symbol> StepsUndo for Decoding<Symbol> {
 
     ghost valid = { λ sizes state. IsChain sizes.w sizes.s sizes.P state };
 
-    ghost does = { λ sizes item old new. Decodes sizes.w sizes.s item.model item.symbol old new };
+    ghost does = { λ sizes item old new. TakesOff sizes.w sizes.s item.model item.symbol old new };
 
-    ghost undoes = { λ sizes item old new. Encodes sizes.w sizes.s item.model item.symbol old new };
+    ghost undoes = { λ sizes item old new. PutsBack sizes.w sizes.s item.model item.symbol old new };
 
     ghost one_undone = { λ sizes item old new allowed valid does. (
       encode_back sizes.w sizes.s sizes.P item.model item.symbol old new sizes.are allowed valid does,
@@ -65,7 +65,7 @@ impl<Symbol> StepsUndo for Decoding<Symbol> {
 /// Decodes of symbols that were encoded undo the encodes, the last one first.
 pub fn decodes_undo_encodes<Symbol>()
     ensures { (w s : ℕ) (items : List (Item Symbol)) (old new : ChainState) →
-        EncodesAll w s items old new → DecodesAll w s (reverse items) new old }
+        PutsBackAll w s items old new → TakesOffAll w s (reverse items) new old }
 {
     lists_undo::<Encoding<Symbol>>()
 }
@@ -75,13 +75,13 @@ pub fn decodes_undo_encodes<Symbol>()
 pub fn encodes_undo_decodes<Symbol>()
     ensures back { (w s P : ℕ) (items : List (Item Symbol)) (old new : ChainState) → IsSized w s P →
         AreModelsAt P items → IsChain w s P old →
-        DecodesAll w s items old new → EncodesAll w s (reverse items) new old }
+        TakesOffAll w s items old new → PutsBackAll w s (reverse items) new old }
     ensures only { (w s P : ℕ) (items : List (Item Symbol)) (old new last : ChainState) → IsSized w s P →
         AreModelsAt P items → IsChain w s P old →
-        DecodesAll w s items old new → EncodesAll w s (reverse items) new last → last ≡ old }
+        TakesOffAll w s items old new → PutsBackAll w s (reverse items) new last → last ≡ old }
     ensures valid { (w s P : ℕ) (items : List (Item Symbol)) (old new : ChainState) → IsSized w s P →
         AreModelsAt P items → IsChain w s P old →
-        DecodesAll w s items old new → IsChain w s P new }
+        TakesOffAll w s items old new → IsChain w s P new }
 {
     lists_undo::<Decoding<Symbol>>()
 }

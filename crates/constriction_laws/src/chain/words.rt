@@ -5,7 +5,7 @@ ghost use Rattle.constriction_base.specs.Models.{Item};
 ghost use Rattle.constriction_base.specs.Steps.{AreWords};
 ghost use Rattle.constriction_chain.specs.Chain.{ChainState, IsSized};
 ghost use Rattle.constriction_chain.specs.Imports.{AreBinaryWords, FromBinary, FromCompressed, FromRemainders, IsWhole, compressed_words};
-ghost use Rattle.constriction_chain.specs.Symbols.{AreModelsAt, DecodesAll, EncodesAll};
+ghost use Rattle.constriction_chain.specs.Symbols.{AreModelsAt, TakesOffAll, PutsBackAll};
 ghost use Rattle.constriction_chain.specs.Words.{remainder_words};
 
 /// Words stand for one coder, as compressed words, in binary form, and as remainders.
@@ -26,18 +26,18 @@ pub fn one_coder()
 /// are the words; and the other words are left of the remainders.
 pub fn words_come_back<Symbol>()
     ensures encoded { (w s P : ℕ) (below : List ℕ) (items : List (Item Symbol)) (x y : ChainState) →
-        IsSized w s P → AreModelsAt P items → AreWords w below → IsWhole w s P x → DecodesAll w s items x y →
+        IsSized w s P → AreModelsAt P items → AreWords w below → IsWhole w s P x → TakesOffAll w s items x y →
         (z last : ChainState) × FromRemainders w s P (remainder_words w y ++ below) z
-        × EncodesAll w s (reverse items) z last }
+        × PutsBackAll w s (reverse items) z last }
     ensures compressed { (w s P : ℕ) (words below : List ℕ) (items : List (Item Symbol)) (x y z last : ChainState) →
         IsSized w s P → AreModelsAt P items →
-        FromCompressed w s P words x → DecodesAll w s items x y →
-        FromRemainders w s P (remainder_words w y ++ below) z → EncodesAll w s (reverse items) z last →
+        FromCompressed w s P words x → TakesOffAll w s items x y →
+        FromRemainders w s P (remainder_words w y ++ below) z → PutsBackAll w s (reverse items) z last →
         (last.h ≡ 1) × (last.remainders ≡ below) × (words ≡ compressed_words w last ++ y.compressed) }
     ensures binary { (w s P : ℕ) (words below : List ℕ) (items : List (Item Symbol)) (x y z last : ChainState) →
         IsSized w s P → AreModelsAt P items →
-        FromBinary w s P words x → DecodesAll w s items x y →
-        FromRemainders w s P (remainder_words w y ++ below) z → EncodesAll w s (reverse items) z last →
+        FromBinary w s P words x → TakesOffAll w s items x y →
+        FromRemainders w s P (remainder_words w y ++ below) z → PutsBackAll w s (reverse items) z last →
         (last.h ≡ 1) × (last.remainders ≡ below)
         × ((written : List ℕ) × AreBinaryWords w written last × (words ≡ written ++ y.compressed)) }
 {}

@@ -8,7 +8,7 @@ ghost use Rattle.std.specs.Prelude.{◌≡◌, ◌↔◌, ◌∷◌, ℕ, List};
 ghost use Rattle.constriction_base.specs.Models.{Item, IsModel, models, AreModels, AreKnown};
 ghost use Rattle.constriction_base.specs.Steps.{IsSizes, AreWords};
 ghost use Rattle.constriction_queue.specs.Range.{Run, IsInterval, Within, sealed, start};
-ghost use Rattle.constriction_laws.specs.queue.Symbols.{Decodes, EncodesAll, DecodesAll, MayEnd};
+ghost use Rattle.constriction_laws.specs.queue.Symbols.{Finds, NarrowsAll, FindsAll, MayEnd};
 ghost use Rattle.constriction_laws.specs.queue.Undone.{Reading, TakesBack, read_back};
 
 use crate::lists::{StepsUndo, lists_undo};
@@ -32,7 +32,7 @@ impl<Symbol> StepsUndo for Encoding<Symbol> {
 
     ghost does = { λ g item new old. TakesBack g.w g.s item new old };
 
-    ghost undoes = { λ g item old new. Decodes g.w g.s g.words item.model item.symbol old new };
+    ghost undoes = { λ g item old new. Finds g.w g.s g.words item.model item.symbol old new };
 
     ghost one_undone = { λ g item new old allowed valid does. read_back g item new old allowed valid does };
 }
@@ -40,27 +40,27 @@ impl<Symbol> StepsUndo for Encoding<Symbol> {
 /// Symbols that their tables know are encoded on each run in exactly one way.
 pub fn one_list_of_encodes<Symbol>()
     ensures exists { (w s : ℕ) (items : List (Item Symbol)) (old : Run) → AreKnown items →
-        (new : Run) × EncodesAll w s items old new }
+        (new : Run) × NarrowsAll w s items old new }
     ensures unique { (w s : ℕ) (items : List (Item Symbol)) (old new other : Run) → AreModels w items →
-        EncodesAll w s items old new → EncodesAll w s items old other → new ≡ other }
+        NarrowsAll w s items old new → NarrowsAll w s items old other → new ≡ other }
     ensures interval { (w s : ℕ) (items : List (Item Symbol)) (old new : Run) → IsSizes w s →
         AreModels w items → IsInterval w s old →
-        EncodesAll w s items old new → IsInterval w s new }
+        NarrowsAll w s items old new → IsInterval w s new }
 {}
 
 /// Words that lie within the run at the end of encodes are decoded as their symbols, and as nothing else.
 pub fn decodes_undo_encodes<Symbol>()
     ensures back { (w s : ℕ) (words : List ℕ) (items : List (Item Symbol)) (old new : Run) → IsSizes w s →
         AreWords w words → AreModels w items → IsInterval w s old →
-        EncodesAll w s items old new → Within w s words new →
-        DecodesAll w s words items old new }
+        NarrowsAll w s items old new → Within w s words new →
+        FindsAll w s words items old new }
     ensures only { (w s : ℕ) (words : List ℕ) (items others : List (Item Symbol)) (old new last : Run) →
         AreModels w items →
-        DecodesAll w s words items old new → DecodesAll w s words others old last → models others ≡ models items →
+        FindsAll w s words items old new → FindsAll w s words others old last → models others ≡ models items →
         (others ≡ items) × (last ≡ new) }
     ensures within { (w s : ℕ) (words : List ℕ) (items : List (Item Symbol)) (old new : Run) → IsSizes w s →
         AreWords w words → AreModels w items → IsInterval w s old →
-        EncodesAll w s items old new → Within w s words new → Within w s words old }
+        NarrowsAll w s items old new → Within w s words new → Within w s words old }
 {
     lists_undo::<Encoding<Symbol>>()
 }
@@ -70,8 +70,8 @@ pub fn decodes_undo_encodes<Symbol>()
 pub fn symbols_of_any_words<Symbol>()
     ensures { (w s : ℕ) (words : List ℕ) (first : Item Symbol) (others : List (Item Symbol)) (last : Run) →
         IsSizes w s → AreWords w words → AreModels w (first ∷ others) →
-        EncodesAll w s (first ∷ others) (start s) last →
-        (DecodesAll w s words (first ∷ others) (start s) last ↔ Within w s words last) }
+        NarrowsAll w s (first ∷ others) (start s) last →
+        (FindsAll w s words (first ∷ others) (start s) last ↔ Within w s words last) }
 {
     decodes_undo_encodes::<Symbol>()
 }
@@ -83,13 +83,13 @@ pub fn symbols_of_any_words<Symbol>()
 /// exhausted.
 pub fn symbols_come_back<Symbol>()
     ensures decoded { (w s : ℕ) (items : List (Item Symbol)) (last : Run) → IsSizes w s → AreModels w items →
-        EncodesAll w s items (start s) last → DecodesAll w s (sealed w s last) items (start s) last }
+        NarrowsAll w s items (start s) last → FindsAll w s (sealed w s last) items (start s) last }
     ensures only { (w s : ℕ) (items others : List (Item Symbol)) (last end : Run) → IsSizes w s →
-        AreModels w items → EncodesAll w s items (start s) last →
-        DecodesAll w s (sealed w s last) others (start s) end → models others ≡ models items →
+        AreModels w items → NarrowsAll w s items (start s) last →
+        FindsAll w s (sealed w s last) others (start s) end → models others ≡ models items →
         (others ≡ items) × (end ≡ last) }
     ensures exhausted { (w s : ℕ) (items : List (Item Symbol)) (last : Run) → IsSizes w s → AreModels w items →
-        EncodesAll w s items (start s) last → MayEnd w s (sealed w s last) last }
+        NarrowsAll w s items (start s) last → MayEnd w s (sealed w s last) last }
 {
     decodes_undo_encodes::<Symbol>()
 }

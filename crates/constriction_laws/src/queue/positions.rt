@@ -8,7 +8,7 @@ ghost use Rattle.constriction_base.specs.Models.{Item, models, AreModels};
 ghost use Rattle.constriction_base.specs.Steps.{IsSizes, AreWords};
 ghost use Rattle.constriction_queue.specs.Range.{Run, IsAt, number_of_first, sealed, start};
 ghost use Rattle.constriction_queue.specs.States.{IsPosition};
-ghost use Rattle.constriction_laws.specs.queue.Symbols.{EncodesAll, DecodesAll};
+ghost use Rattle.constriction_laws.specs.queue.Symbols.{NarrowsAll, FindsAll};
 
 use crate::queue::lists::decodes_undo_encodes;
 
@@ -26,12 +26,12 @@ pub fn position_leads_there()
 pub fn symbols_after_a_position<Symbol>()
     ensures decoded { (w s : ℕ) (before since : List (Item Symbol)) (middle last : Run) → IsSizes w s →
         AreModels w before → AreModels w since →
-        EncodesAll w s before (start s) middle → EncodesAll w s since middle last →
-        DecodesAll w s (sealed w s last) since middle last }
+        NarrowsAll w s before (start s) middle → NarrowsAll w s since middle last →
+        FindsAll w s (sealed w s last) since middle last }
     ensures only { (w s : ℕ) (before since others : List (Item Symbol)) (middle last end : Run) → IsSizes w s →
         AreModels w before → AreModels w since →
-        EncodesAll w s before (start s) middle → EncodesAll w s since middle last →
-        DecodesAll w s (sealed w s last) others middle end → models others ≡ models since →
+        NarrowsAll w s before (start s) middle → NarrowsAll w s since middle last →
+        FindsAll w s (sealed w s last) others middle end → models others ≡ models since →
         (others ≡ since) × (end ≡ last) }
 {
     decodes_undo_encodes::<Symbol>()

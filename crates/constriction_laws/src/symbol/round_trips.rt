@@ -4,10 +4,12 @@
 //! - [`coding`]: lists that are written and read, in the words of the laws.
 //! - [`lent_words`]: lists from the words that a guard lends.
 //! - [`pairs`]: the same where each symbol has a codebook of its own.
+//! - [`trees`]: lists under the two Huffman trees of some weights.
 //! - [`words`]: lists through the words of a queue and of a stack.
 
 pub mod coding;
 pub mod lent_words;
 pub mod pairs;
 pub mod steps;
+pub mod trees;
 pub mod words;

@@ -1,7 +1,7 @@
 use Rattle.std.specs.Prelude.{map, string_bytes}
 use Rattle.std.specs.Io.KnownBytes.{Appends}
 use Rattle.std.proofs.Common.{inl, inr}
-use Rattle.constriction_cli.specs.Written.{Begins}
+use Rattle.constriction_cli.specs.Written.{GrowsByBeginning}
 use Rattle.constriction_cli.proofs.Answering.{answered}
 use Rattle.constriction_cli.proofs.cli.run.Goals as goal
 
@@ -9,5 +9,5 @@ pub returns-in-Ok-clause-whole : goal.returns-in-Ok-clause-whole
 returns-in-Ok-clause-whole g c =
     elim c.in-Ok.ensures.whole [
       | inl same ↦ inl same
-      | inr some ↦ inr (answered (map string_bytes c.args.args.now) c.in-Some.command (λ answer. Begins (g.O.Write.contents c.args.output.now) (g.O.Write.contents c.answer_to.new.output) answer) (g.R.Read.remaining c.args.input.now) c.in-Some.ensures.some some)
+      | inr some ↦ inr (answered (map string_bytes c.args.args.now) c.in-Some.command (λ answer. GrowsByBeginning (g.O.Write.contents c.args.output.now) (g.O.Write.contents c.answer_to.new.output) answer) (g.R.Read.remaining c.args.input.now) c.in-Some.ensures.some some)
     ]

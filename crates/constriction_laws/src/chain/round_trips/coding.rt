@@ -2,7 +2,7 @@
 
 ghost use Rattle.std.specs.Prelude.{◌≡◌, length, reverse, IfSome, OnOk};
 ghost use Rattle.constriction_base.specs.Models.{items_of, pairs_of};
-ghost use Rattle.constriction_chain.specs.Symbols.{DecodesAll, EncodesAll};
+ghost use Rattle.constriction_chain.specs.Symbols.{TakesOffAll, PutsBackAll};
 
 use crate::round_trips as any_coder;
 use constriction_base::backends::{Holds, ReadWords, Stack, WriteWords};
@@ -31,7 +31,7 @@ where
     C::ReadError: Drop,
     R::WriteError: Drop,
     ensures count { IfSome result (λ again. length again.items ≡ amt) }
-    ensures decoded { C.is_list → IfSome result (λ again. DecodesAll Word.BITS State.BITS
+    ensures decoded { C.is_list → IfSome result (λ again. TakesOffAll Word.BITS State.BITS
         (items_of record { precision = PRECISION; table = M.table model.now } again.items)
         coder.old.state coder.new.state) }
 {
@@ -56,7 +56,7 @@ where
     C::ReadError: Drop,
     R::WriteError: Drop,
     ensures count { IfSome result (λ again. length again.items ≡ length models.now) }
-    ensures decoded { C.is_list → IfSome result (λ again. DecodesAll Word.BITS State.BITS
+    ensures decoded { C.is_list → IfSome result (λ again. TakesOffAll Word.BITS State.BITS
         (pairs_of PRECISION M.table again.items models.now) coder.old.state coder.new.state) }
 {
     any_coder::decode_by_models::<_, _, PRECISION>(alloc, coder, models)
@@ -77,7 +77,7 @@ pub fn encode_list_reverse<
 ) -> Result<(), EncoderError<C::WriteError, R::ReadError>>
 where
     M::Probability: WordOf<Word>,
-    ensures { R.is_list → OnOk result (EncodesAll Word.BITS State.BITS
+    ensures { R.is_list → OnOk result (PutsBackAll Word.BITS State.BITS
         (items_of record { precision = PRECISION; table = M.table model.now } (reverse symbols.now))
         coder.old.state coder.new.state) }
 {
@@ -100,7 +100,7 @@ pub fn encode_pairs_reverse<
 where
     M::Probability: WordOf<Word>,
     requires { length symbols.now ≡ length models.now }
-    ensures { R.is_list → OnOk result (EncodesAll Word.BITS State.BITS
+    ensures { R.is_list → OnOk result (PutsBackAll Word.BITS State.BITS
         (reverse (pairs_of PRECISION M.table symbols.now models.now)) coder.old.state coder.new.state) }
 {
     coder.encode_symbols_reverse(symbols.iter().zip(models.iter()))

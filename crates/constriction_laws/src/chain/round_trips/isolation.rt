@@ -2,7 +2,7 @@
 
 ghost use Rattle.std.specs.Prelude.{◌≡◌, ◌∷◌, length, IfSome};
 ghost use Rattle.constriction_base.specs.Models.{pairs_of};
-ghost use Rattle.constriction_chain.specs.Symbols.{DecodesAll};
+ghost use Rattle.constriction_chain.specs.Symbols.{TakesOffAll};
 
 use crate::chain::isolation::symbols_are_isolated;
 use crate::chain::round_trips::coding::decode_pairs;
@@ -33,7 +33,7 @@ where
     C::ReadError: Drop,
     R::WriteError: Drop,
     ensures count { IfSome result (λ symbols. length symbols.1.items ≡ length later.now) }
-    ensures decoded { C.is_list → IfSome result (λ symbols. DecodesAll Word.BITS State.BITS
+    ensures decoded { C.is_list → IfSome result (λ symbols. TakesOffAll Word.BITS State.BITS
         (pairs_of PRECISION M.table (symbols.0 ∷ symbols.1.items) (first.now ∷ later.now)) coder.old.state coder.new.state) }
 {
     let Ok(symbol) = coder.decode_symbol(first) else {
@@ -65,9 +65,9 @@ where
     M::Symbol: Drop,
     C::ReadError: Drop,
     R::WriteError: Drop,
-    ensures first { C.is_list → IfSome result (λ both. DecodesAll Word.BITS State.BITS
+    ensures first { C.is_list → IfSome result (λ both. TakesOffAll Word.BITS State.BITS
         (pairs_of PRECISION M.table (both.0.0 ∷ both.0.1.items) (first.now ∷ later.now)) coder.old.state coder.new.state) }
-    ensures other { C.is_list → IfSome result (λ both. DecodesAll Word.BITS State.BITS
+    ensures other { C.is_list → IfSome result (λ both. TakesOffAll Word.BITS State.BITS
         (pairs_of PRECISION M.table (both.1.0 ∷ both.1.1.items) (other.now ∷ later.now)) same.old.state same.new.state) }
     ensures isolated { C.is_list → coder.old.state.h ≡ same.old.state.h → coder.old.state.compressed ≡ same.old.state.compressed →
         IfSome result (λ both. both.0.1.items ≡ both.1.1.items) }

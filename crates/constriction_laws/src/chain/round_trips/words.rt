@@ -4,7 +4,7 @@ ghost use Rattle.std.specs.Prelude.{◌≡◌, length, map, reverse, IfSome};
 ghost use Rattle.constriction_base.specs.Models.{items_of, pairs_of};
 ghost use Rattle.constriction_chain.specs.Chain.{ChainState, IsSized};
 ghost use Rattle.constriction_chain.specs.Imports.{FromRemainders};
-ghost use Rattle.constriction_chain.specs.Symbols.{DecodesAll, EncodesAll};
+ghost use Rattle.constriction_chain.specs.Symbols.{TakesOffAll, PutsBackAll};
 ghost use Rattle.constriction_chain.specs.Words.{remainder_words};
 
 use crate::chain::round_trips::coding::{
@@ -33,7 +33,7 @@ where
     M::Probability: WordOf<Word>,
     M::Symbol: Drop,
     ensures { IfSome result (λ taken. (after : ChainState)
-        × DecodesAll Word.BITS State.BITS (items_of record { precision = PRECISION; table = M.table model.now } taken.0.items) coder.state after
+        × TakesOffAll Word.BITS State.BITS (items_of record { precision = PRECISION; table = M.table model.now } taken.0.items) coder.state after
         × (map Word.number (reverse taken.1.items) ≡ after.compressed)
         × (map Word.number (reverse taken.2.items) ≡ remainder_words Word.BITS after)) }
 {
@@ -62,7 +62,7 @@ where
     requires { IsSized Word.BITS State.BITS PRECISION }
     ensures { IfSome result (λ coder. (before : ChainState)
         × FromRemainders Word.BITS State.BITS PRECISION (map Word.number (reverse remainders.items)) before
-        × EncodesAll Word.BITS State.BITS (items_of record { precision = PRECISION; table = M.table model.now } (reverse symbols.now)) before coder.state) }
+        × PutsBackAll Word.BITS State.BITS (items_of record { precision = PRECISION; table = M.table model.now } (reverse symbols.now)) before coder.state) }
 {
     let Ok(mut coder) = ChainCoder::<Word, State, Vec<Word>, Vec<Word>, PRECISION>::from_remainders(
         alloc, remainders,
@@ -92,7 +92,7 @@ where
     M::Symbol: Drop,
     ensures count { IfSome result (λ taken. length taken.0.items ≡ length models.now) }
     ensures words { IfSome result (λ taken. (after : ChainState)
-        × DecodesAll Word.BITS State.BITS (pairs_of PRECISION M.table taken.0.items models.now) coder.state after
+        × TakesOffAll Word.BITS State.BITS (pairs_of PRECISION M.table taken.0.items models.now) coder.state after
         × (map Word.number (reverse taken.1.items) ≡ after.compressed)
         × (map Word.number (reverse taken.2.items) ≡ remainder_words Word.BITS after)) }
 {
@@ -122,7 +122,7 @@ where
     requires { IsSized Word.BITS State.BITS PRECISION }
     ensures { IfSome result (λ coder. (before : ChainState)
         × FromRemainders Word.BITS State.BITS PRECISION (map Word.number (reverse remainders.items)) before
-        × EncodesAll Word.BITS State.BITS (reverse (pairs_of PRECISION M.table symbols.now models.now)) before coder.state) }
+        × PutsBackAll Word.BITS State.BITS (reverse (pairs_of PRECISION M.table symbols.now models.now)) before coder.state) }
 {
     if symbols.len() != models.len() {
         return None;

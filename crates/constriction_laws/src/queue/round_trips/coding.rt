@@ -4,7 +4,7 @@ ghost use Rattle.std.specs.Prelude.{◌≡◌, ℕ, List, length, IfSome, IsTrue
 ghost use Rattle.constriction_base.specs.Models.{items_of, pairs_of};
 ghost use Rattle.constriction_queue.specs.Encoder.{run_by};
 ghost use Rattle.constriction_queue.specs.Range.{Run};
-ghost use Rattle.constriction_laws.specs.queue.Symbols.{EncodesAll, DecodesAll, StandsAt, MayEnd};
+ghost use Rattle.constriction_laws.specs.queue.Symbols.{NarrowsAll, FindsAll, StandsAt, MayEnd};
 
 use crate::round_trips as any_coder;
 use constriction_base::backends::{BoundedReadWords, Holds, Queue, ReadWords, WriteWords};
@@ -29,7 +29,7 @@ pub fn encode_list<
 where
     M::Probability: WordOf<Word>,
     Backend::WriteError: Drop,
-    ensures { IfSome result (λ _. EncodesAll Word.BITS State.BITS
+    ensures { IfSome result (λ _. NarrowsAll Word.BITS State.BITS
         (items_of record { precision = PRECISION; table = M.table model.now } symbols.now)
         (run_by Word.BITS State.BITS encoder.old) (run_by Word.BITS State.BITS encoder.new)) }
 {
@@ -61,7 +61,7 @@ where
     M::Probability: WordOf<Word>,
     Backend::WriteError: Drop,
     requires { length symbols.now ≡ length models.now }
-    ensures { IfSome result (λ _. EncodesAll Word.BITS State.BITS
+    ensures { IfSome result (λ _. NarrowsAll Word.BITS State.BITS
         (pairs_of PRECISION M.table symbols.now models.now)
         (run_by Word.BITS State.BITS encoder.old) (run_by Word.BITS State.BITS encoder.new)) }
 {
@@ -97,11 +97,11 @@ where
     ensures count { IfSome result (λ again. length again.items ≡ amt) }
     ensures decoded { Backend.is_list → (words : List ℕ) (old : Run) → StandsAt Word.BITS State.BITS words old decoder.old →
         IfSome result (λ again. (last : Run)
-        × DecodesAll Word.BITS State.BITS words (items_of record { precision = PRECISION; table = M.table model.now } again.items) old last
+        × FindsAll Word.BITS State.BITS words (items_of record { precision = PRECISION; table = M.table model.now } again.items) old last
         × StandsAt Word.BITS State.BITS words last decoder.new) }
     ensures back { Backend.is_list → (words : List ℕ) (symbols : List M.Symbol) (old last : Run) →
         StandsAt Word.BITS State.BITS words old decoder.old →
-        DecodesAll Word.BITS State.BITS words (items_of record { precision = PRECISION; table = M.table model.now } symbols) old last →
+        FindsAll Word.BITS State.BITS words (items_of record { precision = PRECISION; table = M.table model.now } symbols) old last →
         length symbols ≡ amt →
         IfSome result (λ again. (again.items ≡ symbols) × StandsAt Word.BITS State.BITS words last decoder.new) }
 {
@@ -129,11 +129,11 @@ where
     ensures count { IfSome result (λ again. length again.items ≡ length models.now) }
     ensures decoded { Backend.is_list → (words : List ℕ) (old : Run) → StandsAt Word.BITS State.BITS words old decoder.old →
         IfSome result (λ again. (last : Run)
-        × DecodesAll Word.BITS State.BITS words (pairs_of PRECISION M.table again.items models.now) old last
+        × FindsAll Word.BITS State.BITS words (pairs_of PRECISION M.table again.items models.now) old last
         × StandsAt Word.BITS State.BITS words last decoder.new) }
     ensures back { Backend.is_list → (words : List ℕ) (symbols : List M.Symbol) (old last : Run) →
         StandsAt Word.BITS State.BITS words old decoder.old →
-        DecodesAll Word.BITS State.BITS words (pairs_of PRECISION M.table symbols models.now) old last →
+        FindsAll Word.BITS State.BITS words (pairs_of PRECISION M.table symbols models.now) old last →
         length symbols ≡ length models.now →
         IfSome result (λ again. (again.items ≡ symbols) × StandsAt Word.BITS State.BITS words last decoder.new) }
 {

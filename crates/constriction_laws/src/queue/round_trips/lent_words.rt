@@ -5,7 +5,7 @@ ghost use Rattle.std.specs.Prelude.{◌≡◌, ℕ, List, length, IfSome};
 ghost use Rattle.constriction_base.specs.Models.{items_of};
 ghost use Rattle.constriction_queue.specs.Encoder.{run_by, HasHeads};
 ghost use Rattle.constriction_queue.specs.Range.{Run, start};
-ghost use Rattle.constriction_laws.specs.queue.Symbols.{EncodesAll, DecodesAll, StandsAt};
+ghost use Rattle.constriction_laws.specs.queue.Symbols.{NarrowsAll, FindsAll, StandsAt};
 
 use crate::queue::lists::symbols_come_back;
 use crate::queue::round_trips::coding::{decode_list, encode_list};
@@ -33,7 +33,7 @@ pub fn decode_lent_words<
 where
     M::Probability: WordOf<Word>,
     ensures back { (symbols : List M.Symbol) →
-        EncodesAll Word.BITS State.BITS (items_of record { precision = PRECISION; table = M.table model.now } symbols)
+        NarrowsAll Word.BITS State.BITS (items_of record { precision = PRECISION; table = M.table model.now } symbols)
         (start State.BITS) (run_by Word.BITS State.BITS encoder.old) → length symbols ≡ amt →
         IfSome result (λ again. again.items ≡ symbols) }
     ensures heads { HasHeads encoder.old encoder.new }
@@ -69,7 +69,7 @@ where
     M::Probability: WordOf<Word>,
     ensures back { run_by Word.BITS State.BITS encoder.old ≡ start State.BITS →
         IfSome result (λ again. again.items ≡ symbols.now) }
-    ensures on { IfSome result (λ _. EncodesAll Word.BITS State.BITS
+    ensures on { IfSome result (λ _. NarrowsAll Word.BITS State.BITS
         (items_of record { precision = PRECISION; table = M.table model.now } symbols.now)
         (run_by Word.BITS State.BITS encoder.old) (run_by Word.BITS State.BITS encoder.new)) }
 {
@@ -95,7 +95,7 @@ where
     Backend::ReadError: Drop,
     ensures { Backend.is_list → (words : List ℕ) (symbols : List M.Symbol) (old last : Run) →
         StandsAt Word.BITS State.BITS words old decoder →
-        DecodesAll Word.BITS State.BITS words (items_of record { precision = PRECISION; table = M.table model.now } symbols) old last →
+        FindsAll Word.BITS State.BITS words (items_of record { precision = PRECISION; table = M.table model.now } symbols) old last →
         length symbols ≡ amt →
         IfSome result (λ again. again.items ≡ symbols) }
 {
@@ -120,7 +120,7 @@ pub fn decode_through_decoder<
 where
     M::Probability: WordOf<Word>,
     ensures { (symbols : List M.Symbol) →
-        EncodesAll Word.BITS State.BITS (items_of record { precision = PRECISION; table = M.table model.now } symbols)
+        NarrowsAll Word.BITS State.BITS (items_of record { precision = PRECISION; table = M.table model.now } symbols)
         (start State.BITS) (run_by Word.BITS State.BITS encoder.old) → length symbols ≡ amt →
         IfSome result (λ again. again.items ≡ symbols) }
 {

@@ -2,7 +2,7 @@ use Rattle.std.proofs.Common.{ℕ, ◌-◌, ◌^◌, ◌%◌, Some, List, ◌++�
 use Rattle.std.proofs.lemmas.List.{map-id}
 use Rattle.constriction_cli.specs.Lines.{numbers_of, line_of}
 use Rattle.constriction_cli.specs.commands.Golomb.{codewords_line}
-use Rattle.constriction_cli.proofs.Codewords.{words_fit}
+use Rattle.constriction_cli.proofs.CodewordTexts.{words_fit}
 use Rattle.constriction_cli.proofs.commands.golomb.answer.Goals as goal
 
 pub returns-clause-ok : goal.returns-clause-ok

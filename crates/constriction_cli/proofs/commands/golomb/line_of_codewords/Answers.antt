@@ -1,8 +1,8 @@
 use Rattle.std.proofs.Common.{◌≡◌, ℕ, List, [], ◌++◌, length, map, take, get_or, ◌∙◌, ap, arith}
 use Rattle.std.proofs.lemmas.List.{length-map, length-take-le}
 use Rattle.constriction.specs.symbol.Golomb.{golomb}
-use Rattle.constriction_cli.specs.commands.Golomb.{digits}
-use Rattle.constriction_cli.proofs.Codewords.{text-more}
+use Rattle.constriction_cli.specs.Codewords.{digits}
+use Rattle.constriction_cli.proofs.CodewordTexts.{text-more}
 use Rattle.constriction_cli.proofs.Writing.{written-more, written-first}
 use Rattle.constriction_cli.proofs.commands.golomb.line_of_codewords.Goals as goal
 use Rattle.constriction_cli.proofs.commands.golomb.line_of_codewords.Goals.{then-place-gt0+in_ok-push, else-place-gt0}

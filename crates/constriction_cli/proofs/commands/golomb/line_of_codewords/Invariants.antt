@@ -1,7 +1,7 @@
 use Rattle.std.proofs.Common.{◌≡◌, map, take}
 use Rattle.std.specs.List.{join_with_byte}
 use Rattle.constriction.specs.symbol.Golomb.{golomb}
-use Rattle.constriction_cli.specs.commands.Golomb.{digits}
+use Rattle.constriction_cli.specs.Codewords.{digits}
 use Rattle.constriction_cli.proofs.commands.golomb.line_of_codewords.Given as goal
 
 -- the codewords so far are written, with a space between each two

@@ -4,7 +4,7 @@ use Rattle.constriction.specs.queue.Range.{start, narrow}
 use Rattle.constriction.proofs.InTurn.{InTurn-symbol}
 use Rattle.constriction.proofs.Outcomes.{decoded_by}
 use Rattle.constriction_cli.specs.Coding.{of_24_bits}
-use Rattle.constriction_cli.specs.Ranges.{Reads}
+use Rattle.constriction.specs.queue.Symbols.{Finds}
 use Rattle.constriction_cli.proofs.Ranges.{quantile_is, only_invalid}
 use Rattle.constriction_cli.proofs.commands.range_decode.decode.Goals as goal
 
@@ -27,7 +27,7 @@ loop-preserved g c =
       read = (
         narrow 32 64 (record { precision = 24; left = one.0; p = one.1 }) here.0,
         one.3.read tt words here.0 here.1,
-        rw more (InTurn-symbol (λ item. Reads words item.model item.symbol) model c.loop.symbols.items c.in-Ok.symbol _ _ _ here.2
+        rw more (InTurn-symbol (λ item. Finds 32 64 words item.model item.symbol) model c.loop.symbols.items c.in-Ok.symbol _ _ _ here.2
             (one.0, one.1, one.2, (record { from = rw quantile at one.3.from; below = rw quantile at one.3.below }, refl))),
       );
     }

@@ -7,7 +7,7 @@ use Rattle.constriction_queue.specs.Encoder.{run_by}
 use Rattle.constriction_queue.specs.Range.{Run, sealed, start}
 use Rattle.constriction_queue.proofs.Seals.{words_of_numbers}
 use Rattle.constriction_queue.proofs.Showing.{queue_is}
-use Rattle.constriction_laws.specs.queue.Symbols.{EncodesAll}
+use Rattle.constriction_laws.specs.queue.Symbols.{NarrowsAll}
 use Rattle.constriction_laws.proofs.stack_coder.SameModel.{are_models}
 use Rattle.constriction_laws.proofs.bounds.following.list_before_other_words.Goals as goal
 
@@ -22,7 +22,7 @@ returns g c =
     let symbols = c.args.symbols.now in
     let last : Run = run_by w s c.encode_list.new.encoder in
     let models = are_models w model symbols lawful in
-    let coded : EncodesAll w s (items_of model symbols) (start s) last = subst (λ r. EncodesAll w s (items_of model symbols) r last) c.new-encoder.ensures.run c.in_ok-encode_list.ensures in
+    let coded : NarrowsAll w s (items_of model symbols) (start s) last = subst (λ r. NarrowsAll w s (items_of model symbols) r last) c.new-encoder.ensures.run c.in_ok-encode_list.ensures in
     let rest : List ℕ = map number c.args.others.now in
     let are_words : AreWords w rest = words_of_numbers number w g.met.Word.BitArray.number_law c.args.others.now in
     let first : map number c.in-Ok.words.items ≡ sealed w s last = queue_is number (reverse c.in-Ok.words.items) (sym (reverse-reverse c.in-Ok.words.items)) c.in-Ok.ensures.ok in

@@ -6,7 +6,7 @@ use Rattle.constriction_base.specs.Models.{Model, IsModel, items_of}
 use Rattle.constriction_queue.specs.Encoder.{run_by}
 use Rattle.constriction_queue.specs.Range.{Run, run, sealed, start}
 use Rattle.constriction_laws.specs.Bounds.{product, rounded_whole, share}
-use Rattle.constriction_laws.specs.queue.Symbols.{EncodesAll}
+use Rattle.constriction_laws.specs.queue.Symbols.{NarrowsAll}
 use Rattle.constriction_laws.proofs.StepsOfSymbols.{narrowed_entries}
 use Rattle.constriction_laws.proofs.queue_coder.Entries.{entries, are_steps, run_is}
 use Rattle.constriction_laws.proofs.stack_coder.SameModel.{are_models}
@@ -22,7 +22,7 @@ returns g c =
     let lawful : IsModel w model = record { some_bits = sized.0; within_word = omega (arith, sized.1, g.met.M.Probability.WordOf.width_law); lawful = g.M.EntropyModel.lawful c.args.model.now } in
     let items = items_of model c.args.symbols.now in
     let last : Run = run_by w s c.encode_list.new.encoder in
-    let coded : EncodesAll w s items (start s) last = subst (λ r. EncodesAll w s items r last) c.new-encoder.ensures.run c.in_ok-encode_list.ensures in
+    let coded : NarrowsAll w s items (start s) last = subst (λ r. NarrowsAll w s items r last) c.new-encoder.ensures.run c.in_ok-encode_list.ensures in
     let steps : List Step = entries w s items (start s) last coded in
     let are : AreSteps w steps = are_steps w s items (start s) last coded (are_models w model c.args.symbols.now lawful) in
     let words : List g.row.Word.Denot = reverse c.in-Ok.words.items in

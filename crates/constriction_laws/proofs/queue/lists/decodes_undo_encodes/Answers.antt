@@ -1,7 +1,7 @@
 use Rattle.std.proofs.Common.{List, subst}
 use Rattle.std.proofs.lemmas.List.{reverse-reverse}
 use Rattle.constriction_base.specs.Models.{Item, IsModel}
-use Rattle.constriction_laws.specs.queue.Symbols.{DecodesAll}
+use Rattle.constriction_laws.specs.queue.Symbols.{FindsAll}
 use Rattle.constriction_laws.specs.queue.Undone.{Reading}
 use Rattle.constriction_laws.proofs.queue_coder.Entries.{taken_back}
 use Rattle.constriction_laws.proofs.queue_coder.ComingBack.{decodes_unique}
@@ -12,7 +12,7 @@ use Rattle.constriction_laws.proofs.queue.lists.decodes_undo_encodes.Goals as go
 pub returns-clause-back : goal.returns-clause-back
 returns-clause-back g c = λ w s words items old new z are ms v h within.
     let reading : Reading = record { w = w; s = s; are = z; words = words; are_words = are } in
-    subst (λ items. DecodesAll w s words items old new) (reverse-reverse items)
+    subst (λ items. FindsAll w s words items old new) (reverse-reverse items)
     (c.lists_undo.ensures.undone reading (reverse items) new old (all-reverse (λ item. IsModel w item.model) items ms) within (taken_back w s items old new z ms v h))
 
 pub returns-clause-only : goal.returns-clause-only

@@ -1,5 +1,5 @@
 use Rattle.std.proofs.Common.{◌≡◌, ◌≤◌, ◌<◌, ◌++◌, ◌∷◌, [], ap, arith, sym, ◌∙◌, true, false, replicate, length, Some, List, Bool, inr, append_assoc}
-use Rattle.constriction_symbol.specs.Golomb.{golomb, number_after, zeros_one, ReadsOn, IsInvalid}
+use Rattle.constriction_symbol.specs.Golomb.{golomb, number_after, zeros_one, WantsBit, IsInvalid}
 use Rattle.constriction_symbol.specs.GolombLaws.{no_bits, number_zeros}
 use Rattle.constriction_symbol.proofs.GolombLemmas.{fits_below, some_after, golomb_read, golomb_read_greatest}
 use Rattle.constriction_symbol.proofs.BitsGiven.{gives_then, stops_then, stops_reading}
@@ -60,7 +60,7 @@ returns-in-Err-read_bits-clause-reads g c =
     let count = c.in-Ok-Some.count in
     let begun : List Bool = replicate count false ++ true ∷ [] in
     let fewer : List Bool → Type 0 = λ bits. length bits < count in
-    let on : List Bool → Type 0 = λ bits. ReadsOn g.N.BitArray.BITS bits in
+    let on : List Bool → Type 0 = λ bits. WantsBit g.N.BitArray.BITS bits in
     let within : count ≤ g.N.BitArray.BITS = omega (arith, zeros.0, c.BITS.ensures) in
     stops_reading g.I.Iterator.next_gives (λ (n : g.row.N.Denot). Some (golomb (g.N.BitArray.number n))) on on (λ bits _. IsInvalid g.N.BitArray.BITS bits) c.args.source.now c.read_bits.new.source c.in-Err-read_bits.error (λ ys is. is)
     (stops_then g.I.Iterator.next_gives fewer on c.args.source.now c.count_zeros.new.source c.read_bits.new.source begun c.in-Err-read_bits.error zeros.1
@@ -72,7 +72,7 @@ returns-in-Err-read_bits-2-clause-reads g c =
     let count = c.in-Ok-Some.count in
     let begun : List Bool = replicate count false ++ true ∷ [] in
     let fewer : List Bool → Type 0 = λ bits. length bits < count in
-    let on : List Bool → Type 0 = λ bits. ReadsOn g.N.BitArray.BITS bits in
+    let on : List Bool → Type 0 = λ bits. WantsBit g.N.BitArray.BITS bits in
     let within : count ≤ g.N.BitArray.BITS = omega (arith, zeros.0, c.BITS.ensures) in
     stops_reading g.I.Iterator.next_gives (λ (n : g.row.N.Denot). Some (golomb (g.N.BitArray.number n))) on on (λ bits _. IsInvalid g.N.BitArray.BITS bits) c.args.source.now c.read_bits-2.new.source c.in-Err-read_bits-2.error (λ ys is. is)
     (stops_then g.I.Iterator.next_gives fewer on c.args.source.now c.count_zeros.new.source c.read_bits-2.new.source begun c.in-Err-read_bits-2.error zeros.1

@@ -5,7 +5,7 @@ use Rattle.std.specs.Iterator.Adapters.{zip_first, zip_second}
 use Rattle.std.specs.Slice.Iter.{iter_rest}
 use Rattle.std.proofs.lemmas.Result.{MatchResult-weaker}
 use Rattle.constriction_base.specs.Models.{Item, item_of}
-use Rattle.constriction_chain.specs.Symbols.{EncodesAll}
+use Rattle.constriction_chain.specs.Symbols.{PutsBackAll}
 use Rattle.constriction_laws.proofs.chain_coder.ListCalls.{encodes_of}
 use Rattle.constriction_laws.proofs.stack_coder.ComingBack.{map-reverse}
 use Rattle.constriction_laws.proofs.stack_coder.PairCalls.{all_pairs_from_back}
@@ -31,6 +31,6 @@ returns g c = λ known.
     let all = ap (λ pairs. map item pairs) given ∙ map-reverse item (zip symbols models) in
     let coded = encodes_of g.Word.BitArray.number g.R.Holds.is_list g.C.Holds.words g.R.Holds.words g.R.ReadWords.reads g.C.WriteWords.prepare_fails g.C.WriteWords.write_fails g.C.WriteWords.room g.C.WriteWords.makes_room
     w s _ (λ p. (p.0.now, p.1.now)) item e.2 old e.3 known e.4 in
-    subst (λ items. EncodesAll w s items old.state new.state) all
-    (subst (λ x. EncodesAll w s (map item (map (λ p. (p.0.now, p.1.now)) e.2)) old.state x.state) p.0 coded)))
+    subst (λ items. PutsBackAll w s items old.state new.state) all
+    (subst (λ x. PutsBackAll w s (map item (map (λ p. (p.0.now, p.1.now)) e.2)) old.state x.state) p.0 coded)))
     (λ _ _. tt)

@@ -2,7 +2,7 @@ use Rattle.std.proofs.Common.{map, subst}
 use Rattle.std.proofs.lemmas.Iterator.{items_from_drains, YieldsList-from_slice}
 use Rattle.constriction_base.specs.Models.{Model, items_of, item_of}
 use Rattle.constriction_queue.specs.Encoder.{run_by}
-use Rattle.constriction_laws.specs.queue.Symbols.{EncodesAll}
+use Rattle.constriction_laws.specs.queue.Symbols.{NarrowsAll}
 use Rattle.constriction_laws.proofs.queue_coder.ListCalls.{encodes_of}
 use Rattle.constriction_laws.proofs.queue.round_trips.coding.encode_list.Goals as goal
 
@@ -17,5 +17,5 @@ returns g c =
     let p = e.5 in
     let all = items_from_drains e.2 (p.1.1.0, p.1.1.1, λ _. (p.1.0, p.1.1.2)) (YieldsList-from_slice c.args.symbols.now e.1.0) in
     let coded = encodes_of g.Word.BitArray.number g.Backend.Holds.words w s g.Backend.WriteWords.room g.Backend.WriteWords.makes_room g.Backend.WriteWords.prepare_fails g.Backend.WriteWords.write_fails _ (λ x. x.now) (item_of model) e.2 old e.3 e.4 in
-    subst (λ xs. EncodesAll w s (items_of model xs) (run_by w s old) (run_by w s new)) all
-    (subst (λ x. EncodesAll w s (items_of model (map (λ x. x.now) e.2)) (run_by w s old) (run_by w s x)) p.0 coded)
+    subst (λ xs. NarrowsAll w s (items_of model xs) (run_by w s old) (run_by w s new)) all
+    (subst (λ x. NarrowsAll w s (items_of model (map (λ x. x.now) e.2)) (run_by w s old) (run_by w s x)) p.0 coded)

@@ -4,7 +4,7 @@ use Rattle.std.specs.Iterator.Adapters.{zip_first, zip_second}
 use Rattle.std.specs.Slice.Iter.{iter_rest}
 use Rattle.constriction_base.specs.Models.{Item, item_of}
 use Rattle.constriction_queue.specs.Encoder.{run_by}
-use Rattle.constriction_laws.specs.queue.Symbols.{EncodesAll}
+use Rattle.constriction_laws.specs.queue.Symbols.{NarrowsAll}
 use Rattle.constriction_laws.proofs.queue_coder.ListCalls.{encodes_of}
 use Rattle.constriction_laws.proofs.queue_coder.Pairs.{all_pairs_given}
 use Rattle.constriction_laws.proofs.queue.round_trips.coding.encode_pairs.Goals as goal
@@ -26,5 +26,5 @@ returns g c =
     let given = all_pairs_given e.0 e.2 p.1 ∙ ap₂ (λ xs ms. zip xs ms) first second in
     let all = ap (λ pairs. map item pairs) given in
     let coded = encodes_of g.Word.BitArray.number g.Backend.Holds.words w s g.Backend.WriteWords.room g.Backend.WriteWords.makes_room g.Backend.WriteWords.prepare_fails g.Backend.WriteWords.write_fails _ (λ p. (p.0.now, p.1.now)) item e.2 old e.3 e.4 in
-    subst (λ items. EncodesAll w s items (run_by w s old) (run_by w s new)) all
-    (subst (λ x. EncodesAll w s (map item (map (λ p. (p.0.now, p.1.now)) e.2)) (run_by w s old) (run_by w s x)) p.0 coded)
+    subst (λ items. NarrowsAll w s items (run_by w s old) (run_by w s new)) all
+    (subst (λ x. NarrowsAll w s (map item (map (λ p. (p.0.now, p.1.now)) e.2)) (run_by w s old) (run_by w s x)) p.0 coded)

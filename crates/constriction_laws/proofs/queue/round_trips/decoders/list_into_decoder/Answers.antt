@@ -2,7 +2,7 @@ use Rattle.std.proofs.Common.{◌≡◌, ◌∙◌, subst, refl, arith}
 use Rattle.constriction_base.specs.Models.{Model, IsModel, items_of}
 use Rattle.constriction_queue.specs.Encoder.{run_by}
 use Rattle.constriction_queue.specs.Range.{Run, sealed, start}
-use Rattle.constriction_laws.specs.queue.Symbols.{EncodesAll}
+use Rattle.constriction_laws.specs.queue.Symbols.{NarrowsAll}
 use Rattle.constriction_laws.proofs.stack_coder.SameModel.{are_models}
 use Rattle.constriction_laws.proofs.queue.round_trips.decoders.list_into_decoder.Goals as goal
 
@@ -19,7 +19,7 @@ returns g c = λ new.
     let sizes = (c.in-Ok.ensures.coder).sizes in
     let models = are_models w model symbols lawful in
     let known = g.met.Backend.IntoReadWords.BoundedReadWords.knows_words in
-    let coded : EncodesAll w s (items_of model symbols) (start s) last = subst (λ r. EncodesAll w s (items_of model symbols) r last) new c.in_ok-encode_list.ensures in
+    let coded : NarrowsAll w s (items_of model symbols) (start s) last = subst (λ r. NarrowsAll w s (items_of model symbols) r last) new c.in_ok-encode_list.ensures in
     let at = c.in-Ok.ensures.ok known in
     let decoded = c.symbols_come_back.ensures.decoded w s (items_of model symbols) last sizes models coded in
     let back = c.in_ok-again.ensures.back known (sealed w s last) symbols (start s) last at decoded refl in

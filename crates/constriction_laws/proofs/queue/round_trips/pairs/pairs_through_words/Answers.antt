@@ -3,7 +3,7 @@ use Rattle.constriction_base.specs.Models.{pairs_of}
 use Rattle.constriction_queue.specs.Encoder.{run_by}
 use Rattle.constriction_queue.specs.Range.{Run, sealed, start}
 use Rattle.constriction_laws.proofs.queue_coder.ListCalls.{queue_words}
-use Rattle.constriction_laws.specs.queue.Symbols.{EncodesAll}
+use Rattle.constriction_laws.specs.queue.Symbols.{NarrowsAll}
 use Rattle.constriction_laws.proofs.stack_coder.PairCalls.{are_pairs}
 use Rattle.constriction_laws.proofs.queue.round_trips.pairs.pairs_through_words.Goals as goal
 
@@ -20,7 +20,7 @@ returns g c = λ new.
     let models = are_pairs g.row.PRECISION table w symbols c.args.models.now
     (λ m. (let sized = g.met.M.EntropyModel.sized m in record { some_bits = sized.0; within_word = omega (arith, sized.1, g.met.M.Probability.WordOf.width_law); lawful = g.M.EntropyModel.lawful m })) in
     let known = g.met.Backend.IntoReadWords.BoundedReadWords.knows_words in
-    let coded : EncodesAll w s items (start s) last = subst (λ r. EncodesAll w s items r last) new c.in_ok-encode_pairs.ensures in
+    let coded : NarrowsAll w s items (start s) last = subst (λ r. NarrowsAll w s items r last) new c.in_ok-encode_pairs.ensures in
     let words = queue_words number (g.Backend.Holds-1.words c.in-Ok.words) (g.met.Backend.BothWays.turned_law c.in-Ok.words) c.in-Ok.ensures.ok in
     let at = rw words at (c.in-Ok-from_compressed.ensures.ok known) in
     let decoded = c.symbols_come_back.ensures.decoded w s items last sizes models coded in

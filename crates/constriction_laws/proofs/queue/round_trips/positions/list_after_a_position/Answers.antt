@@ -7,7 +7,7 @@ use Rattle.constriction_queue.specs.Encoder.{run_by}
 use Rattle.constriction_queue.specs.Range.{Run, sealed, start}
 use Rattle.constriction_queue.proofs.Beginning.{cursor_keeps}
 use Rattle.constriction_queue.proofs.Showing.{queue_is}
-use Rattle.constriction_laws.specs.queue.Symbols.{EncodesAll}
+use Rattle.constriction_laws.specs.queue.Symbols.{NarrowsAll}
 use Rattle.constriction_laws.proofs.ListsGiven.{some_weaker}
 use Rattle.constriction_laws.proofs.stack_coder.SameModel.{are_models}
 use Rattle.constriction_laws.proofs.queue_coder.Sealing.{sealed_words}
@@ -26,8 +26,8 @@ returns g c = λ new.
     let since = c.args.since.now in
     let middle : Run = run_by w s c.encode_list.new.encoder in
     let last : Run = run_by w s c.encode_list-2.new.encoder in
-    let first : EncodesAll w s (items_of model before) (start s) middle = subst (λ r. EncodesAll w s (items_of model before) r middle) new c.in_ok-encode_list.ensures in
-    let second : EncodesAll w s (items_of model since) middle last = c.in_ok-encode_list-2.ensures in
+    let first : NarrowsAll w s (items_of model before) (start s) middle = subst (λ r. NarrowsAll w s (items_of model before) r middle) new c.in_ok-encode_list.ensures in
+    let second : NarrowsAll w s (items_of model since) middle last = c.in_ok-encode_list-2.ensures in
     let sizes = c.in-Ok.ensures.coder.sizes in
     let items = c.in-Ok.words.items in
     let words : map number items ≡ sealed w s last = queue_is number (reverse items) (sym (reverse-reverse items)) c.in-Ok.ensures.ok in

@@ -3,7 +3,7 @@ use Rattle.constriction_base.specs.Models.{Model, IsModel, items_of}
 use Rattle.constriction_queue.specs.Encoder.{run_by}
 use Rattle.constriction_queue.specs.Range.{Run, sealed, start}
 use Rattle.constriction_laws.proofs.queue_coder.ListCalls.{queue_words}
-use Rattle.constriction_laws.specs.queue.Symbols.{EncodesAll}
+use Rattle.constriction_laws.specs.queue.Symbols.{NarrowsAll}
 use Rattle.constriction_laws.proofs.stack_coder.SameModel.{are_models}
 use Rattle.constriction_laws.proofs.queue.round_trips.words.list_through_words.Goals as goal
 
@@ -20,7 +20,7 @@ returns g c = λ new.
     let sizes = c.in-Ok.ensures.coder.sizes in
     let models = are_models w model symbols lawful in
     let known = g.met.Backend.IntoReadWords.BoundedReadWords.knows_words in
-    let coded : EncodesAll w s (items_of model symbols) (start s) last = subst (λ r. EncodesAll w s (items_of model symbols) r last) new c.in_ok-encode_list.ensures in
+    let coded : NarrowsAll w s (items_of model symbols) (start s) last = subst (λ r. NarrowsAll w s (items_of model symbols) r last) new c.in_ok-encode_list.ensures in
     let words = queue_words number (g.Backend.Holds-1.words c.in-Ok.words) (g.met.Backend.BothWays.turned_law c.in-Ok.words) c.in-Ok.ensures.ok in
     let at = rw words at (c.in-Ok-from_compressed.ensures.ok known) in
     let decoded = c.symbols_come_back.ensures.decoded w s (items_of model symbols) last sizes models coded in

@@ -1,0 +1,95 @@
+//! A vector of words as a stack, of which one word lies in the value itself.
+//!
+//! It holds one codeword that is turned round, and asks for memory only where it grows past that word. So its
+//! writes and `prepare` return want of memory there, and nothing else; reading it never fails, takes no memory and
+//! keeps the capacity. Any allocator serves.
+
+ghost use Rattle.std.specs.Prelude.{◌≡◌, ◌+◌, ◌-◌, false, ◌<◌, ◌≤◌, ◌==◌, Option, Result, Ok, Err, length, reverse};
+ghost use Rattle.constriction_base.specs.Backends.{Reads};
+ghost use Rattle.constriction_base.specs.laws.Room.{no_room_left, room_for};
+
+use crate::backends::{BoundedReadWords, Holds, ReadWords, Stack, WriteWords};
+use smallvec::SmallVec;
+use std::alloc::{AllocError, Allocator};
+use std::convert::Infallible;
+
+impl<A: Allocator + Copy> Holds<usize, Stack> for SmallVec<usize, 1, A> {
+    ghost words = { λ v. reverse v.items };
+
+    ghost is_list = { Unit {0} };
+}
+
+impl<A: Allocator + Copy> ReadWords<usize, Stack> for SmallVec<usize, 1, A> {
+    type ReadError = Infallible;
+
+    ghost reads = { λ old r new. Reads (reverse old.items) r (reverse new.items) × (new.capacity ≡ old.capacity) };
+
+    ghost seems_exhausted = { λ v. length v.items == 0 };
+
+    #[tactic(auto, using(crate::proofs::Ends::reverse_push))]
+    fn read(&mut self) -> Result<Option<usize>, Infallible> {
+        Ok(self.pop())
+    }
+
+    #[tactic(auto, using(crate::proofs::Ends::reverse_empty))]
+    fn maybe_exhausted(&self) -> bool {
+        self.is_empty()
+    }
+}
+
+impl<A: Allocator + Copy> BoundedReadWords<usize, Stack> for SmallVec<usize, 1, A> {
+    #[tactic(auto, using(std::proofs::lemmas::Grind::common_steps))]
+    fn remaining(&self) -> usize {
+        self.len()
+    }
+
+    ghost knows_words = { tt };
+}
+
+impl<A: Allocator + Copy> WriteWords<usize> for SmallVec<usize, 1, A> {
+    type WriteError = AllocError;
+
+    ghost write_fails = { λ v _. (v.capacity ≤ length v.items) × (1 ≤ length v.items) };
+
+    ghost prepare_fails = { λ v n _. (v.capacity - length v.items < n) × (1 < length v.items + n) };
+
+    ghost room = { λ v. v.capacity - length v.items };
+
+    ghost makes_room = { Unit {0} };
+
+    ghost is_lack_of_room = { λ _. ⊥ };
+
+    ghost seems_full = { λ _. false };
+
+    /// Puts a word on the stack, and asks for no memory where it is the only one.
+    #[tactic(auto, using(crate::proofs::Ends::reverse_push))]
+    fn write(&mut self, word: usize) -> Result<(), AllocError> {
+        // The capacity is never less than the one word.
+        let _inline = self.capacity();
+        self.push(word)?;
+        Ok(())
+    }
+
+    fn maybe_full(&self) -> bool {
+        false
+    }
+
+    /// Asks for room for `count` further words, and for no memory where they are one at most with those that are held.
+    fn prepare(&mut self, count: usize) -> Result<(), AllocError> {
+        // The capacity is never less than the one word, nor than the number of words.
+        let _inline = self.capacity();
+        let _held = self.len();
+        match self.reserve(count) {
+            Ok(()) => Ok(()),
+            Err(error) => Err(error),
+        }
+    }
+
+    ghost room_law = { λ v e some full. no_room_left v.capacity (length v.items) some full.0 };
+
+    ghost prepare_law = { λ v count e some few. room_for (v.capacity - length v.items) count some few.0 };
+
+    ghost full_law = { λ _ _ _ never _. never };
+
+    ghost knows_words = { tt };
+}

@@ -1,0 +1,9 @@
+use Rattle.std.proofs.Common.{map, ◌≡◌}
+use Rattle.constriction_symbol.proofs.huffman.collecting.collect_lent.Given as goal
+
+-- the items that came lend the weights
+abbrev pub invariant-loop-item : goal.invariant-loop-item
+invariant-loop-item g l =
+    (goal.iterator-loop-item g).can_next l.item-iterator
+    × (goal.iterator-loop-item g).is_finite l.item-iterator
+    × (l.weights.items ≡ map g.L.Lent.lent l.yielded)

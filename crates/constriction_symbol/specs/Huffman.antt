@@ -1,0 +1,190 @@
+-- Huffman trees: the tree that merging some weights gives, and its codewords.
+use Rattle.std.specs.Prelude.{◌≡◌, ℕ, zero, suc, ◌+◌, ◌-◌, ◌*◌, ◌/◌, ◌%◌, ◌<◌, ◌≤◌, ◌==◌, ◌&&◌, ◌||◌, ltb, Bool, true, false, List, [], ◌∷◌, ◌++◌, length, map, get_or, Option, Some, None, if◌then◌else◌, take, All, ◌⊎◌}
+
+-- a tree of symbols, of which a node has two: the lesser child, and the other
+pub data Tree : Type 0 where
+  Leaf : ℕ → Tree
+  Node : Tree → Tree → Tree
+
+-- a tree of a set that is merged, with its weight and its index
+pub record Weighed : Type 0 where
+  pub weight : ℕ
+  pub index : ℕ
+  pub tree : Tree
+
+-- the one comes before the other: by weight, and then by index
+abbrev pub comes_before : Weighed → Weighed → Bool
+comes_before x y = ltb x.weight y.weight || (x.weight == y.weight) && ltb x.index y.index
+
+-- one more in a set that is listed in this order
+abbrev pub put_in : Weighed → List Weighed → List Weighed
+put_in x [] = x ∷ []
+put_in x (y ∷ ys) = if comes_before x y then x ∷ y ∷ ys else y ∷ put_in x ys
+
+-- a symbol for each weight, from an index on
+abbrev pub leaves_from : ℕ → List ℕ → List Weighed
+leaves_from index [] = []
+leaves_from index (weight ∷ weights) = put_in (record { weight = weight; index = index; tree = Leaf index }) (leaves_from (index + 1) weights)
+
+-- the union of two trees
+abbrev pub united : Weighed → Weighed → ℕ → Weighed
+united x y index = record { weight = x.weight + y.weight; index = index; tree = Node x.tree y.tree }
+
+-- the two least are replaced by their union under the next index, so many times at most, until one is left
+abbrev pub merged : ℕ → ℕ → List Weighed → List Weighed
+merged zero next set = set
+merged (suc n) next (x ∷ y ∷ set) = merged n (next + 1) (put_in (united x y next) set)
+merged (suc n) next (x ∷ []) = x ∷ []
+merged (suc n) next [] = []
+
+-- the trees that are left of these weights: one, if there is a weight
+abbrev pub merge : List ℕ → List Tree
+merge weights = map (λ x. x.tree) (merged (length weights) (length weights) (leaves_from 0 weights))
+
+-- the codeword in a node of what is in a child
+abbrev pub below : Bool → Option (List Bool) → Option (List Bool)
+below bit None = None
+below bit (Some bits) = Some (bit ∷ bits)
+
+-- the first if there is one, else the second
+abbrev pub or_else : {A : Type 0} → Option A → Option A → Option A
+or_else (Some x) y = Some x
+or_else None y = y
+
+-- the path to a symbol from the root, if it is in the tree: bit 0 leads to the lesser child, and bit 1 to the other
+abbrev pub path : Tree → ℕ → Option (List Bool)
+path (Leaf s) symbol = if s == symbol then Some [] else None
+path (Node lesser other) symbol = or_else (below false (path lesser symbol)) (below true (path other symbol))
+
+-- the codeword of a symbol under the tree of some weights
+abbrev pub huffman : List ℕ → ℕ → Option (List Bool)
+huffman weights symbol = first_path (merge weights)
+  where
+    first_path : List Tree → Option (List Bool)
+    first_path [] = None
+    first_path (tree ∷ _) = path tree symbol
+
+-- the tree that some bits lead to from the root; none, where they lead past a leaf
+abbrev pub subtree : Tree → List Bool → Option Tree
+subtree tree [] = Some tree
+subtree (Leaf s) (bit ∷ bits) = None
+subtree (Node lesser other) (false ∷ bits) = subtree lesser bits
+subtree (Node lesser other) (true ∷ bits) = subtree other bits
+
+-- the bits lead to a node, so that another one is wanted
+abbrev pub ReadsOnIn : Tree → List Bool → Type 0
+ReadsOnIn tree bits = (lesser : Tree) × (other : Tree) × (subtree tree bits ≡ Some (Node lesser other))
+
+-- the symbols of a tree from left to right
+abbrev pub leaves : Tree → List ℕ
+leaves (Leaf s) = s ∷ []
+leaves (Node lesser other) = leaves lesser ++ leaves other
+
+-- how often a symbol stands in a list
+abbrev pub times : ℕ → List ℕ → ℕ
+times symbol [] = 0
+times symbol (s ∷ symbols) = (if s == symbol then 1 else 0) + times symbol symbols
+
+-- no symbol stands in the list twice
+abbrev pub IsWithoutRepeats : List ℕ → Type 0
+IsWithoutRepeats symbols = (symbol : ℕ) → times symbol symbols ≤ 1
+
+-- so many symbols from one on
+abbrev pub symbols_from : ℕ → ℕ → List ℕ
+symbols_from symbol zero = []
+symbols_from symbol (suc n) = symbol ∷ symbols_from (symbol + 1) n
+
+-- a number of symbols, and the codeword of each that is below it
+pub record Book : Type 0 where
+  pub symbols : ℕ
+  pub codeword : ℕ → Option (List Bool)
+
+-- the symbols of a tree, and their codewords
+abbrev pub book_of : Tree → Book
+book_of tree = record { symbols = length (leaves tree); codeword = path tree }
+
+-- the codewords under the tree of these weights, a weight for each symbol
+abbrev pub IsHuffman : List ℕ → Book → Type 0
+IsHuffman weights book = (book.symbols ≡ length weights) × ((symbol : ℕ) → book.codeword symbol ≡ huffman weights symbol)
+
+-- the lesser child of the node at an index and the other one, where the unions stand from n on in the order of merging
+abbrev pub children : ℕ → List (ℕ × ℕ) → ℕ → ℕ × ℕ
+children n pairs index = get_or pairs (index - n) (0, 0)
+
+-- the tree at an index: a leaf for each of the first n, and a node for each union, both of whose children are before it
+abbrev pub IsTreeAt : ℕ → List (ℕ × ℕ) → ℕ → Tree → Type 0
+IsTreeAt n pairs index (Leaf s) = (index ≡ s) × (index < n)
+IsTreeAt n pairs index (Node lesser other) =
+    (n ≤ index) × (index < n + length pairs) × ((children n pairs index).0 < index) × ((children n pairs index).1 < index)
+    × IsTreeAt n pairs (children n pairs index).0 lesser × IsTreeAt n pairs (children n pairs index).1 other
+
+-- the tree at an index, down to so many levels
+abbrev pub tree_at : ℕ → ℕ → List (ℕ × ℕ) → ℕ → Tree
+tree_at zero n pairs index = Leaf index
+tree_at (suc fuel) n pairs index =
+    elim (ltb index n) [ true ↦ Leaf index | false ↦ Node (tree_at fuel n pairs (children n pairs index).0) (tree_at fuel n pairs (children n pairs index).1) ]
+
+-- the index is neither child of the union
+abbrev pub IsNeither : ℕ → ℕ × ℕ → Type 0
+IsNeither index pair = (pair.0 ≡ index → ⊥) × (pair.1 ≡ index → ⊥)
+
+-- no union has the index as a child
+abbrev pub IsRoot : List (ℕ × ℕ) → ℕ → Type 0
+IsRoot pairs index = All (IsNeither index) pairs
+
+-- a union after these ones: of two roots below its index
+pub record IsUnion (n : ℕ) (before : List (ℕ × ℕ)) (pair : ℕ × ℕ) : Type 0 where
+  pub lesser_below : pair.0 < n + length before
+  pub other_below : pair.1 < n + length before
+  pub apart : pair.0 ≡ pair.1 → ⊥
+  pub lesser_root : IsRoot before pair.0
+  pub other_root : IsRoot before pair.1
+
+-- each is a union after those before it
+abbrev pub AreUnions : ℕ → List (ℕ × ℕ) → Type 0
+AreUnions n pairs = (j : ℕ) → j < length pairs → IsUnion n (take j pairs) (get_or pairs j (0, 0))
+
+-- the weights with their indices, from an index on
+abbrev pub keys_from : ℕ → List ℕ → List (ℕ × ℕ)
+keys_from index [] = []
+keys_from index (weight ∷ weights) = (weight, index) ∷ keys_from (index + 1) weights
+
+-- by weight, and then by index
+abbrev pub IsPairLe : ℕ × ℕ → ℕ × ℕ → Type 0
+IsPairLe p q = (p.0 < q.0) ⊎ ((p.0 ≡ q.0) × (p.1 ≤ q.1))
+
+-- merging these weights gives this tree, by these unions, of which the last is the root
+pub record IsMerged (weights : List ℕ) (pairs : List (ℕ × ℕ)) (tree : Tree) : Type 0 where
+  pub is : merge weights ≡ tree ∷ []
+  pub count : length pairs + 1 ≡ length weights
+  pub unions : AreUnions (length weights) pairs
+  pub root : IsRoot pairs (length weights + length pairs - 1)
+  pub at : IsTreeAt (length weights) pairs (length weights + length pairs - 1) tree
+
+-- the bits from the root down to an index, by climbing so many levels at most: an entry is twice the parent's index,
+-- and one more at the other child; the root's is 0
+abbrev pub climbed : ℕ → List ℕ → ℕ → List Bool
+climbed zero nodes index = []
+climbed (suc fuel) nodes index = if get_or nodes index 0 == 0 then [] else climbed fuel nodes (get_or nodes index 0 / 2) ++ (get_or nodes index 0 % 2 == 1) ∷ []
+
+-- each entry is 0, or its half is an index that is greater than its own, and below a bound
+abbrev pub GoesUp : ℕ → List ℕ → Type 0
+GoesUp bound nodes = (index : ℕ) → (get_or nodes index 0 ≡ 0) ⊎ ((index < get_or nodes index 0 / 2) × (get_or nodes index 0 / 2 < bound))
+
+-- the entries of the children name their unions, by which an index grows, and those of the roots are 0
+pub record IsParents (n : ℕ) (pairs : List (ℕ × ℕ)) (nodes : List ℕ) : Type 0 where
+  pub lesser : (j : ℕ) → j < length pairs → get_or nodes (get_or pairs j (0, 0)).0 0 ≡ 2 * (n + j)
+  pub other : (j : ℕ) → j < length pairs → get_or nodes (get_or pairs j (0, 0)).1 0 ≡ 2 * (n + j) + 1
+  pub roots : (index : ℕ) → IsRoot pairs index → get_or nodes index 0 ≡ 0
+  pub up : GoesUp (n + length pairs) nodes
+
+-- the place of the first entry of this value, or how many entries there are
+abbrev pub found : ℕ → List ℕ → ℕ
+found value [] = 0
+found value (entry ∷ entries) = if entry == value then 0 else suc (found value entries)
+
+-- the tree at an index of an array of parents, down to so many levels
+abbrev pub tree_in : ℕ → List ℕ → ℕ → Tree
+tree_in zero nodes index = Leaf index
+tree_in (suc fuel) nodes index =
+    elim (ltb index (length nodes / 2 + 1)) [ true ↦ Leaf index | false ↦ Node (tree_in fuel nodes (found (2 * index) nodes)) (tree_in fuel nodes (found (2 * index + 1) nodes)) ]

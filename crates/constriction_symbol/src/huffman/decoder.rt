@@ -1,0 +1,187 @@
+//! Huffman trees for decoding: from the root to the symbols.
+
+ghost use Rattle.constriction_symbol.specs.Codewords.{GivesBits, StopsWithin};
+ghost use Rattle.constriction_symbol.specs.DecoderTree.{HoldsTree, tree_of_pairs};
+ghost use Rattle.constriction_symbol.specs.Huffman.{ReadsOnIn, leaves, path};
+ghost use Rattle.constriction_symbol.specs.HuffmanLaws.{inner_begins_none, path_prefix_free, same_path};
+ghost use Rattle.constriction_symbol.specs.Merging.{GivesWeights, LendsWeights, MakeNoTree, MakesTree, RefusesGiven, RefusesLent};
+ghost use Rattle.std.specs.Iterator.{IsFinite, IsFiniteIterable};
+ghost use Rattle.std.specs.Prelude.{Bool, IfErr, IfOk, List, OnOk, Some, length, ◌-◌, ◌^◌, ◌≡◌};
+
+use crate::codebooks::{Codebook, DecoderCodebook};
+use crate::huffman::collecting::{collect_given, collect_lent};
+use crate::huffman::error::HuffmanError;
+use crate::huffman::merging::merged_pairs;
+use crate::taking::{Refusal, next_bit};
+use constriction_stream::encoding::Lent;
+use constriction_words::BitArray;
+use std::alloc::Global;
+use std::convert::Infallible;
+use std::marker::Model;
+
+/// A Huffman tree for decoding: the codewords of the symbols `0`, `1`, .. of least cost for their weights.
+///
+/// Contracts see it as a tree, whose leaves are the symbols. A symbol's codeword is the path to it from the root.
+#[derive(Debug, Clone, Drop)]
+pub struct DecoderHuffmanTree {
+    /// The children of each node that is no leaf, the root last: a symbol, or the number of symbols and which node.
+    nodes: Vec<[usize; 2]>,
+}
+
+impl Model for DecoderHuffmanTree {
+    ghost use Rattle.constriction_symbol.specs.DecoderTree.{HoldsTree, tree_of_pairs};
+    ghost use Rattle.constriction_symbol.specs.Huffman.{Tree};
+    ghost use Rattle.constriction_symbol.specs.TreeCode.{tree_code};
+
+    ghost Value = { Tree };
+
+    ghost coded = { tree_code };
+
+    ghost view = { λ t. tree_of_pairs t.nodes.items };
+
+    ghost invariant = { λ t. HoldsTree t.nodes.items (tree_of_pairs t.nodes.items) };
+}
+
+/// The tree of these weights.
+fn tree_of<P: BitArray, E>(
+    alloc: Global,
+    weights: &[P],
+) -> Result<DecoderHuffmanTree, HuffmanError<E>>
+    ensures ok { IfOk result (λ tree. MakesTree P.number P.BITS (2 ^ 63 - 1) weights.now tree) }
+    ensures err { IfErr result (λ e. MakeNoTree P.number P.BITS (2 ^ 63 - 1) weights.now e) }
+{
+    match merged_pairs(alloc, weights, usize::MAX / 2) {
+        Ok(nodes) => Ok(DecoderHuffmanTree { nodes }),
+        Err(error) => Err(error),
+    }
+}
+
+impl DecoderHuffmanTree {
+    /// The tree of the weights that are lent, a symbol for each of them, in memory of `alloc`.
+    ///
+    /// The two least trees by weight, and of one weight by index, are made one, until one is left. Its index is the
+    /// next one: the symbols have the first indices. The lesser of the two has bit 0.
+    ///
+    /// # Errors
+    /// Looked for in this order:
+    /// - `Memory`, while the weights are collected.
+    /// - `Empty`, where there is no weight.
+    /// - `TooManySymbols`, where there are more than `usize::MAX / 2`.
+    /// - `WeightOverflow`, where the sum of all weights doesn't fit their type.
+    /// - `Memory`, for want of memory for the tree.
+    ///
+    /// ```
+    /// let tree = DecoderHuffmanTree::from_probabilities(alloc, [2u32, 2, 4, 1, 1].iter())?;
+    /// ```
+    pub fn from_probabilities<P, L, I>(
+        alloc: Global,
+        probabilities: I,
+    ) -> Result<Self, HuffmanError<Infallible>>
+    where
+        P: BitArray,
+        L: Lent<P> + Drop,
+        I: IntoIterator<Item = L>,
+        I::IntoIter: Drop,
+        requires { IsFiniteIterable I.into_iter_gives I.IntoIter.can_next I.IntoIter.remaining probabilities }
+        ensures ok { IfOk result (λ tree. (weights : List P) × LendsWeights (I.into_iter_gives probabilities) I.IntoIter.next_gives L.lent weights × MakesTree P.number P.BITS (2 ^ 63 - 1) weights tree) }
+        ensures err { IfErr result (λ e. RefusesLent (I.into_iter_gives probabilities) I.IntoIter.next_gives L.lent P.number P.BITS (2 ^ 63 - 1) e) }
+    {
+        match collect_lent(alloc, probabilities) {
+            Ok(weights) => tree_of(alloc, &weights),
+            Err(_) => Err(HuffmanError::Memory),
+        }
+    }
+
+    /// The tree of the weights, each of which comes as the `Ok` of a `Result`.
+    ///
+    /// # Errors
+    /// Looked for in this order:
+    /// - `Iterator(error)`, where an item is this error, or `Memory`, while the weights are collected.
+    /// - Those of [`DecoderHuffmanTree::from_probabilities`].
+    pub fn try_from_probabilities<P, E, I>(
+        alloc: Global,
+        probabilities: I,
+    ) -> Result<Self, HuffmanError<E>>
+    where
+        P: BitArray,
+        I: IntoIterator<Item = Result<P, E>>,
+        I::IntoIter: Drop,
+        requires { IsFiniteIterable I.into_iter_gives I.IntoIter.can_next I.IntoIter.remaining probabilities }
+        ensures ok { IfOk result (λ tree. (weights : List P) × GivesWeights (I.into_iter_gives probabilities) I.IntoIter.next_gives weights × MakesTree P.number P.BITS (2 ^ 63 - 1) weights tree) }
+        ensures err { IfErr result (λ e. RefusesGiven (I.into_iter_gives probabilities) I.IntoIter.next_gives P.number P.BITS (2 ^ 63 - 1) e) }
+    {
+        match collect_given(alloc, probabilities) {
+            Ok(given) => tree_of(alloc, &given),
+            Err(error) => Err(error),
+        }
+    }
+
+    /// How many symbols there are.
+    pub fn num_symbols(&self) -> usize
+        ensures value { result ≡ length (leaves self.now) }
+    {
+        self.nodes.len() + 1
+    }
+}
+
+impl Codebook for DecoderHuffmanTree {
+    type Symbol = usize;
+
+    ghost codeword = { λ t symbol. path t symbol };
+
+    ghost is_same = { λ _ s u. s ≡ u };
+
+    ghost same_law = { λ t s u same. same_path t s u same };
+
+    ghost prefix_law = { λ t s u bits tail first second. path_prefix_free t s u bits tail first second };
+}
+
+impl DecoderCodebook for DecoderHuffmanTree {
+    type InvalidCodeword = Infallible;
+
+    ghost reads_on = { λ t bits. ReadsOnIn t bits };
+
+    ghost is_invalid = { λ _ _ _. ⊥ };
+
+    ghost on_law = { λ t bits on. inner_begins_none t bits on };
+
+    ghost invalid_law = { λ t bits e never. absurd never };
+
+    /// Takes the bits of a codeword, and returns its symbol. It takes no memory.
+    ///
+    /// # Errors
+    /// After each of them the bits that were read stay read.
+    /// - `Frontend(OutOfCompressedData)` exactly where the bits end within a codeword.
+    /// - `Backend(error)` where the source returns this error in place of a bit that is asked for.
+    #[inline]
+    fn decode_symbol<E, I: Iterator<Item = Result<bool, E>>>(
+        &self,
+        source: &mut I,
+    ) -> Result<usize, Refusal<Infallible, E>> {
+        walk(&self.nodes, source)
+    }
+}
+
+/// Takes bits from the root of a tree down to a symbol, one for each node.
+#[inline]
+fn walk<V, E, I: Iterator<Item = Result<bool, E>>>(
+    nodes: &[[usize; 2]],
+    source: &mut I,
+) -> Result<usize, Refusal<V, E>>
+    requires can { I.can_next source.old }
+    requires tree { HoldsTree nodes.now (tree_of_pairs nodes.now) }
+    ensures can { OnOk result (I.can_next source.new) }
+    ensures finite { IsFinite (I.remaining source.old) → OnOk result (IsFinite (I.remaining source.new)) }
+    ensures bits { IfOk result (λ symbol. (bits : List Bool) × (path (tree_of_pairs nodes.now) symbol ≡ Some bits) × GivesBits I.next_gives source.old bits source.new) }
+    ensures stops { IfErr result (λ e. StopsWithin I.next_gives (ReadsOnIn (tree_of_pairs nodes.now)) source.old e source.new) }
+{
+    let symbols = nodes.len() + 1;
+    let mut index = 2 * nodes.len();
+    'walk: while index >= symbols {
+        match next_bit(source) {
+            Err(error) => return Err(error),
+            Ok(bit) => index = nodes[index - symbols][bit as usize],
+        }
+    }
+    Ok(index)
+}

@@ -1,0 +1,198 @@
+//! Huffman trees for encoding: from the symbols to the root.
+
+ghost use Rattle.constriction_symbol.specs.Codewords.{EmitsCodeword, formed};
+ghost use Rattle.constriction_symbol.specs.Huffman.{leaves, path};
+ghost use Rattle.constriction_symbol.specs.HuffmanLaws.{path_prefix_free, same_path};
+ghost use Rattle.constriction_symbol.specs.Merging.{GivesWeights, LendsWeights, MakeNoTree, MakesTree, RefusesGiven, RefusesLent};
+ghost use Rattle.constriction_symbol.specs.Reversed.{IsLongerThan};
+ghost use Rattle.std.specs.Iterator.{IsFiniteIterable};
+ghost use Rattle.std.specs.Prelude.{IfErr, IfOk, List, length, reverse, ◌*◌, ◌-◌, ◌^◌, ◌≡◌};
+
+use crate::codebooks::{Codebook, EncoderCodebook};
+use crate::huffman::collecting::{collect_given, collect_lent};
+use crate::huffman::error::HuffmanError;
+use crate::huffman::merging::merged_pairs;
+use crate::huffman::parents::{climb, climb_at_once, parents_of};
+use crate::reversed::{SuffixCodebook, reversed_codeword};
+use constriction_base::errors::{CoderError, DefaultEncoderError, DefaultEncoderFrontendError};
+use constriction_stream::encoding::Lent;
+use constriction_words::BitArray;
+use std::alloc::{AllocError, Global};
+use std::convert::Infallible;
+use std::marker::Model;
+
+/// A Huffman tree for encoding: the codewords of the symbols `0`, `1`, .. of least cost for their weights.
+///
+/// Contracts see it as a tree, whose leaves are the symbols. A symbol's codeword is the path to it from the root.
+#[derive(Debug, Clone, Drop)]
+pub struct EncoderHuffmanTree {
+    /// For each node, the symbols first and the root last, twice its parent, and one more where it is the child of
+    /// bit 1; 0 at the root.
+    nodes: Vec<usize>,
+    /// Where the prefix form of a long codeword finds memory.
+    alloc: Global,
+}
+
+impl Model for EncoderHuffmanTree {
+    ghost use Rattle.constriction_symbol.specs.EncoderTree.{ClimbsTree, tree_of_parents};
+    ghost use Rattle.constriction_symbol.specs.Huffman.{Tree};
+    ghost use Rattle.constriction_symbol.specs.TreeCode.{tree_code};
+
+    ghost Value = { Tree };
+
+    ghost coded = { tree_code };
+
+    ghost view = { λ t. tree_of_parents t.nodes.items };
+
+    ghost invariant = { λ t. ClimbsTree t.nodes.items (tree_of_parents t.nodes.items) };
+}
+
+/// The tree of these weights.
+fn tree_of<P: BitArray, E>(
+    alloc: Global,
+    weights: &[P],
+) -> Result<EncoderHuffmanTree, HuffmanError<E>>
+    ensures ok { IfOk result (λ tree. MakesTree P.number P.BITS (2 ^ 62 - 1) weights.now tree) }
+    ensures err { IfErr result (λ e. MakeNoTree P.number P.BITS (2 ^ 62 - 1) weights.now e) }
+{
+    let pairs = match merged_pairs(alloc, weights, usize::MAX / 4) {
+        Ok(pairs) => pairs,
+        Err(error) => return Err(error),
+    };
+    match parents_of(alloc, &pairs) {
+        Ok(nodes) => Ok(EncoderHuffmanTree { nodes, alloc }),
+        Err(_) => Err(HuffmanError::Memory),
+    }
+}
+
+impl EncoderHuffmanTree {
+    /// The tree of the weights that are lent, a symbol for each of them, in memory of `alloc`.
+    ///
+    /// The two least trees by weight, and of one weight by index, are made one, until one is left. Its index is the
+    /// next one: the symbols have the first indices. The lesser of the two has bit 0.
+    ///
+    /// # Errors
+    /// Looked for in this order:
+    /// - `Memory`, while the weights are collected.
+    /// - `Empty`, where there is no weight.
+    /// - `TooManySymbols`, where there are more than `usize::MAX / 4`.
+    /// - `WeightOverflow`, where the sum of all weights doesn't fit their type.
+    /// - `Memory`, for want of memory for the tree.
+    ///
+    /// ```
+    /// let tree = EncoderHuffmanTree::from_probabilities(alloc, [2u32, 2, 4, 1, 1].iter())?;
+    /// ```
+    pub fn from_probabilities<P, L, I>(
+        alloc: Global,
+        probabilities: I,
+    ) -> Result<Self, HuffmanError<Infallible>>
+    where
+        P: BitArray,
+        L: Lent<P> + Drop,
+        I: IntoIterator<Item = L>,
+        I::IntoIter: Drop,
+        requires { IsFiniteIterable I.into_iter_gives I.IntoIter.can_next I.IntoIter.remaining probabilities }
+        ensures ok { IfOk result (λ tree. (weights : List P) × LendsWeights (I.into_iter_gives probabilities) I.IntoIter.next_gives L.lent weights × MakesTree P.number P.BITS (2 ^ 62 - 1) weights tree) }
+        ensures err { IfErr result (λ e. RefusesLent (I.into_iter_gives probabilities) I.IntoIter.next_gives L.lent P.number P.BITS (2 ^ 62 - 1) e) }
+    {
+        match collect_lent(alloc, probabilities) {
+            Ok(weights) => tree_of(alloc, &weights),
+            Err(_) => Err(HuffmanError::Memory),
+        }
+    }
+
+    /// The tree of the weights, each of which comes as the `Ok` of a `Result`.
+    ///
+    /// # Errors
+    /// Looked for in this order:
+    /// - `Iterator(error)`, where an item is this error, or `Memory`, while the weights are collected.
+    /// - Those of [`EncoderHuffmanTree::from_probabilities`].
+    pub fn try_from_probabilities<P, E, I>(
+        alloc: Global,
+        probabilities: I,
+    ) -> Result<Self, HuffmanError<E>>
+    where
+        P: BitArray,
+        I: IntoIterator<Item = Result<P, E>>,
+        I::IntoIter: Drop,
+        requires { IsFiniteIterable I.into_iter_gives I.IntoIter.can_next I.IntoIter.remaining probabilities }
+        ensures ok { IfOk result (λ tree. (weights : List P) × GivesWeights (I.into_iter_gives probabilities) I.IntoIter.next_gives weights × MakesTree P.number P.BITS (2 ^ 62 - 1) weights tree) }
+        ensures err { IfErr result (λ e. RefusesGiven (I.into_iter_gives probabilities) I.IntoIter.next_gives P.number P.BITS (2 ^ 62 - 1) e) }
+    {
+        match collect_given(alloc, probabilities) {
+            Ok(given) => tree_of(alloc, &given),
+            Err(error) => Err(error),
+        }
+    }
+
+    /// How many symbols there are.
+    pub fn num_symbols(&self) -> usize
+        ensures value { result ≡ length (leaves self.now) }
+    {
+        self.nodes.len() / 2 + 1
+    }
+}
+
+impl Codebook for EncoderHuffmanTree {
+    type Symbol = usize;
+
+    ghost codeword = { λ t symbol. path t symbol };
+
+    ghost is_same = { λ _ s u. s ≡ u };
+
+    ghost same_law = { λ t s u same. same_path t s u same };
+
+    ghost prefix_law = { λ t s u bits tail first second. path_prefix_free t s u bits tail first second };
+}
+
+impl SuffixCodebook for EncoderHuffmanTree {
+    /// Emits the codeword from the last bit to the first, one for each node from the symbol up to the root. It takes no
+    /// memory.
+    #[inline]
+    fn emit_suffix<E, F: FnMut(bool) -> Result<(), E>>(
+        &self,
+        symbol: &usize,
+        emit: &mut F,
+    ) -> Result<(), DefaultEncoderError<E>> {
+        if *symbol > self.nodes.len() / 2 {
+            return Err(CoderError::Frontend(DefaultEncoderFrontendError::ImpossibleSymbol));
+        }
+        climb(&self.nodes, *symbol, emit)
+    }
+}
+
+impl EncoderCodebook for EncoderHuffmanTree {
+    ghost prefix_wants = { λ t symbol. IsLongerThan (2 * 64) (path t symbol) };
+
+    ghost suffix_wants = { λ _ _. ⊥ };
+
+    /// Emits the codeword from the first bit to the last. It is found from the last to the first, and turned round: one of
+    /// more than `2 * usize::BITS` bits wants memory.
+    #[inline]
+    fn encode_symbol_prefix<E: From<AllocError>, F: FnMut(bool) -> Result<(), E>>(
+        &self,
+        symbol: &usize,
+        emit: &mut F,
+    ) -> Result<(), DefaultEncoderError<E>> {
+        reversed_codeword(self.alloc, self, symbol, emit)
+    }
+
+    /// Emits the codeword from the last bit to the first. It takes no memory.
+    #[inline]
+    fn encode_symbol_suffix<E: From<AllocError>, F: FnMut(bool) -> Result<(), E>>(
+        &self,
+        symbol: &usize,
+        emit: &mut F,
+    ) -> Result<(), DefaultEncoderError<E>> {
+        self.emit_suffix(symbol, emit)
+    }
+
+    /// The codeword of a symbol, where it has some bits and fewer than the word.
+    #[inline]
+    fn codeword_at_once<Word: BitArray>(&self, symbol: &usize) -> Option<(Word, u32)> {
+        if *symbol > self.nodes.len() / 2 {
+            return None;
+        }
+        climb_at_once(&self.nodes, *symbol)
+    }
+}

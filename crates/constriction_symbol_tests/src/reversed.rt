@@ -1,0 +1,134 @@
+//! A codeword that is turned round: up to two words of bits it takes no memory, and beyond them it may find none.
+
+ghost use Rattle.constriction_symbol.specs.Codewords.{Emits};
+ghost use Rattle.constriction_symbol.specs.Reversed.{IsLongerThan};
+ghost use Rattle.constriction_symbol_tests.specs.Lone.{lone, lone_suffix};
+ghost use Rattle.std.specs.Prelude.{refl, ◌*◌};
+
+use crate::bits::{ends, gives, gives_many, writes, writes_many};
+use constriction_base::backends::{Queue, Stack};
+use constriction_base::cursor::Cursor;
+use constriction_base::errors::{BoundedWriteError, CoderError, DefaultEncoderError};
+use constriction_symbol::codebooks::{Codebook, EncoderCodebook};
+use constriction_symbol::coder::{NewSmallStack, QueueEncoder, SmallBitStack};
+use constriction_symbol::reversed::{SuffixCodebook, reversed_codeword};
+use constriction_symbol::writing::WriteBitStream;
+use std::alloc::{AllocError, Global};
+use std::test::Fail;
+
+/// One symbol, whose codeword is a bit that is set, and so many that are not.
+#[derive(Drop)]
+struct Lone {
+    alloc: Global,
+    zeros: u32,
+}
+
+impl Codebook for Lone {
+    type Symbol = ();
+
+    ghost codeword = { λ c _. lone c.zeros };
+
+    ghost is_same = { λ _ _ _. Unit {0} };
+
+    ghost same_law = { λ _ _ _ _. refl };
+
+    ghost prefix_law = { λ _ _ _ _ _ _ _. tt };
+}
+
+impl EncoderCodebook for Lone {
+    ghost prefix_wants = { λ c _. IsLongerThan (2 * 64) (lone c.zeros) };
+
+    ghost suffix_wants = { λ _ _. ⊥ };
+
+    fn encode_symbol_prefix<E: From<AllocError>, F: FnMut(bool) -> Result<(), E>>(
+        &self,
+        symbol: &(),
+        emit: &mut F,
+    ) -> Result<(), DefaultEncoderError<E>> {
+        reversed_codeword(self.alloc, self, symbol, emit)
+    }
+
+    fn encode_symbol_suffix<E: From<AllocError>, F: FnMut(bool) -> Result<(), E>>(
+        &self,
+        symbol: &(),
+        emit: &mut F,
+    ) -> Result<(), DefaultEncoderError<E>> {
+        self.emit_suffix(symbol, emit)
+    }
+}
+
+impl SuffixCodebook for Lone {
+    fn emit_suffix<E, F: FnMut(bool) -> Result<(), E>>(
+        &self,
+        _symbol: &(),
+        emit: &mut F,
+    ) -> Result<(), DefaultEncoderError<E>> {
+        emit_lone(self.zeros, emit)
+    }
+}
+
+/// Emits so many zeros, and a bit that is set.
+fn emit_lone<E, F: FnMut(bool) -> Result<(), E>>(
+    zeros: u32,
+    emit: &mut F,
+) -> Result<(), DefaultEncoderError<E>>
+    requires { F.IsAlwaysCallable emit.old }
+    ensures { Emits F.FnMut emit.old (lone_suffix zeros) result emit.new }
+{
+    for _index in 0..zeros {
+        match emit(false) {
+            Ok(()) => {}
+            Err(error) => return Err(CoderError::Backend(error)),
+        }
+    }
+    match emit(true) {
+        Ok(()) => Ok(()),
+        Err(error) => Err(CoderError::Backend(error)),
+    }
+}
+
+/// Two words of bits on a small stack come off again, the last one first. Until then it asks for no memory.
+fn fills_two_words(stack: &mut SmallBitStack) -> bool {
+    writes_many::<Stack, _>(stack, true, 125).is_ok()
+        && writes::<Stack, _>(stack, b"011").is_ok()
+        && gives::<Stack, _>(stack, b"110")
+        && gives_many::<Stack, _>(stack, true, 125)
+        && ends::<Stack, _>(stack)
+}
+
+#[test]
+fn a_small_stack_of_two_words(rt: HostRuntime) {
+    assert!(rt; fills_two_words(&mut SmallBitStack::new(rt.alloc())));
+}
+
+/// The codeword of `zeros + 1` bits in a queue over a buffer. Where it finds no memory, none of its bits is there.
+///
+/// `tests/refused-memory` has the first allocation of each of the next tests refused. The one of 128 bits makes none.
+fn turned_round(alloc: Global, zeros: u32) -> Result<(), Fail> {
+    let mut words = [0u64; 3];
+    let mut coder: QueueEncoder<u64, Cursor<u64, &mut [u64]>> = QueueEncoder::from_compressed(
+        Cursor::new_at_write_beginning(words.as_mut_slice()),
+    );
+    match coder.encode_symbol(&(), Lone { alloc, zeros }) {
+        Ok(()) => {
+            if coder.into_compressed().is_err() || words != [1u64, 0, 0] {
+                return Err(Fail::from("other bits"));
+            }
+            Ok(())
+        }
+        Err(CoderError::Backend(BoundedWriteError::Memory)) if coder.is_empty() => Err(Fail::from(
+            "want of memory, and nothing was written",
+        )),
+        Err(_) => Err(Fail::from("another error")),
+    }
+}
+
+#[test]
+fn a_codeword_of_128_bits(rt: HostRuntime) -> Result<(), Fail> {
+    turned_round(rt.alloc(), 127)
+}
+
+#[test]
+fn a_codeword_of_129_bits(rt: HostRuntime) -> Result<(), Fail> {
+    turned_round(rt.alloc(), 128)
+}
