@@ -10,6 +10,7 @@
 
 mod bits;
 mod chain;
+mod codewords;
 mod input;
 
 use input::{COUNT, Random, drawn_symbols, weights};
@@ -284,6 +285,27 @@ impl Bench {
         println!("{name} {:.2}", all - self.copying(words));
     }
 
+    /// Encodes, and decodes `expected` from these words.
+    fn there_and_back<T: Copy + Default + PartialEq + Debug>(
+        &self,
+        (encode_name, encode): (&str, &dyn Fn(&mut [u32]) -> usize),
+        (decode_name, decode): (&str, &dyn Fn(&[u32], &mut [T]) -> bool),
+        expected: &[T],
+    ) {
+        self.encode(encode_name, encode);
+        let words = all_words(encode);
+        self.decode(decode_name, &words, expected, decode);
+    }
+
+    /// The time of making what has `count` parts, in nanoseconds for each of them. A run makes it until there are COUNT.
+    fn making(&self, name: &str, count: usize, make: impl Fn()) {
+        if self.wants(name) {
+            let times = COUNT / count;
+            let time = self.least(|| (0..times).for_each(|_| make()));
+            println!("{name} {:.2}", time * COUNT as f64 / (times * count) as f64);
+        }
+    }
+
     /// The least time of a copy of the words.
     fn copying<W: Word>(&self, words: &[W]) -> f64 {
         self.least(|| black_box(words).to_vec())
@@ -426,5 +448,6 @@ fn main() {
     cases(&bench, &large, &drawn, &equal);
     cases(&bench, &small, &drawn, &equal);
     chain::cases(&bench);
-    bits::cases(&bench, &drawn);
+    bits::cases(&bench);
+    codewords::cases(&bench, &drawn);
 }

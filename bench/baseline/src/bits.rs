@@ -77,6 +77,20 @@ pub fn huffman(bench: &Bench, drawn: &[usize]) {
     codewords(bench, "huffman", drawn, &encoder, &decoder);
 }
 
+/// Huffman trees of weights below 2^16.
+pub fn trees(bench: &Bench) {
+    for count in [256, 4096, 65536] {
+        let mut random = Random::new(3);
+        let weights: Vec<u32> = (0..count).map(|_| (random.next() >> 48) as u32).collect();
+        bench.making(&format!("huffman_make_encoder_{count}"), count, || {
+            EncoderHuffmanTree::from_probabilities::<u32, _>(&weights)
+        });
+        bench.making(&format!("huffman_make_decoder_{count}"), count, || {
+            DecoderHuffmanTree::from_probabilities::<u32, _>(&weights)
+        });
+    }
+}
+
 /// Codewords, to a queue and from it, to a stack and from it.
 fn codewords<E, D>(bench: &Bench, name: &str, symbols: &[E::Symbol], encoder: &E, decoder: &D)
 where

@@ -47,6 +47,24 @@ impl Bench {
         }
         println!("{name} {:.2}", least / COUNT as f64);
     }
+
+    /// Prints the least time of making what has `count` parts, in nanoseconds for each of them. A run makes it until there
+    /// are COUNT, and drops each.
+    fn making<R>(&self, name: &str, count: usize, make: impl Fn() -> R) {
+        if !self.wants(name) {
+            return;
+        }
+        let times = COUNT / count;
+        let mut least = f64::INFINITY;
+        for _ in 0..RUNS {
+            let start = Instant::now();
+            for _ in 0..times {
+                drop(black_box(make()));
+            }
+            least = least.min(start.elapsed().as_nanos() as f64);
+        }
+        println!("{name} {:.2}", least / (times * count) as f64);
+    }
 }
 
 /// The cases of one coder and size: an encoder under `encoding`, and decoders under each of the others.
@@ -124,4 +142,5 @@ fn main() {
     bits::bits_alone(&bench);
     bits::exp_golomb(&bench, &drawn);
     bits::huffman(&bench, &drawn);
+    bits::trees(&bench);
 }

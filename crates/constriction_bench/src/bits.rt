@@ -1,9 +1,8 @@
-//! Cases of bit coders over words of 32 bits: bits alone, and Exp-Golomb codewords of numbers.
+//! Cases of bit coders over words of 32 bits: bits alone.
 
 use crate::runs::copy_out;
 use constriction_base::cursor::Cursor;
 use constriction_symbol::coder::{DefaultQueueEncoder, DefaultStackCoder};
-use constriction_symbol::exp_golomb::ExpGolomb;
 use constriction_symbol::queue::DefaultQueueDecoder;
 use constriction_symbol::reading::ReadBitStream;
 use constriction_symbol::writing::WriteBitStream;
@@ -61,67 +60,8 @@ fn read_stack(words: Vec<u32>, bits: &mut [bool]) -> bool {
     true
 }
 
-/// The words of a queue of the numbers' codewords. There are none where memory is missing.
-#[inline(never)]
-fn encode_queue(alloc: Global, numbers: &[u32]) -> Option<Vec<u32>> {
-    let golomb = ExpGolomb::<u32>::new();
-    let mut coder = DefaultQueueEncoder::new(alloc);
-    for place in 0..numbers.len() {
-        if coder.encode_symbol(&numbers[place], &golomb).is_err() {
-            return None;
-        }
-    }
-    coder.into_compressed().ok()
-}
-
-/// The words of a stack of the numbers' codewords, the last number's first. There are none where memory is missing.
-#[inline(never)]
-fn encode_stack(alloc: Global, numbers: &[u32]) -> Option<Vec<u32>> {
-    let golomb = ExpGolomb::<u32>::new();
-    let mut coder = DefaultStackCoder::new(alloc);
-    for place in 0..numbers.len() {
-        if coder
-            .encode_symbol(&numbers[numbers.len() - 1 - place], &golomb)
-            .is_err()
-        {
-            return None;
-        }
-    }
-    coder.into_compressed().ok()
-}
-
-/// Decodes a number for each place of `numbers`, the first first, as long as there are codewords.
-#[inline(never)]
-fn decode_queue(words: Vec<u32>, numbers: &mut [u32]) -> bool {
-    let golomb = ExpGolomb::<u32>::new();
-    let mut decoder = DefaultQueueDecoder::from_compressed(Cursor::new_at_write_beginning(words));
-    for number in numbers.iter_mut() {
-        match decoder.decode_symbol(&golomb) {
-            Ok(decoded) => *number = decoded,
-            Err(_) => return false,
-        }
-    }
-    true
-}
-
-/// Decodes a number for each place of `numbers`, the last first, as long as there are codewords.
-#[inline(never)]
-fn decode_stack(words: Vec<u32>, numbers: &mut [u32]) -> bool {
-    let golomb = ExpGolomb::<u32>::new();
-    let Ok(mut coder) = DefaultStackCoder::from_compressed(words) else {
-        return false;
-    };
-    for number in numbers.iter_mut() {
-        match coder.decode_symbol(&golomb) {
-            Ok(decoded) => *number = decoded,
-            Err(_) => return false,
-        }
-    }
-    true
-}
-
 /// Writes as many of the words as there is room for. It returns how many there are, 0 where there are none.
-fn give_out(words: Option<Vec<u32>>, out: &mut [u32]) -> usize {
+pub fn give_out(words: Option<Vec<u32>>, out: &mut [u32]) -> usize {
     match words {
         Some(words) => copy_out(&words, out),
         None => 0,
@@ -170,52 +110,6 @@ pub extern "C" fn constriction_bench_bits_read_stack(
 ) -> bool {
     match words.to_vec(alloc) {
         Ok(words) => read_stack(words, bits),
-        Err(_) => false,
-    }
-}
-
-/// Encodes numbers to a queue.
-#[unsafe(no_mangle)]
-pub extern "C" fn constriction_bench_golomb_encode_queue(
-    alloc: Global,
-    numbers: &[u32],
-    out: &mut [u32],
-) -> usize {
-    give_out(encode_queue(alloc, numbers), out)
-}
-
-/// Encodes numbers to a stack.
-#[unsafe(no_mangle)]
-pub extern "C" fn constriction_bench_golomb_encode_stack(
-    alloc: Global,
-    numbers: &[u32],
-    out: &mut [u32],
-) -> usize {
-    give_out(encode_stack(alloc, numbers), out)
-}
-
-/// Decodes as many numbers of a queue as there is room for.
-#[unsafe(no_mangle)]
-pub extern "C" fn constriction_bench_golomb_decode_queue(
-    alloc: Global,
-    words: &[u32],
-    numbers: &mut [u32],
-) -> bool {
-    match words.to_vec(alloc) {
-        Ok(words) => decode_queue(words, numbers),
-        Err(_) => false,
-    }
-}
-
-/// Decodes as many numbers of a stack as there is room for.
-#[unsafe(no_mangle)]
-pub extern "C" fn constriction_bench_golomb_decode_stack(
-    alloc: Global,
-    words: &[u32],
-    numbers: &mut [u32],
-) -> bool {
-    match words.to_vec(alloc) {
-        Ok(words) => decode_stack(words, numbers),
         Err(_) => false,
     }
 }

@@ -8,12 +8,13 @@
 //! - `small`: the cases at words of 16 bits, states of 32 and a precision of 12.
 //! - `ranges`: the measured loops of the range coder, and its cases at the same sizes.
 //! - `chains`: the measured loops of the chain coder, and its cases at the same sizes.
-//! - `bits`: the cases of bit coders, with words of 32 bits.
+//! - `bits`: the cases of bit coders, with words of 32 bits; `codewords`: those of Exp-Golomb codewords and Huffman trees.
 #![tactic(auto)]
 
 pub mod bits;
 mod bucket;
 pub mod chains;
+pub mod codewords;
 mod flat;
 pub mod large;
 mod lookup;

@@ -15,16 +15,17 @@ use std::convert::Infallible;
 use std::fmt::{Debug, Display};
 use std::test::Fail;
 
-/// What was emitted of a codeword: its bits as a number, the first one highest, and how many they are.
+/// What was emitted of a codeword: its bits as a number, the first one highest, and how many they are; or why it ended, and
+/// behind how many bits.
 #[derive(Debug, Clone, Copy, PartialEq, Eq)]
-enum Coded {
+pub enum Coded {
     Bits(u32, u32),
     Unknown(u32),
-    Refused,
+    Refused(u32),
 }
 
 /// The bits of the prefix form.
-fn prefix_of(tree: &EncoderHuffmanTree, symbol: usize) -> Coded {
+pub fn prefix_of(tree: &EncoderHuffmanTree, symbol: usize) -> Coded {
     let mut code = 0u32;
     let mut count = 0u32;
     let mut emit = |bit: bool| -> Result<(), AllocError> {
@@ -35,7 +36,7 @@ fn prefix_of(tree: &EncoderHuffmanTree, symbol: usize) -> Coded {
     match tree.encode_symbol_prefix(&symbol, &mut emit) {
         Ok(()) => Coded::Bits(code, count),
         Err(CoderError::Frontend(_)) => Coded::Unknown(count),
-        Err(CoderError::Backend(_)) => Coded::Refused,
+        Err(CoderError::Backend(_)) => Coded::Refused(count),
     }
 }
 
@@ -51,7 +52,7 @@ fn suffix_of(tree: &EncoderHuffmanTree, symbol: usize) -> Coded {
     match tree.encode_symbol_suffix(&symbol, &mut emit) {
         Ok(()) => Coded::Bits(code, count),
         Err(CoderError::Frontend(_)) => Coded::Unknown(count),
-        Err(CoderError::Backend(_)) => Coded::Refused,
+        Err(CoderError::Backend(_)) => Coded::Refused(count),
     }
 }
 
@@ -342,7 +343,7 @@ fn huffman_unknown_and_short(rt: HostRuntime) -> Result<(), Fail> {
 }
 
 /// The tree of the first 150 Fibonacci numbers: each union is merged with the next number.
-fn deep_tree(alloc: Global) -> Result<EncoderHuffmanTree, HuffmanError<Infallible>> {
+pub fn deep_tree(alloc: Global) -> Result<EncoderHuffmanTree, HuffmanError<Infallible>> {
     let mut weights = [0u128; 150];
     let mut number = 1u128;
     let mut next = 1u128;

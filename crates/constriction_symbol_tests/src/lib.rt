@@ -34,6 +34,8 @@ mod lists;
 #[cfg(test)]
 mod memory;
 #[cfg(test)]
+mod refused_trees;
+#[cfg(test)]
 mod reversed;
 #[cfg(test)]
 mod rows;

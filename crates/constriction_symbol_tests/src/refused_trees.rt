@@ -1,0 +1,100 @@
+//! Huffman trees that find no memory.
+//!
+//! `tests/refused-memory` has one allocation of each of these tests refused: of each tree after so many lists it is another one,
+//! since each list is an allocation too. Where none is refused, the tree is made and the codeword is whole.
+
+use crate::huffman::{Coded, deep_tree, prefix_of};
+use constriction_symbol::huffman::{DecoderHuffmanTree, EncoderHuffmanTree, HuffmanError};
+use std::alloc::Global;
+use std::convert::Infallible;
+use std::test::Fail;
+
+/// Makes so many lists, each of them an allocation.
+fn make_lists(alloc: Global, count: usize) -> Result<(), Fail> {
+    for _ in 0..count {
+        let list = [7u8].to_vec(alloc)?;
+        if list.len() != 1 {
+            return Err(Fail::from("another list"));
+        }
+    }
+    Ok(())
+}
+
+/// What a tree of three symbols says of itself.
+fn has_three(symbols: Result<usize, HuffmanError<Infallible>>) -> Result<(), Fail> {
+    match symbols {
+        Ok(3) => Ok(()),
+        Ok(_) => Err(Fail::from("another tree")),
+        Err(HuffmanError::Memory) => Err(Fail::from("want of memory")),
+        Err(_) => Err(Fail::from("another error")),
+    }
+}
+
+/// An encoder's tree of three weights is four allocations: its weights, a heap of them, the pairs and the nodes.
+fn encoder_after(alloc: Global, lists: usize) -> Result<(), Fail> {
+    make_lists(alloc, lists)?;
+    let made = EncoderHuffmanTree::from_probabilities(alloc, &[5u8, 2, 4]);
+    has_three(made.map(|tree| tree.num_symbols()))
+}
+
+/// A decoder's tree of three weights is three allocations: its weights, a heap of them, and the pairs.
+fn decoder_after(alloc: Global, lists: usize) -> Result<(), Fail> {
+    make_lists(alloc, lists)?;
+    let made = DecoderHuffmanTree::from_probabilities(alloc, &[5u8, 2, 4]);
+    has_three(made.map(|tree| tree.num_symbols()))
+}
+
+#[test]
+fn a_tree_for_encoding_after_0(rt: HostRuntime) -> Result<(), Fail> {
+    encoder_after(rt.alloc(), 0)
+}
+
+#[test]
+fn a_tree_for_encoding_after_1(rt: HostRuntime) -> Result<(), Fail> {
+    encoder_after(rt.alloc(), 1)
+}
+
+#[test]
+fn a_tree_for_encoding_after_2(rt: HostRuntime) -> Result<(), Fail> {
+    encoder_after(rt.alloc(), 2)
+}
+
+#[test]
+fn a_tree_for_encoding_after_3(rt: HostRuntime) -> Result<(), Fail> {
+    encoder_after(rt.alloc(), 3)
+}
+
+#[test]
+fn a_tree_for_decoding_after_0(rt: HostRuntime) -> Result<(), Fail> {
+    decoder_after(rt.alloc(), 0)
+}
+
+#[test]
+fn a_tree_for_decoding_after_1(rt: HostRuntime) -> Result<(), Fail> {
+    decoder_after(rt.alloc(), 1)
+}
+
+#[test]
+fn a_tree_for_decoding_after_2(rt: HostRuntime) -> Result<(), Fail> {
+    decoder_after(rt.alloc(), 2)
+}
+
+#[test]
+fn a_tree_for_decoding_after_3(rt: HostRuntime) -> Result<(), Fail> {
+    decoder_after(rt.alloc(), 3)
+}
+
+/// The prefix form of a codeword of more than two words of bits is turned round on a stack that has to grow.
+#[test]
+fn huffman_growth_refused(rt: HostRuntime) -> Result<(), Fail> {
+    let tree = match deep_tree(rt.alloc()) {
+        Ok(tree) => tree,
+        Err(HuffmanError::Memory) => return Err(Fail::from("want of memory for the tree")),
+        Err(_) => return Err(Fail::from("another error")),
+    };
+    match prefix_of(&tree, 0) {
+        Coded::Bits(_, 149) => Ok(()),
+        Coded::Refused(0) => Err(Fail::from("want of memory, and nothing was emitted")),
+        _ => Err(Fail::from("another answer")),
+    }
+}
