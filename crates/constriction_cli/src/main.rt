@@ -1,17 +1,7 @@
 //! The program `constriction`: coders over lists of numbers, from standard input to standard output.
 #![tactic(auto)]
 
-mod cli;
-mod codewords;
-mod commands;
-mod fault;
-mod given;
-mod input;
-mod output;
-#[cfg(test)]
-mod tests;
-mod weights;
-
+use constriction_commands::cli;
 use std::env;
 use std::process::ExitCode;
 

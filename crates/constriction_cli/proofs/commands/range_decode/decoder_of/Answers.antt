@@ -1,5 +1,0 @@
-use Rattle.constriction_cli.proofs.OwnNumbers.{own_numbers}
-use Rattle.constriction_cli.proofs.commands.range_decode.decoder_of.Goals as goal
-
-pub returns : goal.returns
-returns c = rw (own_numbers c.args.words.now c.type_inv.words) at (c.in-Ok.ensures.ok tt)

@@ -1,0 +1,21 @@
+-- Codewords on a line, one more at a time, and words that fit.
+use Rattle.std.proofs.Common.{◌≡◌, ℕ, ◌+◌, ◌%◌, ◌^◌, ◌<◌, List, [], ◌∷◌, ◌++◌, length, map, get_or, take, ap, ◌∙◌, pow_pos}
+use Rattle.std.proofs.lemmas.List.{take_more, map-append}
+use Rattle.std.proofs.lemmas.Nat.{mod_below}
+use Rattle.constriction.specs.Steps.{AreWords}
+use Rattle.constriction.specs.symbol.Golomb.{golomb}
+use Rattle.constriction_commands.specs.Codewords.{digits}
+
+-- the codeword of a number as digits
+abbrev text : ℕ → List ℕ
+text n = digits (golomb n)
+
+-- the codeword of one number more
+pub text-more : (numbers : List ℕ) (i : ℕ) → i < length numbers
+    → map (λ n. digits (golomb n)) (take (i + 1) numbers) ≡ map (λ n. digits (golomb n)) (take i numbers) ++ digits (golomb (get_or numbers i 0)) ∷ []
+text-more numbers i inside = ap (map text) (take_more numbers i 0 inside) ∙ map-append text (take i numbers) (get_or numbers i 0 ∷ [])
+
+-- the words of 32 bits of a coder fit
+pub words_fit : (words : List ℕ) → AreWords 32 (map (λ word. word % 2 ^ 32) words)
+words_fit [] = tt
+words_fit (word ∷ words) = (mod_below word (2 ^ 32) (pow_pos 32), words_fit words)

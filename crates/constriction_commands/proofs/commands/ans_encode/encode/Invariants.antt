@@ -1,0 +1,17 @@
+use Rattle.std.proofs.Common.{◌≤◌, length, drop, reverse}
+use Rattle.constriction.specs.Models.{items_of}
+use Rattle.constriction.specs.stack.Ans.{IsValid, empty}
+use Rattle.constriction.specs.stack.Symbols.{EncodesAll}
+use Rattle.constriction_commands.specs.Coding.{of_24_bits}
+use Rattle.constriction_commands.proofs.commands.ans_encode.encode.Given as goal
+
+-- the symbols from the place on are encoded, the last one first
+abbrev pub invariant-symbols : goal.invariant-symbols
+invariant-symbols g l = record {
+  within : l.left ≤ length l.symbols;
+  valid : IsValid 32 64 l.coder.state;
+  encoded : EncodesAll 32 64 (items_of (of_24_bits (g.M.EntropyModel.table l.model)) (reverse (drop l.left l.symbols))) empty l.coder.state;
+}
+
+abbrev pub decreases-symbols : goal.decreases-symbols
+decreases-symbols g l = l.left

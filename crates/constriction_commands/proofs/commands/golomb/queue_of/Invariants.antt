@@ -1,0 +1,7 @@
+use Rattle.std.proofs.Common.{◌≡◌, flat_map, take}
+use Rattle.constriction.specs.symbol.Golomb.{golomb}
+use Rattle.constriction_commands.proofs.commands.golomb.queue_of.Given as goal
+
+-- the codewords so far are held
+abbrev pub invariant-loop-number : goal.invariant-loop-number
+invariant-loop-number l = l.coder.bits ≡ flat_map golomb (take l.number-index l.numbers)

@@ -1,0 +1,57 @@
+-- What each command answers a text, and when it gives which fault: each in a file of specs/commands.
+use Rattle.std.specs.Prelude.{Option, ◌≡◌, ℕ, List, [], ◌∷◌, codes, ◌⊎◌, IfSome}
+use Rattle.constriction_commands.specs.Coding.{EncodeFails}
+use Rattle.constriction_commands.specs.commands.AnsEncode.{IsAnsEncoded}
+use Rattle.constriction_commands.specs.commands.AnsDecode.{IsAnsDecoded, AnsDecodeFails}
+use Rattle.constriction_commands.specs.commands.RangeEncode.{IsRangeEncoded}
+use Rattle.constriction_commands.specs.commands.RangeDecode.{IsRangeDecoded, RangeDecodeFails}
+use Rattle.constriction_commands.specs.commands.ChainSplit.{IsChainSplit, ChainSplitFails}
+use Rattle.constriction_commands.specs.commands.Golomb.{IsGolomb, GolombFails}
+use Rattle.constriction_commands.specs.commands.Huffman.{IsHuffmanLine, HuffmanFails}
+use Rattle.constriction_commands.specs.declared.commands.Command.{Command}
+use Rattle.constriction_commands.specs.declared.commands.Command.TheVariants.{AnsEncode, AnsDecode, RangeEncode, RangeDecode, ChainSplit, Golomb, Huffman}
+use Rattle.constriction_commands.specs.declared.fault.Fault.{Fault}
+use Rattle.constriction_commands.specs.declared.fault.Fault.TheVariants.{Unreadable, Unwritable, OutOfMemory}
+
+-- the argument that names a command
+abbrev pub name_of : Command → List ℕ
+name_of AnsEncode = codes "ans-encode"
+name_of AnsDecode = codes "ans-decode"
+name_of RangeEncode = codes "range-encode"
+name_of RangeDecode = codes "range-decode"
+name_of ChainSplit = codes "chain-split"
+name_of Golomb = codes "golomb"
+name_of Huffman = codes "huffman"
+
+-- the arguments are the command's name alone
+abbrev pub Names : List (List ℕ) → Command → Type 0
+Names arguments command = arguments ≡ name_of command ∷ []
+
+-- why a command answers a text with a fault; where two could come, the first of the order of faults
+abbrev pub Fails : Command → List ℕ → Fault → Type 0
+Fails AnsEncode text fault = EncodeFails text fault
+Fails AnsDecode text fault = AnsDecodeFails text fault
+Fails RangeEncode text fault = EncodeFails text fault
+Fails RangeDecode text fault = RangeDecodeFails text fault
+Fails ChainSplit text fault = ChainSplitFails text fault
+Fails Golomb text fault = GolombFails text fault
+Fails Huffman text fault = HuffmanFails text fault
+
+-- why a run stops: reading, writing or memory failed, or the command that the arguments name fails for the text
+abbrev pub Stops : List (List ℕ) → Option (List ℕ) → Fault → Type 0
+Stops arguments known fault = (fault ≡ Unreadable) ⊎ (fault ≡ Unwritable) ⊎ (fault ≡ OutOfMemory)
+    ⊎ IfSome known (λ text. (command : Command) × Names arguments command × Fails command text fault)
+
+-- what a command answers a text
+abbrev pub Answers : Command → List ℕ → List ℕ → Type 0
+Answers AnsEncode text answer = IsAnsEncoded text answer
+Answers AnsDecode text answer = IsAnsDecoded text answer
+Answers RangeEncode text answer = IsRangeEncoded text answer
+Answers RangeDecode text answer = IsRangeDecoded text answer
+Answers ChainSplit text answer = IsChainSplit text answer
+Answers Golomb text answer = IsGolomb text answer
+Answers Huffman text answer = IsHuffmanLine text answer
+
+-- what the command that the arguments name answers a text
+abbrev pub IsAnswered : List (List ℕ) → List ℕ → List ℕ → Type 0
+IsAnswered arguments text answer = (command : Command) × Names arguments command × Answers command text answer

@@ -1,0 +1,71 @@
+-- What the first two lines of a text give a command that codes symbols, and why they give nothing.
+use Rattle.std.specs.Prelude.{Option, None, ◌≡◌, ℕ, ◌-◌, ◌≤◌, ◌^◌, Some, List, [], ◌∷◌, sum, ◌≢◌, ◌⊎◌, ◌<◌, ⊤}
+use Rattle.constriction.specs.Tables.{table_of}
+use Rattle.constriction_commands.specs.Lines.{first_line, second_line, numbers_of}
+use Rattle.constriction_commands.specs.declared.fault.Fault.{Fault}
+use Rattle.constriction_commands.specs.declared.fault.Fault.TheVariants.{BadNumber, NoCount, NoWeights, WrongTotal, OutOfMemory}
+
+-- the first line lists these weights of 32 bits
+abbrev pub WeightsAre : List ℕ → List ℕ → Type 0
+WeightsAre text weights = numbers_of (2 ^ 32 - 1) (first_line text) ≡ Some weights
+
+-- the second line lists these symbols of 64 bits
+abbrev pub SymbolsAre : List ℕ → List ℕ → Type 0
+SymbolsAre text symbols = numbers_of (2 ^ 64 - 1) (second_line text) ≡ Some symbols
+
+-- the second line lists these numbers of 32 bits: a count, and words
+abbrev pub CountedAre : List ℕ → List ℕ → Type 0
+CountedAre text numbers = numbers_of (2 ^ 32 - 1) (second_line text) ≡ Some numbers
+
+-- weights that make a table
+abbrev pub Total : List ℕ → Type 0
+Total weights = sum weights ≡ 2 ^ 24
+
+-- a line that is no list of numbers
+abbrev pub IsBad : Option (List ℕ) → Type 0
+IsBad numbers = numbers ≡ None
+
+-- ---- weights and symbols
+
+-- the weights of this table, and these symbols
+pub record GivesSymbols (text : List ℕ) (table : List (ℕ × ℕ × ℕ)) (symbols : List ℕ) : Type 0 where
+  pub weights : List ℕ
+  pub weights_line : WeightsAre text weights
+  pub symbols_line : SymbolsAre text symbols
+  pub total : Total weights
+  pub table_is : table ≡ table_of weights
+
+-- why there are none: a line is bad, or else the weights make no table
+abbrev pub NoSymbols : List ℕ → Fault → Type 0
+NoSymbols text BadNumber = IsBad (numbers_of (2 ^ 32 - 1) (first_line text)) ⊎ IsBad (numbers_of (2 ^ 64 - 1) (second_line text))
+NoSymbols text NoWeights = (symbols : List ℕ) × WeightsAre text [] × SymbolsAre text symbols
+NoSymbols text WrongTotal = (weights symbols : List ℕ) × WeightsAre text weights × SymbolsAre text symbols × (weights ≢ []) × (sum weights ≢ 2 ^ 24)
+NoSymbols text OutOfMemory = ⊤
+NoSymbols text fault = ⊥
+
+-- ---- weights, a count and words
+
+-- the greatest count of symbols
+abbrev pub most : ℕ
+most = 16777216
+
+-- the weights of this table, a count of symbols, and these words
+pub record GivesWords (text : List ℕ) (table : List (ℕ × ℕ × ℕ)) (count : ℕ) (words : List ℕ) : Type 0 where
+  pub weights : List ℕ
+  pub weights_line : WeightsAre text weights
+  pub words_line : CountedAre text (count ∷ words)
+  pub few : count ≤ most
+  pub total : Total weights
+  pub table_is : table ≡ table_of weights
+
+-- why there are none: a line is bad, or the count too great; or else there is no count, or else the weights make no table
+abbrev pub NoWords : List ℕ → Fault → Type 0
+NoWords text BadNumber =
+    IsBad (numbers_of (2 ^ 32 - 1) (first_line text)) ⊎ IsBad (numbers_of (2 ^ 32 - 1) (second_line text))
+    ⊎ ((count : ℕ) × (words : List ℕ) × CountedAre text (count ∷ words) × (most < count))
+NoWords text NoCount = (weights : List ℕ) × WeightsAre text weights × CountedAre text []
+NoWords text NoWeights = (count : ℕ) × (words : List ℕ) × WeightsAre text [] × CountedAre text (count ∷ words) × (count ≤ most)
+NoWords text WrongTotal =
+    (weights : List ℕ) × (count : ℕ) × (words : List ℕ) × WeightsAre text weights × CountedAre text (count ∷ words) × (count ≤ most) × (weights ≢ []) × (sum weights ≢ 2 ^ 24)
+NoWords text OutOfMemory = ⊤
+NoWords text fault = ⊥

@@ -1,0 +1,19 @@
+-- Why symbols are not read from words of 32 bits by a range coder whose states have 64.
+use Rattle.std.specs.Prelude.{ℕ, ◌/◌, ◌≤◌, ◌<◌, ◌^◌, List, length, ⊤}
+use Rattle.constriction.specs.Models.{items_of}
+use Rattle.constriction.specs.queue.Range.{Run, start, offset}
+use Rattle.constriction.specs.queue.Symbols.{FindsAll}
+use Rattle.constriction_commands.specs.Coding.{of_24_bits}
+use Rattle.constriction_commands.specs.declared.fault.Fault.{Fault}
+use Rattle.constriction_commands.specs.declared.fault.Fault.TheVariants.{InvalidData, OutOfMemory}
+
+-- the words hold no symbol at this moment: the quantile that is read is none of 24 bits
+abbrev pub HoldsNone : List ℕ → Run → Type 0
+HoldsNone words run = 2 ^ 24 ≤ offset 32 64 words run / (run.range / 2 ^ 24)
+
+-- why not so many symbols are read from words: behind fewer symbols they hold none
+abbrev pub ReadingFails : List ℕ → List (ℕ × ℕ × ℕ) → ℕ → Fault → Type 0
+ReadingFails words table count (InvalidData error) =
+    (symbols : List ℕ) × (run : Run) × FindsAll 32 64 words (items_of (of_24_bits table) symbols) (start 64) run × (length symbols < count) × HoldsNone words run
+ReadingFails words table count OutOfMemory = ⊤
+ReadingFails words table count fault = ⊥

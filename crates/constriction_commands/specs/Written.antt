@@ -1,0 +1,34 @@
+-- What a run writes: beginnings, and the lines on standard error.
+use Rattle.std.specs.Prelude.{Option, ℕ, List, [], ◌∷◌, ◌++◌, take, codes}
+use Rattle.std.specs.Io.KnownBytes.{Appends}
+use Rattle.constriction_commands.specs.declared.fault.Fault.{Fault}
+use Rattle.constriction_commands.specs.declared.fault.Fault.TheVariants.{Unreadable, Unwritable, BadNumber, NoCount, NoWeights, WrongTotal, TooManySymbols, WeightOverflow, Encoder, ZeroWord, InvalidData, NoChain, OutOfData, OutOfMemory}
+
+-- what a writer holds grew by a beginning of these bytes
+abbrev pub GrowsByBeginning : Option (List ℕ) → Option (List ℕ) → List ℕ → Type 0
+GrowsByBeginning old new bytes = (count : ℕ) × Appends old new (take count bytes)
+
+-- a text, and a line feed behind it
+abbrev pub as_line : List ℕ → List ℕ
+as_line text = text ++ 10 ∷ []
+
+-- the line where the arguments are not one known command
+abbrev pub usage_line : List ℕ
+usage_line = as_line (codes "usage: constriction <ans-encode|ans-decode|range-encode|range-decode|chain-split|golomb|huffman>")
+
+-- the line of a fault
+abbrev pub fault_line : Fault → List ℕ
+fault_line Unreadable = as_line (codes "cannot read input")
+fault_line Unwritable = as_line (codes "cannot write output")
+fault_line BadNumber = as_line (codes "bad number")
+fault_line NoCount = as_line (codes "no count")
+fault_line NoWeights = as_line (codes "no weights")
+fault_line WrongTotal = as_line (codes "weights do not sum to 16777216")
+fault_line TooManySymbols = as_line (codes "too many symbols")
+fault_line WeightOverflow = as_line (codes "sum of weights too large")
+fault_line (Encoder error) = as_line (codes "Impossible symbol.")
+fault_line (ZeroWord error) = as_line (codes "Tried to decode from compressed data that ends with a zero word, which is invalid for an ANS coder.")
+fault_line (InvalidData error) = as_line (codes "Tried to decode from compressed data that is invalid for the employed entropy model.")
+fault_line NoChain = as_line (codes "not enough words, or a zero word at the end")
+fault_line (OutOfData error) = as_line (codes "Out of compressed data.")
+fault_line OutOfMemory = as_line (codes "out of memory")

@@ -1,0 +1,29 @@
+-- What `ans-decode` answers a text, and when it gives which fault.
+use Rattle.std.specs.Prelude.{◌≡◌, ℕ, List, length, reverse}
+use Rattle.constriction.specs.Models.{items_of}
+use Rattle.constriction.specs.Readings.{BeginsHigh}
+use Rattle.constriction.specs.stack.Ans.{AnsState, filled}
+use Rattle.constriction.specs.stack.Symbols.{DecodesAll}
+use Rattle.constriction_commands.specs.Lines.{line_of}
+use Rattle.constriction_commands.specs.Inputs.{GivesWords, NoWords}
+use Rattle.constriction_commands.specs.Coding.{of_24_bits, EndsWithZero}
+use Rattle.constriction_commands.specs.declared.fault.Fault.{Fault}
+use Rattle.constriction_commands.specs.declared.fault.Fault.TheVariants.{ZeroWord}
+
+-- the symbols that are decoded from the state that the words make, as a line
+pub record IsAnsDecoded (text answer : List ℕ) : Type 0 where
+  pub table : List (ℕ × ℕ × ℕ)
+  pub count : ℕ
+  pub words : List ℕ
+  pub symbols : List ℕ
+  pub state : AnsState
+  pub given : GivesWords text table count words
+  pub high : BeginsHigh (reverse words)
+  pub decoded : DecodesAll 32 64 (items_of (of_24_bits table) symbols) (filled 32 64 0 (reverse words)) state
+  pub counted : length symbols ≡ count
+  pub printed : answer ≡ line_of symbols
+
+-- why symbols are not decoded: the text gives no words, or else the last of them is zero
+abbrev pub AnsDecodeFails : List ℕ → Fault → Type 0
+AnsDecodeFails text (ZeroWord error) = (table : List (ℕ × ℕ × ℕ)) × (count : ℕ) × (words : List ℕ) × GivesWords text table count words × EndsWithZero words
+AnsDecodeFails text fault = NoWords text fault

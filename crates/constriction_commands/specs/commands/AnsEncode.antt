@@ -1,0 +1,19 @@
+-- What `ans-encode` answers a text.
+use Rattle.std.specs.Prelude.{◌≡◌, ℕ, List, reverse}
+use Rattle.constriction.specs.Models.{items_of}
+use Rattle.constriction.specs.stack.Ans.{AnsState, empty, exported}
+use Rattle.constriction.specs.stack.Symbols.{EncodesAll}
+use Rattle.constriction_commands.specs.Lines.{line_of}
+use Rattle.constriction_commands.specs.Inputs.{GivesSymbols}
+use Rattle.constriction_commands.specs.Coding.{of_24_bits}
+
+-- the words that hold the symbols, the last of them the top one, as a line
+pub record IsAnsEncoded (text answer : List ℕ) : Type 0 where
+  pub table : List (ℕ × ℕ × ℕ)
+  pub symbols : List ℕ
+  pub words : List ℕ
+  pub state : AnsState
+  pub given : GivesSymbols text table symbols
+  pub encoded : EncodesAll 32 64 (items_of (of_24_bits table) (reverse symbols)) empty state
+  pub words_of_state : reverse words ≡ exported 32 state
+  pub printed : answer ≡ line_of words

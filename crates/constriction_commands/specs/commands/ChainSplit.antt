@@ -1,0 +1,62 @@
+-- What `chain-split` answers a text, and when it gives which fault.
+use Rattle.std.specs.Prelude.{◌≡◌, ℕ, ◌^◌, ◌<◌, ◌⊎◌, List, [], ◌∷◌, ◌++◌, length, reverse, ⊤}
+use Rattle.std.specs.Int.Digits.{digits_of}
+use Rattle.constriction.specs.Tables.{AtEntry}
+use Rattle.constriction.specs.Steps.{InTurn}
+use Rattle.constriction.specs.chain.Chain.{ChainState, IsChain, IsDecode}
+use Rattle.constriction.specs.chain.Walk.{NeedsWord}
+use Rattle.constriction.specs.chain.Words.{remainder_words}
+use Rattle.constriction_commands.specs.Lines.{line_of}
+use Rattle.constriction_commands.specs.Inputs.{GivesWords, NoWords}
+use Rattle.constriction_commands.specs.Coding.{EndsWithZero}
+use Rattle.constriction_commands.specs.declared.fault.Fault.{Fault}
+use Rattle.constriction_commands.specs.declared.fault.Fault.TheVariants.{NoChain, OutOfData, OutOfMemory}
+
+-- the state of a chain coder that words stand for: those that are read first, from the last one on, are the number of the
+-- remainders, and no bits are left over
+pub record IsChainOf (words : List ℕ) (state : ChainState) : Type 0 where
+  pub whole : state.h ≡ 1
+  pub none : state.remainders ≡ []
+  pub chain : IsChain 32 64 24 state
+  pub are : reverse words ≡ digits_of (2 ^ 32) state.r ++ state.compressed
+
+-- words that stand for none: the last is zero, or there is none, or but one that is below 2 ^ 8
+abbrev pub IsNoChain : List ℕ → Type 0
+IsNoChain words = EndsWithZero words ⊎ (words ≡ []) ⊎ ((word : ℕ) × (word < 2 ^ 8) × (words ≡ word ∷ []))
+
+-- decodes of the symbols, one after the other, lead from the old state to the new one
+abbrev pub ChainDecodes : List (ℕ × ℕ × ℕ) → List ℕ → ChainState → ChainState → Type 0
+ChainDecodes table symbols old new = InTurn (λ symbol from to. AtEntry 24 table symbol (λ step. IsDecode 32 64 step from to)) symbols old new
+
+-- the symbols, the words that are left, and the remainders below both heads, each as a line
+pub record IsChainSplit (text answer : List ℕ) : Type 0 where
+  pub table : List (ℕ × ℕ × ℕ)
+  pub count : ℕ
+  pub words : List ℕ
+  pub symbols : List ℕ
+  pub first : ChainState
+  pub last : ChainState
+  pub prefix : List ℕ
+  pub suffix : List ℕ
+  pub given : GivesWords text table count words
+  pub begun : IsChainOf words first
+  pub decoded : ChainDecodes table symbols first last
+  pub counted : length symbols ≡ count
+  pub prefix_is : reverse prefix ≡ last.compressed
+  pub suffix_is : reverse suffix ≡ remainder_words 32 last
+  pub printed : answer ≡ (line_of symbols ++ line_of prefix) ++ line_of suffix
+
+-- why a coder does not give so many symbols: before the last of them it needs a word, and none is left
+abbrev pub ChainFails : List (ℕ × ℕ × ℕ) → ℕ → ChainState → Fault → Type 0
+ChainFails table count first (OutOfData error) =
+    (symbols : List ℕ) × (last : ChainState) × ChainDecodes table symbols first last × (length symbols < count) × NeedsWord 32 24 last.h × (last.compressed ≡ [])
+ChainFails table count first OutOfMemory = ⊤
+ChainFails table count first fault = ⊥
+
+-- why a text is not split: it gives no words, or else they stand for no coder, or else they end
+abbrev pub ChainSplitFails : List ℕ → Fault → Type 0
+ChainSplitFails text NoChain = (table : List (ℕ × ℕ × ℕ)) × (count : ℕ) × (words : List ℕ) × GivesWords text table count words × IsNoChain words
+ChainSplitFails text (OutOfData error) =
+    (table : List (ℕ × ℕ × ℕ)) × (count : ℕ) × (words : List ℕ) × (first : ChainState) × GivesWords text table count words × IsChainOf words first
+    × ChainFails table count first (OutOfData error)
+ChainSplitFails text fault = NoWords text fault

@@ -1,0 +1,30 @@
+-- What `golomb` answers a text, and when it gives which fault.
+use Rattle.std.specs.Prelude.{◌≡◌, ℕ, ◌-◌, ◌^◌, Some, List, [], ◌∷◌, ◌++◌, map, flat_map, ⊤}
+use Rattle.std.specs.List.{join_with_byte}
+use Rattle.constriction.specs.Steps.{AreWords}
+use Rattle.constriction.specs.symbol.Bits.{IsQueueWords}
+use Rattle.constriction.specs.symbol.Golomb.{golomb}
+use Rattle.constriction_commands.specs.Codewords.{digits}
+use Rattle.constriction_commands.specs.Lines.{first_line, numbers_of, line_of}
+use Rattle.constriction_commands.specs.Inputs.{IsBad}
+use Rattle.constriction_commands.specs.declared.fault.Fault.{Fault}
+use Rattle.constriction_commands.specs.declared.fault.Fault.TheVariants.{BadNumber, OutOfMemory}
+
+-- the codewords of numbers with a space between each two, as a line
+abbrev pub codewords_line : List ℕ → List ℕ
+codewords_line numbers = join_with_byte 32 (map (λ n. digits (golomb n)) numbers) ++ 10 ∷ []
+
+-- the codewords of the numbers as a line, and as another the words of a queue of bits that holds them in order
+pub record IsGolomb (text answer : List ℕ) : Type 0 where
+  pub numbers : List ℕ
+  pub words : List ℕ
+  pub numbers_line : numbers_of (2 ^ 32 - 1) (first_line text) ≡ Some numbers
+  pub held : IsQueueWords 32 (flat_map golomb numbers) words
+  pub fit : AreWords 32 words
+  pub printed : answer ≡ codewords_line numbers ++ line_of words
+
+-- why there are none: the line is bad
+abbrev pub GolombFails : List ℕ → Fault → Type 0
+GolombFails text BadNumber = IsBad (numbers_of (2 ^ 32 - 1) (first_line text))
+GolombFails text OutOfMemory = ⊤
+GolombFails text fault = ⊥

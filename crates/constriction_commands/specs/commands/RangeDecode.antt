@@ -1,0 +1,29 @@
+-- What `range-decode` answers a text, and when it gives which fault.
+use Rattle.std.specs.Prelude.{◌≡◌, ℕ, List, length}
+use Rattle.constriction.specs.Models.{items_of}
+use Rattle.constriction.specs.queue.Range.{Run, start}
+use Rattle.constriction_commands.specs.Lines.{line_of}
+use Rattle.constriction_commands.specs.Inputs.{GivesWords, NoWords}
+use Rattle.constriction_commands.specs.Coding.{of_24_bits}
+use Rattle.constriction.specs.queue.Symbols.{FindsAll}
+use Rattle.constriction_commands.specs.Ranges.{ReadingFails}
+use Rattle.constriction_commands.specs.declared.fault.Fault.{Fault}
+use Rattle.constriction_commands.specs.declared.fault.Fault.TheVariants.{InvalidData}
+
+-- the symbols that are read from the words, with zero words behind them, as a line
+pub record IsRangeDecoded (text answer : List ℕ) : Type 0 where
+  pub table : List (ℕ × ℕ × ℕ)
+  pub count : ℕ
+  pub words : List ℕ
+  pub symbols : List ℕ
+  pub run : Run
+  pub given : GivesWords text table count words
+  pub decoded : FindsAll 32 64 words (items_of (of_24_bits table) symbols) (start 64) run
+  pub counted : length symbols ≡ count
+  pub printed : answer ≡ line_of symbols
+
+-- why symbols are not decoded: the text gives no words, or else they hold fewer symbols
+abbrev pub RangeDecodeFails : List ℕ → Fault → Type 0
+RangeDecodeFails text (InvalidData error) =
+    (table : List (ℕ × ℕ × ℕ)) × (count : ℕ) × (words : List ℕ) × GivesWords text table count words × ReadingFails words table count (InvalidData error)
+RangeDecodeFails text fault = NoWords text fault

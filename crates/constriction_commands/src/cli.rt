@@ -1,0 +1,136 @@
+//! A whole run: the command's name, the bytes that it reads, what it writes, and the exit status.
+
+ghost use Rattle.std.specs.Prelude.{◌≡◌, ◌↔◌, ◌⊎◌, ◌≤◌, ◌≢◌, ℕ, List, [], map, string_bytes, IfErr, IfOk, IfSome, IsOk, OnOk};
+ghost use Rattle.std.specs.Io.KnownBytes.{Appends};
+ghost use Rattle.std.specs.IoError.{error_kind};
+ghost use Rattle.std.specs.Process.{exit_status};
+ghost use Rattle.constriction_commands.specs.Answers.{Names, Answers, IsAnswered, Fails, Stops};
+ghost use Rattle.constriction_commands.specs.Written.{GrowsByBeginning, fault_line, usage_line};
+ghost use Rattle.constriction_commands.specs.declared.fault.Fault.{Fault};
+ghost use Rattle.constriction_commands.specs.declared.fault.Fault.TheVariants.{OutOfMemory, Unreadable, Unwritable};
+ghost use Rattle.constriction_commands.specs.declared.commands.Command.{Command};
+ghost use Rattle.std.specs.declared.io.ErrorKind.TheVariants as kind;
+
+use crate::commands::Command;
+use crate::fault::Fault;
+use crate::input::read_all;
+use crate::output::write_out;
+use std::alloc::Global;
+use std::env::Args;
+use std::io;
+use std::io::{ErrorKind, Read, Write};
+use std::process::ExitCode;
+
+/// The line on standard error where the arguments are not one known command.
+const USAGE: &[u8] =
+    b"usage: constriction <ans-encode|ans-decode|range-encode|range-decode|chain-split|golomb|huffman>\n";
+
+/// The arguments behind the program's name, of those that the system gave. There are none where one of them is
+/// not UTF-8, so that they name no command.
+///
+/// # Errors
+///
+/// `OutOfMemory`.
+fn arguments(alloc: Global, given: io::Result<Args>) -> Result<Vec<String>, Fault>
+    ensures not_text { IfErr given (λ error. error_kind error ≢ kind.OutOfMemory → IsOk result) }
+    ensures none { IfErr given (λ _. IfOk result (λ args. args.items ≡ [])) }
+    ensures err { IfErr result (λ fault. fault ≡ OutOfMemory) }
+{
+    match given {
+        Ok(words) => Ok(words.skip(1).collect::<Vec<String>>(alloc)?),
+        Err(error) if error.kind() == ErrorKind::OutOfMemory => Err(Fault::OutOfMemory),
+        Err(_) => Ok(Vec::new(alloc)),
+    }
+}
+
+/// Says how the program is called. Answers the status of wrong arguments, 2, also where the line can't be written.
+fn refuse<E: Write>(faults: &mut E) -> u8
+    ensures status { result ≡ 2 }
+    ensures line { GrowsByBeginning (E.contents faults.old) (E.contents faults.new) usage_line }
+{
+    let _ = write_out(faults, USAGE);
+    2
+}
+
+/// Writes the line of a fault. Answers the status of a fault, 1, also where the line can't be written.
+fn report<E: Write>(fault: &Fault, faults: &mut E) -> u8
+    ensures status { result ≡ 1 }
+    ensures line { GrowsByBeginning (E.contents faults.old) (E.contents faults.new) (fault_line fault.now) }
+{
+    let _ = write_out(faults, fault.line());
+    1
+}
+
+/// Reads the input, and writes the answer of the command once all of it is known.
+fn answer_to<R: Read, O: Write>(
+    alloc: Global,
+    command: Command,
+    input: &mut R,
+    output: &mut O,
+) -> Result<(), Fault>
+    ensures ok { OnOk result (IfSome (R.remaining input.old) (λ text. (answer : List ℕ)
+        × Answers command text answer × Appends (O.contents output.old) (O.contents output.new) answer)) }
+    ensures whole { (output.new ≡ output.old) ⊎ IfSome (R.remaining input.old) (λ text. (answer : List ℕ)
+        × Answers command text answer × GrowsByBeginning (O.contents output.old) (O.contents output.new) answer) }
+    ensures err { IfErr result (λ fault. (fault ≡ Unreadable) ⊎ (fault ≡ Unwritable) ⊎ (fault ≡ OutOfMemory)
+        ⊎ IfSome (R.remaining input.old) (λ text. Fails command text fault)) }
+{
+    let text = read_all(alloc, input)?;
+    let answer = command.answer(alloc, text.as_slice())?;
+    write_out(output, answer.as_slice())
+}
+
+/// Runs the command that the arguments, without the program's name, name. Answers the exit status:
+/// 0 where the answer was written, 1 where one line on `faults` says what stopped it, and 2 where the
+/// arguments are not one known command.
+pub fn run<R: Read, O: Write, E: Write>(
+    alloc: Global,
+    args: &[String],
+    input: &mut R,
+    output: &mut O,
+    faults: &mut E,
+) -> u8
+    ensures ok { result ≡ 0 → IfSome (R.remaining input.old) (λ text. (answer : List ℕ)
+        × IsAnswered (map string_bytes args.now) text answer × Appends (O.contents output.old) (O.contents output.new) answer) }
+    ensures quiet { result ≡ 0 → faults.new ≡ faults.old }
+    ensures usage { (result ≡ 2) ↔ ((command : Command) → Names (map string_bytes args.now) command → ⊥) }
+    ensures kept { result ≡ 2 → (output.new ≡ output.old) × (input.new ≡ input.old) }
+    // Whatever the status, what was written is a beginning of the answer.
+    ensures whole { (output.new ≡ output.old) ⊎ IfSome (R.remaining input.old) (λ text. (answer : List ℕ)
+        × IsAnswered (map string_bytes args.now) text answer × GrowsByBeginning (O.contents output.old) (O.contents output.new) answer) }
+    ensures err { result ≡ 1 → (fault : Fault) × Stops (map string_bytes args.now) (R.remaining input.old) fault
+        × GrowsByBeginning (E.contents faults.old) (E.contents faults.new) (fault_line fault) }
+    ensures usage_line { result ≡ 2 → GrowsByBeginning (E.contents faults.old) (E.contents faults.new) usage_line }
+    ensures statuses { result ≤ 2 }
+{
+    let Some(command) = Command::parse(args) else {
+        return refuse(faults);
+    };
+    match answer_to(alloc, command, input, output) {
+        Ok(()) => 0,
+        Err(fault) => report(&fault, faults),
+    }
+}
+
+/// The whole program: a run with the arguments that the system gave, the program's name first. The status is that of
+/// the run; 1, with the line of a fault, where memory is missing for the arguments; and that of wrong arguments, 2,
+/// where one of them is not UTF-8.
+pub fn start<R: Read, O: Write, E: Write>(
+    alloc: Global,
+    given: io::Result<Args>,
+    input: &mut R,
+    output: &mut O,
+    faults: &mut E,
+) -> ExitCode
+    ensures ok { exit_status result ≡ 0 → IfSome (R.remaining input.old) (λ text. (command : Command) × (answer : List ℕ)
+        × Answers command text answer × Appends (O.contents output.old) (O.contents output.new) answer) }
+    ensures quiet { exit_status result ≡ 0 → faults.new ≡ faults.old }
+    ensures not_text { IfErr given (λ error. error_kind error ≢ kind.OutOfMemory → exit_status result ≡ 2) }
+    ensures statuses { exit_status result ≤ 2 }
+{
+    let status = match arguments(alloc, given) {
+        Ok(args) => run(alloc, args.as_slice(), input, output, faults),
+        Err(error) => report(&error, faults),
+    };
+    ExitCode::from(status)
+}

@@ -1,0 +1,54 @@
+//! Codewords of symbols as lists of bits, and bits as digits.
+
+ghost use Rattle.std.specs.Prelude.{◌≡◌, ◌++◌, ⊤, Some, IfOk, OnOk};
+ghost use Rattle.constriction_commands.specs.Codewords.{digits};
+
+use constriction::Queue;
+use constriction::symbol::{EncoderCodebook, WriteBitStream};
+use std::alloc::{AllocError, Global};
+
+/// A list of bits.
+#[derive(Drop)]
+struct Bits {
+    list: Vec<bool>,
+}
+
+impl WriteBitStream<Queue> for Bits {
+    type WriteError = AllocError;
+
+    ghost bits = { λ b. b.list.items };
+
+    ghost bit_fails = { λ _ _. ⊤ };
+
+    fn write_bit(&mut self, bit: bool) -> Result<(), AllocError> {
+        self.list.push(bit)?;
+        Ok(())
+    }
+}
+
+/// The bits of the codeword of a symbol that has one.
+pub fn codeword<C: EncoderCodebook>(
+    alloc: Global,
+    symbol: &C::Symbol,
+    codebook: C,
+) -> Result<Vec<bool>, AllocError>
+    ensures { IfOk result (λ bits. C.codeword codebook symbol.now ≡ Some bits.items) }
+{
+    let mut bits = Bits {
+        list: Vec::new(alloc),
+    };
+    match bits.encode_symbol(symbol, codebook) {
+        Ok(()) => Ok(bits.list),
+        Err(_) => Err(AllocError),
+    }
+}
+
+/// Adds bits as digits.
+pub fn push_digits(line: &mut Vec<u8>, bits: &[bool]) -> Result<(), AllocError>
+    ensures { OnOk result (line.new.items ≡ line.old.items ++ digits bits.now) }
+{
+    for bit in bits {
+        line.push(if *bit { b'1' } else { b'0' })?;
+    }
+    Ok(())
+}

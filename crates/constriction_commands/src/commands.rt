@@ -1,0 +1,66 @@
+//! The commands, each in a file of its own. A new one has a variant, a name and an answer here.
+
+mod ans_decode;
+mod ans_encode;
+mod chain_split;
+mod golomb;
+mod huffman;
+mod range_decode;
+mod range_encode;
+
+ghost use Rattle.std.specs.Prelude.{map, string_bytes, IfOk, IfErr, IfSome, IfNone};
+ghost use Rattle.constriction_commands.specs.Answers.{Names, Answers, Fails};
+ghost use Rattle.constriction_commands.specs.declared.commands.Command.{Command};
+
+use crate::fault::Fault;
+use std::alloc::Global;
+
+/// A command of the program.
+#[derive(Clone, Copy, Debug, PartialEq, Eq)]
+pub enum Command {
+    AnsEncode,
+    AnsDecode,
+    RangeEncode,
+    RangeDecode,
+    ChainSplit,
+    Golomb,
+    Huffman,
+}
+
+impl Command {
+    /// The command that the only argument names.
+    pub fn parse(args: &[String]) -> Option<Command>
+        ensures some { IfSome result (Names (map string_bytes args.now)) }
+        ensures none { IfNone result ((command : Command) → Names (map string_bytes args.now) command → ⊥) }
+    {
+        let [name] = args else {
+            return None;
+        };
+        match name.as_str() {
+            "ans-encode" => Some(Command::AnsEncode),
+            "ans-decode" => Some(Command::AnsDecode),
+            "range-encode" => Some(Command::RangeEncode),
+            "range-decode" => Some(Command::RangeDecode),
+            "chain-split" => Some(Command::ChainSplit),
+            "golomb" => Some(Command::Golomb),
+            "huffman" => Some(Command::Huffman),
+            _ => None,
+        }
+    }
+
+    /// What the command writes for an input.
+    pub fn answer(self, alloc: Global, text: &[u8]) -> Result<Vec<u8>, Fault>
+        ensures ok { IfOk result (λ answer. Answers self text.now answer.items) }
+        ensures err { IfErr result (Fails self text.now) }
+    {
+        match self {
+            Command::AnsEncode => ans_encode::answer(alloc, text),
+            Command::AnsDecode => ans_decode::answer(alloc, text),
+            Command::RangeEncode => range_encode::answer(alloc, text),
+            Command::RangeDecode => range_decode::answer(alloc, text),
+            Command::ChainSplit => chain_split::answer(alloc, text),
+            Command::Golomb => golomb::answer(alloc, text),
+            Command::Huffman => huffman::answer(alloc, text),
+        }
+    }
+}

@@ -1,0 +1,54 @@
+//! `ans-decode`: the words of an ANS coder to symbols.
+
+ghost use Rattle.std.specs.Prelude.{◌≡◌, length, IfOk, IfErr};
+ghost use Rattle.constriction.specs.Models.{items_of};
+ghost use Rattle.constriction.specs.stack.Symbols.{DecodesAll};
+ghost use Rattle.constriction_commands.specs.Coding.{of_24_bits};
+ghost use Rattle.constriction_commands.specs.commands.AnsDecode.{IsAnsDecoded, AnsDecodeFails};
+ghost use Rattle.constriction_commands.specs.declared.fault.Fault.TheVariants.{OutOfMemory};
+
+use crate::fault::Fault;
+use crate::given::words::table_and_words;
+use crate::output::line_of_numbers;
+use crate::weights::PRECISION;
+use constriction::CoderError;
+use constriction::stream::Decode;
+use constriction::stream::model::{DecoderModel, EntropyModel};
+use constriction::stream::stack::{CompressedDataEndsWithZeroWord, DefaultAnsCoder};
+use std::alloc::Global;
+
+/// The next symbols of a coder.
+fn decode<M: DecoderModel<PRECISION, Symbol = usize, Probability = u32>>(
+    alloc: Global,
+    model: &M,
+    count: u32,
+    coder: &mut DefaultAnsCoder,
+) -> Result<Vec<usize>, Fault>
+    ensures ok { IfOk result (λ symbols.
+        DecodesAll 32 64 (items_of (of_24_bits (M.table model.now)) symbols.items) coder.old.state coder.new.state) }
+    ensures counted { IfOk result (λ symbols. length symbols.items ≡ count) }
+    ensures err { IfErr result (λ fault. fault ≡ OutOfMemory) }
+{
+    let mut symbols = Vec::new(alloc);
+    for _ in 0..count {
+        match coder.decode_symbol(model) {
+            Ok(symbol) => symbols.push(symbol)?,
+            Err(CoderError::Frontend(never)) => match never {},
+            Err(CoderError::Backend(never)) => match never {},
+        }
+    }
+    Ok(symbols)
+}
+
+/// The line of symbols for a line of weights and a line of a count and words.
+pub fn answer(alloc: Global, text: &[u8]) -> Result<Vec<u8>, Fault>
+    ensures ok { IfOk result (λ answer. IsAnsDecoded text.now answer.items) }
+    ensures err { IfErr result (AnsDecodeFails text.now) }
+{
+    let (table, count, words) = table_and_words(alloc, text)?;
+    let Ok(mut coder) = DefaultAnsCoder::from_compressed(words) else {
+        return Err(Fault::ZeroWord(CompressedDataEndsWithZeroWord));
+    };
+    let symbols = decode(alloc, &table, count, &mut coder)?;
+    Ok(line_of_numbers(alloc, symbols.as_slice())?)
+}

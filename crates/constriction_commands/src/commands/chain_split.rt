@@ -1,0 +1,86 @@
+//! `chain-split`: the words of a chain coder to symbols, the words that are left and the remainders.
+
+ghost use Rattle.std.specs.Prelude.{◌≡◌, ◌%◌, ◌^◌, ◌++◌, length, map, IfOk, IfErr};
+ghost use Rattle.constriction_commands.specs.Lines.{line_of};
+ghost use Rattle.constriction_commands.specs.commands.ChainSplit.{ChainDecodes, ChainFails, ChainSplitFails, IsChainOf, IsChainSplit, IsNoChain};
+ghost use Rattle.constriction_commands.specs.declared.fault.Fault.TheVariants.{NoChain};
+
+use crate::fault::Fault;
+use crate::given::words::table_and_words;
+use crate::output::{line_of_numbers, push_words};
+use crate::weights::PRECISION;
+use constriction::CoderError;
+use constriction::stream::Decode;
+use constriction::stream::chain::{BackendError, DefaultChainCoder};
+use constriction::stream::model::{DecoderModel, EntropyModel};
+use std::alloc::{AllocError, Global};
+
+/// The coder that words stand for.
+fn coder_of(alloc: Global, words: Vec<u32>) -> Result<DefaultChainCoder, Fault>
+    ensures ok { IfOk result (λ coder. IsChainOf (map (λ word. word % 2 ^ 32) words.items) coder.state) }
+    ensures err { IfErr result (λ fault. (fault ≡ NoChain) × IsNoChain (map (λ word. word % 2 ^ 32) words.items)) }
+{
+    match DefaultChainCoder::from_compressed(alloc, words) {
+        Ok(coder) => Ok(coder),
+        Err(CoderError::Frontend(_)) => Err(Fault::NoChain),
+        Err(CoderError::Backend(never)) => match never {},
+    }
+}
+
+/// The next symbols of a coder.
+fn decode<M: DecoderModel<PRECISION, Symbol = usize, Probability = u32>>(
+    alloc: Global,
+    model: &M,
+    count: u32,
+    coder: &mut DefaultChainCoder,
+) -> Result<Vec<usize>, Fault>
+    ensures ok { IfOk result (λ symbols. ChainDecodes (M.table model.now) symbols.items coder.old.state coder.new.state) }
+    ensures counted { IfOk result (λ symbols. length symbols.items ≡ count) }
+    ensures err { IfErr result (ChainFails (M.table model.now) count coder.old.state) }
+{
+    let mut symbols = Vec::new(alloc);
+    for _ in 0..count {
+        match coder.decode_symbol(model) {
+            Ok(symbol) => symbols.push(symbol)?,
+            Err(CoderError::Frontend(error)) => return Err(Fault::OutOfData(error)),
+            Err(CoderError::Backend(BackendError::Compressed(never))) => match never {},
+            Err(CoderError::Backend(BackendError::Remainders(_))) => return Err(Fault::OutOfMemory),
+        }
+    }
+    Ok(symbols)
+}
+
+/// Symbols, and the words of two lists, as three lines.
+fn three_lines(
+    alloc: Global,
+    symbols: &[usize],
+    prefix: &[u32],
+    suffix: &[u32],
+) -> Result<Vec<u8>, AllocError>
+    ensures { IfOk result (λ lines. lines.items ≡ (line_of symbols.now ++ line_of (map (λ word. word % 2 ^ 32) prefix.now))
+        ++ line_of (map (λ word. word % 2 ^ 32) suffix.now)) }
+{
+    let mut lines = line_of_numbers(alloc, symbols)?;
+    push_words(&mut lines, prefix)?;
+    push_words(&mut lines, suffix)?;
+    Ok(lines)
+}
+
+/// The lines of symbols, of the words that are left and of the remainders, for a line of weights and a line of a count
+/// and words.
+pub fn answer(alloc: Global, text: &[u8]) -> Result<Vec<u8>, Fault>
+    ensures ok { IfOk result (λ answer. IsChainSplit text.now answer.items) }
+    ensures err { IfErr result (ChainSplitFails text.now) }
+{
+    let (table, count, words) = table_and_words(alloc, text)?;
+    let mut coder = coder_of(alloc, words)?;
+    let symbols = decode(alloc, &table, count, &mut coder)?;
+    let (prefix, suffix) = coder.into_remainders()?;
+    let lines = three_lines(
+        alloc,
+        symbols.as_slice(),
+        prefix.as_slice(),
+        suffix.as_slice(),
+    )?;
+    Ok(lines)
+}

@@ -1,0 +1,66 @@
+//! `golomb`: numbers to their Exp-Golomb codewords, as texts and in the words of a queue of bits.
+
+ghost use Rattle.std.specs.Prelude.{◌≡◌, ◌%◌, ◌^◌, ◌++◌, map, flat_map, IfOk, IfErr, OnOk};
+ghost use Rattle.constriction.specs.symbol.Bits.{IsQueueWords};
+ghost use Rattle.constriction.specs.symbol.Golomb.{golomb};
+ghost use Rattle.constriction_commands.specs.Codewords.{digits};
+ghost use Rattle.constriction_commands.specs.commands.Golomb.{GolombFails, IsGolomb, codewords_line};
+
+use crate::codewords::{codeword, push_digits};
+use crate::fault::Fault;
+use crate::input::{parse_numbers, split_line};
+use crate::output::push_words;
+use constriction::symbol::exp_golomb::ExpGolomb;
+use constriction::symbol::{DefaultQueueEncoder, WriteBitStream};
+use std::alloc::{AllocError, Global};
+
+/// Adds the codeword of a number as digits.
+fn push_codeword(alloc: Global, line: &mut Vec<u8>, number: u32) -> Result<(), AllocError>
+    ensures { OnOk result (line.new.items ≡ line.old.items ++ digits (golomb number)) }
+{
+    let bits = codeword(alloc, &number, ExpGolomb::<u32>::new())?;
+    push_digits(line, bits.as_slice())
+}
+
+/// The codewords of numbers as a line.
+fn line_of_codewords(alloc: Global, numbers: &[u32]) -> Result<Vec<u8>, AllocError>
+    ensures { IfOk result (λ line. line.items ≡ codewords_line numbers.now) }
+{
+    let mut line = Vec::new(alloc);
+    for (place, number) in numbers.iter().enumerate() {
+        if place > 0 {
+            line.push(b' ')?;
+        }
+        push_codeword(alloc, &mut line, *number)?;
+    }
+    line.push(b'\n')?;
+    Ok(line)
+}
+
+/// The words of a queue of bits that holds the codewords of numbers in order.
+fn queue_of(alloc: Global, numbers: &[u32]) -> Result<Vec<u32>, AllocError>
+    ensures { IfOk result (λ words. IsQueueWords 32 (flat_map golomb numbers.now) (map (λ word. word % 2 ^ 32) words.items)) }
+{
+    let mut coder = DefaultQueueEncoder::new(alloc);
+    for number in numbers {
+        match coder.encode_symbol(number, ExpGolomb::<u32>::new()) {
+            Ok(()) => {}
+            // Each number has a codeword, so that only memory was missing.
+            Err(_) => return Err(AllocError),
+        }
+    }
+    coder.into_compressed()
+}
+
+/// The line of codewords and the line of words for a line of numbers.
+pub fn answer(alloc: Global, text: &[u8]) -> Result<Vec<u8>, Fault>
+    ensures ok { IfOk result (λ answer. IsGolomb text.now answer.items) }
+    ensures err { IfErr result (GolombFails text.now) }
+{
+    let (first, _) = split_line(text);
+    let numbers = parse_numbers::<u32>(alloc, first)?;
+    let mut lines = line_of_codewords(alloc, numbers.as_slice())?;
+    let words = queue_of(alloc, numbers.as_slice())?;
+    push_words(&mut lines, words.as_slice())?;
+    Ok(lines)
+}

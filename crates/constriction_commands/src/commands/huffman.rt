@@ -1,0 +1,70 @@
+//! `huffman`: weights to the codewords of their symbols, as texts.
+
+ghost use Rattle.std.specs.Prelude.{Bool, IfErr, IfOk, List, OnOk, Some, length, ◌++◌, ◌≡◌};
+ghost use Rattle.constriction.specs.symbol.Huffman.{IsHuffman, book_of, leaves, path};
+ghost use Rattle.constriction_commands.specs.commands.Huffman.{HuffmanFails, IsHuffmanLine, TreeFails, codeword_text, codewords_line};
+
+use crate::codewords::{codeword, push_digits};
+use crate::fault::Fault;
+use crate::input::{parse_numbers, split_line};
+use constriction::symbol::huffman::{EncoderHuffmanTree, HuffmanError};
+use std::alloc::{AllocError, Global};
+
+/// The tree of the weights of symbols 0, 1, ..
+fn make_tree(alloc: Global, weights: &[usize]) -> Result<EncoderHuffmanTree, Fault>
+    ensures ok { IfOk result (λ tree. IsHuffman weights.now (book_of tree)) }
+    ensures err { IfErr result (TreeFails weights.now) }
+{
+    match EncoderHuffmanTree::from_probabilities(alloc, weights) {
+        Ok(tree) => Ok(tree),
+        Err(HuffmanError::Empty) => Err(Fault::NoWeights),
+        Err(HuffmanError::TooManySymbols) => Err(Fault::TooManySymbols),
+        Err(HuffmanError::WeightOverflow) => Err(Fault::WeightOverflow),
+        Err(HuffmanError::Iterator(never)) => match never {},
+        Err(HuffmanError::Memory) => Err(Fault::OutOfMemory),
+    }
+}
+
+/// Adds the codeword of a symbol as digits, or a hyphen where it has no bits.
+fn push_codeword(
+    alloc: Global,
+    line: &mut Vec<u8>,
+    tree: &EncoderHuffmanTree,
+    symbol: usize,
+) -> Result<(), AllocError>
+    ensures { OnOk result (line.new.items ≡ line.old.items ++ codeword_text (path tree.now symbol)) }
+{
+    let bits = codeword(alloc, &symbol, tree)?;
+    if bits.is_empty() {
+        line.push(b'-')?;
+        return Ok(());
+    }
+    push_digits(line, bits.as_slice())
+}
+
+/// The codewords of the symbols of a tree as a line.
+fn line_of_codewords(alloc: Global, tree: &EncoderHuffmanTree) -> Result<Vec<u8>, AllocError>
+    ensures { IfOk result (λ line. line.items ≡ codewords_line (length (leaves tree.now)) (path tree.now)) }
+{
+    let mut line = Vec::new(alloc);
+    for symbol in 0..tree.num_symbols() {
+        if symbol > 0 {
+            line.push(b' ')?;
+        }
+        push_codeword(alloc, &mut line, tree, symbol)?;
+    }
+    line.push(b'\n')?;
+    Ok(line)
+}
+
+/// The line of codewords for a line of weights.
+pub fn answer(alloc: Global, text: &[u8]) -> Result<Vec<u8>, Fault>
+    ensures ok { IfOk result (λ answer. IsHuffmanLine text.now answer.items) }
+    ensures err { IfErr result (HuffmanFails text.now) }
+{
+    let (first, _) = split_line(text);
+    let weights = parse_numbers::<usize>(alloc, first)?;
+    let tree = make_tree(alloc, weights.as_slice())?;
+    let line = line_of_codewords(alloc, &tree)?;
+    Ok(line)
+}

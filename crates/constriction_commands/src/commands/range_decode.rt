@@ -1,0 +1,69 @@
+//! `range-decode`: the words of a range coder to symbols.
+
+ghost use Rattle.std.specs.Prelude.{◌≡◌, length, IfOk, IfErr};
+ghost use Rattle.constriction.specs.Models.{items_of};
+ghost use Rattle.constriction.specs.queue.Range.{Run, start, IsAt};
+ghost use Rattle.constriction_commands.specs.Coding.{of_24_bits};
+ghost use Rattle.constriction.specs.queue.Symbols.{FindsAll};
+ghost use Rattle.constriction_commands.specs.Ranges.{ReadingFails};
+ghost use Rattle.constriction_commands.specs.commands.RangeDecode.{IsRangeDecoded, RangeDecodeFails};
+
+use crate::fault::Fault;
+use crate::given::words::table_and_words;
+use crate::output::line_of_numbers;
+use crate::weights::PRECISION;
+use constriction::CoderError;
+use constriction::backends::Cursor;
+use constriction::stream::Decode;
+use constriction::stream::model::{DecoderModel, EntropyModel};
+use constriction::stream::queue::{DecoderFrontendError, DefaultRangeDecoder};
+use std::alloc::Global;
+
+/// A decoder that borrows its words.
+type Decoder<'a> = DefaultRangeDecoder<Cursor<u32, &'a [u32]>>;
+
+/// A decoder of words.
+fn decoder_of(words: &[u32]) -> Decoder<'_>
+    ensures { IsAt 32 64 words.now (start 64) result.lower result.range result.point result.words }
+{
+    match Decoder::from_compressed(words) {
+        Ok(decoder) => decoder,
+        Err(never) => match never {},
+    }
+}
+
+/// So many symbols that the words hold, with zero words behind them.
+fn decode<M: DecoderModel<PRECISION, Symbol = usize, Probability = u32>>(
+    alloc: Global,
+    model: &M,
+    count: u32,
+    words: &[u32],
+) -> Result<Vec<usize>, Fault>
+    ensures ok { IfOk result (λ symbols. (run : Run)
+        × FindsAll 32 64 words.now (items_of (of_24_bits (M.table model.now)) symbols.items) (start 64) run) }
+    ensures counted { IfOk result (λ symbols. length symbols.items ≡ count) }
+    ensures err { IfErr result (ReadingFails words.now (M.table model.now) count) }
+{
+    let mut coder = decoder_of(words);
+    let mut symbols = Vec::new(alloc);
+    for _ in 0..count {
+        match coder.decode_symbol(model) {
+            Ok(symbol) => symbols.push(symbol)?,
+            Err(CoderError::Frontend(DecoderFrontendError::InvalidData)) => {
+                return Err(Fault::InvalidData(DecoderFrontendError::InvalidData));
+            }
+            Err(CoderError::Backend(never)) => match never {},
+        }
+    }
+    Ok(symbols)
+}
+
+/// The line of symbols for a line of weights and a line of a count and words.
+pub fn answer(alloc: Global, text: &[u8]) -> Result<Vec<u8>, Fault>
+    ensures ok { IfOk result (λ answer. IsRangeDecoded text.now answer.items) }
+    ensures err { IfErr result (RangeDecodeFails text.now) }
+{
+    let (table, count, words) = table_and_words(alloc, text)?;
+    let symbols = decode(alloc, &table, count, words.as_slice())?;
+    Ok(line_of_numbers(alloc, symbols.as_slice())?)
+}

@@ -1,0 +1,54 @@
+//! `range-encode`: symbols to the words of a range coder.
+
+ghost use Rattle.std.specs.Prelude.{◌≡◌, ◌%◌, ◌^◌, map, IfOk, IfErr};
+ghost use Rattle.constriction.specs.Models.{items_of};
+ghost use Rattle.constriction.specs.queue.Range.{Run, start, sealed};
+ghost use Rattle.constriction_commands.specs.Coding.{of_24_bits, CoderFails, EncodeFails};
+ghost use Rattle.constriction.specs.queue.Symbols.{NarrowsAll};
+ghost use Rattle.constriction_commands.specs.commands.RangeEncode.{IsRangeEncoded};
+
+use crate::fault::Fault;
+use crate::given::symbols::table_and_symbols;
+use crate::output::line_of_words;
+use crate::weights::PRECISION;
+use constriction::CoderError;
+use constriction::stream::Encode;
+use constriction::stream::model::{EncoderModel, EntropyModel};
+use constriction::stream::queue::DefaultRangeEncoder;
+use std::alloc::Global;
+
+/// The words that hold the symbols, the first of which is decoded first.
+fn encode<M: EncoderModel<PRECISION, Symbol = usize, Probability = u32>>(
+    alloc: Global,
+    model: &M,
+    symbols: &[usize],
+) -> Result<Vec<u32>, Fault>
+    ensures ok { IfOk result (λ words. (run : Run)
+        × NarrowsAll 32 64 (items_of (of_24_bits (M.table model.now)) symbols.now) (start 64) run
+        × (map (λ word. word % 2 ^ 32) words.items ≡ sealed 32 64 run)) }
+    ensures err { IfErr result (CoderFails (M.table model.now) symbols.now) }
+{
+    let mut coder = DefaultRangeEncoder::new(alloc);
+    // No memory has so many symbols.
+    if Encode::<PRECISION>::symbols_left(&coder) < symbols.len() {
+        return Err(Fault::OutOfMemory);
+    }
+    for symbol in symbols {
+        match coder.encode_symbol(symbol, model) {
+            Ok(()) => {}
+            Err(CoderError::Frontend(error)) => return Err(Fault::Encoder(error)),
+            Err(CoderError::Backend(_)) => return Err(Fault::OutOfMemory),
+        }
+    }
+    Ok(coder.into_compressed()?)
+}
+
+/// The line of words for a line of weights and a line of symbols.
+pub fn answer(alloc: Global, text: &[u8]) -> Result<Vec<u8>, Fault>
+    ensures ok { IfOk result (λ answer. IsRangeEncoded text.now answer.items) }
+    ensures err { IfErr result (EncodeFails text.now) }
+{
+    let (table, symbols) = table_and_symbols(alloc, text)?;
+    let words = encode(alloc, &table, symbols.as_slice())?;
+    Ok(line_of_words(alloc, words.as_slice())?)
+}

@@ -1,0 +1,19 @@
+//! What the first two lines give the commands that code symbols.
+
+pub mod symbols;
+pub mod words;
+
+ghost use Rattle.std.specs.Prelude.{◌≡◌};
+ghost use Rattle.constriction_commands.specs.Lines.{first_line, second_line};
+
+use crate::input::split_line;
+
+/// The first two lines.
+fn two_lines(text: &[u8]) -> (&[u8], &[u8])
+    ensures first { result.0.now ≡ first_line text.now }
+    ensures second { result.1.now ≡ second_line text.now }
+{
+    let (first, rest) = split_line(text);
+    let (second, _) = split_line(rest);
+    (first, second)
+}

@@ -1,0 +1,23 @@
+//! Weights and symbols.
+
+ghost use Rattle.std.specs.Prelude.{IfOk, IfErr};
+ghost use Rattle.constriction_commands.specs.Inputs.{GivesSymbols, NoSymbols};
+
+use crate::fault::Fault;
+use crate::given::two_lines;
+use crate::input::parse_numbers;
+use crate::weights::{PRECISION, Table, make_table};
+use constriction::stream::model::EntropyModel;
+use std::alloc::Global;
+
+/// The table of the weights of line 1, and the symbols of line 2.
+pub fn table_and_symbols(alloc: Global, text: &[u8]) -> Result<(Table, Vec<usize>), Fault>
+    ensures ok { IfOk result (λ given. GivesSymbols text.now (⟦<Table as EntropyModel<PRECISION>>⟧.table given.0) given.1.items) }
+    ensures err { IfErr result (NoSymbols text.now) }
+{
+    let (first, second) = two_lines(text);
+    let weights = parse_numbers::<u32>(alloc, first)?;
+    let symbols = parse_numbers::<usize>(alloc, second)?;
+    let table = make_table(alloc, weights.as_slice())?;
+    Ok((table, symbols))
+}

@@ -1,0 +1,44 @@
+//! Weights, a count, and words.
+
+ghost use Rattle.std.specs.Prelude.{◌≡◌, ◌⊎◌, ◌<◌, ◌≤◌, ℕ, List, ◌∷◌, [], IfOk, IfErr};
+ghost use Rattle.constriction_commands.specs.Inputs.{GivesWords, NoWords, most};
+ghost use Rattle.constriction_commands.specs.declared.fault.Fault.TheVariants.{BadNumber, NoCount};
+
+use crate::fault::Fault;
+use crate::given::two_lines;
+use crate::input::parse_numbers;
+use crate::weights::{PRECISION, Table, make_table};
+use constriction::stream::model::EntropyModel;
+use std::alloc::Global;
+
+/// The greatest count of symbols.
+const MOST: u32 = 16_777_216;
+
+/// The number in front of a line, which is taken out of it.
+fn take_count(numbers: &mut Vec<u32>) -> Result<u32, Fault>
+    ensures ok { IfOk result (λ count. (numbers.old.items ≡ count ∷ numbers.new.items) × (count ≤ most)) }
+    ensures err { IfErr result (λ fault. ((fault ≡ NoCount) × (numbers.old.items ≡ []))
+        ⊎ ((fault ≡ BadNumber) × ((count : ℕ) × (words : List ℕ) × (numbers.old.items ≡ count ∷ words) × (most < count)))) }
+{
+    if numbers.is_empty() {
+        return Err(Fault::NoCount);
+    }
+    let count = numbers.remove(0);
+    if count > MOST {
+        return Err(Fault::BadNumber);
+    }
+    Ok(count)
+}
+
+/// The table of the weights of line 1, and the count and the words of line 2.
+pub fn table_and_words(alloc: Global, text: &[u8]) -> Result<(Table, u32, Vec<u32>), Fault>
+    ensures ok { IfOk result (λ given. GivesWords text.now (⟦<Table as EntropyModel<PRECISION>>⟧.table given.0) given.1 given.2.items) }
+    ensures err { IfErr result (NoWords text.now) }
+{
+    let (first, second) = two_lines(text);
+    let weights = parse_numbers::<u32>(alloc, first)?;
+    let mut words = parse_numbers::<u32>(alloc, second)?;
+    let count = take_count(&mut words)?;
+    let table = make_table(alloc, weights.as_slice())?;
+    Ok((table, count, words))
+}

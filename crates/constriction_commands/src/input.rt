@@ -1,0 +1,116 @@
+//! Reading: the whole input, its lines, and the numbers of a line.
+
+ghost use Rattle.std.specs.Prelude.{◌≡◌, ◌⊎◌, ℕ, ◌-◌, ◌^◌, ◌≤◌, Some, None, IfOk, IfErr, IfSome, IsErrOf, map};
+ghost use Rattle.constriction_commands.specs.Lines.{first_line, after_line, is_blank, with_digit, numbers_of};
+ghost use Rattle.constriction_commands.specs.declared.fault.Fault.TheVariants.{BadNumber, OutOfMemory, Unreadable};
+
+use crate::fault::Fault;
+use std::alloc::Global;
+use std::io::{ErrorKind, Read};
+
+/// Reads all that is left.
+pub fn read_all<R: Read>(alloc: Global, input: &mut R) -> Result<Vec<u8>, Fault>
+    ensures ok { IfOk result (λ text. IfSome (R.remaining input.old) (λ left. text.items ≡ left)) }
+    ensures err { IfErr result (λ fault. (fault ≡ Unreadable) ⊎ (fault ≡ OutOfMemory)) }
+{
+    let mut text = Vec::new(alloc);
+    match input.read_to_end(&mut text) {
+        Ok(_) => Ok(text),
+        Err(error) if error.kind() == ErrorKind::OutOfMemory => Err(Fault::OutOfMemory),
+        Err(_) => Err(Fault::Unreadable),
+    }
+}
+
+/// The first line, without its line feed, and what follows that.
+pub fn split_line(text: &[u8]) -> (&[u8], &[u8])
+    ensures first { result.0.now ≡ first_line text.now }
+    ensures rest { result.1.now ≡ after_line text.now }
+{
+    match text.iter().position(|byte| *byte == b'\n') {
+        Some(end) => (&text[..end], &text[end + 1..]),
+        None => (text, &[]),
+    }
+}
+
+/// A type of the numbers of a line.
+pub trait Number: Copy {
+    /// The greatest number of the type.
+    const GREATEST: u64;
+
+    ghost GREATEST: { ℕ };
+
+    ghost number: { Self → ℕ };
+
+    fn from_value(value: u64) -> Self
+        requires { value ≤ GREATEST }
+        ensures { number result ≡ value };
+}
+
+impl Number for u32 {
+    const GREATEST: u64 = u32::MAX as u64;
+
+    ghost GREATEST = { 2 ^ 32 - 1 };
+
+    ghost number = { λ n. n };
+
+    fn from_value(value: u64) -> u32 {
+        value as u32
+    }
+}
+
+impl Number for usize {
+    const GREATEST: u64 = u64::MAX;
+
+    ghost GREATEST = { 2 ^ 64 - 1 };
+
+    ghost number = { λ n. n };
+
+    fn from_value(value: u64) -> usize {
+        value as usize
+    }
+}
+
+/// Whether the byte parts numbers: a space, a tab or a carriage return.
+fn is_blank(byte: u8) -> bool
+    ensures { result ≡ is_blank byte }
+{
+    byte == b' ' || byte == b'\t' || byte == b'\r'
+}
+
+/// The number whose last digit is this byte, behind the digits so far.
+fn with_digit(so_far: u64, byte: u8, greatest: u64) -> Option<u64>
+    ensures { result ≡ with_digit greatest so_far byte }
+{
+    if !byte.is_ascii_digit() {
+        return None;
+    }
+    let value = so_far.checked_mul(10)?.checked_add(u64::from(byte - b'0'))?;
+    if value <= greatest { Some(value) } else { None }
+}
+
+/// The numbers that a line lists. `BadNumber` where it is no list of numbers up to the greatest of the type.
+pub fn parse_numbers<N: Number>(alloc: Global, line: &[u8]) -> Result<Vec<N>, Fault>
+    ensures ok { IfOk result (λ numbers. numbers_of N.GREATEST line.now ≡ Some (map N.number numbers.items)) }
+    ensures bad { IsErrOf result BadNumber → numbers_of N.GREATEST line.now ≡ None }
+    ensures err { IfErr result (λ fault. (fault ≡ BadNumber) ⊎ (fault ≡ OutOfMemory)) }
+{
+    let mut numbers = Vec::new(alloc);
+    let mut begun = None;
+    for byte in line {
+        if is_blank(*byte) {
+            if let Some(value) = begun {
+                numbers.push(N::from_value(value))?;
+            }
+            begun = None;
+        } else {
+            match with_digit(begun.unwrap_or(0), *byte, N::GREATEST) {
+                Some(value) => begun = Some(value),
+                None => return Err(Fault::BadNumber),
+            }
+        }
+    }
+    if let Some(value) = begun {
+        numbers.push(N::from_value(value))?;
+    }
+    Ok(numbers)
+}

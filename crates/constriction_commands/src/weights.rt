@@ -1,0 +1,32 @@
+//! The model of the commands that code symbols.
+
+ghost use Rattle.std.specs.Prelude.{◌≡◌, ◌≢◌, ◌⊎◌, ◌^◌, [], sum, IfOk, IfErr, OnOk, IsErrOf};
+ghost use Rattle.constriction.specs.Tables.{table_of};
+ghost use Rattle.constriction_commands.specs.Inputs.{Total};
+ghost use Rattle.constriction_commands.specs.declared.fault.Fault.TheVariants.{NoWeights, WrongTotal, OutOfMemory};
+
+use crate::fault::Fault;
+use constriction::stream::model::{EntropyModel, TableError, WeightTable};
+use std::alloc::Global;
+
+/// The precision of the weights.
+pub const PRECISION: usize = 24;
+
+/// The table of the weights of symbols 0, 1, ..
+pub type Table = WeightTable<u32, PRECISION>;
+
+/// The table of these weights.
+pub fn make_table(alloc: Global, weights: &[u32]) -> Result<Table, Fault>
+    ensures ok { IfOk result (λ table. ⟦<Table as EntropyModel<PRECISION>>⟧.table table ≡ table_of weights.now) }
+    ensures total { OnOk result (Total weights.now) }
+    ensures empty { IsErrOf result NoWeights → weights.now ≡ [] }
+    ensures wrong_total { IsErrOf result WrongTotal → (weights.now ≢ []) × (sum weights.now ≢ 2 ^ 24) }
+    ensures err { IfErr result (λ fault. (fault ≡ NoWeights) ⊎ (fault ≡ WrongTotal) ⊎ (fault ≡ OutOfMemory)) }
+{
+    match WeightTable::new(alloc, weights) {
+        Ok(table) => Ok(table),
+        Err(TableError::Empty) => Err(Fault::NoWeights),
+        Err(TableError::WrongTotal) => Err(Fault::WrongTotal),
+        Err(TableError::Memory) => Err(Fault::OutOfMemory),
+    }
+}
