@@ -1,7 +1,7 @@
 -- One bit more and one bit less.
-use Rattle.std.proofs.Common.{◌≡◌, ◌<◌, ◌≤◌, ◌+◌, ◌*◌, ◌-◌, ◌/◌, ◌%◌, ◌^◌, ◌==◌, ℕ, zero, suc, Bool, true, false, not, [], ◌∷◌, ◌++◌, refl, sym, ap, ap₂, ◌∙◌, arith, add-one, pow_pos, ◌≢◌}
+use Rattle.std.proofs.Common.{◌≡◌, ◌<◌, ◌+◌, ◌*◌, ◌-◌, ◌/◌, ◌%◌, ◌^◌, ◌==◌, ℕ, zero, suc, Bool, true, false, not, [], ◌∷◌, ◌++◌, refl, sym, ap, ap₂, ◌∙◌, arith, add-one, pow_pos, ◌≢◌}
 use Rattle.std.specs.Prelude.{IsTrue, ◌↔◌}
-use Rattle.std.proofs.Math.Pow.{pow-lt, pow_mono, shr_lt}
+use Rattle.std.proofs.Math.Pow.{shr_lt}
 use Rattle.std.proofs.Math.Nat.{add_comm}
 use Rattle.std.proofs.lemmas.Nat.{shr_split, mod_below}
 use native.Mathlib.Nat.{pow-suc, pow-zero}
@@ -32,20 +32,6 @@ set_above k n m h is = rw (add-one, is) (bits_set k n h)
 
 pub clear_above : (k n : ℕ) → n < 2 ^ k → bits_of (k + 1) n ≡ bits_of k n ++ false ∷ []
 clear_above k n h = rw add-one (bits_clear k n h)
-
-pub more_room : (k n : ℕ) → n < 2 ^ k → n < 2 ^ (k + 1)
-more_room k n h = rw add-one (omega (arith, h, pow_next k))
-
-pub set_room : (k n m : ℕ) → n < 2 ^ k → m ≡ n + 2 ^ k → m < 2 ^ (k + 1)
-set_room k n m h is = rw add-one (omega (arith, h, is, pow_next k))
-
-pub room_below : (k b : ℕ) → k < b → 2 ^ k < 2 ^ b
-room_below k b h = pow-lt h
-
-pub sum_below : (n k b : ℕ) → k < b → n < 2 ^ k → n + 2 ^ k < 2 ^ b
-sum_below n k b h small =
-    let up : 2 ^ (k + 1) ≤ 2 ^ b = pow_mono (omega (arith, h)) in
-    omega (arith, small, set_room k n (n + 2 ^ k) small refl, up)
 
 -- the highest bit of a number comes off: it is set where the number without the others isn't 0
 pub top_off : (k n m h : ℕ) (b : Bool) → n < 2 ^ (k + 1) → m ≡ n % 2 ^ k → h ≡ n / 2 ^ k → IsTrue b ↔ (h ≡ 0) → bits_of (k + 1) n ≡ bits_of k m ++ not b ∷ []

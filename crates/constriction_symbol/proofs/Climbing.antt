@@ -1,9 +1,8 @@
 -- Climbing from a node to the root, and one pair more in an array of parents.
-use Rattle.std.proofs.Common.{◌≡◌, ◌+◌, ◌<◌, ◌*◌, ◌/◌, ◌%◌, ◌==◌, ℕ, List, [], ◌∷◌, ◌++◌, Bool, Some, length, map, take, set, arith, sym, ap, subst, ◌∙◌, inl, inr, get_or, reverse, length-take, append_assoc, append-nil}
-use Rattle.std.proofs.lemmas.List.{get_or-map, length-map, reverse-append, reverse-reverse, take_more, map_push, take-map}
-use Rattle.constriction_symbol.specs.Bits.{bits_of}
+use Rattle.std.proofs.Common.{◌≡◌, ◌+◌, ◌<◌, ◌*◌, ◌/◌, ◌%◌, ◌==◌, ℕ, List, [], ◌∷◌, ◌++◌, length, map, take, set, arith, sym, ap, subst, ◌∙◌, inl, inr, get_or, reverse, length-take}
+use Rattle.std.proofs.lemmas.List.{get_or-map, length-map, reverse-append, take_more, map_push, take-map}
 use Rattle.constriction_symbol.specs.Huffman.{AreUnions, GoesUp, IsParents, IsUnion, climbed}
-use Rattle.constriction_symbol.specs.HuffmanParents.{climbed_root, climbed_step, parents_more}
+use Rattle.constriction_symbol.specs.HuffmanParents.{climbed_step, parents_more}
 use Rattle.constriction_symbol.specs.Merging.{as_pair}
 
 -- the last bit comes first
@@ -45,21 +44,3 @@ parents_step pairs j nodes within size unions made =
     let next = parents_more (length pairs + 1) (map as_pair (take j pairs)) nodes (as_pair pair) (omega arith) union (omega (arith, inside.0, size)) (omega (arith, inside.1, size)) made in
     subst (λ ps. IsParents (length pairs + 1) ps (set (set nodes (get_or pair 0 0) (2 * (length pairs + 1 + j))) (get_or pair 1 0) (2 * (length pairs + 1 + j) + 1))) (sym more)
     (subst (λ k. IsParents (length pairs + 1) (map as_pair (take j pairs) ++ as_pair pair ∷ []) (set (set nodes (get_or pair 0 0) (2 * (length pairs + 1 + k))) (get_or pair 1 0) (2 * (length pairs + 1 + k) + 1))) before next)
-
--- one bit more was passed
-pub passed_more : (nodes : List ℕ) (index count n m : ℕ) (all : List Bool) → GoesUp (length nodes) nodes → (get_or nodes index 0 ≡ 0 → ⊥)
-    → all ≡ bits_of count n ++ reverse (climbed (length nodes) nodes index) → bits_of (count + 1) m ≡ bits_of count n ++ (get_or nodes index 0 % 2 == 1) ∷ []
-    → all ≡ bits_of (count + 1) m ++ reverse (climbed (length nodes) nodes (get_or nodes index 0 / 2))
-passed_more nodes index count n m all up some passed more =
-    let rest = reverse (climbed (length nodes) nodes (get_or nodes index 0 / 2)) in
-    passed ∙ (ap (λ bs. bits_of count n ++ bs) (climbed_turned nodes index up some)
-    ∙ (sym (append_assoc (bits_of count n) ((get_or nodes index 0 % 2 == 1) ∷ []) rest) ∙ ap (λ bs. bs ++ rest) (sym more)))
-
--- at the root all were passed
-pub low_bits_at_root : (nodes : List ℕ) (symbol index count n : ℕ) → get_or nodes index 0 ≡ 0
-    → reverse (climbed (length nodes) nodes symbol) ≡ bits_of count n ++ reverse (climbed (length nodes) nodes index)
-    → Some (climbed (length nodes) nodes symbol) ≡ Some (reverse (bits_of count n))
-low_bits_at_root nodes symbol index count n root passed =
-    let none = climbed_root (length nodes) nodes index root in
-    let all : reverse (climbed (length nodes) nodes symbol) ≡ bits_of count n = passed ∙ (ap (λ bs. bits_of count n ++ reverse bs) none ∙ append-nil (bits_of count n)) in
-    ap Some (sym (reverse-reverse (climbed (length nodes) nodes symbol)) ∙ ap reverse all)

@@ -17,5 +17,6 @@ pub mod HuffmanMerging
 pub mod DecoderTrees
 pub mod Walking
 pub mod Climbing
+pub mod Marked
 pub mod EncoderTrees
 pub mod Turned

@@ -1,6 +1,9 @@
 -- A walk from the root of a tree down to a symbol.
-use Rattle.std.proofs.Common.{◌≡◌, ◌+◌, ◌-◌, ◌<◌, ◌≤◌, ℕ, List, [], ◌∷◌, ◌++◌, Bool, true, false, Some, length, map, arith, sym, ap, ◌∙◌, if◌then◌else◌, slice_index_or}
-use Rattle.std.proofs.lemmas.List.{get_or-map, length-map}
+use Rattle.std.proofs.Common.{◌≡◌, ◌+◌, ◌-◌, ◌/◌, ◌^◌, ◌<◌, ◌≤◌, ℕ, zero, suc, List, [], ◌∷◌, ◌++◌, Bool, true, false, Some, length, map, drop, reverse, arith, sym, ap, ◌∙◌, if◌then◌else◌, slice_index_or, append_assoc}
+use Rattle.std.proofs.lemmas.List.{get_or-map, length-append, length-map, length-reverse, reverse-append}
+use Rattle.std.proofs.lemmas.Nat.{shr-shr}
+use Rattle.constriction_symbol.specs.Bits.{bits_of}
+use Rattle.constriction_symbol.proofs.Coding.{length_bits}
 use Rattle.constriction_symbol.specs.Huffman.{IsTreeAt, Tree, children, path, subtree}
 use Rattle.constriction_symbol.specs.HuffmanLaws.{node_at, leaf_at, subtree_is_path}
 use Rattle.constriction_symbol.specs.Merging.{as_pair}
@@ -44,3 +47,28 @@ pub arrived : (nodes : List (List ℕ)) (index : ℕ) (t u : Tree) (bits : List 
 arrived nodes index t u bits held low is at =
     let leaf = leaf_at (length nodes + 1) (map as_pair nodes) index u low at in
     subtree_is_path t index bits (held.once index) (is ∙ ap Some leaf)
+
+-- the last of a word's bits are those of what is left of it when the others are shifted out
+pub last_bits : (rest back : List Bool) (w n : ℕ) → bits_of w n ≡ rest ++ back → back ≡ bits_of (length back) (n / 2 ^ (w - length back))
+last_bits [] back w n is =
+    let all : length back ≡ w = ap length (sym is) ∙ length_bits w n in
+    let none : w - length back ≡ 0 = omega (arith, all) in
+    let whole : n ≡ n / 2 ^ 0 = omega arith in
+    rw (none, all) (sym is ∙ ap (bits_of w) whole)
+last_bits (b ∷ rest) back zero n is = absurd (omega (arith, ap length is))
+last_bits (b ∷ rest) back (suc w) n is =
+    let tail : bits_of w (n / 2) ≡ rest ++ back = ap (drop 1) is in
+    let size : length rest + length back ≡ w = sym (length-append rest back) ∙ (ap length (sym tail) ∙ length_bits w (n / 2)) in
+    let count : 1 + (w - length back) ≡ suc w - length back = omega (arith, size) in
+    last_bits rest back w (n / 2) tail ∙ ap (bits_of (length back)) (shr-shr n 1 (w - length back) ∙ ap (λ e. n / 2 ^ e) count)
+
+-- one bit more was taken from the end
+pub taken_more : (all rest next taken : List Bool) (bit : Bool) → all ≡ rest ++ reverse taken → rest ≡ next ++ bit ∷ [] → all ≡ next ++ reverse (taken ++ bit ∷ [])
+taken_more all rest next taken bit is popped =
+    is ∙ (ap (λ bs. bs ++ reverse taken) popped ∙ (append_assoc next (bit ∷ []) (reverse taken) ∙ ap (λ bs. next ++ bs) (sym (reverse-append taken (bit ∷ [])))))
+
+-- how many were taken, by how many are left
+pub taken_is : (w n room : ℕ) (rest taken : List Bool) → bits_of w n ≡ rest ++ reverse taken → room + length rest ≡ w → room ≡ length taken
+taken_is w n room rest taken is left =
+    let all : length rest + length taken ≡ w = omega (arith, sym (length-append rest (reverse taken)) ∙ (ap length (sym is) ∙ length_bits w n), length-reverse taken) in
+    omega (arith, all, left)

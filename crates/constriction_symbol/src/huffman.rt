@@ -1,5 +1,6 @@
 //! Huffman trees: the codebooks of least cost for given weights.
 
+mod codewords;
 mod collecting;
 pub mod decoder;
 pub mod encoder;

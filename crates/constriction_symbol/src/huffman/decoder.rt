@@ -1,18 +1,19 @@
 //! Huffman trees for decoding: from the root to the symbols.
 
-ghost use Rattle.constriction_symbol.specs.Codewords.{GivesBits, StopsWithin};
+ghost use Rattle.constriction_symbol.specs.Codewords.{BeginsTopBits, GivesBits, StopsWithin};
 ghost use Rattle.constriction_symbol.specs.DecoderTree.{HoldsTree, tree_of_pairs};
 ghost use Rattle.constriction_symbol.specs.Huffman.{ReadsOnIn, leaves, path};
 ghost use Rattle.constriction_symbol.specs.HuffmanLaws.{inner_begins_none, path_prefix_free, same_path};
 ghost use Rattle.constriction_symbol.specs.Merging.{GivesWeights, LendsWeights, MakeNoTree, MakesTree, RefusesGiven, RefusesLent};
 ghost use Rattle.std.specs.Iterator.{IsFinite, IsFiniteIterable};
-ghost use Rattle.std.specs.Prelude.{Bool, IfErr, IfOk, List, OnOk, Some, length, ◌-◌, ◌^◌, ◌≡◌};
+ghost use Rattle.std.specs.Prelude.{Bool, IfErr, IfOk, IfSome, List, OnOk, Some, length, ◌-◌, ◌^◌, ◌≡◌, ◌≤◌};
 
 use crate::codebooks::{Codebook, DecoderCodebook};
 use crate::huffman::collecting::{collect_given, collect_lent};
 use crate::huffman::error::HuffmanError;
 use crate::huffman::merging::merged_pairs;
 use crate::taking::{Refusal, next_bit};
+use crate::top_bits::TopBits;
 use constriction_stream::encoding::Lent;
 use constriction_words::BitArray;
 use std::alloc::Global;
@@ -160,6 +161,12 @@ impl DecoderCodebook for DecoderHuffmanTree {
     ) -> Result<usize, Refusal<Infallible, E>> {
         walk(&self.nodes, source)
     }
+
+    /// The symbol whose codeword the highest bits of a word begin with, where it has some bits and fewer than `count`.
+    #[inline]
+    fn symbol_at_once<Word: BitArray>(&self, bits: Word, count: u32) -> Option<(usize, u32)> {
+        walk_at_once(&self.nodes, bits, count)
+    }
 }
 
 /// Takes bits from the root of a tree down to a symbol, one for each node.
@@ -184,4 +191,35 @@ fn walk<V, E, I: Iterator<Item = Result<bool, E>>>(
         }
     }
     Ok(index)
+}
+
+/// Takes the highest bits of a word from the root of a tree down to a symbol, and returns it with their count. `None` where
+/// there are none, or not fewer than `count`.
+#[inline]
+fn walk_at_once<Word: BitArray>(
+    nodes: &[[usize; 2]],
+    bits: Word,
+    count: u32,
+) -> Option<(usize, u32)>
+    requires tree { HoldsTree nodes.now (tree_of_pairs nodes.now) }
+    requires within { count ≤ Word.BITS }
+    ensures { IfSome result (λ found. BeginsTopBits Word.BITS count (Word.number bits) (path (tree_of_pairs nodes.now) found.0) found.1) }
+{
+    if count == 0 {
+        return None;
+    }
+    let symbols = nodes.len() + 1;
+    let mut index = 2 * nodes.len();
+    let mut rest = TopBits::all(bits);
+    'walk: while index >= symbols {
+        if rest.room() >= count - 1 {
+            return None;
+        }
+        index = nodes[index - symbols][rest.pop() as usize];
+    }
+    let taken = rest.room();
+    if taken == 0 {
+        return None;
+    }
+    Some((index, taken))
 }

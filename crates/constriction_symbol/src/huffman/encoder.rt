@@ -9,10 +9,11 @@ ghost use Rattle.std.specs.Iterator.{IsFiniteIterable};
 ghost use Rattle.std.specs.Prelude.{IfErr, IfOk, List, length, reverse, ◌*◌, ◌-◌, ◌^◌, ◌≡◌};
 
 use crate::codebooks::{Codebook, EncoderCodebook};
+use crate::huffman::codewords::{below_one, codewords_of};
 use crate::huffman::collecting::{collect_given, collect_lent};
 use crate::huffman::error::HuffmanError;
 use crate::huffman::merging::merged_pairs;
-use crate::huffman::parents::{climb, climb_at_once, parents_of};
+use crate::huffman::parents::{climb, parents_of};
 use crate::reversed::{SuffixCodebook, reversed_codeword};
 use constriction_base::errors::{CoderError, DefaultEncoderError, DefaultEncoderFrontendError};
 use constriction_stream::encoding::Lent;
@@ -29,12 +30,14 @@ pub struct EncoderHuffmanTree {
     /// For each node, the symbols first and the root last, twice its parent, and one more where it is the child of
     /// bit 1; 0 at the root.
     nodes: Vec<usize>,
+    /// For each node its codeword below a bit that is set; 0 where it is as long as the number.
+    codewords: Vec<usize>,
     /// Where the prefix form of a long codeword finds memory.
     alloc: Global,
 }
 
 impl Model for EncoderHuffmanTree {
-    ghost use Rattle.constriction_symbol.specs.EncoderTree.{ClimbsTree, tree_of_parents};
+    ghost use Rattle.constriction_symbol.specs.EncoderTree.{ClimbsTree, HasCodewords, tree_of_parents};
     ghost use Rattle.constriction_symbol.specs.Huffman.{Tree};
     ghost use Rattle.constriction_symbol.specs.TreeCode.{tree_code};
 
@@ -44,7 +47,7 @@ impl Model for EncoderHuffmanTree {
 
     ghost view = { λ t. tree_of_parents t.nodes.items };
 
-    ghost invariant = { λ t. ClimbsTree t.nodes.items (tree_of_parents t.nodes.items) };
+    ghost invariant = { λ t. ClimbsTree t.nodes.items (tree_of_parents t.nodes.items) × HasCodewords t.nodes.items t.codewords.items };
 }
 
 /// The tree of these weights.
@@ -59,8 +62,16 @@ fn tree_of<P: BitArray, E>(
         Ok(pairs) => pairs,
         Err(error) => return Err(error),
     };
-    match parents_of(alloc, &pairs) {
-        Ok(nodes) => Ok(EncoderHuffmanTree { nodes, alloc }),
+    let nodes = match parents_of(alloc, &pairs) {
+        Ok(nodes) => nodes,
+        Err(_) => return Err(HuffmanError::Memory),
+    };
+    match codewords_of(alloc, &nodes) {
+        Ok(codewords) => Ok(EncoderHuffmanTree {
+            nodes,
+            codewords,
+            alloc,
+        }),
         Err(_) => Err(HuffmanError::Memory),
     }
 }
@@ -193,6 +204,6 @@ impl EncoderCodebook for EncoderHuffmanTree {
         if *symbol > self.nodes.len() / 2 {
             return None;
         }
-        climb_at_once(&self.nodes, *symbol)
+        below_one(self.codewords[*symbol])
     }
 }
