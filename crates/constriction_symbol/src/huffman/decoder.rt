@@ -211,7 +211,7 @@ fn walk_at_once<Word: BitArray>(
     let symbols = nodes.len() + 1;
     let mut index = 2 * nodes.len();
     let mut rest = TopBits::all(bits);
-    'walk: while index >= symbols {
+    'walk: while symbols <= index {
         if rest.room() >= count - 1 {
             return None;
         }
