@@ -2,7 +2,6 @@
 
 use crate::coders::has_len;
 use crate::codewords::{Took, refusal_of};
-use constriction_base::backends::Stack;
 use constriction_symbol::coder::StackCoder;
 use constriction_symbol::exp_golomb::ExpGolomb;
 use constriction_symbol::reading::ReadBitStream;
@@ -15,19 +14,35 @@ enum First {
     Other(Took),
 }
 
+/// Puts the bits on a stack, of which the first then comes off first.
+fn is_turned(coder: &mut StackCoder<u8>, bits: &[u8]) -> bool {
+    for index in 0..bits.len() {
+        if coder
+            .write_bit(bits[bits.len() - 1 - index] == b'1')
+            .is_err()
+        {
+            return false;
+        }
+    }
+    true
+}
+
+/// What comes of the first codeword on a stack.
+fn first_on(coder: &mut StackCoder<u8>) -> First {
+    match coder.decode_symbol(ExpGolomb::<u8>::new()) {
+        Ok(number) => First::Number(number),
+        Err(error) => First::Other(refusal_of(error)),
+    }
+}
+
 /// What comes of the first codeword of the bits, of which so many are then left. The bits are given in the order
 /// of reading, which is from the top of a stack.
 fn first_of(alloc: Global, bits: &[u8], left: usize) -> Option<First> {
     let mut coder: StackCoder<u8> = StackCoder::new(alloc);
-    for bit in bits.iter().rev() {
-        if coder.write_bit(*bit == b'1').is_err() {
-            return None;
-        }
+    if !is_turned(&mut coder, bits) {
+        return None;
     }
-    let first = match ReadBitStream::<Stack>::decode_symbol(&mut coder, ExpGolomb::<u8>::new()) {
-        Ok(number) => First::Number(number),
-        Err(error) => First::Other(refusal_of(error)),
-    };
+    let first = first_on(&mut coder);
     if has_len(&coder, left) {
         Some(first)
     } else {

@@ -5,9 +5,9 @@ use crate::codewords::{Put, Took, refusal_of, takes};
 use crate::guards::shows_stack;
 use constriction_base::backends::{Queue, Stack};
 use constriction_base::errors::{CoderError, DefaultEncoderError};
-use constriction_symbol::codebooks::SymbolCodeError;
 use constriction_symbol::coder::{QueueEncoder, StackCoder};
-use constriction_symbol::exp_golomb::{ExpGolomb, InvalidCodeword};
+use constriction_symbol::exp_golomb::ExpGolomb;
+use constriction_symbol::iterators::{DecodeSymbols, RepeatCodebook};
 use constriction_symbol::reading::ReadBitStream;
 use constriction_symbol::writing::WriteBitStream;
 use std::alloc::{AllocError, Global};
@@ -65,29 +65,40 @@ fn puts_lists_back(alloc: Global, coder: &mut StackCoder<u8>, first: &[u8], seco
     }
 }
 
-/// Reads as many numbers by one codebook, up to the first that is refused or another one.
-fn takes_list(queue: &mut LentQueue<'_, u8>, symbols: &[u8]) -> Took {
+/// The numbers of a queue by one codebook.
+type Given<'a, 'b> = DecodeSymbols<'a, LentQueue<'b, u8>, RepeatCodebook<'a, ExpGolomb<u8>>, Queue>;
+
+/// What an iterator gives.
+#[derive(Drop)]
+enum Next {
+    Number(u8),
+    Other(Took),
+    End,
+}
+
+/// What comes next.
+fn next_of(given: &mut Given<'_, '_>) -> Next {
+    match given.next() {
+        Some(Ok(found)) => Next::Number(found),
+        Some(Err(error)) => Next::Other(refusal_of(error)),
+        None => Next::End,
+    }
+}
+
+/// Whether so many are said to come.
+fn has_hints(given: &Given<'_, '_>, count: usize) -> bool {
+    given.size_hint() == (count, Some(count)) && given.len() == count
+}
+
+/// Reads three numbers by one codebook, and no fourth one.
+fn takes_three(queue: &mut LentQueue<'_, u8>, numbers: [u8; 3]) -> bool {
     let codebook = ExpGolomb::<u8>::new();
-    let mut given = queue.decode_iid_symbols(symbols.len(), &codebook);
-    if given.size_hint() != (symbols.len(), Some(symbols.len())) || given.len() != symbols.len() {
-        return Took::Other;
-    }
-    for symbol in symbols {
-        match given.next() {
-            Some(Ok(found)) => {
-                if found != *symbol {
-                    return Took::Other;
-                }
-            }
-            Some(Err(error)) => return refusal_of(error),
-            None => return Took::Other,
-        }
-    }
-    if given.next().is_none() {
-        Took::All
-    } else {
-        Took::Other
-    }
+    let mut given = queue.decode_iid_symbols(3, &codebook);
+    has_hints(&given, 3)
+        && matches!(next_of(&mut given), Next::Number(found) if found == numbers[0])
+        && matches!(next_of(&mut given), Next::Number(found) if found == numbers[1])
+        && matches!(next_of(&mut given), Next::Number(found) if found == numbers[2])
+        && matches!(next_of(&mut given), Next::End)
 }
 
 /// Reads two numbers by two codebooks, and no third one.
@@ -110,8 +121,8 @@ fn lists_in_a_queue(rt: HostRuntime) {
     assert!(rt;
         are_written
             && are_exported
-            && matches!(takes_list(&mut queue, &[0, 5, 255, 254, 7]), Took::All)
-            && matches!(takes_list(&mut queue, &[1, 0]), Took::OutOfData)
+            && takes_three(&mut queue, [0, 5, 255])
+            && takes_three(&mut queue, [254, 7, 1])
     );
 }
 
@@ -134,26 +145,15 @@ fn lists_in_reverse(rt: HostRuntime) {
     );
 }
 
-/// What comes of the next number of an iterator.
-fn next_of<E: Drop>(
-    next: Option<Result<u8, CoderError<SymbolCodeError<InvalidCodeword>, E>>>,
-) -> Option<Result<u8, Took>> {
-    match next {
-        Some(Ok(found)) => Some(Ok(found)),
-        Some(Err(error)) => Some(Err(refusal_of(error))),
-        None => None,
-    }
-}
-
 /// Nine zeros are no codeword of a byte, and after them the iterator goes on: a number, and the end twice.
 fn goes_on(queue: &mut LentQueue<'_, u8>) -> bool {
     let codebook = ExpGolomb::<u8>::new();
     let mut given = queue.decode_iid_symbols(4, &codebook);
-    matches!(next_of(given.next()), Some(Err(Took::Invalid)))
-        && matches!(next_of(given.next()), Some(Ok(2)))
-        && matches!(next_of(given.next()), Some(Err(Took::OutOfData)))
-        && matches!(next_of(given.next()), Some(Err(Took::OutOfData)))
-        && given.next().is_none()
+    matches!(next_of(&mut given), Next::Other(Took::Invalid))
+        && matches!(next_of(&mut given), Next::Number(2))
+        && matches!(next_of(&mut given), Next::Other(Took::OutOfData))
+        && matches!(next_of(&mut given), Next::Other(Took::OutOfData))
+        && matches!(next_of(&mut given), Next::End)
 }
 
 /// The bits 000000000, 011 and 0000.
@@ -163,18 +163,14 @@ fn iterators_go_on_after_errors(rt: HostRuntime) {
 }
 
 /// One number of three is taken, and the others stay.
-fn takes_one(queue: &mut LentQueue<'_, u8>, symbol: u8) -> bool {
+fn takes_one(queue: &mut LentQueue<'_, u8>, number: u8) -> bool {
     let codebook = ExpGolomb::<u8>::new();
     let mut given = queue.decode_iid_symbols(3, &codebook);
-    matches!(given.next(), Some(Ok(found)) if found == symbol)
+    matches!(next_of(&mut given), Next::Number(found) if found == number)
 }
 
 #[test]
 fn iterators_are_dropped_early(rt: HostRuntime) {
     let mut queue = word_queue([25u8, 64, 0, 192, 63, 66].as_slice());
-    assert!(rt;
-        takes_one(&mut queue, 0)
-            && takes_one(&mut queue, 5)
-            && matches!(takes::<Queue, _, u8>(&mut queue, &[255]), Took::All)
-    );
+    assert!(rt; takes_one(&mut queue, 0) && takes_one(&mut queue, 5) && takes_one(&mut queue, 255));
 }

@@ -74,15 +74,16 @@ fn empty_stack(heap: &LocalHeap) -> Option<HeapStack<'_>> {
     }
 }
 
-/// Eight bits of a codeword take no memory, and are a beginning of it. A stack is read without memory. A guard of eight
-/// bits is refused.
+/// Eight bits of a codeword take no memory, and are a beginning of it. A stack is read without memory.
 fn stack_stops(coder: &mut HeapStack<'_>) -> bool {
     writes::<Stack, _>(coder, b"101")
         && matches!(puts::<Stack, _, u8>(coder, &[255]), Put::Refused)
-        && has_len(coder, 8)
         && gives::<Stack, _>(coder, b"00000101..")
-        && writes::<Stack, _>(coder, b"11111111")
-        && shows_stack(coder, &[255, 1]).is_err()
+}
+
+/// A guard of eight bits takes memory for two words.
+fn guard_stops(coder: &mut HeapStack<'_>) -> bool {
+    writes::<Stack, _>(coder, b"11111111") && shows_stack(coder, &[255, 1]).is_err()
 }
 
 /// Whether a stack without bits finds memory for its word.
@@ -100,7 +101,7 @@ fn a_full_heap_refuses_a_stack(rt: HostRuntime) -> Result<(), Fail> {
     let Some(mut coder) = empty_stack(&heap) else {
         return Err(Fail::from("no empty stack"));
     };
-    let stops = stack_stops(&mut coder) && !empty_is_exported(&heap);
+    let stops = stack_stops(&mut coder) && guard_stops(&mut coder) && !empty_is_exported(&heap);
     drop(filler);
     let goes = matches!(shows_stack(&mut coder, &[255, 1]), Ok(true))
         && matches!(puts::<Stack, _, u8>(&mut coder, &[0]), Put::Done)
