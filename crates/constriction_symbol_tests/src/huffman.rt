@@ -171,7 +171,10 @@ fn merge_plainly(weights: &[u8]) -> [(u32, u32); 5] {
         *slot = Some(*weight as u32);
     }
     for next in weights.len()..9 {
-        let (Some(lesser), Some(other)) = (take_least(&mut slots), take_least(&mut slots)) else {
+        let Some(lesser) = take_least(&mut slots) else {
+            return merged.codes;
+        };
+        let Some(other) = take_least(&mut slots) else {
             return merged.codes;
         };
         slots[next] = Some(lesser.0.wrapping_add(other.0));

@@ -65,40 +65,46 @@ fn puts_lists_back(alloc: Global, coder: &mut StackCoder<u8>, first: &[u8], seco
     }
 }
 
-/// The numbers of a queue by one codebook.
-type Given<'a, 'b> = DecodeSymbols<'a, LentQueue<'b, u8>, RepeatCodebook<'a, ExpGolomb<u8>>, Queue>;
+/// Stands for a codeword of no byte.
+const INVALID: u16 = 256;
 
-/// What an iterator gives.
-#[derive(Drop)]
-enum Next {
-    Number(u8),
-    Other(Took),
-    End,
-}
+/// Stands for bits that end before the codeword does.
+const SHORT: u16 = 257;
 
-/// What comes next.
-fn next_of(given: &mut Given<'_, '_>) -> Next {
+/// Stands for the end of an iterator.
+const END: u16 = 258;
+
+/// Stands for another refusal.
+const REFUSED: u16 = 259;
+
+/// What comes next of the numbers of a queue by one codebook: a number, or what stands for it.
+fn next_of(
+    given: &mut DecodeSymbols<'_, LentQueue<'_, u8>, RepeatCodebook<'_, ExpGolomb<u8>>, Queue>,
+) -> u16 {
     match given.next() {
-        Some(Ok(found)) => Next::Number(found),
-        Some(Err(error)) => Next::Other(refusal_of(error)),
-        None => Next::End,
+        Some(Ok(found)) => found as u16,
+        Some(Err(error)) => match refusal_of(error) {
+            Took::Invalid => INVALID,
+            Took::OutOfData => SHORT,
+            _ => REFUSED,
+        },
+        None => END,
     }
 }
 
-/// Whether so many are said to come.
-fn has_hints(given: &Given<'_, '_>, count: usize) -> bool {
-    given.size_hint() == (count, Some(count)) && given.len() == count
-}
-
-/// Reads three numbers by one codebook, and no fourth one.
-fn takes_three(queue: &mut LentQueue<'_, u8>, numbers: [u8; 3]) -> bool {
+/// Whether so many numbers by one codebook are said to come, and these come first.
+fn gives_list(queue: &mut LentQueue<'_, u8>, count: usize, expected: &[u16]) -> bool {
     let codebook = ExpGolomb::<u8>::new();
-    let mut given = queue.decode_iid_symbols(3, &codebook);
-    has_hints(&given, 3)
-        && matches!(next_of(&mut given), Next::Number(found) if found == numbers[0])
-        && matches!(next_of(&mut given), Next::Number(found) if found == numbers[1])
-        && matches!(next_of(&mut given), Next::Number(found) if found == numbers[2])
-        && matches!(next_of(&mut given), Next::End)
+    let mut given = queue.decode_iid_symbols(count, &codebook);
+    if given.size_hint() != (count, Some(count)) || given.len() != count {
+        return false;
+    }
+    for item in expected {
+        if next_of(&mut given) != *item {
+            return false;
+        }
+    }
+    true
 }
 
 /// Reads two numbers by two codebooks, and no third one.
@@ -121,8 +127,8 @@ fn lists_in_a_queue(rt: HostRuntime) {
     assert!(rt;
         are_written
             && are_exported
-            && takes_three(&mut queue, [0, 5, 255])
-            && takes_three(&mut queue, [254, 7, 1])
+            && gives_list(&mut queue, 4, &[0, 5, 255, 254, END])
+            && gives_list(&mut queue, 3, &[7, 1, SHORT, END])
     );
 }
 
@@ -145,32 +151,21 @@ fn lists_in_reverse(rt: HostRuntime) {
     );
 }
 
-/// Nine zeros are no codeword of a byte, and after them the iterator goes on: a number, and the end twice.
-fn goes_on(queue: &mut LentQueue<'_, u8>) -> bool {
-    let codebook = ExpGolomb::<u8>::new();
-    let mut given = queue.decode_iid_symbols(4, &codebook);
-    matches!(next_of(&mut given), Next::Other(Took::Invalid))
-        && matches!(next_of(&mut given), Next::Number(2))
-        && matches!(next_of(&mut given), Next::Other(Took::OutOfData))
-        && matches!(next_of(&mut given), Next::Other(Took::OutOfData))
-        && matches!(next_of(&mut given), Next::End)
-}
-
-/// The bits 000000000, 011 and 0000.
+/// The bits 000000000, 011 and 0000. Nine zeros are no codeword of a byte, and after them the iterator goes on: a
+/// number, and the end of the bits twice.
 #[test]
 fn iterators_go_on_after_errors(rt: HostRuntime) {
-    assert!(rt; goes_on(&mut word_queue([0u8, 12].as_slice())));
+    let mut queue = word_queue([0u8, 12].as_slice());
+    assert!(rt; gives_list(&mut queue, 4, &[INVALID, 2, SHORT, SHORT, END]));
 }
 
 /// One number of three is taken, and the others stay.
-fn takes_one(queue: &mut LentQueue<'_, u8>, number: u8) -> bool {
-    let codebook = ExpGolomb::<u8>::new();
-    let mut given = queue.decode_iid_symbols(3, &codebook);
-    matches!(next_of(&mut given), Next::Number(found) if found == number)
-}
-
 #[test]
 fn iterators_are_dropped_early(rt: HostRuntime) {
     let mut queue = word_queue([25u8, 64, 0, 192, 63, 66].as_slice());
-    assert!(rt; takes_one(&mut queue, 0) && takes_one(&mut queue, 5) && takes_one(&mut queue, 255));
+    assert!(rt;
+        gives_list(&mut queue, 3, &[0])
+            && gives_list(&mut queue, 3, &[5])
+            && gives_list(&mut queue, 1, &[255, END])
+    );
 }
