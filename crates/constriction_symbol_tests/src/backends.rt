@@ -23,7 +23,6 @@ fn fills_queue(coder: &mut QueueEncoder<u8, Buffer<'_>>) -> bool {
             coder.encode_symbol(&255u8, ExpGolomb::<u8>::new()),
             Err(CoderError::Backend(BoundedWriteError::OutOfSpace))
         )
-        && has_len(coder, 16)
         && matches!(coder.write_bit(true), Err(BoundedWriteError::OutOfSpace))
         && has_len(coder, 16)
 }
@@ -46,7 +45,6 @@ fn fills_stack(coder: &mut StackCoder<u8, Buffer<'_>>) -> bool {
             coder.encode_symbol(&255u8, ExpGolomb::<u8>::new()),
             Err(CoderError::Backend(BoundedWriteError::OutOfSpace))
         )
-        && has_len(coder, 16)
         && gives::<Stack, _>(coder, b"0000000111001101..")
 }
 

@@ -60,41 +60,37 @@ fn compares<S: BitOrder>(alloc: Global, first: &[u8], second: &[u8], expected: b
 }
 
 /// Whether a clone is equal, and goes on being what it was where the coder is written to.
-fn is_cloned<S: BitOrder>(alloc: Global) -> Result<bool, AllocError> {
-    let mut coder: SymbolCoder<u8, S> = SymbolCoder::new(alloc);
-    let is_begun = writes::<S, _>(&mut coder, b"1011001110");
+fn is_cloned(alloc: Global) -> Result<bool, AllocError> {
+    let mut coder: QueueEncoder<u8> = QueueEncoder::new(alloc);
+    let is_begun = writes::<Queue, _>(&mut coder, b"1011001110");
     let kept = coder.clone()?;
     Ok(
         is_begun
             && are_same(&coder, &kept)
-            && writes::<S, _>(&mut coder, b"0")
+            && writes::<Queue, _>(&mut coder, b"0")
             && !are_same(&coder, &kept),
     )
 }
 
 /// Queues are equal where all bits and all words are.
 #[test]
-fn equal_queues(rt: HostRuntime) -> Result<(), Fail> {
-    let is_cloned = is_cloned::<Queue>(rt.alloc())?;
+fn equal_queues(rt: HostRuntime) {
+    let is_cloned = matches!(is_cloned(rt.alloc()), Ok(true));
     assert!(rt;
         is_cloned
             && compares::<Queue>(rt.alloc(), b"1011001110", b"1011001110", true)
             && compares::<Queue>(rt.alloc(), b"1011001110", b"0011001110", false)
             && compares::<Queue>(rt.alloc(), b"1011001110", b"10110011100", false)
     );
-    Ok(())
 }
 
 /// Stacks too.
 #[test]
-fn equal_stacks(rt: HostRuntime) -> Result<(), Fail> {
-    let is_cloned = is_cloned::<Stack>(rt.alloc())?;
+fn equal_stacks(rt: HostRuntime) {
     assert!(rt;
-        is_cloned
-            && compares::<Stack>(rt.alloc(), b"1011", b"1011", true)
+        compares::<Stack>(rt.alloc(), b"1011", b"1011", true)
             && compares::<Stack>(rt.alloc(), b"1011", b"1010", false)
     );
-    Ok(())
 }
 
 /// Of three decoders the second is equal to the first, and the third to the first without its first word.

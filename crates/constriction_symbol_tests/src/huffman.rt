@@ -137,50 +137,35 @@ fn take_least(slots: &mut [Option<u32>; 9]) -> Option<(u32, usize)> {
     best
 }
 
-/// The codewords of at most five symbols: where the tree of each stands, and the bits, and how many they are.
-#[derive(Drop)]
-struct Merged {
-    places: [usize; 5],
-    codes: [(u32, u32); 5],
-}
-
-/// Makes two trees one, whose place is the next: the symbols of the lesser get bit 0, and those of the other bit 1.
-fn join(merged: &mut Merged, lesser: usize, other: usize, next: usize) {
-    for symbol in 0..5 {
-        let place = merged.places[symbol];
-        if place == lesser || place == other {
-            let bit = (place == other) as u32;
-            let (code, count) = merged.codes[symbol];
-            merged.codes[symbol] = (
-                code.wrapping_add(bit.wrapping_shl(count)),
-                count.wrapping_add(1),
-            );
-            merged.places[symbol] = next;
-        }
-    }
-}
-
 /// The codewords of at most five weights by a plain merge: the bits of each, and how many they are.
 fn merge_plainly(weights: &[u8]) -> [(u32, u32); 5] {
     let mut slots: [Option<u32>; 9] = [None; 9];
-    let mut merged = Merged {
-        places: [0, 1, 2, 3, 4],
-        codes: [(0, 0); 5],
-    };
+    let mut places = [0usize, 1, 2, 3, 4];
+    let mut codes = [(0u32, 0u32); 5];
     for (slot, weight) in slots.iter_mut().zip(weights.iter()) {
         *slot = Some(*weight as u32);
     }
     for next in weights.len()..9 {
         let Some(lesser) = take_least(&mut slots) else {
-            return merged.codes;
+            return codes;
         };
         let Some(other) = take_least(&mut slots) else {
-            return merged.codes;
+            return codes;
         };
         slots[next] = Some(lesser.0.wrapping_add(other.0));
-        join(&mut merged, lesser.1, other.1, next);
+        for symbol in 0..5 {
+            if places[symbol] == lesser.1 || places[symbol] == other.1 {
+                let bit = (places[symbol] == other.1) as u32;
+                let (code, count) = codes[symbol];
+                codes[symbol] = (
+                    code.wrapping_add(bit.wrapping_shl(count)),
+                    count.wrapping_add(1),
+                );
+                places[symbol] = next;
+            }
+        }
     }
-    merged.codes
+    codes
 }
 
 /// Whether all lists of so many weights below five agree with the plain merge; `lists` says how many they are.
