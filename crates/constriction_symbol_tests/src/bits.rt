@@ -5,71 +5,34 @@ use constriction_symbol::codebooks::BitOrder;
 use constriction_symbol::reading::ReadBitStream;
 use constriction_symbol::writing::WriteBitStream;
 
-/// Writes the bits, the first one first, up to the first that is refused.
-pub fn writes<S: BitOrder, Stream: WriteBitStream<S>>(
-    stream: &mut Stream,
-    bits: &[u8],
-) -> Result<(), Stream::WriteError> {
+/// Writes the bits, the first one first, up to the first that is refused. Returns whether none is.
+pub fn writes<S: BitOrder, Stream: WriteBitStream<S>>(stream: &mut Stream, bits: &[u8]) -> bool
+where
+    Stream::WriteError: Drop,
+{
     for bit in bits {
-        match stream.write_bit(*bit == b'1') {
-            Ok(()) => {}
-            Err(error) => return Err(error),
+        if stream.write_bit(*bit == b'1').is_err() {
+            return false;
         }
     }
-    Ok(())
+    true
 }
 
-/// Writes so many bits, all the same, up to the first that is refused.
-pub fn writes_many<S: BitOrder, Stream: WriteBitStream<S>>(
-    stream: &mut Stream,
-    bit: bool,
-    count: usize,
-) -> Result<(), Stream::WriteError> {
-    for _ in 0..count {
-        match stream.write_bit(bit) {
-            Ok(()) => {}
-            Err(error) => return Err(error),
-        }
-    }
-    Ok(())
-}
-
-/// Whether the next bits are these.
+/// Whether the next reads give these bits. A point stands for a read that finds no bit left.
 pub fn gives<S: Semantics, Stream: ReadBitStream<S>>(stream: &mut Stream, bits: &[u8]) -> bool
 where
     Stream::ReadError: Drop,
 {
     for bit in bits {
-        match stream.read_bit() {
-            Ok(Some(found)) if found == (*bit == b'1') => {}
-            _ => return false,
+        let is_it = match stream.read_bit() {
+            Ok(Some(true)) => *bit == b'1',
+            Ok(Some(false)) => *bit == b'0',
+            Ok(None) => *bit == b'.',
+            Err(_) => false,
+        };
+        if !is_it {
+            return false;
         }
     }
     true
-}
-
-/// Whether so many bits come next, all the same.
-pub fn gives_many<S: Semantics, Stream: ReadBitStream<S>>(
-    stream: &mut Stream,
-    bit: bool,
-    count: usize,
-) -> bool
-where
-    Stream::ReadError: Drop,
-{
-    for _ in 0..count {
-        match stream.read_bit() {
-            Ok(Some(found)) if found == bit => {}
-            _ => return false,
-        }
-    }
-    true
-}
-
-/// Whether no bit is left.
-pub fn ends<S: Semantics, Stream: ReadBitStream<S>>(stream: &mut Stream) -> bool
-where
-    Stream::ReadError: Drop,
-{
-    matches!(stream.read_bit(), Ok(None)) && matches!(stream.read_bit(), Ok(None))
 }

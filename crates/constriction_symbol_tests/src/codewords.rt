@@ -10,22 +10,25 @@ use constriction_words::BitArray;
 
 /// What a call that writes symbols answers.
 #[derive(Drop)]
-pub enum Put<E> {
+pub enum Put {
     Done,
     Unknown,
-    Refused(E),
+    Refused,
 }
 
 /// Writes the codewords of symbols, up to the first that is refused.
 pub fn puts<S: BitOrder, Stream: WriteBitStream<S>, N: BitArray>(
     stream: &mut Stream,
     symbols: &[N],
-) -> Put<Stream::WriteError> {
+) -> Put
+where
+    Stream::WriteError: Drop,
+{
     for symbol in symbols {
         match stream.encode_symbol(symbol, ExpGolomb::<N>::new()) {
             Ok(()) => {}
             Err(CoderError::Frontend(_)) => return Put::Unknown,
-            Err(CoderError::Backend(error)) => return Put::Refused(error),
+            Err(CoderError::Backend(_)) => return Put::Refused,
         }
     }
     Put::Done
@@ -33,22 +36,22 @@ pub fn puts<S: BitOrder, Stream: WriteBitStream<S>, N: BitArray>(
 
 /// What a call that reads symbols answers.
 #[derive(Drop)]
-pub enum Took<E> {
+pub enum Took {
     /// All symbols came.
     All,
     /// Another symbol came.
     Other,
     OutOfData,
     Invalid,
-    Refused(E),
+    Refused,
 }
 
 /// What an error says.
-pub fn refusal_of<E>(error: CoderError<SymbolCodeError<InvalidCodeword>, E>) -> Took<E> {
+pub fn refusal_of<E: Drop>(error: CoderError<SymbolCodeError<InvalidCodeword>, E>) -> Took {
     match error {
         CoderError::Frontend(SymbolCodeError::OutOfCompressedData) => Took::OutOfData,
         CoderError::Frontend(SymbolCodeError::InvalidCodeword(InvalidCodeword)) => Took::Invalid,
-        CoderError::Backend(error) => Took::Refused(error),
+        CoderError::Backend(_) => Took::Refused,
     }
 }
 
@@ -56,7 +59,7 @@ pub fn refusal_of<E>(error: CoderError<SymbolCodeError<InvalidCodeword>, E>) -> 
 pub fn takes<S: Semantics, Stream: ReadBitStream<S>, N: BitArray + PartialEq>(
     stream: &mut Stream,
     symbols: &[N],
-) -> Took<Stream::ReadError>
+) -> Took
 where
     Stream::ReadError: Drop,
 {

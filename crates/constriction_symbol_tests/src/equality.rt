@@ -2,16 +2,15 @@
 
 ghost use Rattle.std.specs.Prelude.{[], true, ⊤};
 
-use crate::bits::{ends, gives, writes};
-use crate::coders::{queue_of, stack_of};
+use crate::bits::{gives, writes};
+use crate::texts::prints;
 use constriction_base::backends::{Holds, Queue, ReadWords, Stack};
-use constriction_symbol::codebooks::SymbolCodeError;
-use constriction_symbol::coder::{QueueEncoder, StackCoder};
+use constriction_symbol::codebooks::{BitOrder, SymbolCodeError};
+use constriction_symbol::coder::{QueueEncoder, SymbolCoder};
 use constriction_symbol::exp_golomb::{ExpGolomb, InvalidCodeword};
 use constriction_symbol::queue::QueueDecoder;
-use std::alloc::Global;
+use std::alloc::{AllocError, Global};
 use std::convert::Infallible;
-use std::fmt::Debug;
 use std::test::Fail;
 
 /// A backend that gives the word 5, so many times.
@@ -46,61 +45,75 @@ impl ReadWords<u8, Queue> for Fives {
     }
 }
 
-/// Whether two queues are equal, either way.
-fn same_queues(first: &QueueEncoder<u8>, second: &QueueEncoder<u8>) -> bool {
+/// Whether two values are equal, either way.
+fn are_same<T: PartialEq>(first: &T, second: &T) -> bool {
     first == second && second == first && !(first != second)
 }
 
-/// Whether two stacks are equal, either way.
-fn same_stacks(first: &StackCoder<u8>, second: &StackCoder<u8>) -> bool {
-    first == second && second == first && !(first != second)
+/// Whether coders of these bits are equal, or not equal.
+fn compares<S: BitOrder>(alloc: Global, first: &[u8], second: &[u8], expected: bool) -> bool {
+    let mut one: SymbolCoder<u8, S> = SymbolCoder::new(alloc);
+    let mut other: SymbolCoder<u8, S> = SymbolCoder::new(alloc);
+    writes::<S, _>(&mut one, first)
+        && writes::<S, _>(&mut other, second)
+        && are_same(&one, &other) == expected
 }
 
-/// Whether two decoders are equal, either way.
-fn same_decoders(first: &QueueDecoder<u8, Fives>, second: &QueueDecoder<u8, Fives>) -> bool {
-    first == second && second == first && !(first != second)
+/// Whether a clone is equal, and goes on being what it was where the coder is written to.
+fn is_cloned(alloc: Global) -> Result<bool, AllocError> {
+    let mut coder: QueueEncoder<u8> = QueueEncoder::new(alloc);
+    let is_begun = writes::<Queue, _>(&mut coder, b"1011001110");
+    let kept = coder.clone()?;
+    Ok(
+        is_begun
+            && are_same(&coder, &kept)
+            && writes::<Queue, _>(&mut coder, b"0")
+            && !are_same(&coder, &kept),
+    )
 }
 
 /// Queues are equal where all bits and all words are.
 #[test]
-fn equal_queues(rt: HostRuntime) -> Result<(), Fail> {
-    let mut first = queue_of::<u8>(rt.alloc(), b"1011001110").ok_or("no memory")?;
-    let second = queue_of::<u8>(rt.alloc(), b"1011001110").ok_or("no memory")?;
-    let other_word = queue_of::<u8>(rt.alloc(), b"0011001110").ok_or("no memory")?;
-    let longer = queue_of::<u8>(rt.alloc(), b"10110011100").ok_or("no memory")?;
-    let kept = first.clone()?;
-    let are_same = same_queues(&first, &second)
-        && same_queues(&first, &kept)
-        && !same_queues(&first, &other_word)
-        && !same_queues(&first, &longer);
-    let is_written = writes::<Queue, _>(&mut first, b"0").is_ok();
+fn equal_queues(rt: HostRuntime) {
+    let is_cloned = matches!(is_cloned(rt.alloc()), Ok(true));
     assert!(rt;
-        are_same
-            && is_written
-            && same_queues(&first, &longer)
-            && !same_queues(&first, &kept)
-            && same_queues(&kept, &second)
+        is_cloned
+            && compares::<Queue>(rt.alloc(), b"1011001110", b"1011001110", true)
+            && compares::<Queue>(rt.alloc(), b"1011001110", b"0011001110", false)
+            && compares::<Queue>(rt.alloc(), b"1011001110", b"10110011100", false)
     );
-    Ok(())
 }
 
-/// A stack whose last word is full isn't that of the same words, which reads it from the vector.
+/// Stacks too.
 #[test]
-fn equal_stacks(rt: HostRuntime) -> Result<(), Fail> {
-    let first = stack_of::<u8>(rt.alloc(), b"1011").ok_or("no memory")?;
-    let second = stack_of::<u8>(rt.alloc(), b"1011").ok_or("no memory")?;
-    let other = stack_of::<u8>(rt.alloc(), b"1010").ok_or("no memory")?;
-    let mut copy = first.clone()?;
-    let are_same = same_stacks(&first, &second)
-        && same_stacks(&first, &copy)
-        && !same_stacks(&first, &other);
+fn equal_stacks(rt: HostRuntime) {
     assert!(rt;
-        are_same
-            && gives::<Stack, _>(&mut copy, b"1101")
-            && ends::<Stack, _>(&mut copy)
-            && same_stacks(&first, &second)
+        compares::<Stack>(rt.alloc(), b"1011", b"1011", true)
+            && compares::<Stack>(rt.alloc(), b"1011", b"1010", false)
     );
-    Ok(())
+}
+
+/// Of three decoders the second is equal to the first, and the third to the first without its first word.
+fn compare(
+    first: &mut QueueDecoder<u8, Fives>,
+    second: &QueueDecoder<u8, Fives>,
+    third: &QueueDecoder<u8, Fives>,
+) -> bool {
+    are_same(&*first, second)
+        && !are_same(&*first, third)
+        && gives::<Queue, _>(first, b"101")
+        && !are_same(&*first, second)
+        && !are_same(&*first, third)
+        && gives::<Queue, _>(first, b"00000")
+        && are_same(&*first, third)
+}
+
+/// Whether the clone of a decoder of two words, of which three bits are read, is equal, and gives the others.
+fn is_decoder_cloned() -> Result<bool, AllocError> {
+    let mut decoder = QueueDecoder::from_compressed(Fives { left: 2 });
+    let is_read = gives::<Queue, _>(&mut decoder, b"101");
+    let mut copy = decoder.clone()?;
+    Ok(is_read && are_same(&decoder, &copy) && gives::<Queue, _>(&mut copy, b"0000010100000.."))
 }
 
 /// Decoders are equal where their backends and the bits of the word that was read are.
@@ -109,39 +122,20 @@ fn equal_decoders(rt: HostRuntime) -> Result<(), Fail> {
     let mut first = QueueDecoder::from_compressed(Fives { left: 2 });
     let second = QueueDecoder::from_compressed(Fives { left: 2 });
     let third = QueueDecoder::from_compressed(Fives { left: 1 });
-    let are_same = same_decoders(&first, &second) && !same_decoders(&first, &third);
-    let is_read = gives::<Queue, _>(&mut first, b"101");
-    let mut copy = first.clone()?;
-    assert!(rt;
-        are_same
-            && is_read
-            && !same_decoders(&first, &second)
-            && !same_decoders(&first, &third)
-            && same_decoders(&first, &copy)
-            && gives::<Queue, _>(&mut copy, b"0000010100000")
-            && ends::<Queue, _>(&mut copy)
-            && gives::<Queue, _>(&mut first, b"00000")
-            && same_decoders(&first, &third)
-    );
+    let is_cloned = is_decoder_cloned()?;
+    assert!(rt; is_cloned && compare(&mut first, &second, &third));
     Ok(())
-}
-
-/// Whether the text of a value begins with this one.
-fn prints<T: Debug>(alloc: Global, value: &T, text: &str) -> bool {
-    match format!(in alloc; "{:?}", value) {
-        Ok(written) => written.as_str().starts_with(text),
-        Err(_) => false,
-    }
 }
 
 /// The texts are those of derives: the name, and then the fields in order.
 #[test]
-fn texts_of_coders(rt: HostRuntime) -> Result<(), Fail> {
-    let queue = queue_of::<u8>(rt.alloc(), b"1011001110").ok_or("no memory")?;
+fn texts_of_coders(rt: HostRuntime) {
+    let mut queue: QueueEncoder<u8> = QueueEncoder::new(rt.alloc());
     let decoder = QueueDecoder::from_compressed(Fives { left: 2 });
     let bad: SymbolCodeError<InvalidCodeword> = SymbolCodeError::InvalidCodeword(InvalidCodeword);
     assert!(rt;
-        prints(rt.alloc(), &queue, "SymbolCoder { backend: [205], last: ")
+        writes::<Queue, _>(&mut queue, b"1011001110")
+            && prints(rt.alloc(), &queue, "SymbolCoder { backend: [205], last: ")
             && prints(
                 rt.alloc(),
                 &decoder,
@@ -150,7 +144,6 @@ fn texts_of_coders(rt: HostRuntime) -> Result<(), Fail> {
             && prints(rt.alloc(), &ExpGolomb::<u8>::new(), "ExpGolomb { number: ")
             && prints(rt.alloc(), &bad, "InvalidCodeword(InvalidCodeword)")
     );
-    Ok(())
 }
 
 /// Values of the codebook that are clones of each other have the same text, and its error equals itself.

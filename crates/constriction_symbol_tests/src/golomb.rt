@@ -1,59 +1,74 @@
 //! What Exp-Golomb codebooks refuse, and how many bits they read then. By the grammar, worked out apart.
 
-use crate::coders::{stack_len, stack_of};
+use crate::coders::has_len;
 use crate::codewords::{Took, refusal_of};
-use constriction_base::backends::Stack;
 use constriction_symbol::coder::StackCoder;
 use constriction_symbol::exp_golomb::ExpGolomb;
 use constriction_symbol::reading::ReadBitStream;
 use std::alloc::Global;
-use std::convert::Infallible;
 
-/// What comes of the first codeword, and how many bits are left then. The bits are given in the order of
-/// reading, which is from the top of a stack.
-fn first_of(coder: &mut StackCoder<u8>) -> Result<u8, Took<Infallible>> {
-    match ReadBitStream::<Stack>::decode_symbol(coder, ExpGolomb::<u8>::new()) {
-        Ok(number) => Ok(number),
-        Err(error) => Err(refusal_of(error)),
+/// What comes of the first codeword.
+#[derive(Drop)]
+enum First {
+    Number(u8),
+    Other(Took),
+}
+
+/// Puts the bits on a stack, of which the first then comes off first.
+fn is_turned(coder: &mut StackCoder<u8>, bits: &[u8]) -> bool {
+    for index in 0..bits.len() {
+        if coder
+            .write_bit(bits[bits.len() - 1 - index] == b'1')
+            .is_err()
+        {
+            return false;
+        }
+    }
+    true
+}
+
+/// What comes of the first codeword on a stack.
+fn first_on(coder: &mut StackCoder<u8>) -> First {
+    match coder.decode_symbol(ExpGolomb::<u8>::new()) {
+        Ok(number) => First::Number(number),
+        Err(error) => First::Other(refusal_of(error)),
     }
 }
 
-/// A stack of the bits, of which the first comes off first.
-fn turned(alloc: Global, bits: &[u8]) -> Option<StackCoder<u8>> {
-    let mut back = Vec::new(alloc);
-    for bit in bits.iter().rev() {
-        if back.push(*bit).is_err() {
-            return None;
-        }
+/// What comes of the first codeword of the bits, of which so many are then left. The bits are given in the order
+/// of reading, which is from the top of a stack.
+fn first_of(alloc: Global, bits: &[u8], left: usize) -> Option<First> {
+    let mut coder: StackCoder<u8> = StackCoder::new(alloc);
+    if !is_turned(&mut coder, bits) {
+        return None;
     }
-    stack_of(alloc, &back)
+    let first = first_on(&mut coder);
+    if has_len(&coder, left) {
+        Some(first)
+    } else {
+        None
+    }
 }
 
 /// Whether the bits begin with the codeword of this number, and so many are left.
 fn is_number(alloc: Global, bits: &[u8], number: u8, left: usize) -> bool {
-    match turned(alloc, bits) {
-        Some(mut coder) => matches!(first_of(&mut coder), Ok(found) if found == number)
-            && stack_len(&coder, left),
-        None => false,
-    }
+    matches!(first_of(alloc, bits, left), Some(First::Number(found)) if found == number)
 }
 
 /// Whether the bits begin with no codeword and can't, and so many are left.
 fn is_invalid(alloc: Global, bits: &[u8], left: usize) -> bool {
-    match turned(alloc, bits) {
-        Some(mut coder) => matches!(first_of(&mut coder), Err(Took::Invalid))
-            && stack_len(&coder, left),
-        None => false,
-    }
+    matches!(
+        first_of(alloc, bits, left),
+        Some(First::Other(Took::Invalid))
+    )
 }
 
 /// Whether the bits end before the codeword does.
 fn is_short(alloc: Global, bits: &[u8]) -> bool {
-    match turned(alloc, bits) {
-        Some(mut coder) => matches!(first_of(&mut coder), Err(Took::OutOfData))
-            && stack_len(&coder, 0),
-        None => false,
-    }
+    matches!(
+        first_of(alloc, bits, 0),
+        Some(First::Other(Took::OutOfData))
+    )
 }
 
 #[test]

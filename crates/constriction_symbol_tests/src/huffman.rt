@@ -2,8 +2,7 @@
 
 ghost use Rattle.std.specs.Prelude.{◌≤◌};
 
-use crate::coders::stack_of;
-use constriction_base::backends::Stack;
+use crate::texts::{prints, says};
 use constriction_base::errors::CoderError;
 use constriction_symbol::codebooks::{EncoderCodebook, SymbolCodeError};
 use constriction_symbol::coder::StackCoder;
@@ -12,12 +11,11 @@ use constriction_symbol::reading::ReadBitStream;
 use constriction_symbol::writing::WriteBitStream;
 use std::alloc::{AllocError, Global};
 use std::convert::Infallible;
-use std::fmt::{Debug, Display};
 use std::test::Fail;
 
 /// What was emitted of a codeword: its bits as a number, the first one highest, and how many they are; or why it ended, and
 /// behind how many bits.
-#[derive(Debug, Clone, Copy, PartialEq, Eq)]
+#[derive(Drop)]
 pub enum Coded {
     Bits(u32, u32),
     Unknown(u32),
@@ -58,20 +56,19 @@ fn suffix_of(tree: &EncoderHuffmanTree, symbol: usize) -> Coded {
 
 /// Whether both forms of a codeword are these bits.
 fn is_code(tree: &EncoderHuffmanTree, symbol: usize, code: u32, count: u32) -> bool {
-    prefix_of(tree, symbol) == Coded::Bits(code, count)
-        && suffix_of(tree, symbol) == Coded::Bits(code, count)
+    matches!(prefix_of(tree, symbol), Coded::Bits(bits, len) if bits == code && len == count)
+        && matches!(suffix_of(tree, symbol), Coded::Bits(bits, len) if bits == code && len == count)
 }
 
 /// Whether a symbol comes back from a stack, and leaves no bit.
 fn comes_back(
-    alloc: Global,
+    coder: &mut StackCoder<u8>,
     encoder: &EncoderHuffmanTree,
     decoder: &DecoderHuffmanTree,
     symbol: usize,
 ) -> bool {
-    let mut coder: StackCoder<u8> = StackCoder::new(alloc);
-    WriteBitStream::<Stack>::encode_symbol(&mut coder, &symbol, encoder).is_ok()
-        && matches!(ReadBitStream::<Stack>::decode_symbol(&mut coder, decoder), Ok(found) if found == symbol)
+    coder.encode_symbol(&symbol, encoder).is_ok()
+        && matches!(coder.decode_symbol(decoder), Ok(found) if found == symbol)
         && coder.is_empty()
 }
 
@@ -89,6 +86,33 @@ fn decoder_of(
     weights: &[u8],
 ) -> Result<DecoderHuffmanTree, HuffmanError<Infallible>> {
     DecoderHuffmanTree::from_probabilities(alloc, weights.iter())
+}
+
+/// Whether two trees have these codewords, each as its bits and how many they are, and no others, and both agree.
+fn have_codes(
+    alloc: Global,
+    encoder: &EncoderHuffmanTree,
+    decoder: &DecoderHuffmanTree,
+    codes: &[(u32, u32)],
+) -> bool {
+    let mut coder: StackCoder<u8> = StackCoder::new(alloc);
+    for symbol in 0..codes.len() {
+        let (code, count) = codes[symbol];
+        if !is_code(encoder, symbol, code, count)
+            || !comes_back(&mut coder, encoder, decoder, symbol)
+        {
+            return false;
+        }
+    }
+    encoder.num_symbols() == codes.len() && decoder.num_symbols() == codes.len()
+}
+
+/// Whether both trees of some weights have these codewords.
+fn are_codes(alloc: Global, weights: &[u8], codes: &[(u32, u32)]) -> bool {
+    match (encoder_of(alloc, weights), decoder_of(alloc, weights)) {
+        (Ok(encoder), Ok(decoder)) => have_codes(alloc, &encoder, &decoder, codes),
+        _ => false,
+    }
 }
 
 /// Takes out the least weight that is left, the first of its kind, with its place.
@@ -113,86 +137,35 @@ fn take_least(slots: &mut [Option<u32>; 9]) -> Option<(u32, usize)> {
     best
 }
 
-/// A symbol of a plain merge: where its tree stands, and the bits of its codeword.
-#[derive(Clone, Copy)]
-struct Plain {
-    place: usize,
-    code: u32,
-    count: u32,
-}
-
-/// The codewords of at most five weights by a plain merge.
-fn merge_plainly(weights: &[u8]) -> [Plain; 5] {
+/// The codewords of at most five weights by a plain merge: the bits of each, and how many they are.
+fn merge_plainly(weights: &[u8]) -> [(u32, u32); 5] {
     let mut slots: [Option<u32>; 9] = [None; 9];
-    let mut symbols = [
-        Plain {
-            place: 0,
-            code: 0,
-            count: 0,
-        },
-        Plain {
-            place: 1,
-            code: 0,
-            count: 0,
-        },
-        Plain {
-            place: 2,
-            code: 0,
-            count: 0,
-        },
-        Plain {
-            place: 3,
-            code: 0,
-            count: 0,
-        },
-        Plain {
-            place: 4,
-            code: 0,
-            count: 0,
-        },
-    ];
+    let mut places = [0usize, 1, 2, 3, 4];
+    let mut codes = [(0u32, 0u32); 5];
     for (slot, weight) in slots.iter_mut().zip(weights.iter()) {
         *slot = Some(*weight as u32);
     }
     for next in weights.len()..9 {
         let Some(lesser) = take_least(&mut slots) else {
-            return symbols;
+            return codes;
         };
         let Some(other) = take_least(&mut slots) else {
-            return symbols;
+            return codes;
         };
-        if let Some(slot) = slots.get_mut(next) {
-            *slot = Some(lesser.0.wrapping_add(other.0));
-        }
-        for symbol in symbols.iter_mut() {
-            if symbol.place == lesser.1 || symbol.place == other.1 {
-                let bit = (symbol.place == other.1) as u32;
-                symbol.code = symbol.code.wrapping_add(bit.wrapping_shl(symbol.count));
-                symbol.count = symbol.count.wrapping_add(1);
-                symbol.place = next;
+        slots[next] = Some(lesser.0.wrapping_add(other.0));
+        for symbol in 0..5 {
+            if places[symbol] == lesser.1 || places[symbol] == other.1 {
+                let bit = (places[symbol] == other.1) as u32;
+                let (code, count) = codes[symbol];
+                codes[symbol] = (
+                    code.wrapping_add(bit.wrapping_shl(count)),
+                    count.wrapping_add(1),
+                );
+                places[symbol] = next;
             }
         }
     }
-    symbols
-}
-
-/// Whether both trees of some weights have the codewords of the plain merge.
-fn agrees(alloc: Global, weights: &[u8]) -> bool {
-    let (Ok(encoder), Ok(decoder)) = (encoder_of(alloc, weights), decoder_of(alloc, weights)) else {
-        return false;
-    };
-    if encoder.num_symbols() != weights.len() || decoder.num_symbols() != weights.len() {
-        return false;
-    }
-    for (symbol, plain) in merge_plainly(weights).iter().enumerate() {
-        if symbol < weights.len()
-            && !(is_code(&encoder, symbol, plain.code, plain.count)
-                && comes_back(alloc, &encoder, &decoder, symbol))
-        {
-            return false;
-        }
-    }
-    true
+    codes
 }
 
 /// Whether all lists of so many weights below five agree with the plain merge; `lists` says how many they are.
@@ -206,7 +179,8 @@ fn all_agree(alloc: Global, count: usize, lists: u32) -> bool
             *weight = (rest % 5) as u8;
             rest /= 5;
         }
-        if !agrees(alloc, &weights[..count]) {
+        let codes = merge_plainly(&weights[..count]);
+        if !are_codes(alloc, &weights[..count], &codes[..count]) {
             return false;
         }
     }
@@ -224,46 +198,39 @@ fn all_short_lists(rt: HostRuntime) {
     );
 }
 
-/// Whether a value has the text.
-fn prints<T: Debug>(alloc: Global, value: &T, text: &str) -> bool {
-    match format!(in alloc; "{:?}", value) {
-        Ok(written) => written.as_str().starts_with(text),
-        Err(_) => false,
+/// Whether the trees of the weights 2, 2, 4, 1, 1 have these nodes.
+fn are_of_five(alloc: Global) -> bool {
+    match (
+        encoder_of(alloc, &[2, 2, 4, 1, 1]),
+        decoder_of(alloc, &[2, 2, 4, 1, 1]),
+    ) {
+        (Ok(encoder), Ok(decoder)) => {
+            prints(
+                alloc,
+                &encoder,
+                "EncoderHuffmanTree { nodes: [12, 13, 15, 10, 11, 14, 16, 17, 0], ",
+            ) && prints(
+                alloc,
+                &decoder,
+                "DecoderHuffmanTree { nodes: [[3, 4], [0, 1], [5, 2], [6, 7]] }",
+            )
+        }
+        _ => false,
     }
 }
 
 /// The codewords `00 01 11 100 101`, and the nodes.
-fn is_of_five(alloc: Global, encoder: &EncoderHuffmanTree, decoder: &DecoderHuffmanTree) -> bool {
-    is_code(encoder, 0, 0, 2)
-        && is_code(encoder, 1, 1, 2)
-        && is_code(encoder, 2, 3, 2)
-        && is_code(encoder, 3, 4, 3)
-        && is_code(encoder, 4, 5, 3)
-        && prints(
-            alloc,
-            encoder,
-            "EncoderHuffmanTree { nodes: [12, 13, 15, 10, 11, 14, 16, 17, 0], ",
-        )
-        && prints(
-            alloc,
-            decoder,
-            "DecoderHuffmanTree { nodes: [[3, 4], [0, 1], [5, 2], [6, 7]] }",
-        )
-}
-
 #[test]
-fn huffman_lines(rt: HostRuntime) -> Result<(), Fail> {
-    let encoder = encoder_of(rt.alloc(), &[2, 2, 4, 1, 1])?;
-    let decoder = decoder_of(rt.alloc(), &[2, 2, 4, 1, 1])?;
-    let two = encoder_of(rt.alloc(), &[2, 1])?;
-    let one = encoder_of(rt.alloc(), &[1])?;
+fn huffman_lines(rt: HostRuntime) {
     assert!(rt;
-        is_of_five(rt.alloc(), &encoder, &decoder)
-            && is_code(&two, 0, 1, 1)
-            && is_code(&two, 1, 0, 1)
-            && is_code(&one, 0, 0, 0)
+        are_codes(
+            rt.alloc(),
+            &[2, 2, 4, 1, 1],
+            &[(0, 2), (1, 2), (3, 2), (4, 3), (5, 3)]
+        ) && are_of_five(rt.alloc())
+            && are_codes(rt.alloc(), &[2, 1], &[(1, 1), (0, 1)])
+            && are_codes(rt.alloc(), &[1], &[(0, 0)])
     );
-    Ok(())
 }
 
 #[test]
@@ -283,63 +250,69 @@ fn huffman_refusals(rt: HostRuntime) {
 }
 
 #[test]
-fn huffman_zero_weight(rt: HostRuntime) -> Result<(), Fail> {
-    let encoder = encoder_of(rt.alloc(), &[255, 0])?;
-    let decoder = decoder_of(rt.alloc(), &[255, 0])?;
-    assert!(rt;
-        is_code(&encoder, 0, 1, 1)
-            && is_code(&encoder, 1, 0, 1)
-            && comes_back(rt.alloc(), &encoder, &decoder, 0)
-            && comes_back(rt.alloc(), &encoder, &decoder, 1)
-    );
-    Ok(())
+fn huffman_zero_weight(rt: HostRuntime) {
+    assert!(rt; are_codes(rt.alloc(), &[255, 0], &[(1, 1), (0, 1)]));
 }
 
-#[test]
-fn huffman_iterator_fault(rt: HostRuntime) -> Result<(), Fail> {
-    let encoder: Result<EncoderHuffmanTree, HuffmanError<&str>> =
-        EncoderHuffmanTree::try_from_probabilities(rt.alloc(), [Ok(255u8), Ok(1), Err("e")]);
-    let decoder: Result<DecoderHuffmanTree, HuffmanError<&str>> =
-        DecoderHuffmanTree::try_from_probabilities(rt.alloc(), [Ok(255u8), Ok(1), Err("e")]);
-    let two: Result<EncoderHuffmanTree, HuffmanError<&str>> =
-        EncoderHuffmanTree::try_from_probabilities(rt.alloc(), [Ok(2u8), Ok(1)]);
-    let other: Result<DecoderHuffmanTree, HuffmanError<&str>> =
-        DecoderHuffmanTree::try_from_probabilities(rt.alloc(), [Ok(2u8), Ok(1)]);
-    assert!(rt;
-        matches!(encoder, Err(HuffmanError::Iterator(error)) if error == "e")
-            && matches!(decoder, Err(HuffmanError::Iterator(error)) if error == "e")
-    );
-    let (Ok(two), Ok(other)) = (two, other) else {
-        return Err(Fail::from("no trees"));
-    };
-    assert!(rt;
-        is_code(&two, 0, 1, 1)
-            && is_code(&two, 1, 0, 1)
-            && comes_back(rt.alloc(), &two, &other, 0)
-            && comes_back(rt.alloc(), &two, &other, 1)
-    );
-    Ok(())
-}
-
-/// Whether the bits end within a codeword.
-fn is_short(decoder: &DecoderHuffmanTree, mut coder: StackCoder<u8>) -> bool {
+/// Whether the trees of weights that end in an error are refused with it.
+fn faults_end(alloc: Global) -> bool {
     matches!(
-        ReadBitStream::<Stack>::decode_symbol(&mut coder, decoder),
-        Err(CoderError::Frontend(SymbolCodeError::OutOfCompressedData))
-    ) && coder.is_empty()
+        EncoderHuffmanTree::try_from_probabilities(alloc, [Ok(255u8), Ok(1), Err("e")]),
+        Err(HuffmanError::Iterator(error)) if error == "e"
+    ) && matches!(
+        DecoderHuffmanTree::try_from_probabilities(alloc, [Ok(255u8), Ok(1), Err("e")]),
+        Err(HuffmanError::Iterator(error)) if error == "e"
+    )
+}
+
+/// Whether the trees of given weights have their codewords.
+fn given_have_codes(alloc: Global) -> bool {
+    let items: [Result<u8, &str>; 2] = [Ok(2), Ok(1)];
+    let Ok(encoder) = EncoderHuffmanTree::try_from_probabilities(alloc, items) else {
+        return false;
+    };
+    let others: [Result<u8, &str>; 2] = [Ok(2), Ok(1)];
+    let Ok(decoder) = DecoderHuffmanTree::try_from_probabilities(alloc, others) else {
+        return false;
+    };
+    have_codes(alloc, &encoder, &decoder, &[(1, 1), (0, 1)])
 }
 
 #[test]
-fn huffman_unknown_and_short(rt: HostRuntime) -> Result<(), Fail> {
-    let encoder = encoder_of(rt.alloc(), &[2, 2, 4, 1, 1])?;
-    let decoder = decoder_of(rt.alloc(), &[2, 2, 4, 1, 1])?;
-    let coder = stack_of(rt.alloc(), b"1").ok_or("no memory")?;
+fn huffman_iterator_fault(rt: HostRuntime) {
+    assert!(rt; faults_end(rt.alloc()) && given_have_codes(rt.alloc()));
+}
+
+/// Whether a symbol past the last has no codeword.
+fn is_unknown(alloc: Global) -> bool {
+    match encoder_of(alloc, &[2, 2, 4, 1, 1]) {
+        Ok(encoder) => {
+            matches!(prefix_of(&encoder, 5), Coded::Unknown(0))
+                && matches!(suffix_of(&encoder, 5), Coded::Unknown(0))
+        }
+        Err(_) => false,
+    }
+}
+
+/// Whether the bits on a stack end within a codeword.
+fn is_short(alloc: Global, coder: &mut StackCoder<u8>) -> bool {
+    match decoder_of(alloc, &[2, 2, 4, 1, 1]) {
+        Ok(decoder) => {
+            matches!(
+                coder.decode_symbol(&decoder),
+                Err(CoderError::Frontend(SymbolCodeError::OutOfCompressedData))
+            ) && coder.is_empty()
+        }
+        Err(_) => false,
+    }
+}
+
+#[test]
+fn huffman_unknown_and_short(rt: HostRuntime) {
+    let mut coder: StackCoder<u8> = StackCoder::new(rt.alloc());
     assert!(rt;
-        prefix_of(&encoder, 5) == Coded::Unknown(0)
-            && suffix_of(&encoder, 5) == Coded::Unknown(0)
-            && is_short(&decoder, coder)
+        is_unknown(rt.alloc()) && coder.write_bit(true).is_ok() && is_short(rt.alloc(), &mut coder)
     );
-    Ok(())
 }
 
 /// The tree of the first 150 Fibonacci numbers: each union is merged with the next number.
@@ -366,14 +339,6 @@ fn a_codeword_of_149_bits(rt: HostRuntime) -> Result<(), Fail> {
             && matches!(suffix_of(&tree, 149), Coded::Bits(_, 1))
     );
     Ok(())
-}
-
-/// Whether an error has the text.
-fn says<E: Display + Drop>(alloc: Global, error: E, text: &str) -> bool {
-    match format!(in alloc; "{error}") {
-        Ok(written) => written.as_str() == text,
-        Err(_) => false,
-    }
 }
 
 #[test]

@@ -20,28 +20,39 @@ fn make_lists(alloc: Global, count: usize) -> Result<(), Fail> {
     Ok(())
 }
 
-/// What a tree of three symbols says of itself.
-fn has_three(symbols: Result<usize, HuffmanError<Infallible>>) -> Result<(), Fail> {
-    match symbols {
-        Ok(3) => Ok(()),
-        Ok(_) => Err(Fail::from("another tree")),
-        Err(HuffmanError::Memory) => Err(Fail::from("want of memory")),
-        Err(_) => Err(Fail::from("another error")),
+/// Whether a tree has three symbols.
+fn has_three(symbols: usize) -> Result<(), Fail> {
+    if symbols == 3 {
+        Ok(())
+    } else {
+        Err(Fail::from("another tree"))
+    }
+}
+
+/// What the refusal of a tree says.
+fn fail_of(error: HuffmanError<Infallible>) -> Fail {
+    match error {
+        HuffmanError::Memory => Fail::from("want of memory"),
+        _ => Fail::from("another error"),
     }
 }
 
 /// An encoder's tree of three weights is four allocations: its weights, a heap of them, the pairs and the nodes.
 fn encoder_after(alloc: Global, lists: usize) -> Result<(), Fail> {
     make_lists(alloc, lists)?;
-    let made = EncoderHuffmanTree::from_probabilities(alloc, &[5u8, 2, 4]);
-    has_three(made.map(|tree| tree.num_symbols()))
+    match EncoderHuffmanTree::from_probabilities(alloc, &[5u8, 2, 4]) {
+        Ok(tree) => has_three(tree.num_symbols()),
+        Err(error) => Err(fail_of(error)),
+    }
 }
 
 /// A decoder's tree of three weights is three allocations: its weights, a heap of them, and the pairs.
 fn decoder_after(alloc: Global, lists: usize) -> Result<(), Fail> {
     make_lists(alloc, lists)?;
-    let made = DecoderHuffmanTree::from_probabilities(alloc, &[5u8, 2, 4]);
-    has_three(made.map(|tree| tree.num_symbols()))
+    match DecoderHuffmanTree::from_probabilities(alloc, &[5u8, 2, 4]) {
+        Ok(tree) => has_three(tree.num_symbols()),
+        Err(error) => Err(fail_of(error)),
+    }
 }
 
 #[test]

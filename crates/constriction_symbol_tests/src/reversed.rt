@@ -5,7 +5,7 @@ ghost use Rattle.constriction_symbol.specs.Reversed.{IsLongerThan};
 ghost use Rattle.constriction_symbol_tests.specs.Lone.{lone, lone_suffix};
 ghost use Rattle.std.specs.Prelude.{refl, ◌*◌};
 
-use crate::bits::{ends, gives, gives_many, writes, writes_many};
+use crate::bits::{gives, writes};
 use constriction_base::backends::{Queue, Stack};
 use constriction_base::cursor::Cursor;
 use constriction_base::errors::{BoundedWriteError, CoderError, DefaultEncoderError};
@@ -88,17 +88,16 @@ fn emit_lone<E, F: FnMut(bool) -> Result<(), E>>(
 }
 
 /// Two words of bits on a small stack come off again, the last one first. Until then it asks for no memory.
-fn fills_two_words(stack: &mut SmallBitStack) -> bool {
-    writes_many::<Stack, _>(stack, true, 125).is_ok()
-        && writes::<Stack, _>(stack, b"011").is_ok()
-        && gives::<Stack, _>(stack, b"110")
-        && gives_many::<Stack, _>(stack, true, 125)
-        && ends::<Stack, _>(stack)
-}
-
 #[test]
 fn a_small_stack_of_two_words(rt: HostRuntime) {
-    assert!(rt; fills_two_words(&mut SmallBitStack::new(rt.alloc())));
+    let mut stack = SmallBitStack::new(rt.alloc());
+    assert!(rt;
+        writes::<Stack, _>(&mut stack, &[b'1'; 125])
+            && writes::<Stack, _>(&mut stack, b"011")
+            && gives::<Stack, _>(&mut stack, b"110")
+            && gives::<Stack, _>(&mut stack, &[b'1'; 125])
+            && gives::<Stack, _>(&mut stack, b".")
+    );
 }
 
 /// The codeword of `zeros + 1` bits in a queue over a buffer. Where it finds no memory, none of its bits is there.

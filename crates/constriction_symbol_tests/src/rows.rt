@@ -1,22 +1,34 @@
 //! Worked values: words and bits by hand.
 
-use crate::bits::{ends, gives, gives_many, writes_many};
-use crate::coders::{
-    exports, exports_queue, holds_stack, is_refused, queue_len, queue_of_numbers, stack_of,
-    stack_of_numbers, word_queue,
-};
-use crate::codewords::{Took, takes};
+use crate::bits::{gives, writes};
+use crate::coders::{LentQueue, exports, has_len, holds_stack, queue_goes, word_queue};
+use crate::codewords::{Put, Took, puts, takes};
 use constriction_base::backends::{Queue, Stack};
-use constriction_symbol::coder::{DefaultStackCoder, StackCoder};
+use constriction_base::errors::CoderError;
+use constriction_symbol::coder::{DefaultQueueEncoder, DefaultStackCoder, StackCoder};
 use constriction_words::BitArray;
 use std::alloc::Global;
 use std::test::Fail;
 
 /// Whether the bits export these words.
 fn stack_words(alloc: Global, bits: &[u8], words: &[u32]) -> bool {
-    match stack_of(alloc, bits) {
-        Some(coder) => exports(coder, words),
-        None => false,
+    let mut coder: DefaultStackCoder = DefaultStackCoder::new(alloc);
+    writes::<Stack, _>(&mut coder, bits) && exports(coder, words)
+}
+
+/// Whether the words are those of a stack that gives these bits, the last one first, and then none.
+fn word_bits(alloc: Global, words: &[u32], bits: &[u8]) -> bool {
+    match words.to_vec(alloc) {
+        Ok(owned) => holds_stack(owned, bits),
+        Err(_) => false,
+    }
+}
+
+/// Whether the words are those of no stack, and these words come back.
+fn is_refused(words: Vec<u32>, back: &[u32]) -> bool {
+    match StackCoder::from_compressed(words) {
+        Err(CoderError::Frontend(left)) => left.as_slice() == back,
+        _ => false,
     }
 }
 
@@ -24,43 +36,49 @@ fn stack_words(alloc: Global, bits: &[u8], words: &[u32]) -> bool {
 /// last comes off first.
 #[test]
 fn stack_end_bit(rt: HostRuntime) -> Result<(), Fail> {
-    let mut ones: DefaultStackCoder = DefaultStackCoder::new(rt.alloc());
-    let are_written = writes_many::<Stack, _>(&mut ones, true, 32).is_ok();
-    let one = [3u32].to_vec(rt.alloc())?;
-    let three = [12u32].to_vec(rt.alloc())?;
     let zero = [7u32, 0].to_vec(rt.alloc())?;
+    let is_zero_refused = is_refused(zero, &[7]);
     assert!(rt;
-        are_written
-            && exports(ones, &[4294967295, 1])
+        is_zero_refused
+            && stack_words(rt.alloc(), &[b'1'; 32], &[4294967295, 1])
             && stack_words(rt.alloc(), b"1", &[3])
             && stack_words(rt.alloc(), b"", &[1])
-            && holds_stack(one, b"1")
-            && holds_stack(three, b"100")
-            && holds_stack(Vec::<u32>::new(rt.alloc()), b"")
-            && is_refused(zero, &[7])
+            && word_bits(rt.alloc(), &[3], b"1..")
+            && word_bits(rt.alloc(), &[12], b"100..")
+            && word_bits(rt.alloc(), &[], b"..")
     );
     Ok(())
 }
 
-/// Whether the codeword of the one number is this one: as a prefix in a queue, and as a suffix in a stack, of
-/// which it is read in the same order.
-pub fn is_codeword<N: BitArray + PartialEq>(alloc: Global, symbols: &[N], bits: &[u8]) -> bool {
-    let Some(queue) = queue_of_numbers::<u32, N>(alloc, symbols) else {
-        return false;
-    };
-    let Some(mut stack) = stack_of_numbers::<u32, N>(alloc, symbols) else {
-        return false;
-    };
-    let Some(mut other) = stack_of_numbers::<u32, N>(alloc, symbols) else {
-        return false;
-    };
-    queue_len(&queue, bits.len())
-        && gives::<Stack, _>(&mut stack, bits)
-        && ends::<Stack, _>(&mut stack)
-        && matches!(takes::<Stack, _, N>(&mut other, symbols), Took::All)
-        && ends::<Stack, _>(&mut other)
-        && matches!(queue.into_compressed(), Ok(words) if gives::<Queue, _>(&mut word_queue(&words), bits)
-            && matches!(takes::<Queue, _, N>(&mut word_queue(&words), symbols), Took::All))
+/// Whether the codeword of the number is this one, as a prefix in a queue, and it is read back.
+fn is_prefix<N: BitArray + PartialEq>(alloc: Global, symbol: &[N], bits: &[u8]) -> bool {
+    let mut coder: DefaultQueueEncoder = DefaultQueueEncoder::new(alloc);
+    let is_put = matches!(puts::<Queue, _, N>(&mut coder, symbol), Put::Done)
+        && has_len(&coder, bits.len())
+        && matches!(puts::<Queue, _, N>(&mut coder, symbol), Put::Done);
+    match coder.into_decoder() {
+        Ok(mut decoder) => is_put
+            && gives::<Queue, _>(&mut decoder, bits)
+            && matches!(takes::<Queue, _, N>(&mut decoder, symbol), Took::All),
+        Err(_) => false,
+    }
+}
+
+/// Whether the codeword of the number is this one, as a suffix on a stack, of which it is read in the same order,
+/// and it is read back.
+fn is_suffix<N: BitArray + PartialEq>(alloc: Global, symbol: &[N], bits: &[u8]) -> bool {
+    let mut coder: DefaultStackCoder = DefaultStackCoder::new(alloc);
+    matches!(puts::<Stack, _, N>(&mut coder, symbol), Put::Done)
+        && has_len(&coder, bits.len())
+        && matches!(puts::<Stack, _, N>(&mut coder, symbol), Put::Done)
+        && gives::<Stack, _>(&mut coder, bits)
+        && matches!(takes::<Stack, _, N>(&mut coder, symbol), Took::All)
+        && has_len(&coder, 0)
+}
+
+/// Whether the codeword of the one number is this one in both forms.
+fn is_codeword<N: BitArray + PartialEq>(alloc: Global, symbol: &[N], bits: &[u8]) -> bool {
+    is_prefix(alloc, symbol, bits) && is_suffix(alloc, symbol, bits)
 }
 
 #[test]
@@ -83,69 +101,65 @@ fn golomb_codewords(rt: HostRuntime) {
     );
 }
 
-/// After nine zeros of 32 the refusal leaves 23.
+/// All bytes of which the codeword is at a limit: where the number of digits grows, and the two greatest.
 #[test]
-fn golomb_byte_limits(rt: HostRuntime) {
-    let longest = match queue_of_numbers::<u32, u8>(rt.alloc(), &[255]) {
-        Some(coder) => queue_len(&coder, 17) && exports_queue(coder, &[256]),
-        None => false,
-    };
-    let mut zeros = word_queue([0u32].as_slice());
-    let mut none = word_queue([0u32; 0].as_slice());
+fn codewords_of_bytes(rt: HostRuntime) {
     assert!(rt;
-        longest
-            && matches!(takes::<Queue, _, u8>(&mut zeros, &[0]), Took::Invalid)
-            && gives_many::<Queue, _>(&mut zeros, false, 23)
-            && ends::<Queue, _>(&mut zeros)
-            && matches!(takes::<Queue, _, u8>(&mut none, &[0]), Took::OutOfData)
+        is_codeword(rt.alloc(), &[2u8], b"011")
+            && is_codeword(rt.alloc(), &[3u8], b"00100")
+            && is_codeword(rt.alloc(), &[126u8], b"0000001111111")
+            && is_codeword(rt.alloc(), &[127u8], b"000000010000000")
+            && is_codeword(rt.alloc(), &[254u8], b"000000011111111")
+            && is_codeword(rt.alloc(), &[255u8], b"00000000100000000")
     );
 }
 
-/// Whether the numbers export these words in a queue, and are read back.
-fn number_words(alloc: Global, numbers: &[u32], words: &[u32]) -> bool {
-    match queue_of_numbers::<u32, u32>(alloc, numbers) {
-        Some(coder) => {
-            exports_queue(coder, words)
-                && matches!(
-                    takes::<Queue, _, u32>(&mut word_queue(words), numbers),
-                    Took::All
-                )
-        }
-        None => false,
-    }
+/// Whether no byte's codeword is read from a word of zeros, of which nine are read. After these the refusal leaves 23.
+fn zeros_are_refused(zeros: &mut LentQueue<'_, u32>) -> bool {
+    matches!(takes::<Queue, _, u8>(zeros, &[0]), Took::Invalid)
+        && gives::<Queue, _>(zeros, b"00000000000000000000000..")
+}
+
+#[test]
+fn golomb_byte_limits(rt: HostRuntime) {
+    assert!(rt;
+        queue_goes(rt.alloc(), &[255u8], &[256u32], 17)
+            && zeros_are_refused(&mut word_queue([0u32].as_slice()))
+            && matches!(
+                takes::<Queue, _, u8>(&mut word_queue([0u32; 0].as_slice()), &[0]),
+                Took::OutOfData
+            )
+    );
 }
 
 #[test]
 fn golomb_line(rt: HostRuntime) {
-    assert!(rt; number_words(rt.alloc(), &[0, 5, 7], &[537]));
+    assert!(rt; queue_goes(rt.alloc(), &[0u32, 5, 7], &[537u32], 13));
 }
 
 #[test]
 fn golomb_empty_line(rt: HostRuntime) {
-    assert!(rt; number_words(rt.alloc(), &[], &[]));
+    assert!(rt; queue_goes::<u32, u32>(rt.alloc(), &[], &[], 0));
+}
+
+/// Whether a queue is exhausted behind these bits, of which the last is read apart, and not before.
+fn is_exhausted_behind(words: &[u32], bits: &[u8], last: &[u8]) -> bool {
+    let mut decoder = word_queue(words);
+    !decoder.maybe_exhausted()
+        && gives::<Queue, _>(&mut decoder, bits)
+        && !decoder.maybe_exhausted()
+        && gives::<Queue, _>(&mut decoder, last)
+        && decoder.maybe_exhausted()
 }
 
 /// Before a bit is read, and between the words, there may be more; and after the second word's first
-/// bit all others are zeros.
+/// bit all others are zeros. Where a bit that is set is left, it isn't exhausted.
 #[test]
 fn queue_exhausted(rt: HostRuntime) {
-    let mut decoder = word_queue([1u32, 0].as_slice());
-    let before = decoder.maybe_exhausted();
-    let first = gives::<Queue, _>(&mut decoder, b"1")
-        && gives_many::<Queue, _>(&mut decoder, false, 31);
-    let between = decoder.maybe_exhausted();
-    let second = gives_many::<Queue, _>(&mut decoder, false, 1);
-    assert!(rt; !before && first && !between && second && decoder.maybe_exhausted());
-}
-
-/// A bit that is set is left, and so it isn't exhausted.
-#[test]
-fn a_set_bit_is_left(rt: HostRuntime) {
-    let mut decoder = word_queue([9u8].as_slice());
-    let first = gives::<Queue, _>(&mut decoder, b"100");
-    let before = decoder.maybe_exhausted();
-    let last = gives::<Queue, _>(&mut decoder, b"1");
-    assert!(rt; first && !before && last && decoder.maybe_exhausted());
+    assert!(rt;
+        is_exhausted_behind(&[1, 0], b"10000000000000000000000000000000", b"0")
+            && is_exhausted_behind(&[9], b"100", b"1")
+    );
 }
 
 #[test]

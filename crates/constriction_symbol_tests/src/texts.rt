@@ -1,15 +1,23 @@
-//! Texts of errors.
+//! Texts of errors and values.
 
 use constriction_base::errors::CoderError;
 use constriction_symbol::codebooks::SymbolCodeError;
 use constriction_symbol::exp_golomb::InvalidCodeword;
 use std::alloc::{AllocError, Global};
-use std::fmt::Display;
+use std::fmt::{Debug, Display};
 
 /// Whether the error has the text.
-fn says<E: Display + Drop>(alloc: Global, error: E, text: &str) -> bool {
+pub fn says<E: Display + Drop>(alloc: Global, error: E, text: &str) -> bool {
     match format!(in alloc; "{error}") {
         Ok(written) => written.as_str() == text,
+        Err(_) => false,
+    }
+}
+
+/// Whether the text of a value begins with this one.
+pub fn prints<T: Debug>(alloc: Global, value: &T, text: &str) -> bool {
+    match format!(in alloc; "{:?}", value) {
+        Ok(written) => written.as_str().starts_with(text),
         Err(_) => false,
     }
 }
