@@ -34,7 +34,7 @@ mod lists;
 #[cfg(test)]
 mod memory;
 #[cfg(test)]
-mod refused_trees;
+mod refused;
 #[cfg(test)]
 mod reversed;
 #[cfg(test)]

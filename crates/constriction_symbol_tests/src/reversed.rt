@@ -101,9 +101,7 @@ fn a_small_stack_of_two_words(rt: HostRuntime) {
 }
 
 /// The codeword of `zeros + 1` bits in a queue over a buffer. Where it finds no memory, none of its bits is there.
-///
-/// `tests/refused-memory` has the first allocation of each of the next tests refused. The one of 128 bits makes none.
-fn turned_round(alloc: Global, zeros: u32) -> Result<(), Fail> {
+pub fn turned_round(alloc: Global, zeros: u32) -> Result<(), Fail> {
     let mut words = [0u64; 3];
     let mut coder: QueueEncoder<u64, Cursor<u64, &mut [u64]>> = QueueEncoder::from_compressed(
         Cursor::new_at_write_beginning(words.as_mut_slice()),
@@ -120,14 +118,4 @@ fn turned_round(alloc: Global, zeros: u32) -> Result<(), Fail> {
         )),
         Err(_) => Err(Fail::from("another error")),
     }
-}
-
-#[test]
-fn a_codeword_of_128_bits(rt: HostRuntime) -> Result<(), Fail> {
-    turned_round(rt.alloc(), 127)
-}
-
-#[test]
-fn a_codeword_of_129_bits(rt: HostRuntime) -> Result<(), Fail> {
-    turned_round(rt.alloc(), 128)
 }

@@ -1,9 +1,10 @@
-//! Huffman trees that find no memory.
+//! Huffman trees, and codewords that are turned round, that find no memory.
 //!
-//! `tests/refused-memory` has one allocation of each of these tests refused: of each tree after so many lists it is another one,
-//! since each list is an allocation too. Where none is refused, the tree is made and the codeword is whole.
+//! `tests/refused-memory` has the twelfth allocation of each of these tests refused: of each tree after so many lists it is another
+//! one, since each list is an allocation too. Where none is refused, the tree is made and the codeword is whole.
 
 use crate::huffman::{Coded, deep_tree, prefix_of};
+use crate::reversed::turned_round;
 use constriction_symbol::huffman::{DecoderHuffmanTree, EncoderHuffmanTree, HuffmanError};
 use std::alloc::Global;
 use std::convert::Infallible;
@@ -37,7 +38,7 @@ fn fail_of(error: HuffmanError<Infallible>) -> Fail {
     }
 }
 
-/// An encoder's tree of three weights is four allocations: its weights, a heap of them, the pairs and the nodes.
+/// An encoder's tree of three weights is five allocations: its weights, a heap of them, the pairs, the nodes and their codewords.
 fn encoder_after(alloc: Global, lists: usize) -> Result<(), Fail> {
     make_lists(alloc, lists)?;
     match EncoderHuffmanTree::from_probabilities(alloc, &[5u8, 2, 4]) {
@@ -56,43 +57,56 @@ fn decoder_after(alloc: Global, lists: usize) -> Result<(), Fail> {
 }
 
 #[test]
-fn a_tree_for_encoding_after_0(rt: HostRuntime) -> Result<(), Fail> {
-    encoder_after(rt.alloc(), 0)
+fn a_tree_for_encoding_after_7(rt: HostRuntime) -> Result<(), Fail> {
+    encoder_after(rt.alloc(), 7)
 }
 
 #[test]
-fn a_tree_for_encoding_after_1(rt: HostRuntime) -> Result<(), Fail> {
-    encoder_after(rt.alloc(), 1)
+fn a_tree_for_encoding_after_8(rt: HostRuntime) -> Result<(), Fail> {
+    encoder_after(rt.alloc(), 8)
 }
 
 #[test]
-fn a_tree_for_encoding_after_2(rt: HostRuntime) -> Result<(), Fail> {
-    encoder_after(rt.alloc(), 2)
+fn a_tree_for_encoding_after_9(rt: HostRuntime) -> Result<(), Fail> {
+    encoder_after(rt.alloc(), 9)
 }
 
 #[test]
-fn a_tree_for_encoding_after_3(rt: HostRuntime) -> Result<(), Fail> {
-    encoder_after(rt.alloc(), 3)
+fn a_tree_for_encoding_after_10(rt: HostRuntime) -> Result<(), Fail> {
+    encoder_after(rt.alloc(), 10)
 }
 
 #[test]
-fn a_tree_for_decoding_after_0(rt: HostRuntime) -> Result<(), Fail> {
-    decoder_after(rt.alloc(), 0)
+fn a_tree_for_encoding_after_11(rt: HostRuntime) -> Result<(), Fail> {
+    encoder_after(rt.alloc(), 11)
 }
 
 #[test]
-fn a_tree_for_decoding_after_1(rt: HostRuntime) -> Result<(), Fail> {
-    decoder_after(rt.alloc(), 1)
+fn a_tree_for_decoding_after_9(rt: HostRuntime) -> Result<(), Fail> {
+    decoder_after(rt.alloc(), 9)
 }
 
 #[test]
-fn a_tree_for_decoding_after_2(rt: HostRuntime) -> Result<(), Fail> {
-    decoder_after(rt.alloc(), 2)
+fn a_tree_for_decoding_after_10(rt: HostRuntime) -> Result<(), Fail> {
+    decoder_after(rt.alloc(), 10)
 }
 
 #[test]
-fn a_tree_for_decoding_after_3(rt: HostRuntime) -> Result<(), Fail> {
-    decoder_after(rt.alloc(), 3)
+fn a_tree_for_decoding_after_11(rt: HostRuntime) -> Result<(), Fail> {
+    decoder_after(rt.alloc(), 11)
+}
+
+/// Two words of bits take no memory when they are turned round.
+#[test]
+fn a_codeword_of_128_bits(rt: HostRuntime) -> Result<(), Fail> {
+    make_lists(rt.alloc(), 11)?;
+    turned_round(rt.alloc(), 127)
+}
+
+#[test]
+fn a_codeword_of_129_bits(rt: HostRuntime) -> Result<(), Fail> {
+    make_lists(rt.alloc(), 11)?;
+    turned_round(rt.alloc(), 128)
 }
 
 /// The prefix form of a codeword of more than two words of bits is turned round on a stack that has to grow.
