@@ -1,154 +1,106 @@
 //! Encoders that write over a buffer, with room and without.
 
-use crate::coders::{CursorEncoder, INVERTING, encoder_over, encoder_with, inverted, table_of};
-use crate::expect::{At, exports, has_parts, stands_at, words_of};
-use crate::put::{Call, Put, put_by, puts};
-use crate::whole::has_sizes;
-use constriction_base::backends::{Pos, Seek};
-use constriction_base::cursor::Cursor;
-use constriction_base::errors::BoundedWriteError;
-use constriction_base::weights::WeightTable;
-use constriction_queue::{EncoderSituation, RangeEncoder};
+use crate::coders::{CursorEncoder, INVERTING, Table, encoder_over, table_of};
+use crate::expect::{exports, holds_back, is_interval};
+use crate::put::{Put, put_bytes, put_onto};
+use constriction_base::backends::Pos;
+use constriction_base::errors::{BoundedWriteError, CoderError};
+use constriction_queue::RangeEncoder;
+use constriction_stream::coder::Code;
 use constriction_stream::encoding::Encode;
-use constriction_words::{BitArray, WordOf};
-use std::alloc::Global;
 use std::test::Fail;
 
-/// Whether a list stops for want of room.
-fn is_refused(
-    alloc: Global,
-    encoder: &mut CursorEncoder<'_, u16>,
-    table: &WeightTable<u8, 8>,
-    call: Call,
-    symbols: &[usize],
-) -> bool {
+/// Whether the next symbol may find no room.
+fn seems_full(encoder: &CursorEncoder<'_>) -> bool {
+    Encode::<8>::maybe_full(encoder)
+}
+
+/// A symbol for which there is no room.
+fn is_out_of_space(encoder: &mut CursorEncoder<'_>, table: &Table, symbol: usize) -> bool {
+    if Encode::<8>::symbols_left(encoder) == 0 {
+        return false;
+    }
     matches!(
-        put_by(alloc, encoder, table, call, symbols),
-        Put::Refused(BoundedWriteError::OutOfSpace)
+        encoder.encode_symbol(&symbol, table),
+        Err(CoderError::Backend(BoundedWriteError::OutOfSpace))
     )
 }
 
-/// Whether the next symbol may find no room.
-fn seems_full<State>(encoder: &CursorEncoder<'_, State>) -> bool
-where
-    u8: WordOf<State>,
-    State: BitArray,
-{
-    Encode::<8>::maybe_full(encoder)
+/// Three symbols, of which the last finds no room for the second of the words that it owes.
+fn is_full(mut encoder: CursorEncoder<'_>, table: &Table) -> bool {
+    let is_refused = !seems_full(&encoder)
+        && matches!(put_onto(&mut encoder, table, &[1, 1]), Put::Done)
+        && is_out_of_space(&mut encoder, table, 3)
+        && seems_full(&encoder);
+    let (bulk, state, situation) = encoder.into_raw_parts();
+    is_refused
+        && bulk.pos() == 1
+        && is_interval(state, 33024, 65280)
+        && holds_back(situation, &[126, 255])
 }
 
 /// Room for one word of the two that are owed: the first is written, and the interval stays.
 #[test]
 fn range_cursor_full(rt: HostRuntime) -> Result<(), Fail> {
     let table = table_of(rt.alloc(), &INVERTING)?;
-    let two = At {
-        written: &[127],
-        held: &[126, 255],
-        lower: 33024,
-        range: 65280,
-        sealed: &[],
-    };
-    for call in [Call::Each, Call::List, Call::Pairs, Call::Items] {
-        let mut buf = [0u8; 1];
-        let mut encoder = encoder_over::<u16>(&mut buf);
-        assert!(rt;
-            !seems_full(&encoder)
-                && is_refused(rt.alloc(), &mut encoder, &table, call, &[1, 1, 3])
-                && seems_full(&encoder)
-                && has_parts(encoder, &two)
-        );
-        assert!(rt; buf == [127u8]);
+    let mut buf = [0u8; 1];
+    assert!(rt; is_full(encoder_over(&mut buf), &table) && buf == [127u8]);
+    Ok(())
+}
+
+/// How many words of a buffer an encoder fills.
+fn filled(
+    buf: &mut [u8],
+    table: &Table,
+    symbols: &[usize],
+) -> Result<usize, Option<BoundedWriteError>> {
+    let mut encoder = encoder_over(buf);
+    if !matches!(put_onto(&mut encoder, table, symbols), Put::Done) {
+        return Err(None);
     }
-    Ok(())
+    match encoder.into_compressed() {
+        Ok(cursor) => Ok(cursor.pos()),
+        Err(error) => Err(Some(error)),
+    }
 }
 
-/// Room for all words, and for the seal's.
-#[test]
-fn words_over_a_cursor(rt: HostRuntime) -> Result<(), Fail> {
-    let table = table_of(rt.alloc(), &INVERTING)?;
-    let mut buf = [0u8; 5];
-    let mut encoder = encoder_over::<u16>(&mut buf);
-    assert!(rt;
-        encoder.is_empty()
-            && has_sizes(&encoder, 0, 0)
-            && stands_at(&encoder, 0, 0, 65535)
-            && puts(&mut encoder, &table, &[1, 1, 3])
-            && has_sizes(&encoder, 4, 32)
-            && stands_at(&encoder, 3, 256, 65280)
-            && !encoder.is_empty()
-            && !seems_full(&encoder)
-    );
-    assert!(rt; matches!(words_of(encoder), Ok(cursor) if cursor.pos() == 4));
-    assert!(rt; buf == [127u8, 0, 127, 1, 0]);
-    Ok(())
+/// Whether the seal finds no room.
+fn is_unsealed(buf: &mut [u8], table: &Table, symbols: &[usize]) -> bool {
+    matches!(
+        filled(buf, table, symbols),
+        Err(Some(BoundedWriteError::OutOfSpace))
+    )
 }
 
-/// Words before the cursor stay in front of the encoder's.
-#[test]
-fn words_behind_others(rt: HostRuntime) -> Result<(), Fail> {
-    let table = table_of(rt.alloc(), &INVERTING)?;
-    let mut encoder: RangeEncoder<u8, u16> = RangeEncoder::with_write_backend([9u8, 8].to_vec(
-        rt.alloc(),
-    )?);
-    assert!(rt;
-        !encoder.is_empty()
-            && has_sizes(&encoder, 2, 16)
-            && stands_at(&encoder, 2, 0, 65535)
-            && puts(&mut encoder, &table, &[1, 3])
-            && has_sizes(&encoder, 5, 40)
-            && exports(encoder, &[9, 8, 127, 127, 1])
-    );
-    Ok(())
-}
-
-/// The seal of a cursor with no room, and with room for a part of it.
+/// The seal of a cursor with no room, with room for a part of it, and with room for all words.
 #[test]
 fn a_seal_over_a_full_cursor(rt: HostRuntime) -> Result<(), Fail> {
     let table = table_of(rt.alloc(), &INVERTING)?;
     let mut none = [0u8; 0];
     let mut one = [0u8; 1];
     let mut two = [0u8; 2];
-    let mut first = encoder_over::<u16>(&mut none);
-    let mut second = encoder_over::<u16>(&mut one);
-    let mut third = encoder_over::<u16>(&mut two);
+    let mut five = [0u8; 5];
     assert!(rt;
-        puts(&mut first, &table, &[1])
-            && puts(&mut second, &table, &[1])
-            && puts(&mut third, &table, &[1])
+        is_unsealed(&mut none, &table, &[1])
+            && is_unsealed(&mut one, &table, &[1])
+            && matches!(filled(&mut two, &table, &[1]), Ok(2))
+            && matches!(filled(&mut five, &table, &[1, 1, 3]), Ok(4))
+            && one == [126u8]
+            && two == [126u8, 129]
+            && five == [127u8, 0, 127, 1, 0]
     );
-    assert!(rt;
-        matches!(words_of(first), Err(BoundedWriteError::OutOfSpace))
-            && matches!(words_of(second), Err(BoundedWriteError::OutOfSpace))
-            && words_of(third).is_ok()
-    );
-    assert!(rt; one == [126u8] && two == [126u8, 129]);
     Ok(())
 }
 
-/// An encoder over a buffer that is put together from its parts.
+/// Words before the encoder's stay in front of them.
 #[test]
-fn parts_over_a_cursor(rt: HostRuntime) -> Result<(), Fail> {
+fn words_behind_others(rt: HostRuntime) -> Result<(), Fail> {
     let table = table_of(rt.alloc(), &INVERTING)?;
-    let carried = At {
-        written: &[9, 127],
-        held: &[127],
-        lower: 256,
-        range: 65280,
-        sealed: &[],
-    };
-    let mut buf = [9u8, 0, 0, 0, 0];
-    let mut cursor = Cursor::new_at_write_beginning(buf.as_mut_slice());
-    assert!(rt; cursor.seek(1).is_ok());
-    let Some(mut encoder) = encoder_with(cursor, 33024u16, 65280, inverted(1, 126)) else {
-        return Err(Fail::from("the parts fit"));
-    };
+    let mut encoder = RangeEncoder::with_write_backend([9u8, 8].to_vec(rt.alloc())?);
     assert!(rt;
-        stands_at(&encoder, 2, 33024, 65280)
-            && has_sizes(&encoder, 3, 24)
-            && puts(&mut encoder, &table, &[3])
-            && stands_at(&encoder, 3, 256, 65280)
-            && has_parts(encoder, &carried)
+        !encoder.is_empty()
+            && put_bytes(&mut encoder, &table, &[1, 3])
+            && exports(encoder, &[9, 8, 127, 127, 1])
     );
-    assert!(rt; buf == [9u8, 127, 0, 0, 0]);
     Ok(())
 }

@@ -1,14 +1,13 @@
 //! What an encoder is, compared with what a test gives.
 
-use constriction_base::backends::{CountsWords, Holds, Pos, Stack, Words, WriteWords};
-use constriction_base::cursor::Cursor;
+use crate::coders::Coder;
+use constriction_base::backends::{CountsWords, Pos};
 use constriction_queue::{EncoderSituation, RangeCoderState, RangeEncoder};
 use constriction_words::{BitArray, WordOf};
-use std::alloc::Allocator;
 
 /// What an encoder is: the words that were written and those that are held back, the interval, and the
 /// words that it is sealed with.
-#[derive(Clone, Copy)]
+#[derive(Drop)]
 pub struct At<'a, Word, State> {
     pub written: &'a [Word],
     pub held: &'a [Word],
@@ -44,6 +43,18 @@ pub fn holds_back<Word: PartialEq + Drop>(
     }
 }
 
+/// Compares the words written, the interval and the words held back, by taking the encoder apart.
+pub fn has_parts<Word, State>(encoder: RangeEncoder<Word, State>, at: &At<'_, Word, State>) -> bool
+where
+    Word: WordOf<State> + PartialEq,
+    State: BitArray + PartialEq,
+{
+    let (bulk, state, situation) = encoder.into_raw_parts();
+    bulk.as_slice() == at.written
+        && is_interval(state, at.lower, at.range)
+        && holds_back(situation, at.held)
+}
+
 /// Compares where an encoder stands: how many words were written and are held, and the interval.
 pub fn stands_at<Word, State, Backend>(
     encoder: &RangeEncoder<Word, State, Backend>,
@@ -63,65 +74,24 @@ where
     moves == place && is_interval(state, lower, range)
 }
 
-/// The words that an encoder exports.
-pub fn words_of<Word, State, Backend>(
-    encoder: RangeEncoder<Word, State, Backend>,
-) -> Result<Backend, Backend::WriteError>
-where
-    Word: WordOf<State>,
-    State: BitArray,
-    Backend: WriteWords<Word> + Drop,
-{
-    encoder.into_compressed()
-}
-
-/// Lends the words of the stack that a backend holds, the top one last.
-pub trait Below<Word> {
-    fn below(&self) -> &[Word];
-}
-
-impl<Word: BitArray, A: Allocator> Below<Word> for Vec<Word, A> {
-    fn below(&self) -> &[Word] {
-        self
-    }
-}
-
-impl<'a, Word: BitArray + 'a> Below<Word> for Cursor<Word, &'a mut [Word]> {
-    fn below(&self) -> &[Word] {
-        let words: &[Word] = self.buf().words();
-        &words[..self.pos().min(words.len())]
-    }
-}
-
 /// Compares the words that an encoder exports.
-pub fn exports<Word, State, Backend>(
-    encoder: RangeEncoder<Word, State, Backend>,
-    words: &[Word],
-) -> bool
+pub fn exports_words<Word, State>(encoder: RangeEncoder<Word, State>, words: &[Word]) -> bool
 where
     Word: WordOf<State> + PartialEq,
     State: BitArray,
-    Backend: WriteWords<Word> + Below<Word> + Drop,
-    Backend::WriteError: Drop,
 {
-    match words_of(encoder) {
-        Ok(all) => all.below() == words,
+    match encoder.into_compressed() {
+        Ok(all) => all.as_slice() == words,
         Err(_) => false,
     }
 }
 
-/// Compares the words written, the interval and the words held back, by taking the encoder apart.
-pub fn has_parts<Word, State, Backend>(
-    encoder: RangeEncoder<Word, State, Backend>,
-    at: &At<'_, Word, State>,
-) -> bool
-where
-    Word: WordOf<State> + PartialEq,
-    State: BitArray + PartialEq,
-    Backend: Holds<Word, Stack> + Below<Word> + Drop,
-{
-    let (bulk, state, situation) = encoder.into_raw_parts();
-    bulk.below() == at.written
-        && is_interval(state, at.lower, at.range)
-        && holds_back(situation, at.held)
+/// The same of bytes.
+pub fn exports(encoder: Coder, words: &[u8]) -> bool {
+    exports_words(encoder, words)
+}
+
+/// Compares where an encoder of bytes stands.
+pub fn stands(encoder: &Coder, place: usize, lower: u16, range: u16) -> bool {
+    stands_at(encoder, place, lower, range)
 }

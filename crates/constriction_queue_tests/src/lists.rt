@@ -2,29 +2,24 @@
 
 ghost use Rattle.std.specs.Prelude.{◌≤◌};
 
-use crate::coders::{INVERTING, Owning, new_encoder, table_of};
-use crate::expect::{At, exports, has_parts};
-use crate::put::{Call, Pair, Put, answer_of, put_by, puts, tried_answer_of};
+use crate::coders::{Coder, Decoder, INVERTING, Table, decoder_of, new_encoder, table_of};
+use crate::expect::{At, exports, exports_words, has_parts};
+use crate::put::{Put, put_bytes, put_items, put_list, put_pairs, puts};
 use crate::reading::{
-    Fault, decoder_of, finds_none, first_of_list, gives, gives_by_items, gives_by_tables,
-    gives_list, reads_at, seems_exhausted,
+    Given, finds_none, first_of_list, given_by_items, gives, gives_by_tables, gives_list, reads_at,
+    seems_exhausted, takes,
 };
-use crate::whole::is_at;
+use crate::whole::is_seen;
 use constriction_base::model::{EncoderModel, EntropyModel};
 use constriction_base::weights::WeightTable;
-use constriction_queue::{DefaultRangeDecoder, DefaultRangeEncoder, RangeEncoder};
+use constriction_queue::{DefaultRangeEncoder, RangeEncoder};
 use constriction_stream::coder::Code;
 use constriction_stream::encoding::Encode;
 use constriction_words::{BitArray, WordOf};
-use std::alloc::Global;
 use std::test::Fail;
 
 /// Puts a list on by each call, and compares the encoder after the last.
-fn by_each_call(
-    alloc: Global,
-    encoder: &mut RangeEncoder<u8, u16>,
-    table: &WeightTable<u8, 8>,
-) -> bool {
+fn by_each_call(encoder: &mut Coder, table: &Table) -> bool {
     let end = At {
         written: &[127, 0, 127, 94, 224, 224],
         held: &[],
@@ -32,90 +27,61 @@ fn by_each_call(
         range: 7874,
         sealed: &[127, 0, 127, 94, 224, 224, 194],
     };
-    matches!(put_by(alloc, encoder, table, Call::List, &[]), Put::Done)
-        && matches!(
-            put_by(alloc, encoder, table, Call::List, &[1, 1]),
-            Put::Done
-        )
-        && matches!(
-            put_by(alloc, encoder, table, Call::Pairs, &[3, 0]),
-            Put::Done
-        )
-        && matches!(
-            put_by(alloc, encoder, table, Call::Items, &[2, 1, 1]),
-            Put::Done
-        )
-        && matches!(
-            put_by(alloc, encoder, table, Call::Each, &[1, 0]),
-            Put::Done
-        )
-        && is_at(encoder, &end)
+    let pairs = [(&3, table), (&0, table), (&2, table)];
+    let items = [Ok((&1, table)), Ok((&1, table)), Ok((&1, table))];
+    matches!(put_list(encoder, table, &[]), Put::Done)
+        && matches!(put_list(encoder, table, &[1, 1]), Put::Done)
+        && matches!(put_pairs(encoder, pairs), Put::Done)
+        && matches!(put_items(encoder, items), Put::Done)
+        && put_bytes(encoder, table, &[0])
+        && is_seen(encoder, &end)
 }
 
 #[test]
 fn lists_at_u8_and_u16(rt: HostRuntime) -> Result<(), Fail> {
     let table = table_of(rt.alloc(), &INVERTING)?;
-    let mut encoder: RangeEncoder<u8, u16> = new_encoder(rt.alloc());
-    assert!(rt; by_each_call(rt.alloc(), &mut encoder, &table));
+    assert!(rt; by_each_call(&mut new_encoder(rt.alloc()), &table));
     Ok(())
 }
 
-/// An item of a list that may be faulty.
-type Item<'a> = Result<Pair<'a, u8, 8>, u8>;
-
 /// The symbols 1, 5 and 3, of which 5 is unknown. Exactly the first is encoded.
-fn stops_at_unknown(encoder: &mut RangeEncoder<u8, u16>, table: &WeightTable<u8, 8>) -> bool {
-    if Encode::<8>::symbols_left(encoder) < 3 {
-        return false;
-    }
-    matches!(
-        answer_of(encoder.encode_symbols([(&1, table), (&5, table), (&3, table)])),
-        Put::Unknown
-    )
+fn stops_at_unknown(mut encoder: Coder, table: &Table, at: &At<'_, u8, u16>) -> bool {
+    let pairs = [(&1, table), (&5, table), (&3, table)];
+    matches!(put_pairs(&mut encoder, pairs), Put::Unknown) & has_parts(encoder, at)
 }
 
 /// An error between two symbols. Exactly the first is encoded.
-fn stops_at_bad_model(encoder: &mut RangeEncoder<u8, u16>, table: &WeightTable<u8, 8>) -> bool {
-    if Encode::<8>::symbols_left(encoder) < 3 {
-        return false;
-    }
-    let items: [Item<'_>; 3] = [Ok((&1, table)), Err(7), Ok((&3, table))];
-    matches!(
-        tried_answer_of(encoder.try_encode_symbols(items)),
-        Put::BadModel(7)
-    )
+fn stops_at_bad_model(mut encoder: Coder, table: &Table, at: &At<'_, u8, u16>) -> bool {
+    let items = [Ok((&1, table)), Err(7), Ok((&3, table))];
+    matches!(put_items(&mut encoder, items), Put::BadModel(7)) & has_parts(encoder, at)
 }
 
 #[test]
 fn lists_stop_at_the_first_fault(rt: HostRuntime) -> Result<(), Fail> {
     let table = table_of(rt.alloc(), &INVERTING)?;
-    let mut first: RangeEncoder<u8, u16> = new_encoder(rt.alloc());
-    let mut second: RangeEncoder<u8, u16> = new_encoder(rt.alloc());
     let one = At {
         written: &[],
         held: &[126],
-        lower: 33024u16,
+        lower: 33024,
         range: 65280,
         sealed: &[126, 129],
     };
     assert!(rt;
-        stops_at_unknown(&mut first, &table)
-            && has_parts(first, &one)
-            && stops_at_bad_model(&mut second, &table)
-            && has_parts(second, &one)
+        stops_at_unknown(new_encoder(rt.alloc()), &table, &one)
+            && stops_at_bad_model(new_encoder(rt.alloc()), &table, &one)
     );
     Ok(())
 }
 
 /// How many more symbols an encoder takes: a step that holds a word more back lowers it by one.
-fn counts_down(encoder: &mut RangeEncoder<u8, u16>, table: &WeightTable<u8, 8>) -> bool {
+fn counts_down(encoder: &mut Coder, table: &Table) -> bool {
     let most = usize::MAX - 17;
     Encode::<8>::symbols_left(encoder) == most
-        && puts(encoder, table, &[1])
+        && put_bytes(encoder, table, &[1])
         && Encode::<8>::symbols_left(encoder) == most - 1
-        && puts(encoder, table, &[1])
+        && put_bytes(encoder, table, &[1])
         && Encode::<8>::symbols_left(encoder) == most - 2
-        && puts(encoder, table, &[0])
+        && put_bytes(encoder, table, &[0])
         && Encode::<8>::symbols_left(encoder) == most
         && !Encode::<8>::maybe_full(encoder)
 }
@@ -123,59 +89,92 @@ fn counts_down(encoder: &mut RangeEncoder<u8, u16>, table: &WeightTable<u8, 8>) 
 #[test]
 fn symbols_that_are_left(rt: HostRuntime) -> Result<(), Fail> {
     let table = table_of(rt.alloc(), &INVERTING)?;
-    let mut encoder: RangeEncoder<u8, u16> = new_encoder(rt.alloc());
-    assert!(rt; counts_down(&mut encoder, &table));
+    assert!(rt; counts_down(&mut new_encoder(rt.alloc()), &table));
     Ok(())
 }
 
 /// The words of the symbols 1, 1, 3, 0, 2, 1, 1, 1, 0, by each call of a decoder.
 fn taken_by_each_call(
-    decoder: &mut Owning<u8, u16>,
-    table: &WeightTable<u8, 8>,
-    tables: Vec<&WeightTable<u8, 8>>,
-    items: Vec<Result<&WeightTable<u8, 8>, u8>>,
+    mut decoder: Decoder<'_>,
+    table: &Table,
+    tables: Vec<&Table>,
+    items: Vec<Result<&Table, u8>>,
 ) -> bool {
-    first_of_list(decoder, table, 3) == Some(1)
-        && gives_by_tables(decoder, tables, &[1, 3])
-        && gives_by_items(decoder, items, &[Ok(0), Err(Fault::BadModel(7)), Ok(2)])
-        && gives_list(decoder, table, &[1, 1, 1, 0])
-        && gives_list(decoder, table, &[])
-        && reads_at(decoder, 49664, 7874)
-        && seems_exhausted::<_, _, _, 8>(decoder)
+    first_of_list(&mut decoder, table, 3) == Some(1)
+        && gives_by_tables(&mut decoder, tables, (1, 3))
+        && matches!(
+            given_by_items(&mut decoder, items),
+            (
+                Given::Symbol(0),
+                Given::BadModel(7),
+                Given::Symbol(2),
+                Given::Nothing
+            )
+        )
+        && gives_list(&mut decoder, table, &[1, 1, 1, 0])
+        && gives_list(&mut decoder, table, &[])
+        && reads_at(&decoder, 49664, 7874)
+        && seems_exhausted(&decoder)
 }
 
 #[test]
 fn iterators_at_u8_and_u16(rt: HostRuntime) -> Result<(), Fail> {
     let table = table_of(rt.alloc(), &INVERTING)?;
-    let words = [127u8, 0, 127, 94, 224, 224, 194].to_vec(rt.alloc())?;
     let tables = [&table, &table].to_vec(rt.alloc())?;
     let items = [Ok(&table), Err(7u8), Ok(&table)].to_vec(rt.alloc())?;
-    let Some(mut decoder) = decoder_of::<u8, u16>(words) else {
-        return Err(Fail::from("reads don't fail"));
+    let are_taken = match decoder_of(&[127, 0, 127, 94, 224, 224, 194]) {
+        Some(decoder) => taken_by_each_call(decoder, &table, tables, items),
+        None => false,
     };
-    assert!(rt; taken_by_each_call(&mut decoder, &table, tables, items));
+    assert!(rt; are_taken);
     Ok(())
 }
 
 /// Words of all ones hold no symbol: each item answers so, and the decoder stays.
+fn goes_on_after_a_fault(
+    mut decoder: Decoder<'_>,
+    table: &Table,
+    items: Vec<Result<&Table, u8>>,
+) -> bool {
+    matches!(
+        given_by_items(&mut decoder, items),
+        (
+            Given::Invalid,
+            Given::BadModel(7),
+            Given::Invalid,
+            Given::Nothing
+        )
+    ) && finds_none(&mut decoder, table)
+        && reads_at(&decoder, 0, 65535)
+}
+
 #[test]
 fn an_iterator_goes_on_after_a_fault(rt: HostRuntime) -> Result<(), Fail> {
     let table = table_of(rt.alloc(), &INVERTING)?;
     let items = [Ok(&table), Err(7u8), Ok(&table)].to_vec(rt.alloc())?;
-    let Some(mut decoder) = decoder_of::<u8, u16>([255u8, 255].to_vec(rt.alloc())?) else {
-        return Err(Fail::from("reads don't fail"));
+    let goes_on = match decoder_of(&[255, 255]) {
+        Some(decoder) => goes_on_after_a_fault(decoder, &table, items),
+        None => false,
     };
-    let answers = [
-        Err(Fault::Invalid),
-        Err(Fault::BadModel(7)),
-        Err(Fault::Invalid),
-    ];
-    assert!(rt;
-        gives_by_items(&mut decoder, items, &answers)
-            && finds_none(&mut decoder, &table)
-            && reads_at(&decoder, 0, 65535)
-    );
+    assert!(rt; goes_on);
     Ok(())
+}
+
+/// Puts three symbols on at two precisions.
+fn two_precisions(mut encoder: Coder, fine: &Table, coarse: &WeightTable<u8, 4>) -> bool {
+    put_bytes(&mut encoder, fine, &[0, 1])
+        && puts(&mut encoder, coarse, &[3])
+        && exports(encoder, &[88])
+}
+
+/// Takes them again.
+fn two_precisions_again(words: &[u8], fine: &Table, coarse: &WeightTable<u8, 4>) -> bool {
+    match decoder_of(words) {
+        Some(mut decoder) => {
+            takes(&mut decoder, fine, &[0, 1]) && gives(&mut decoder, coarse, &[3])
+        }
+        None => false,
+    }
 }
 
 /// Lists at two precisions on one encoder.
@@ -183,16 +182,9 @@ fn an_iterator_goes_on_after_a_fault(rt: HostRuntime) -> Result<(), Fail> {
 fn lists_at_two_precisions(rt: HostRuntime) -> Result<(), Fail> {
     let fine = table_of(rt.alloc(), &[128, 64, 64])?;
     let coarse = WeightTable::<u8, 4>::new(rt.alloc(), &[4, 4, 4, 4])?;
-    let mut encoder: RangeEncoder<u8, u16> = new_encoder(rt.alloc());
-    let Some(mut decoder) = decoder_of::<u8, u16>([88u8].to_vec(rt.alloc())?) else {
-        return Err(Fail::from("reads don't fail"));
-    };
     assert!(rt;
-        puts(&mut encoder, &fine, &[0, 1])
-            && puts(&mut encoder, &coarse, &[3])
-            && exports(encoder, &[88])
-            && gives(&mut decoder, &fine, &[0, 1])
-            && gives(&mut decoder, &coarse, &[3])
+        two_precisions(new_encoder(rt.alloc()), &fine, &coarse)
+            && two_precisions_again(&[88], &fine, &coarse)
     );
     Ok(())
 }
@@ -211,26 +203,15 @@ where
 }
 
 /// The same at a range encoder.
-fn two_at_u32(encoder: &mut DefaultRangeEncoder, table: &WeightTable<u32, 24>) -> bool {
-    Encode::<24>::symbols_left(encoder) >= 2 && two_through_the_bounds(encoder, &[1, 0], table)
+fn two_at_u32(mut encoder: DefaultRangeEncoder, table: &WeightTable<u32, 24>) -> bool {
+    Encode::<24>::symbols_left(&encoder) >= 2
+        && two_through_the_bounds(&mut encoder, &[1, 0], table)
+        && exports_words(encoder, &[767, 4294967293])
 }
 
 #[test]
 fn lists_at_u32_and_u64(rt: HostRuntime) -> Result<(), Fail> {
     let table = WeightTable::<u32, 24>::new(rt.alloc(), &[3, 2, 16777211])?;
-    let mut encoder: DefaultRangeEncoder = new_encoder(rt.alloc());
-    let tables = [&table].to_vec(rt.alloc())?;
-    let items = [Ok(&table)].to_vec(rt.alloc())?;
-    let Some(mut decoder): Option<DefaultRangeDecoder> = decoder_of([767u32, 4294967293].to_vec(
-        rt.alloc(),
-    )?) else {
-        return Err(Fail::from("reads don't fail"));
-    };
-    assert!(rt;
-        two_at_u32(&mut encoder, &table)
-            && exports(encoder, &[767, 4294967293])
-            && gives_by_tables(&mut decoder, tables, &[1])
-            && gives_by_items(&mut decoder, items, &[Ok(0)])
-    );
+    assert!(rt; two_at_u32(RangeEncoder::new(rt.alloc()), &table));
     Ok(())
 }

@@ -1,37 +1,68 @@
 //! Calls over a heap that is full, and then isn't. Each that is refused leaves the encoder as it was,
 //! and succeeds once there is memory.
 
-use crate::coders::{HeapEncoder, INVERTING, encoder_in, encoder_with, inverted, table_of};
-use crate::expect::{At, exports, has_parts, stands_at, words_of};
-use crate::guards::reads_through;
-use crate::put::{Call, Put, put_by, puts};
+use crate::coders::{HeapEncoder, INVERTING, Table, encoder_with, inverted, table_of};
+use crate::expect::{At, holds_back, is_interval, stands_at};
+use crate::put::{Put, put_onto};
 use crate::reading::gives;
-use crate::whole::{copy_of, shows};
+use crate::whole::copy_of;
 use constriction_base::errors::ReadWriteError;
-use constriction_base::weights::WeightTable;
-use constriction_queue::EncoderSituation;
+use constriction_queue::{EncoderSituation, RangeEncoder};
 use linked_list_allocator::LocalHeap;
-use std::alloc::{AllocError, Global};
+use std::alloc::AllocError;
 use std::test::Fail;
 
-/// Whether a list stops for want of memory.
-fn is_refused(
-    alloc: Global,
-    encoder: &mut HeapEncoder<'_>,
-    table: &WeightTable<u8, 8>,
-    call: Call,
-    symbols: &[usize],
+/// Takes so many bytes of a heap.
+fn filler_of(heap: &LocalHeap, count: usize) -> Option<Vec<u8, &LocalHeap>> {
+    Vec::with_capacity(heap, count).ok()
+}
+
+/// An encoder of so many words, and one word held back.
+fn encoder_of<'a>(heap: &'a LocalHeap, words: &[u8]) -> Option<HeapEncoder<'a>> {
+    match words.to_vec(heap) {
+        Ok(words) => encoder_with(words, 33024, 65280, inverted(1, 126)),
+        Err(_) => None,
+    }
+}
+
+/// An encoder that holds one word back, and no others.
+fn one_held(heap: &LocalHeap) -> Option<HeapEncoder<'_>> {
+    encoder_with(Vec::new(heap), 33024, 65280, inverted(1, 126))
+}
+
+/// Puts symbols on.
+fn put_there(encoder: &mut HeapEncoder<'_>, table: &Table, symbols: &[usize]) -> Put {
+    put_onto(encoder, table, symbols)
+}
+
+/// Compares where an encoder stands, and the words written.
+fn is_there(
+    encoder: &HeapEncoder<'_>,
+    place: usize,
+    (lower, range): (u16, u16),
+    written: &[u8],
 ) -> bool {
-    matches!(
-        put_by(alloc, encoder, table, call, symbols),
-        Put::Refused(AllocError)
-    )
+    stands_at(encoder, place, lower, range) && encoder.bulk().as_slice() == written
+}
+
+/// Compares the parts of an encoder.
+fn is_of(encoder: HeapEncoder<'_>, at: &At<'_, u8, u16>) -> bool {
+    let (bulk, state, situation) = encoder.into_raw_parts();
+    bulk.as_slice() == at.written
+        && is_interval(state, at.lower, at.range)
+        && holds_back(situation, at.held)
+}
+
+/// Whether an encoder exports these words, where there is memory.
+fn is_sealed(encoder: HeapEncoder<'_>, words: &[u8]) -> Result<bool, AllocError> {
+    match encoder.into_compressed() {
+        Ok(all) => Ok(all.as_slice() == words),
+        Err(error) => Err(error),
+    }
 }
 
 /// The first two symbols owe no word. The third owes two, which are released together.
-#[test]
-fn a_full_heap_refuses_words_that_are_released(rt: HostRuntime) -> Result<(), Fail> {
-    let table = table_of(rt.alloc(), &INVERTING)?;
+fn refuses_two_words(heap: &LocalHeap, table: &Table) -> bool {
     let carried = At {
         written: &[127, 0],
         held: &[127],
@@ -39,129 +70,129 @@ fn a_full_heap_refuses_words_that_are_released(rt: HostRuntime) -> Result<(), Fa
         range: 65280,
         sealed: &[],
     };
-    for call in [Call::Each, Call::List, Call::Pairs, Call::Items] {
-        let heap = LocalHeap::new(rt.alloc(), 512)?;
-        let filler: Vec<u8, &LocalHeap> = Vec::with_capacity(&heap, 512)?;
-        let mut encoder = encoder_in(&heap);
-        assert!(rt;
-            is_refused(rt.alloc(), &mut encoder, &table, call, &[1, 1, 3])
-                && stands_at(&encoder, 2, 33024, 65280)
-                && encoder.bulk().is_empty()
-        );
-        drop(filler);
-        assert!(rt; puts(&mut encoder, &table, &[3]) && has_parts(encoder, &carried));
-    }
-    Ok(())
+    let filler = filler_of(heap, 512);
+    let mut encoder: HeapEncoder<'_> = RangeEncoder::with_write_backend(Vec::new(heap));
+    let is_refused = filler.is_some()
+        && matches!(put_there(&mut encoder, table, &[1, 1, 3]), Put::Refused)
+        && is_there(&encoder, 2, (33024, 65280), &[]);
+    drop(filler);
+    let is_put = matches!(put_there(&mut encoder, table, &[3]), Put::Done);
+    is_refused & is_put & is_of(encoder, &carried)
 }
 
 /// A step that owes one word, above a word for which the memory that it has is just enough.
+fn refuses_growth(heap: &LocalHeap, table: &Table) -> bool {
+    let Ok(words) = [7u8].to_vec(heap) else {
+        return false;
+    };
+    let filler = filler_of(heap, 496);
+    let Some(mut encoder) = encoder_with(words, 0, 300, EncoderSituation::Normal) else {
+        return false;
+    };
+    let is_refused = filler.is_some()
+        && matches!(put_there(&mut encoder, table, &[1]), Put::Refused)
+        && is_there(&encoder, 1, (0, 300), &[7]);
+    drop(filler);
+    is_refused
+        && matches!(put_there(&mut encoder, table, &[1]), Put::Done)
+        && is_there(&encoder, 2, (32512, 256), &[7, 0])
+}
+
+/// A cleared encoder keeps its memory, and so goes on over a full heap.
+fn clears(heap: &LocalHeap, table: &Table) -> bool {
+    let Some(mut encoder) = encoder_of(heap, &[7, 8, 9]) else {
+        return false;
+    };
+    let filler = filler_of(heap, 496);
+    encoder.clear();
+    let is_put = filler.is_some() && matches!(put_there(&mut encoder, table, &[1, 3]), Put::Done);
+    is_put & matches!(is_sealed(encoder, &[127, 127, 1]), Ok(true))
+}
+
 #[test]
-fn a_refused_growth_changes_nothing(rt: HostRuntime) -> Result<(), Fail> {
+fn a_full_heap_refuses_symbols(rt: HostRuntime) -> Result<(), Fail> {
     let table = table_of(rt.alloc(), &INVERTING)?;
     let heap = LocalHeap::new(rt.alloc(), 512)?;
-    let words = [7u8].to_vec(&heap)?;
-    let filler: Vec<u8, &LocalHeap> = Vec::with_capacity(&heap, 496)?;
-    let Some(mut encoder) = encoder_with(words, 0u16, 300, EncoderSituation::Normal) else {
-        return Err(Fail::from("the parts fit"));
-    };
     assert!(rt;
-        is_refused(rt.alloc(), &mut encoder, &table, Call::Each, &[1])
-            && stands_at(&encoder, 1, 0, 300)
-            && encoder.bulk().as_slice() == [7u8].as_slice()
-    );
-    drop(filler);
-    assert!(rt;
-        puts(&mut encoder, &table, &[1])
-            && stands_at(&encoder, 2, 32512, 256)
-            && encoder.bulk().as_slice() == [7u8, 0].as_slice()
-    );
-    Ok(())
-}
-
-/// An encoder over a full heap, and one word held back.
-fn one_held(heap: &LocalHeap) -> Option<HeapEncoder<'_>> {
-    encoder_with(Vec::new(heap), 33024, 65280, inverted(1, 126))
-}
-
-#[test]
-fn a_full_heap_refuses_a_seal(rt: HostRuntime) -> Result<(), Fail> {
-    let heap = LocalHeap::new(rt.alloc(), 512)?;
-    let filler: Vec<u8, &LocalHeap> = Vec::with_capacity(&heap, 512)?;
-    let (Some(first), Some(second)) = (one_held(&heap), one_held(&heap)) else {
-        return Err(Fail::from("the parts fit"));
-    };
-    let is_refused = matches!(words_of(first), Err(AllocError));
-    let nothing = encoder_in(&heap);
-    let goes_empty = exports(nothing, &[]);
-    drop(filler);
-    assert!(rt; is_refused && goes_empty && exports(second, &[126, 129]));
-    Ok(())
-}
-
-/// Whether neither a guard nor a decoder that borrows the encoder finds memory.
-fn refuses_to_lend(encoder: &mut HeapEncoder<'_>) -> bool {
-    encoder.get_compressed().is_err() && encoder.decoder().is_err()
-}
-
-/// What an encoder with one word held is, where no memory was found.
-const ONE_HELD: At<'static, u8, u16> = At {
-    written: &[],
-    held: &[126],
-    lower: 33024,
-    range: 65280,
-    sealed: &[126, 129],
-};
-
-#[test]
-fn a_full_heap_refuses_a_guard(rt: HostRuntime) -> Result<(), Fail> {
-    let table = table_of(rt.alloc(), &INVERTING)?;
-    let heap = LocalHeap::new(rt.alloc(), 512)?;
-    let filler: Vec<u8, &LocalHeap> = Vec::with_capacity(&heap, 512)?;
-    let Some(mut encoder) = one_held(&heap) else {
-        return Err(Fail::from("the parts fit"));
-    };
-    let are_refused = refuses_to_lend(&mut encoder);
-    let stays = encoder.bulk().is_empty() && stands_at(&encoder, 1, 33024, 65280);
-    drop(filler);
-    assert!(rt;
-        are_refused
-            && stays
-            && shows(&mut encoder, &[126, 129], &[])
-            && reads_through(&mut encoder, &table, &[1])
-            && has_parts(encoder, &ONE_HELD)
+        refuses_two_words(&heap, &table) && refuses_growth(&heap, &table) && clears(&heap, &table)
     );
     Ok(())
 }
 
-#[test]
-fn a_full_heap_refuses_a_decoder(rt: HostRuntime) -> Result<(), Fail> {
-    let table = table_of(rt.alloc(), &INVERTING)?;
-    let heap = LocalHeap::new(rt.alloc(), 512)?;
-    let filler: Vec<u8, &LocalHeap> = Vec::with_capacity(&heap, 512)?;
-    let (Some(first), Some(second)) = (one_held(&heap), one_held(&heap)) else {
-        return Err(Fail::from("the parts fit"));
+/// A seal finds no memory for its words. Where there are none, it needs none.
+fn refuses_a_seal(heap: &LocalHeap) -> bool {
+    let filler = filler_of(heap, 512);
+    let (Some(first), Some(second)) = (one_held(heap), one_held(heap)) else {
+        return false;
     };
-    let is_refused = matches!(first.into_decoder(), Err(ReadWriteError::Write(AllocError)));
+    let nothing = RangeEncoder::with_write_backend(Vec::new(heap));
+    let is_refused = filler.is_some()
+        & matches!(is_sealed(first, &[126, 129]), Err(AllocError))
+        & matches!(is_sealed(nothing, &[]), Ok(true));
     drop(filler);
-    let Ok(mut decoder) = second.into_decoder() else {
-        return Err(Fail::from("there is memory"));
+    is_refused & matches!(is_sealed(second, &[126, 129]), Ok(true))
+}
+
+/// Whether a guard shows these words, where there is memory.
+fn shows(encoder: &mut HeapEncoder<'_>, sealed: &[u8]) -> Result<bool, AllocError> {
+    match encoder.get_compressed() {
+        Ok(guard) => Ok(guard.words() == sealed),
+        Err(error) => Err(error),
+    }
+}
+
+/// Whether a decoder that borrows the encoder finds memory.
+fn lends(encoder: &mut HeapEncoder<'_>) -> bool {
+    match encoder.decoder() {
+        Ok(_) => true,
+        Err(_) => false,
+    }
+}
+
+/// Neither a guard nor a decoder that borrows the encoder finds memory.
+fn refuses_a_guard(heap: &LocalHeap) -> bool {
+    let at = At {
+        written: &[],
+        held: &[126],
+        lower: 33024,
+        range: 65280,
+        sealed: &[126, 129],
     };
-    assert!(rt; is_refused && gives(&mut decoder, &table, &[1]));
-    Ok(())
+    let filler = filler_of(heap, 512);
+    let Some(mut encoder) = one_held(heap) else {
+        return false;
+    };
+    let are_refused = filler.is_some()
+        && matches!(shows(&mut encoder, at.sealed), Err(AllocError))
+        && !lends(&mut encoder)
+        && is_there(&encoder, 1, (33024, 65280), &[]);
+    drop(filler);
+    let goes = matches!(shows(&mut encoder, at.sealed), Ok(true)) && lends(&mut encoder);
+    are_refused & goes & is_of(encoder, &at)
+}
+
+/// Whether the decoder that an encoder becomes gives the symbol 1, where there is memory.
+fn becomes(encoder: HeapEncoder<'_>, table: &Table) -> Result<bool, AllocError> {
+    match encoder.into_decoder() {
+        Ok(mut decoder) => Ok(gives(&mut decoder, table, &[1])),
+        Err(ReadWriteError::Write(error)) => Err(error),
+        Err(ReadWriteError::Read(_)) => Ok(false),
+    }
+}
+
+/// An encoder that becomes a decoder finds no memory for its seal.
+fn refuses_a_decoder(heap: &LocalHeap, table: &Table) -> bool {
+    let filler = filler_of(heap, 512);
+    let (Some(first), Some(second)) = (one_held(heap), one_held(heap)) else {
+        return false;
+    };
+    let is_refused = filler.is_some() & matches!(becomes(first, table), Err(AllocError));
+    drop(filler);
+    is_refused & matches!(becomes(second, table), Ok(true))
 }
 
 /// The encoder's word takes 16 bytes of the heap, and the rest is full.
-#[test]
-fn a_full_heap_refuses_a_clone(rt: HostRuntime) -> Result<(), Fail> {
-    let heap = LocalHeap::new(rt.alloc(), 512)?;
-    let words = [7u8].to_vec(&heap)?;
-    let filler: Vec<u8, &LocalHeap> = Vec::with_capacity(&heap, 496)?;
-    let Some(encoder) = encoder_with(words, 33024u16, 65280, inverted(1, 126)) else {
-        return Err(Fail::from("the parts fit"));
-    };
-    let is_refused = copy_of(&encoder).is_err();
-    drop(filler);
-    let clone = copy_of(&encoder)?;
+fn refuses_a_clone(heap: &LocalHeap) -> bool {
     let at = At {
         written: &[7],
         held: &[126],
@@ -169,22 +200,27 @@ fn a_full_heap_refuses_a_clone(rt: HostRuntime) -> Result<(), Fail> {
         range: 65280,
         sealed: &[],
     };
-    assert!(rt; is_refused && has_parts(clone, &at) && has_parts(encoder, &at));
-    Ok(())
+    let Some(encoder) = encoder_of(heap, &[7]) else {
+        return false;
+    };
+    let filler = filler_of(heap, 496);
+    let is_refused = filler.is_some() && copy_of(&encoder).is_err();
+    drop(filler);
+    match copy_of(&encoder) {
+        Ok(copy) => is_refused & is_of(copy, &at) & is_of(encoder, &at),
+        Err(_) => false,
+    }
 }
 
-/// A cleared encoder keeps its memory, and so goes on over a full heap.
 #[test]
-fn a_cleared_encoder_keeps_its_memory(rt: HostRuntime) -> Result<(), Fail> {
+fn a_full_heap_refuses_a_seal(rt: HostRuntime) -> Result<(), Fail> {
     let table = table_of(rt.alloc(), &INVERTING)?;
     let heap = LocalHeap::new(rt.alloc(), 512)?;
-    let words = [7u8, 8, 9].to_vec(&heap)?;
-    let filler: Vec<u8, &LocalHeap> = Vec::with_capacity(&heap, 496)?;
-    let Some(mut encoder) = encoder_with(words, 33024u16, 65280, inverted(1, 126)) else {
-        return Err(Fail::from("the parts fit"));
-    };
-    encoder.clear();
-    assert!(rt; puts(&mut encoder, &table, &[1, 3]) && exports(encoder, &[127, 127, 1]));
-    drop(filler);
+    assert!(rt;
+        refuses_a_seal(&heap)
+            && refuses_a_guard(&heap)
+            && refuses_a_decoder(&heap, &table)
+            && refuses_a_clone(&heap)
+    );
     Ok(())
 }

@@ -1,16 +1,17 @@
 //! Coders that are put together from parts, and taken apart.
 
-ghost use Rattle.constriction_base.specs.Steps.{IsSizes};
-
-use crate::coders::{INVERTING, decoder_with, encoder_with, inverted, table_of};
-use crate::expect::{At, exports, is_interval};
-use crate::put::puts;
-use crate::reading::{ReadAt, decoder_for, ends_at, finds_none, gives, reads_at};
-use crate::whole::is_at;
+use crate::coders::{Coder, Decoder, INVERTING, Table, encoder_with, inverted, table_of};
+use crate::expect::{At, exports_words, is_interval};
+use crate::put::put_bytes;
+use crate::reading::{ReadAt, come, ends_at, finds_none, reads_at, takes};
+use crate::whole::is_seen;
 use constriction_base::cursor::Cursor;
+use constriction_base::errors::CoderError;
 use constriction_base::weights::WeightTable;
-use constriction_queue::{EncoderSituation, RangeCoderState, RangeDecoder, RangeEncoder};
-use constriction_words::{BitArray, WordOf};
+use constriction_queue::{
+    DecoderFrontendError, EncoderSituation, RangeCoderState, RangeDecoder, RangeEncoder,
+};
+use constriction_stream::decoding::Decode;
 use std::alloc::Global;
 use std::test::Fail;
 
@@ -62,7 +63,7 @@ fn range_parts_fit(rt: HostRuntime) {
 }
 
 /// An encoder of parts with two held words goes on as the one that had them.
-fn goes_on(encoder: &mut RangeEncoder<u8, u16>, table: &WeightTable<u8, 8>) -> bool {
+fn goes_on(mut encoder: Coder, table: &Table) -> bool {
     let two = At {
         written: &[9],
         held: &[126, 255],
@@ -77,31 +78,34 @@ fn goes_on(encoder: &mut RangeEncoder<u8, u16>, table: &WeightTable<u8, 8>) -> b
         range: 65280,
         sealed: &[9, 127, 0, 127, 1],
     };
-    is_at(encoder, &two) && puts(encoder, table, &[3]) && is_at(encoder, &carried)
+    is_seen(&mut encoder, &two)
+        && put_bytes(&mut encoder, table, &[3])
+        && is_seen(&mut encoder, &carried)
 }
 
 #[test]
 fn an_encoder_of_parts(rt: HostRuntime) -> Result<(), Fail> {
     let table = table_of(rt.alloc(), &INVERTING)?;
-    let Some(mut encoder) = encoder_with(
-        [9u8].to_vec(rt.alloc())?,
-        33024u16,
-        65280,
-        inverted(2, 126),
-    ) else {
-        return Err(Fail::from("the parts fit"));
+    let words = [9u8].to_vec(rt.alloc())?;
+    let is_made = match encoder_with(words, 33024, 65280, inverted(2, 126)) {
+        Some(encoder) => goes_on(encoder, &table),
+        None => false,
     };
-    assert!(rt; goes_on(&mut encoder, &table));
+    assert!(rt; is_made);
     Ok(())
+}
+
+/// An encoder of three held words, over no others.
+fn is_carried(alloc: Global, at: &At<'_, u8, u16>) -> bool {
+    match encoder_with(Vec::new(alloc), 65400, 600, inverted(3, 7)) {
+        Some(mut encoder) => is_seen(&mut encoder, at),
+        None => false,
+    }
 }
 
 /// The point of the seal passes the end of the states, so that the held words get a carry.
 #[test]
-fn a_seal_with_a_carry(rt: HostRuntime) -> Result<(), Fail> {
-    let Some(mut encoder) = encoder_with(Vec::<u8>::new(rt.alloc()), 65400u16, 600, inverted(3, 7))
-    else {
-        return Err(Fail::from("the parts fit"));
-    };
+fn a_seal_with_a_carry(rt: HostRuntime) {
     let at = At {
         written: &[],
         held: &[7, 255, 255],
@@ -109,42 +113,46 @@ fn a_seal_with_a_carry(rt: HostRuntime) -> Result<(), Fail> {
         range: 600,
         sealed: &[8, 0, 0, 0],
     };
-    assert!(rt; is_at(&mut encoder, &at));
-    Ok(())
+    assert!(rt; is_carried(rt.alloc(), &at));
+}
+
+/// The words that an encoder of a state of four words exports.
+fn is_sealed_with(alloc: Global, words: &[u8]) -> bool {
+    let Ok(state) = RangeCoderState::<u8, u32>::new(1, 16777216) else {
+        return false;
+    };
+    if !RangeEncoder::<u8, u32>::parts_fit(state, EncoderSituation::Normal) {
+        return false;
+    }
+    let encoder = RangeEncoder::from_raw_parts(Vec::new(alloc), state, EncoderSituation::Normal);
+    exports_words(encoder, words)
 }
 
 /// A state of four words.
 #[test]
-fn range_wide_state(rt: HostRuntime) -> Result<(), Fail> {
-    let Some(encoder) = encoder_with(
-        Vec::<u8>::new(rt.alloc()),
-        1u32,
-        16777216,
-        EncoderSituation::Normal,
-    ) else {
-        return Err(Fail::from("the parts fit"));
-    };
-    assert!(rt; exports(encoder, &[1, 0]));
-    Ok(())
+fn range_wide_state(rt: HostRuntime) {
+    assert!(rt; is_sealed_with(rt.alloc(), &[1, 0]));
 }
 
-/// Whether a decoder of parts over no words is made. Its backend comes back where it isn't.
+/// A decoder of parts over no more words, or the place of its backend where the point isn't in the
+/// interval; nothing where the interval is too short.
+fn decoder_with(lower: u16, range: u16, point: u16) -> Option<Result<Decoder<'static>, usize>> {
+    let Ok(state) = RangeCoderState::<u8, u16>::new(lower, range) else {
+        return None;
+    };
+    let bulk = Cursor::new_at_write_end([7u8].as_slice());
+    match RangeDecoder::from_raw_parts(bulk, state, point) {
+        Ok(decoder) => Some(Ok(decoder)),
+        Err(bulk) => Some(Err(bulk.into_buf_and_pos().1)),
+    }
+}
+
+/// Whether a decoder of parts is made. Its backend comes back where it isn't.
 fn is_made(lower: u16, range: u16, point: u16) -> Option<bool> {
-    match decoder_with::<u8, u16, _>(
-        Cursor::new_at_write_end([7u8].as_slice()),
-        lower,
-        range,
-        point,
-    ) {
+    match decoder_with(lower, range, point) {
         Some(Ok(_)) => Some(true),
-        Some(Err(bulk)) => {
-            if bulk.into_buf_and_pos().1 == 1 {
-                Some(false)
-            } else {
-                None
-            }
-        }
-        None => None,
+        Some(Err(1)) => Some(false),
+        _ => None,
     }
 }
 
@@ -163,25 +171,8 @@ fn range_point_in_range(rt: HostRuntime) {
     );
 }
 
-/// A decoder of parts over no words.
-fn decoder_of_parts(
-    lower: u16,
-    range: u16,
-    point: u16,
-) -> Option<RangeDecoder<u8, u16, Cursor<u8, &'static [u8]>>> {
-    match decoder_with(
-        Cursor::new_at_write_beginning([].as_slice()),
-        lower,
-        range,
-        point,
-    ) {
-        Some(Ok(decoder)) => Some(decoder),
-        _ => None,
-    }
-}
-
 /// The quantiles 299 of 256 and 16 of 16 aren't there, and a decoder that finds none stays.
-fn finds_no_quantile(fine: &WeightTable<u8, 8>, coarse: &WeightTable<u8, 4>) -> bool {
+fn finds_no_quantile(fine: &Table, coarse: &WeightTable<u8, 4>) -> bool {
     let stays = ReadAt {
         lower: 0,
         range: 300,
@@ -189,13 +180,16 @@ fn finds_no_quantile(fine: &WeightTable<u8, 8>, coarse: &WeightTable<u8, 4>) -> 
         left: 0,
         exhausted: true,
     };
-    match decoder_of_parts(0, 300, 299) {
-        Some(mut decoder) => {
+    match decoder_with(0, 300, 299) {
+        Some(Ok(mut decoder)) => {
             finds_none(&mut decoder, fine)
-                && finds_none(&mut decoder, coarse)
-                && ends_at::<_, _, _, 8>(decoder, &stays)
+                && matches!(
+                    decoder.decode_symbol(coarse),
+                    Err(CoderError::Frontend(DecoderFrontendError::InvalidData))
+                )
+                && ends_at(decoder, fine, &[], &stays)
         }
-        None => false,
+        _ => false,
     }
 }
 
@@ -208,10 +202,10 @@ fn range_quantile_too_large(rt: HostRuntime) -> Result<(), Fail> {
 }
 
 /// The least point without a quantile, and the greatest with one.
-fn last_quantile(table: &WeightTable<u8, 8>) -> bool {
-    match (decoder_of_parts(0, 600, 511), decoder_of_parts(0, 600, 512)) {
-        (Some(mut last), Some(mut past)) => {
-            gives(&mut last, table, &[3]) && finds_none(&mut past, table) && reads_at(&past, 0, 600)
+fn last_quantile(table: &Table) -> bool {
+    match (decoder_with(0, 600, 511), decoder_with(0, 600, 512)) {
+        (Some(Ok(mut last)), Some(Ok(mut past))) => {
+            takes(&mut last, table, &[3]) && finds_none(&mut past, table) && reads_at(&past, 0, 600)
         }
         _ => false,
     }
@@ -227,9 +221,6 @@ fn the_last_quantile(rt: HostRuntime) -> Result<(), Fail> {
 #[test]
 fn range_distance_raw_parts(rt: HostRuntime) -> Result<(), Fail> {
     let table = table_of(rt.alloc(), &INVERTING)?;
-    let Some(mut decoder) = decoder_for::<u8, u16>(&[127, 127, 1]) else {
-        return Err(Fail::from("reads don't fail"));
-    };
     let at = ReadAt {
         lower: 33024,
         range: 65280,
@@ -237,6 +228,6 @@ fn range_distance_raw_parts(rt: HostRuntime) -> Result<(), Fail> {
         left: 0,
         exhausted: false,
     };
-    assert!(rt; gives(&mut decoder, &table, &[1]) && ends_at::<_, _, _, 8>(decoder, &at));
+    assert!(rt; come(&[127, 127, 1], &table, &[1], &at));
     Ok(())
 }

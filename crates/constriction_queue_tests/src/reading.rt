@@ -1,11 +1,10 @@
 //! What a decoder gives and where it stands, compared with what a test gives.
 
-ghost use Rattle.std.specs.Iterator.{IsFinite};
 ghost use Rattle.constriction_base.specs.Steps.{IsSizes};
 
-use crate::coders::{Lent, Owning};
+use crate::coders::{Decoder, Table, decoder_of};
 use crate::expect::is_interval;
-use constriction_base::backends::{BoundedReadWords, Holds, Queue, ReadWords};
+use constriction_base::backends::{BoundedReadWords, Queue, ReadWords};
 use constriction_base::cursor::Cursor;
 use constriction_base::errors::CoderError;
 use constriction_base::weights::WeightTable;
@@ -17,7 +16,7 @@ use constriction_words::{BitArray, WordOf};
 
 /// Where a decoder stands: the interval, the words that it stands before as one number, how many words
 /// are left behind these, and whether all may have been decoded.
-#[derive(Clone, Copy)]
+#[derive(Drop)]
 pub struct ReadAt<State> {
     pub lower: State,
     pub range: State,
@@ -48,89 +47,31 @@ where
     true
 }
 
-/// Whether the words hold no symbol of the table.
-pub fn finds_none<Word, State, Backend, Probability, const PRECISION: usize>(
-    decoder: &mut RangeDecoder<Word, State, Backend>,
+/// Takes symbols, and compares where the decoder stands then, by taking it apart.
+pub fn all_come<Word, State, Backend, Probability, const PRECISION: usize>(
+    mut decoder: RangeDecoder<Word, State, Backend>,
     table: &WeightTable<Probability, PRECISION>,
-) -> bool
-where
-    Word: WordOf<State>,
-    State: BitArray,
-    Backend: ReadWords<Word, Queue>,
-    Backend::ReadError: Drop,
-    Probability: WordOf<Word>,
-{
-    matches!(
-        decoder.decode_symbol(table),
-        Err(CoderError::Frontend(DecoderFrontendError::InvalidData))
-    )
-}
-
-/// Compares the interval.
-pub fn reads_at<Word, State, Backend>(
-    decoder: &RangeDecoder<Word, State, Backend>,
-    lower: State,
-    range: State,
-) -> bool
-where
-    Word: WordOf<State>,
-    State: BitArray + PartialEq,
-    Backend: Holds<Word, Queue>,
-{
-    is_interval(decoder.state(), lower, range)
-}
-
-/// Whether all symbols may have been taken.
-pub fn seems_exhausted<Word, State, Backend, const PRECISION: usize>(
-    decoder: &RangeDecoder<Word, State, Backend>,
-) -> bool
-where
-    Word: WordOf<State>,
-    State: BitArray,
-    Backend: ReadWords<Word, Queue>,
-{
-    Decode::<PRECISION>::maybe_exhausted(decoder)
-}
-
-/// Compares where a decoder stands, by taking it apart.
-pub fn ends_at<Word, State, Backend, const PRECISION: usize>(
-    decoder: RangeDecoder<Word, State, Backend>,
+    symbols: &[usize],
     at: &ReadAt<State>,
 ) -> bool
 where
     Word: WordOf<State>,
     State: BitArray + PartialEq,
     Backend: BoundedReadWords<Word, Queue> + Drop,
+    Backend::ReadError: Drop,
+    Probability: WordOf<Word>,
 {
-    let is_exhausted = seems_exhausted::<_, _, _, PRECISION>(&decoder);
+    let are_given = gives(&mut decoder, table, symbols);
+    let is_exhausted = Decode::<PRECISION>::maybe_exhausted(&decoder);
     let (bulk, state, point) = decoder.into_raw_parts();
-    is_exhausted == at.exhausted
+    are_given
+        && is_exhausted == at.exhausted
         && is_interval(state, at.lower, at.range)
         && point == at.point
         && bulk.remaining() == at.left
 }
 
-/// A decoder of words that it owns.
-pub fn decoder_of<Word, State>(words: Vec<Word>) -> Option<Owning<Word, State>>
-where
-    Word: WordOf<State>,
-    State: BitArray,
-    requires { IsSizes Word.BITS State.BITS }
-{
-    RangeDecoder::from_compressed(words).ok()
-}
-
-/// A decoder of words that it borrows.
-pub fn decoder_for<Word, State>(words: &[Word]) -> Option<Lent<'_, Word, State>>
-where
-    Word: WordOf<State>,
-    State: BitArray,
-    requires { IsSizes Word.BITS State.BITS }
-{
-    RangeDecoder::with_backend(Cursor::new_at_write_beginning(words)).ok()
-}
-
-/// Takes the symbols of words by one table, and compares where the decoder stands then.
+/// Takes the symbols of words that it borrows, and compares where the decoder stands then.
 pub fn come_from<Word, State, Probability, const PRECISION: usize>(
     words: &[Word],
     table: &WeightTable<Probability, PRECISION>,
@@ -143,132 +84,116 @@ where
     Probability: WordOf<Word>,
     requires { IsSizes Word.BITS State.BITS }
 {
-    match decoder_for::<Word, State>(words) {
-        Some(mut decoder) => {
-            gives(&mut decoder, table, symbols) && ends_at::<_, _, _, PRECISION>(decoder, at)
-        }
+    match RangeDecoder::with_backend(Cursor::new_at_write_beginning(words)) {
+        Ok(decoder) => all_come(decoder, table, symbols, at),
+        Err(_) => false,
+    }
+}
+
+/// Takes symbols at the words of most tests.
+pub fn takes(decoder: &mut Decoder<'_>, table: &Table, symbols: &[usize]) -> bool {
+    gives(decoder, table, symbols)
+}
+
+/// Takes symbols, and compares where the decoder stands then.
+pub fn ends_at(decoder: Decoder<'_>, table: &Table, symbols: &[usize], at: &ReadAt<u16>) -> bool {
+    all_come(decoder, table, symbols, at)
+}
+
+/// Whether the words hold no symbol of the table.
+pub fn finds_none(decoder: &mut Decoder<'_>, table: &Table) -> bool {
+    matches!(
+        decoder.decode_symbol(table),
+        Err(CoderError::Frontend(DecoderFrontendError::InvalidData))
+    )
+}
+
+/// Compares the interval.
+pub fn reads_at(decoder: &Decoder<'_>, lower: u16, range: u16) -> bool {
+    is_interval(decoder.state(), lower, range)
+}
+
+/// Whether all symbols may have been taken.
+pub fn seems_exhausted(decoder: &Decoder<'_>) -> bool {
+    Decode::<8>::maybe_exhausted(decoder)
+}
+
+/// Takes the symbols of words, and compares where the decoder stands then.
+pub fn come(words: &[u8], table: &Table, symbols: &[usize], at: &ReadAt<u16>) -> bool {
+    match decoder_of(words) {
+        Some(decoder) => ends_at(decoder, table, symbols, at),
         None => false,
     }
 }
 
-/// Compares all symbols that an iterator gives, and how many it says that there are.
-fn are_all<I, E>(given: I, symbols: &[usize]) -> bool
-where
-    I: Iterator<Item = Result<usize, E>> + Drop,
-    E: Drop,
-    requires can { I.can_next given }
-    requires ends { IsFinite (I.remaining given) }
-{
-    if given.size_hint() != (symbols.len(), Some(symbols.len())) {
-        return false;
-    }
-    let mut left = symbols;
-    for found in given {
-        match (found, left.split_first()) {
-            (Ok(symbol), Some((first, rest))) if symbol == *first => left = rest,
-            _ => return false,
-        }
-    }
-    left.is_empty()
-}
-
-/// Takes symbols by one table.
-pub fn gives_list<Word, State, Backend, Probability, const PRECISION: usize>(
-    decoder: &mut RangeDecoder<Word, State, Backend>,
-    table: &WeightTable<Probability, PRECISION>,
-    symbols: &[usize],
-) -> bool
-where
-    Word: WordOf<State>,
-    State: BitArray,
-    Backend: ReadWords<Word, Queue>,
-    Backend::ReadError: Drop,
-    Probability: WordOf<Word>,
-{
-    are_all(decoder.decode_iid_symbols(symbols.len(), table), symbols)
-}
-
-/// The first of so many symbols by one table. The others aren't taken.
-pub fn first_of_list<Word, State, Backend, Probability, const PRECISION: usize>(
-    decoder: &mut RangeDecoder<Word, State, Backend>,
-    table: &WeightTable<Probability, PRECISION>,
-    count: usize,
-) -> Option<usize>
-where
-    Word: WordOf<State>,
-    State: BitArray,
-    Backend: ReadWords<Word, Queue>,
-    Backend::ReadError: Drop,
-    Probability: WordOf<Word>,
-{
-    match decoder.decode_iid_symbols(count, table).next() {
-        Some(Ok(symbol)) => Some(symbol),
-        _ => None,
-    }
-}
-
-/// Takes symbols by a list of tables, until there is none.
-pub fn gives_by_tables<Word, State, Backend, Probability, const PRECISION: usize>(
-    decoder: &mut RangeDecoder<Word, State, Backend>,
-    tables: Vec<&WeightTable<Probability, PRECISION>>,
-    symbols: &[usize],
-) -> bool
-where
-    Word: WordOf<State>,
-    State: BitArray,
-    Backend: ReadWords<Word, Queue>,
-    Backend::ReadError: Drop,
-    Probability: WordOf<Word>,
-{
-    let mut given = decoder.decode_symbols(tables);
+/// Takes symbols by one table through an iterator, until there is none.
+pub fn gives_list(decoder: &mut Decoder<'_>, table: &Table, symbols: &[usize]) -> bool {
+    let mut given = decoder.decode_iid_symbols(symbols.len(), table);
+    let is_sized = given.size_hint() == (symbols.len(), Some(symbols.len()));
     for symbol in symbols {
         match given.next() {
             Some(Ok(found)) if found == *symbol => {}
             _ => return false,
         }
     }
-    given.next().is_none()
+    is_sized && given.next().is_none()
+}
+
+/// The first of so many symbols by one table. The others aren't taken.
+pub fn first_of_list(decoder: &mut Decoder<'_>, table: &Table, count: usize) -> Option<usize> {
+    match decoder.decode_iid_symbols(count, table).next() {
+        Some(Ok(symbol)) => Some(symbol),
+        _ => None,
+    }
+}
+
+/// Takes two symbols by two tables through an iterator.
+pub fn gives_by_tables(
+    decoder: &mut Decoder<'_>,
+    tables: Vec<&Table>,
+    (first, second): (usize, usize),
+) -> bool {
+    let mut given = decoder.decode_symbols(tables);
+    matches!(given.next(), Some(Ok(found)) if found == first)
+        && matches!(given.next(), Some(Ok(found)) if found == second)
+        && given.next().is_none()
 }
 
 /// What an answer in place of a symbol is.
-#[derive(Clone, Copy, PartialEq, Eq)]
-pub enum Fault {
+#[derive(Drop)]
+pub enum Given {
+    Symbol(usize),
     /// The words hold no symbol of the table.
     Invalid,
     /// The table was this error.
     BadModel(u8),
     /// A read was refused.
     Unread,
+    /// There are no more.
+    Nothing,
 }
 
-/// The same, where a table may be an error, which is answered in the place of a symbol.
-pub fn gives_by_items<Word, State, Backend, Probability, const PRECISION: usize>(
-    decoder: &mut RangeDecoder<Word, State, Backend>,
-    items: Vec<Result<&WeightTable<Probability, PRECISION>, u8>>,
-    answers: &[Result<usize, Fault>],
-) -> bool
-where
-    Word: WordOf<State>,
-    State: BitArray,
-    Backend: ReadWords<Word, Queue>,
-    Backend::ReadError: Drop,
-    Probability: WordOf<Word>,
-{
+/// The answer of an iterator.
+fn given_of<E: Drop>(
+    answer: Option<Result<usize, TryCodingError<CoderError<DecoderFrontendError, E>, u8>>>,
+) -> Given {
+    match answer {
+        Some(Ok(symbol)) => Given::Symbol(symbol),
+        Some(Err(TryCodingError::InvalidEntropyModel(error))) => Given::BadModel(error),
+        Some(Err(TryCodingError::CodingError(CoderError::Frontend(_)))) => Given::Invalid,
+        Some(Err(TryCodingError::CodingError(CoderError::Backend(_)))) => Given::Unread,
+        None => Given::Nothing,
+    }
+}
+
+/// The answers where a table may be an error, which is answered in the place of a symbol.
+pub fn given_by_items(
+    decoder: &mut Decoder<'_>,
+    items: Vec<Result<&Table, u8>>,
+) -> (Given, Given, Given, Given) {
     let mut given = decoder.try_decode_symbols(items);
-    if given.size_hint() != (answers.len(), Some(answers.len())) {
-        return false;
-    }
-    for answer in answers {
-        let found = match given.next() {
-            Some(Ok(symbol)) => Ok(symbol),
-            Some(Err(TryCodingError::InvalidEntropyModel(error))) => Err(Fault::BadModel(error)),
-            Some(Err(TryCodingError::CodingError(CoderError::Frontend(_)))) => Err(Fault::Invalid),
-            Some(Err(TryCodingError::CodingError(CoderError::Backend(_)))) => Err(Fault::Unread),
-            None => return false,
-        };
-        if found != *answer {
-            return false;
-        }
-    }
-    given.next().is_none()
+    let first = given_of(given.next());
+    let second = given_of(given.next());
+    let third = given_of(given.next());
+    (first, second, third, given_of(given.next()))
 }

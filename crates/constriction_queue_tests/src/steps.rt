@@ -1,11 +1,9 @@
 //! Worked steps: words that are held back and released, and what an encoder is sealed with.
 
-use crate::coders::{INVERTING, new_encoder, table_of};
-use crate::expect::{At, exports, stands_at};
-use crate::put::puts;
-use crate::whole::{goes_through, has_sizes, is_at};
-use constriction_base::weights::WeightTable;
-use constriction_queue::RangeEncoder;
+use crate::coders::{Coder, INVERTING, Table, new_encoder, table_of};
+use crate::expect::{At, exports};
+use crate::put::put_bytes;
+use crate::whole::{Sizes, goes, goes_through, is_seen};
 use std::test::Fail;
 
 /// After symbol 1: one word is held back.
@@ -26,35 +24,38 @@ const CARRIED: At<'static, u8, u16> = At {
     sealed: &[127, 127, 1],
 };
 
+/// No symbols.
+const NOTHING: At<'static, u8, u16> = At {
+    written: &[],
+    held: &[],
+    lower: 0,
+    range: 65535,
+    sealed: &[],
+};
+
 #[test]
-fn range_inverted(rt: HostRuntime) -> Result<(), Fail> {
-    let table = table_of(rt.alloc(), &INVERTING)?;
-    let mut encoder: RangeEncoder<u8, u16> = new_encoder(rt.alloc());
-    assert!(rt;
-        goes_through(&mut encoder, &table, &[(&[1], INVERTED)])
-            && stands_at(&encoder, 1, 33024, 65280)
-            && has_sizes(&encoder, 2, 16)
-    );
-    Ok(())
+fn range_inverted(rt: HostRuntime) {
+    let sizes = Sizes {
+        place: 1,
+        words: 2,
+        bits: 16,
+    };
+    assert!(rt; goes(rt.alloc(), &[(&[1], INVERTED)], &sizes));
 }
 
 #[test]
-fn range_carry(rt: HostRuntime) -> Result<(), Fail> {
-    let table = table_of(rt.alloc(), &INVERTING)?;
-    let mut encoder: RangeEncoder<u8, u16> = new_encoder(rt.alloc());
-    assert!(rt;
-        goes_through(&mut encoder, &table, &[(&[1], INVERTED), (&[3], CARRIED)])
-            && stands_at(&encoder, 2, 256, 65280)
-            && has_sizes(&encoder, 3, 24)
-    );
-    Ok(())
+fn range_carry(rt: HostRuntime) {
+    let sizes = Sizes {
+        place: 2,
+        words: 3,
+        bits: 24,
+    };
+    assert!(rt; goes(rt.alloc(), &[(&[1], INVERTED), (&[3], CARRIED)], &sizes));
 }
 
 /// The held word is released as it is.
 #[test]
-fn range_no_carry(rt: HostRuntime) -> Result<(), Fail> {
-    let table = table_of(rt.alloc(), &INVERTING)?;
-    let mut encoder: RangeEncoder<u8, u16> = new_encoder(rt.alloc());
+fn range_no_carry(rt: HostRuntime) {
     let released = At {
         written: &[126],
         held: &[],
@@ -62,23 +63,16 @@ fn range_no_carry(rt: HostRuntime) -> Result<(), Fail> {
         range: 32385,
         sealed: &[126, 129],
     };
-    assert!(rt;
-        goes_through(&mut encoder, &table, &[(&[1], INVERTED), (&[0], released)])
-            && stands_at(&encoder, 1, 33024, 32385)
-            && has_sizes(&encoder, 2, 16)
-    );
-    Ok(())
+    let sizes = Sizes {
+        place: 1,
+        words: 2,
+        bits: 16,
+    };
+    assert!(rt; goes(rt.alloc(), &[(&[1], INVERTED), (&[0], released)], &sizes));
 }
 
 /// An encoder that was cleared holds nothing back.
-fn clears(encoder: &mut RangeEncoder<u8, u16>, table: &WeightTable<u8, 8>) -> bool {
-    let nothing = At {
-        written: &[],
-        held: &[],
-        lower: 0,
-        range: 65535,
-        sealed: &[],
-    };
+fn clears(encoder: &mut Coder, table: &Table) -> bool {
     let first = At {
         written: &[],
         held: &[],
@@ -86,17 +80,17 @@ fn clears(encoder: &mut RangeEncoder<u8, u16>, table: &WeightTable<u8, 8>) -> bo
         range: 32385,
         sealed: &[0],
     };
-    if !goes_through(encoder, table, &[(&[], nothing), (&[1], INVERTED)]) {
+    if !put_bytes(encoder, table, &[1]) || !is_seen(encoder, &INVERTED) {
         return false;
     }
     encoder.clear();
-    goes_through(encoder, table, &[(&[], nothing), (&[0], first)])
+    is_seen(encoder, &NOTHING) && put_bytes(encoder, table, &[0]) && is_seen(encoder, &first)
 }
 
 #[test]
 fn range_clear(rt: HostRuntime) -> Result<(), Fail> {
     let table = table_of(rt.alloc(), &INVERTING)?;
-    let mut encoder: RangeEncoder<u8, u16> = new_encoder(rt.alloc());
+    let mut encoder = new_encoder(rt.alloc());
     assert!(rt; clears(&mut encoder, &table) && exports(encoder, &[0]));
     Ok(())
 }
@@ -106,7 +100,7 @@ fn range_clear(rt: HostRuntime) -> Result<(), Fail> {
 fn range_zero_word(rt: HostRuntime) -> Result<(), Fail> {
     let first = table_of(rt.alloc(), &[129, 127])?;
     let second = table_of(rt.alloc(), &[1, 2, 253])?;
-    let mut encoder: RangeEncoder<u8, u16> = new_encoder(rt.alloc());
+    let mut encoder = new_encoder(rt.alloc());
     let sealed = At {
         written: &[],
         held: &[],
@@ -114,56 +108,56 @@ fn range_zero_word(rt: HostRuntime) -> Result<(), Fail> {
         range: 256,
         sealed: &[1, 0],
     };
+    let sizes = Sizes {
+        place: 0,
+        words: 2,
+        bits: 16,
+    };
     assert!(rt;
-        puts(&mut encoder, &first, &[0])
-            && goes_through(&mut encoder, &second, &[(&[1], sealed)])
-            && has_sizes(&encoder, 2, 16)
+        put_bytes(&mut encoder, &first, &[0])
+            && goes_through(&mut encoder, &second, &[(&[1], sealed)], &sizes)
     );
     Ok(())
 }
 
 /// The carry goes through the second held word, which is all ones.
 #[test]
-fn range_two_held(rt: HostRuntime) -> Result<(), Fail> {
-    let table = table_of(rt.alloc(), &INVERTING)?;
-    let mut encoder: RangeEncoder<u8, u16> = new_encoder(rt.alloc());
+fn range_two_held(rt: HostRuntime) {
     let two = At {
+        written: &[],
         held: &[126, 255],
+        lower: 33024,
+        range: 65280,
         sealed: &[126, 255, 129],
-        ..INVERTED
     };
     let carried = At {
         written: &[127, 0],
+        held: &[127],
+        lower: 256,
+        range: 65280,
         sealed: &[127, 0, 127, 1],
-        ..CARRIED
+    };
+    let sizes = Sizes {
+        place: 3,
+        words: 4,
+        bits: 32,
     };
     assert!(rt;
-        goes_through(
-            &mut encoder,
-            &table,
-            &[(&[1], INVERTED), (&[1], two), (&[3], carried)]
-        ) && stands_at(&encoder, 3, 256, 65280)
+        goes(
+            rt.alloc(),
+            &[(&[1], INVERTED), (&[1], two), (&[3], carried)],
+            &sizes
+        )
     );
-    Ok(())
 }
 
 /// A new encoder is empty, takes as many symbols as there can be, and exports no word.
 #[test]
-fn an_encoder_of_no_symbols(rt: HostRuntime) -> Result<(), Fail> {
-    let mut encoder: RangeEncoder<u8, u16> = new_encoder(rt.alloc());
-    let nothing = At {
-        written: &[],
-        held: &[],
-        lower: 0,
-        range: 65535,
-        sealed: &[],
+fn an_encoder_of_no_symbols(rt: HostRuntime) {
+    let sizes = Sizes {
+        place: 0,
+        words: 0,
+        bits: 0,
     };
-    assert!(rt;
-        encoder.is_empty()
-            && is_at(&mut encoder, &nothing)
-            && stands_at(&encoder, 0, 0, 65535)
-            && has_sizes(&encoder, 0, 0)
-            && exports(encoder, &[])
-    );
-    Ok(())
+    assert!(rt; new_encoder(rt.alloc()).is_empty() && goes(rt.alloc(), &[(&[], NOTHING)], &sizes));
 }

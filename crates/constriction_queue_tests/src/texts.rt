@@ -1,9 +1,9 @@
 //! The texts of coders and of their errors.
 
-use crate::coders::{INVERTING, inverted, new_encoder, table_of};
-use crate::put::puts;
-use crate::reading::{decoder_for, gives};
-use constriction_queue::{DecoderFrontendError, EncoderSituation, RangeEncoder};
+use crate::coders::{INVERTING, decoder_of, inverted, new_encoder, table_of};
+use crate::put::put_bytes;
+use crate::reading::takes;
+use constriction_queue::{DecoderFrontendError, EncoderSituation};
 use std::test::Fail;
 
 #[test]
@@ -19,7 +19,7 @@ fn the_text_of_invalid_data(rt: HostRuntime) -> Result<(), Fail> {
 #[test]
 fn the_text_of_a_situation(rt: HostRuntime) -> Result<(), Fail> {
     let normal: EncoderSituation<u8> = EncoderSituation::default();
-    let text = format!(in rt.alloc(); "{:?} {:?}", normal, inverted(2, 126u8))?;
+    let text = format!(in rt.alloc(); "{:?} {:?}", normal, inverted(2, 126))?;
     assert_eq!(rt; text.as_str(), "Normal Inverted(2, 126)");
     Ok(())
 }
@@ -27,8 +27,8 @@ fn the_text_of_a_situation(rt: HostRuntime) -> Result<(), Fail> {
 #[test]
 fn the_text_of_an_encoder(rt: HostRuntime) -> Result<(), Fail> {
     let table = table_of(rt.alloc(), &INVERTING)?;
-    let mut encoder: RangeEncoder<u8, u16> = new_encoder(rt.alloc());
-    assert!(rt; puts(&mut encoder, &table, &[1, 3]));
+    let mut encoder = new_encoder(rt.alloc());
+    assert!(rt; put_bytes(&mut encoder, &table, &[1, 3]));
     let text = format!(in rt.alloc(); "{:?}", encoder)?;
     assert_eq!(rt;
         text.as_str(),
@@ -40,10 +40,10 @@ fn the_text_of_an_encoder(rt: HostRuntime) -> Result<(), Fail> {
 #[test]
 fn the_text_of_a_decoder(rt: HostRuntime) -> Result<(), Fail> {
     let table = table_of(rt.alloc(), &INVERTING)?;
-    let Some(mut decoder) = decoder_for::<u8, u16>(&[127, 127, 1]) else {
+    let Some(mut decoder) = decoder_of(&[127, 127, 1]) else {
         return Err(Fail::from("reads don't fail"));
     };
-    assert!(rt; gives(&mut decoder, &table, &[1]));
+    assert!(rt; takes(&mut decoder, &table, &[1]));
     let text = format!(in rt.alloc(); "{:?}", decoder)?;
     assert_eq!(rt;
         text.as_str(),

@@ -1,137 +1,37 @@
 //! Each call at words and states of each width: what the encoder is after each list of symbols, and the
 //! symbols back through each kind of decoder.
 
-ghost use Rattle.constriction_base.specs.Steps.{IsSizes};
-
-use crate::coders::new_encoder;
-use crate::expect::{At, stands_at, words_of};
+use crate::expect::At;
 use crate::guards::reads_through;
-use crate::put::puts;
-use crate::reading::{ReadAt, ends_at, gives};
-use crate::whole::{copy_of, goes_through, has_sizes};
-use constriction_base::cursor::Cursor;
+use crate::reading::{ReadAt, all_come};
+use crate::whole::{Sizes, goes_through};
 use constriction_base::weights::WeightTable;
-use constriction_queue::{RangeDecoder, RangeEncoder, SmallRangeEncoder};
+use constriction_queue::{RangeEncoder, SmallRangeEncoder};
 use constriction_words::{BitArray, WordOf};
-use std::alloc::Global;
 use std::test::Fail;
 
-/// Takes the symbols through decoders that borrow the encoder, that borrow its words, and that own them.
-fn come_back<Word, State, Probability, const PRECISION: usize>(
+/// Puts lists on and compares the encoder after each, and takes the symbols through a decoder that
+/// borrows the encoder, and through one that it becomes.
+fn calls_go<Word, State, Probability, const PRECISION: usize>(
     mut encoder: RangeEncoder<Word, State>,
     table: &WeightTable<Probability, PRECISION>,
+    (run, sizes): (&[(&[usize], At<'_, Word, State>)], &Sizes),
     symbols: &[usize],
     end: &ReadAt<State>,
-) -> bool
-where
-    Word: WordOf<State>,
-    State: BitArray + PartialEq,
-    Probability: WordOf<Word>,
-{
-    if !reads_through(&mut encoder, table, symbols) {
-        return false;
-    }
-    let copy = copy_of(&encoder);
-    match (copy, encoder.into_decoder()) {
-        (Ok(copy), Ok(mut owned)) => {
-            gives(&mut owned, table, symbols)
-                & ends_at::<_, _, _, PRECISION>(owned, end)
-                & come_from_words(copy, table, symbols, end)
-        }
-        _ => false,
-    }
-}
-
-/// The same over the words of the export, first borrowed and then owned.
-fn come_from_words<Word, State, Probability, const PRECISION: usize>(
-    encoder: RangeEncoder<Word, State>,
-    table: &WeightTable<Probability, PRECISION>,
-    symbols: &[usize],
-    end: &ReadAt<State>,
-) -> bool
-where
-    Word: WordOf<State>,
-    State: BitArray + PartialEq,
-    Probability: WordOf<Word>,
-{
-    let Ok(words) = encoder.into_compressed() else {
-        return false;
-    };
-    let are_lent = match RangeDecoder::for_compressed(&words) {
-        Ok(mut lent) => {
-            gives(&mut lent, table, symbols) && ends_at::<_, _, _, PRECISION>(lent, end)
-        }
-        Err(_) => false,
-    };
-    match RangeDecoder::<Word, State, Cursor<Word, Vec<Word>>>::from_compressed(words) {
-        Ok(mut owned) => {
-            are_lent & gives(&mut owned, table, symbols) & ends_at::<_, _, _, PRECISION>(owned, end)
-        }
-        Err(_) => false,
-    }
-}
-
-/// As many zero words, or none where there is no memory.
-fn zeros<Word: BitArray>(alloc: Global, count: usize) -> Vec<Word> {
-    let mut words = Vec::new(alloc);
-    for _ in 0..count {
-        match words.push(Word::nothing()) {
-            Ok(()) => {}
-            Err(_) => return words,
-        }
-    }
-    words
-}
-
-/// What a buffer is filled with, and how far, by an encoder over it; nothing where there is no room.
-fn filled<Word, State, Probability, const PRECISION: usize>(
-    buf: Vec<Word>,
-    table: &WeightTable<Probability, PRECISION>,
-    symbols: &[usize],
-) -> Option<(Vec<Word>, usize)>
-where
-    Word: WordOf<State>,
-    State: BitArray,
-    Probability: WordOf<Word>,
-    requires { IsSizes Word.BITS State.BITS }
-{
-    let mut encoder = RangeEncoder::<Word, State, Cursor<Word, Vec<Word>>>::with_write_backend(
-        Cursor::new_at_write_beginning(buf),
-    );
-    if !puts(&mut encoder, table, symbols) {
-        return None;
-    }
-    match words_of(encoder) {
-        Ok(cursor) => Some(cursor.into_buf_and_pos()),
-        Err(_) => None,
-    }
-}
-
-/// A buffer with just enough room takes the words, and one with a word less doesn't.
-fn fill_a_buffer<Word, State, Probability, const PRECISION: usize>(
-    alloc: Global,
-    table: &WeightTable<Probability, PRECISION>,
-    symbols: &[usize],
-    sealed: &[Word],
 ) -> bool
 where
     Word: WordOf<State> + PartialEq,
-    State: BitArray,
+    State: BitArray + PartialEq,
     Probability: WordOf<Word>,
-    requires { IsSizes Word.BITS State.BITS }
 {
-    let count = sealed.len();
-    if count == 0 {
+    if !goes_through(&mut encoder, table, run, sizes)
+        || !reads_through(&mut encoder, table, symbols)
+    {
         return false;
     }
-    let is_refused = filled::<Word, State, Probability, PRECISION>(
-        zeros(alloc, count - 1),
-        table,
-        symbols,
-    ).is_none();
-    match filled::<Word, State, Probability, PRECISION>(zeros(alloc, count), table, symbols) {
-        Some((words, place)) => is_refused && place == count && words.as_slice() == sealed,
-        None => false,
+    match encoder.into_decoder() {
+        Ok(owned) => all_come(owned, table, symbols, end),
+        Err(_) => false,
     }
 }
 
@@ -198,19 +98,13 @@ fn calls_at_u8_and_u16(rt: HostRuntime) -> Result<(), Fail> {
         exhausted: true,
     };
     let symbols = [1, 1, 3, 0, 2, 1, 1, 0];
-    let mut encoder = new_encoder(rt.alloc());
-    assert!(rt;
-        goes_through(&mut encoder, &table, &run)
-            && stands_at(&encoder, 5, 49664, 7874)
-            && has_sizes(&encoder, 6, 48)
-            && come_back(encoder, &table, &symbols, &end)
-            && fill_a_buffer::<u8, u16, _, _>(
-                rt.alloc(),
-                &table,
-                &symbols,
-                &[127, 0, 127, 94, 224, 194]
-            )
-    );
+    let sizes = Sizes {
+        place: 5,
+        words: 6,
+        bits: 48,
+    };
+    let encoder = RangeEncoder::new(rt.alloc());
+    assert!(rt; calls_go(encoder, &table, (&run, &sizes), &symbols, &end));
     Ok(())
 }
 
@@ -267,19 +161,13 @@ fn calls_at_u8_and_u32(rt: HostRuntime) -> Result<(), Fail> {
         exhausted: true,
     };
     let symbols = [1, 1, 1, 1, 3, 0, 2, 1];
-    let mut encoder = new_encoder(rt.alloc());
-    assert!(rt;
-        goes_through(&mut encoder, &table, &run)
-            && stands_at(&encoder, 6, 1098842368, 1057029888)
-            && has_sizes(&encoder, 7, 56)
-            && come_back(encoder, &table, &symbols, &end)
-            && fill_a_buffer::<u8, u32, _, _>(
-                rt.alloc(),
-                &table,
-                &symbols,
-                &[127, 127, 127, 0, 127, 223, 66]
-            )
-    );
+    let sizes = Sizes {
+        place: 6,
+        words: 7,
+        bits: 56,
+    };
+    let encoder = RangeEncoder::new(rt.alloc());
+    assert!(rt; calls_go(encoder, &table, (&run, &sizes), &symbols, &end));
     Ok(())
 }
 
@@ -336,19 +224,13 @@ fn calls_at_u16_and_u32(rt: HostRuntime) -> Result<(), Fail> {
         exhausted: true,
     };
     let symbols = [1, 1, 3, 0, 2, 1, 1, 0];
-    let mut encoder: SmallRangeEncoder = new_encoder(rt.alloc());
-    assert!(rt;
-        goes_through(&mut encoder, &table, &run)
-            && stands_at(&encoder, 3, 3760456960, 128961)
-            && has_sizes(&encoder, 5, 80)
-            && come_back(encoder, &table, &symbols, &end)
-            && fill_a_buffer::<u16, u32, _, _>(
-                rt.alloc(),
-                &table,
-                &symbols,
-                &[32759, 61440, 62984, 57381, 0]
-            )
-    );
+    let sizes = Sizes {
+        place: 3,
+        words: 5,
+        bits: 80,
+    };
+    let encoder: SmallRangeEncoder = RangeEncoder::new(rt.alloc());
+    assert!(rt; calls_go(encoder, &table, (&run, &sizes), &symbols, &end));
     Ok(())
 }
 
@@ -405,19 +287,13 @@ fn calls_at_u32_and_u64(rt: HostRuntime) -> Result<(), Fail> {
         exhausted: true,
     };
     let symbols = [1, 1, 3, 0, 2, 1, 1, 0];
-    let mut encoder = new_encoder(rt.alloc());
-    assert!(rt;
-        goes_through(&mut encoder, &table, &run)
-            && stands_at(&encoder, 3, 16140936523750113280, 137430548481)
-            && has_sizes(&encoder, 4, 128)
-            && come_back(encoder, &table, &symbols, &end)
-            && fill_a_buffer::<u32, u64, _, _>(
-                rt.alloc(),
-                &table,
-                &symbols,
-                &[2147483519, 4278190080, 4284481694, 3758104641]
-            )
-    );
+    let sizes = Sizes {
+        place: 3,
+        words: 4,
+        bits: 128,
+    };
+    let encoder = RangeEncoder::new(rt.alloc());
+    assert!(rt; calls_go(encoder, &table, (&run, &sizes), &symbols, &end));
     Ok(())
 }
 
@@ -475,19 +351,13 @@ fn calls_at_u32_and_u64_of_32_bits(rt: HostRuntime) -> Result<(), Fail> {
         exhausted: true,
     };
     let symbols = [1, 1, 3, 0, 2];
-    let mut encoder = new_encoder(rt.alloc());
-    assert!(rt;
-        goes_through(&mut encoder, &table, &run)
-            && stands_at(&encoder, 3, 4611686018427387904, 4611686011984936962)
-            && has_sizes(&encoder, 4, 128)
-            && come_back(encoder, &table, &symbols, &end)
-            && fill_a_buffer::<u32, u64, _, _>(
-                rt.alloc(),
-                &table,
-                &symbols,
-                &[2147483647, 0, 2147483647, 1073741824]
-            )
-    );
+    let sizes = Sizes {
+        place: 3,
+        words: 4,
+        bits: 128,
+    };
+    let encoder = RangeEncoder::new(rt.alloc());
+    assert!(rt; calls_go(encoder, &table, (&run, &sizes), &symbols, &end));
     Ok(())
 }
 
@@ -556,28 +426,12 @@ fn calls_at_u64_and_u128(rt: HostRuntime) -> Result<(), Fail> {
         exhausted: true,
     };
     let symbols = [1, 1, 3, 0, 2];
-    let mut encoder = new_encoder(rt.alloc());
-    assert!(rt;
-        goes_through(&mut encoder, &table, &run)
-            && stands_at(
-                &encoder,
-                3,
-                85070591730234615865843651857942052864,
-                85070591730234615838173535747377725442
-            )
-            && has_sizes(&encoder, 4, 256)
-            && come_back(encoder, &table, &symbols, &end)
-            && fill_a_buffer::<u64, u128, _, _>(
-                rt.alloc(),
-                &table,
-                &symbols,
-                &[
-                    9223372036854775807,
-                    0,
-                    9223372036854775807,
-                    4611686018427387904
-                ]
-            )
-    );
+    let sizes = Sizes {
+        place: 3,
+        words: 4,
+        bits: 256,
+    };
+    let encoder = RangeEncoder::new(rt.alloc());
+    assert!(rt; calls_go(encoder, &table, (&run, &sizes), &symbols, &end));
     Ok(())
 }

@@ -1,14 +1,16 @@
 //! Worked words, and the symbols that they stand for.
 
-use crate::coders::{INVERTING, new_encoder, table_of};
-use crate::expect::exports;
+use crate::coders::{INVERTING, Lent, Table, decoder_of, table_of};
+use crate::expect::exports_words;
 use crate::put::puts;
 use crate::reading::{
-    ReadAt, come_from, decoder_for, ends_at, finds_none, gives, reads_at, seems_exhausted,
+    ReadAt, all_come, come, come_from, ends_at, reads_at, seems_exhausted, takes,
 };
+use constriction_base::cursor::Cursor;
+use constriction_base::errors::CoderError;
 use constriction_base::weights::WeightTable;
-use constriction_queue::DefaultRangeEncoder;
-use std::alloc::Global;
+use constriction_queue::{DecoderFrontendError, DefaultRangeEncoder, RangeDecoder, RangeEncoder};
+use constriction_stream::decoding::Decode;
 use std::test::Fail;
 
 /// Where the symbols 1 and 3 end.
@@ -20,36 +22,36 @@ const AFTER_CARRY: ReadAt<u16> = ReadAt {
     exhausted: true,
 };
 
+/// Puts one symbol on at 32 and 64 bits, and compares the words of the export.
+fn is_encoded(mut encoder: DefaultRangeEncoder, table: &WeightTable<u32, 24>) -> bool {
+    puts(&mut encoder, table, &[1]) && exports_words(encoder, &[2147483648])
+}
+
+/// Takes the symbol 1 of words of 32 bits, and compares where the decoder stands then.
+fn one_comes(words: &[u32], table: &WeightTable<u32, 24>, at: &ReadAt<u64>) -> bool {
+    come_from(words, table, &[1], at)
+}
+
 #[test]
 fn range_one_symbol(rt: HostRuntime) -> Result<(), Fail> {
     let table = WeightTable::<u32, 24>::new(rt.alloc(), &[8388608, 8388608])?;
-    let mut encoder: DefaultRangeEncoder = new_encoder(rt.alloc());
     let end = ReadAt {
-        lower: 9223372036846387200u64,
+        lower: 9223372036846387200,
         range: 9223372036846387200,
         point: 9223372036854775808,
         left: 0,
         exhausted: true,
     };
     assert!(rt;
-        puts(&mut encoder, &table, &[1])
-            && exports(encoder, &[2147483648])
-            && come_from(&[2147483648u32], &table, &[1], &end)
+        is_encoded(RangeEncoder::new(rt.alloc()), &table) && one_comes(&[2147483648], &table, &end)
     );
     Ok(())
 }
 
-/// Words by the table of four weights, at 8 and 16 bits.
-fn come(alloc: Global, words: &[u8], symbols: &[usize], at: &ReadAt<u16>) -> bool {
-    match table_of(alloc, &INVERTING) {
-        Ok(table) => come_from(words, &table, symbols, at),
-        Err(_) => false,
-    }
-}
-
 /// The words of rows with a carry and without one, and what the first symbol leaves of them.
 #[test]
-fn words_with_and_without_a_carry(rt: HostRuntime) {
+fn words_with_and_without_a_carry(rt: HostRuntime) -> Result<(), Fail> {
+    let table = table_of(rt.alloc(), &INVERTING)?;
     let between = ReadAt {
         lower: 33024,
         range: 65280,
@@ -65,16 +67,18 @@ fn words_with_and_without_a_carry(rt: HostRuntime) {
         exhausted: true,
     };
     assert!(rt;
-        come(rt.alloc(), &[127, 127, 1], &[1], &between)
-            && come(rt.alloc(), &[127, 127, 1], &[1, 3], &AFTER_CARRY)
-            && come(rt.alloc(), &[127, 0, 127, 1], &[1, 1, 3], &AFTER_CARRY)
-            && come(rt.alloc(), &[126, 129], &[1, 0], &released)
+        come(&[127, 127, 1], &table, &[1], &between)
+            && come(&[127, 127, 1], &table, &[1, 3], &AFTER_CARRY)
+            && come(&[127, 0, 127, 1], &table, &[1, 1, 3], &AFTER_CARRY)
+            && come(&[126, 129], &table, &[1, 0], &released)
     );
+    Ok(())
 }
 
 /// Missing words are read as zeros.
 #[test]
-fn range_cut_short(rt: HostRuntime) {
+fn range_cut_short(rt: HostRuntime) -> Result<(), Fail> {
+    let table = table_of(rt.alloc(), &INVERTING)?;
     let two = ReadAt {
         lower: 128,
         range: 32385,
@@ -97,27 +101,27 @@ fn range_cut_short(rt: HostRuntime) {
         exhausted: true,
     };
     assert!(rt;
-        come(rt.alloc(), &[127, 127], &[1, 2], &two)
-            && come(rt.alloc(), &[127], &[1, 1], &one)
-            && come(rt.alloc(), &[], &[0, 0], &none)
+        come(&[127, 127], &table, &[1, 2], &two)
+            && come(&[127], &table, &[1, 1], &one)
+            && come(&[], &table, &[0, 0], &none)
     );
+    Ok(())
 }
 
 /// Takes the two symbols of words by two tables, and compares where the decoder stands between and then.
 fn two_come(
     words: &[u8],
-    (first, second): (&WeightTable<u8, 8>, &WeightTable<u8, 8>),
+    (first, second): (&Table, &Table),
     last: usize,
     between: bool,
     at: &ReadAt<u16>,
 ) -> bool {
-    match decoder_for::<u8, u16>(words) {
+    match decoder_of(words) {
         Some(mut decoder) => {
-            gives(&mut decoder, first, &[0])
+            takes(&mut decoder, first, &[0])
                 && reads_at(&decoder, 0, 32895)
-                && seems_exhausted::<_, _, _, 8>(&decoder) == between
-                && gives(&mut decoder, second, &[last])
-                && ends_at::<_, _, _, 8>(decoder, at)
+                && seems_exhausted(&decoder) == between
+                && ends_at(decoder, second, &[last], at)
         }
         None => false,
     }
@@ -137,9 +141,11 @@ fn range_zero_word(rt: HostRuntime) -> Result<(), Fail> {
         exhausted: true,
     };
     let followed = ReadAt {
+        lower: 128,
+        range: 256,
+        point: 256,
         left: 1,
         exhausted: false,
-        ..alone
     };
     let other = ReadAt {
         lower: 384,
@@ -156,29 +162,54 @@ fn range_zero_word(rt: HostRuntime) -> Result<(), Fail> {
     Ok(())
 }
 
-/// Four words of all ones, or four zero words, behind the sealed ones.
-#[test]
-fn range_whatever_follows(rt: HostRuntime) -> Result<(), Fail> {
-    let halves = WeightTable::<u32, 24>::new(rt.alloc(), &[8388608, 8388608])?;
-    let first = table_of(rt.alloc(), &[129, 127])?;
-    let second = table_of(rt.alloc(), &[1, 2, 253])?;
-    let tables = (&first, &second);
+/// Four words of all ones, or four zero words, behind the one of 32 bits.
+fn one_comes_whatever_follows(table: &WeightTable<u32, 24>) -> bool {
     let ones = ReadAt {
-        lower: 9223372036846387200u64,
+        lower: 9223372036846387200,
         range: 9223372036846387200,
         point: 9223372041149743103,
         left: 3,
         exhausted: false,
     };
     let zeros = ReadAt {
+        lower: 9223372036846387200,
+        range: 9223372036846387200,
         point: 9223372036854775808,
-        ..ones
-    };
-    let after = ReadAt {
         left: 3,
         exhausted: false,
-        ..AFTER_CARRY
     };
+    let all = u32::MAX;
+    one_comes(&[2147483648, all, all, all, all], table, &ones)
+        && one_comes(&[2147483648, 0, 0, 0, 0], table, &zeros)
+}
+
+/// The same behind those of rows with a carry.
+fn carries_come_whatever_follows(table: &Table) -> bool {
+    let ones = ReadAt {
+        lower: 256,
+        range: 65280,
+        point: 511,
+        left: 3,
+        exhausted: false,
+    };
+    let zeros = ReadAt {
+        lower: 256,
+        range: 65280,
+        point: 256,
+        left: 3,
+        exhausted: false,
+    };
+    come(&[127, 127, 1, 255, 255, 255, 255], table, &[1, 3], &ones)
+        && come(&[127, 127, 1, 0, 0, 0, 0], table, &[1, 3], &zeros)
+}
+
+/// Four words of all ones, or four zero words, behind the sealed ones.
+#[test]
+fn range_whatever_follows(rt: HostRuntime) -> Result<(), Fail> {
+    let halves = WeightTable::<u32, 24>::new(rt.alloc(), &[8388608, 8388608])?;
+    let table = table_of(rt.alloc(), &INVERTING)?;
+    let first = table_of(rt.alloc(), &[129, 127])?;
+    let second = table_of(rt.alloc(), &[1, 2, 253])?;
     let last = ReadAt {
         lower: 128,
         range: 256,
@@ -186,52 +217,64 @@ fn range_whatever_follows(rt: HostRuntime) -> Result<(), Fail> {
         left: 4,
         exhausted: false,
     };
-    let all = u32::MAX;
     assert!(rt;
-        come_from(&[2147483648u32, all, all, all, all], &halves, &[1], &ones)
-            && come_from(&[2147483648u32, 0, 0, 0, 0], &halves, &[1], &zeros)
-            && come(
-                rt.alloc(),
-                &[127, 127, 1, 255, 255, 255, 255],
-                &[1, 3],
-                &ReadAt {
-                    point: 511,
-                    ..after
-                }
+        one_comes_whatever_follows(&halves)
+            && carries_come_whatever_follows(&table)
+            && two_come(
+                &[1, 0, 255, 255, 255, 255],
+                (&first, &second),
+                1,
+                false,
+                &last
             )
-            && come(rt.alloc(), &[127, 127, 1, 0, 0, 0, 0], &[1, 3], &after)
-            && two_come(&[1, 0, 255, 255, 255, 255], tables, 1, false, &last)
-            && two_come(&[1, 0, 0, 0, 0, 0], tables, 1, false, &last)
+            && two_come(&[1, 0, 0, 0, 0, 0], (&first, &second), 1, false, &last)
     );
     Ok(())
 }
 
-/// Words that hold no symbol, and none at all.
-fn invalid_or_empty(table: &WeightTable<u32, 24>) -> bool {
-    let all = [u32::MAX, u32::MAX];
-    match (decoder_for::<u32, u64>(&all), decoder_for::<u32, u64>(&[])) {
-        (Some(mut invalid), Some(empty)) => {
-            let end = ReadAt {
-                lower: 0,
-                range: u64::MAX,
-                point: u64::MAX,
-                left: 0,
-                exhausted: true,
-            };
-            finds_none(&mut invalid, table)
-                && finds_none(&mut invalid, table)
-                && ends_at::<_, _, _, 24>(invalid, &end)
-                && ends_at::<_, _, _, 24>(empty, &ReadAt { point: 0, ..end })
+/// A step that finds no symbol.
+fn finds_none(decoder: &mut Lent<'_, u32, u64>, table: &WeightTable<u32, 24>) -> bool {
+    matches!(
+        decoder.decode_symbol(table),
+        Err(CoderError::Frontend(DecoderFrontendError::InvalidData))
+    )
+}
+
+/// Words that hold no symbol.
+fn is_invalid(words: &[u32], table: &WeightTable<u32, 24>) -> bool {
+    let end = ReadAt {
+        lower: 0,
+        range: u64::MAX,
+        point: u64::MAX,
+        left: 0,
+        exhausted: true,
+    };
+    match RangeDecoder::with_backend(Cursor::new_at_write_beginning(words)) {
+        Ok(mut decoder) => {
+            finds_none(&mut decoder, table)
+                && finds_none(&mut decoder, table)
+                && all_come(decoder, table, &[], &end)
         }
-        _ => false,
+        Err(_) => false,
     }
 }
 
 #[test]
 fn range_invalid_and_empty(rt: HostRuntime) -> Result<(), Fail> {
     let table = WeightTable::<u32, 24>::new(rt.alloc(), &[8388608, 8388608])?;
-    let encoder: DefaultRangeEncoder = new_encoder(rt.alloc());
-    assert!(rt; exports(encoder, &[]) && invalid_or_empty(&table));
+    let encoder: DefaultRangeEncoder = RangeEncoder::new(rt.alloc());
+    let end = ReadAt {
+        lower: 0u64,
+        range: u64::MAX,
+        point: 0,
+        left: 0,
+        exhausted: true,
+    };
+    assert!(rt;
+        exports_words(encoder, &[])
+            && is_invalid(&[u32::MAX, u32::MAX], &table)
+            && come_from::<u32, u64, _, _>(&[], &table, &[], &end)
+    );
     Ok(())
 }
 
@@ -240,19 +283,19 @@ fn range_invalid_and_empty(rt: HostRuntime) -> Result<(), Fail> {
 fn the_greatest_distance_of_an_end(rt: HostRuntime) -> Result<(), Fail> {
     let first = table_of(rt.alloc(), &[129, 127])?;
     let within = ReadAt {
-        lower: 0u16,
+        lower: 0,
         range: 32895,
         point: 510,
         left: 0,
         exhausted: true,
     };
     let past = ReadAt {
+        lower: 0,
+        range: 32895,
         point: 511,
+        left: 0,
         exhausted: false,
-        ..within
     };
-    assert!(rt;
-        come_from(&[1u8, 254], &first, &[0], &within) && come_from(&[1u8, 255], &first, &[0], &past)
-    );
+    assert!(rt; come(&[1, 254], &first, &[0], &within) && come(&[1, 255], &first, &[0], &past));
     Ok(())
 }
