@@ -4,7 +4,7 @@
 //! What a contract of `constriction_queue` says is proved there for all values. These tests stand for
 //! what no contract can say: that the definitions give the numbers that a reader expects, that calls
 //! which take memory succeed where there is some, what texts are printed, and that a caller reaches
-//! each call at each width of words.
+//! each call at concrete types.
 //!
 //! All expected values are those of one growing number: an interval that begins at a whole number and
 //! has a length, both multiplied by a word's values where the length gets short. They were worked out

@@ -1,5 +1,5 @@
-//! Each call at words and states of each width: what the encoder is after each list of symbols, and the
-//! symbols back through each kind of decoder.
+//! Words and states of each width: what the encoder is after each list of symbols, and the symbols back
+//! through decoders.
 
 use crate::expect::At;
 use crate::guards::reads_through;
