@@ -8,16 +8,22 @@ use constriction_base::weights::{TableError, WeightTable};
 use constriction_stack::AnsCoder;
 use constriction_words::{BitArray, WordOf};
 use linked_list_allocator::LocalHeap;
-use std::alloc::{Allocator, Global};
+use std::alloc::Global;
+
+/// A coder of bytes below a head of two.
+pub type Small = AnsCoder<u8, u16>;
+
+/// A table of 8 bits.
+pub type Table = WeightTable<u8, 8>;
 
 /// A coder over words in a heap of its own.
 pub type HeapCoder<'a> = AnsCoder<u8, u16, Vec<u8, &'a LocalHeap>>;
 
 /// A coder over a buffer.
-pub type CursorCoder<'a> = AnsCoder<u8, u16, Cursor<u8, &'a mut [u8]>>;
+pub type CursorCoder<'a, State> = AnsCoder<u8, State, Cursor<u8, &'a mut [u8]>>;
 
 /// A table of 8 bits. Where memory is refused, it is asked for once more.
-pub fn table_of(alloc: Global, weights: &[u8]) -> Result<WeightTable<u8, 8>, TableError> {
+pub fn table_of(alloc: Global, weights: &[u8]) -> Result<Table, TableError> {
     match WeightTable::new(alloc, weights) {
         Err(TableError::Memory) => WeightTable::new(alloc, weights),
         answer => answer,
@@ -41,12 +47,16 @@ pub fn coder_with<Word: WordOf<State>, State: BitArray, Backend: Holds<Word, Sta
     AnsCoder::from_raw_parts(words, head)
 }
 
-/// A coder over an empty vector of some heap.
-pub fn coder_in<A: Allocator>(alloc: A) -> AnsCoder<u8, u16, Vec<u8, A>> {
-    AnsCoder::with_write_backend(Vec::new(alloc))
+/// A coder that will write over a buffer, from its beginning.
+pub fn coder_over(buf: &mut [u8]) -> CursorCoder<'_, u16> {
+    AnsCoder::with_write_backend(Cursor::new_at_write_beginning(buf))
 }
 
-/// A coder that will write over a buffer, from its beginning.
-pub fn coder_over(buf: &mut [u8]) -> CursorCoder<'_> {
-    AnsCoder::with_write_backend(Cursor::new_at_write_beginning(buf))
+/// The same, with a head.
+pub fn coder_over_with<State: BitArray>(buf: &mut [u8], head: State) -> CursorCoder<'_, State>
+where
+    u8: WordOf<State>,
+    requires { IsSizes 8 State.BITS }
+{
+    AnsCoder::from_raw_parts(Cursor::new_at_write_beginning(buf), head)
 }

@@ -13,6 +13,10 @@
 #![tactic(auto)]
 
 #[cfg(test)]
+mod backends;
+#[cfg(test)]
+mod binary;
+#[cfg(test)]
 mod cases;
 #[cfg(test)]
 mod coders;
@@ -21,17 +25,27 @@ mod decoders;
 #[cfg(test)]
 mod expect;
 #[cfg(test)]
+mod exports;
+#[cfg(test)]
+mod guards;
+#[cfg(test)]
 mod lists;
 #[cfg(test)]
 mod memory;
 #[cfg(test)]
 mod put;
 #[cfg(test)]
+mod readers;
+#[cfg(test)]
 mod refusals;
 #[cfg(test)]
 mod reversed_lists;
 #[cfg(test)]
 mod script;
+#[cfg(test)]
+mod seeking;
+#[cfg(test)]
+mod sizes;
 #[cfg(test)]
 mod steps;
 #[cfg(test)]

@@ -1,61 +1,23 @@
 //! Lists of symbols, and iterators of symbols, through the coder traits.
 
-ghost use Rattle.std.specs.Prelude.{◌≤◌};
-
-use crate::cases::{WIDE_WEIGHTS, cursor_does, new_does, new_wide_does, small_does, wide_does};
-use crate::coders::{new_coder, table_of};
+use crate::cases::{cursor_does, new_does, new_wide_does, small_does};
+use crate::coders::{Small, Table, new_coder, table_of};
 use crate::expect::coder_of;
-use crate::put::{Call, Pair, Put, put_pairs, try_pairs};
+use crate::put::{Answer, put_pairs, try_pairs};
 use crate::script::Act;
-use constriction_base::backends::WriteWords;
-use constriction_base::model::{DecoderModel, EncoderModel, EntropyModel};
-use constriction_base::weights::WeightTable;
-use constriction_stack::{AnsCoder, DefaultAnsCoder};
-use constriction_stream::coder::Code;
 use constriction_stream::decoding::Decode;
-use constriction_stream::encoding::Encode;
-use constriction_words::{BitArray, WordOf};
-use std::alloc::Global;
+use constriction_stream::errors::TryCodingError;
 use std::test::Fail;
-
-/// An item of a list that may be faulty, at u8 and u16.
-type Item<'a> = Result<Pair<'a, u8, 8>, u8>;
-
-/// The symbols 1, 5 and 1 in an array, of which 5 is unknown.
-fn stops_at_unknown<Backend: WriteWords<u8>>(
-    coder: &mut AnsCoder<u8, u16, Backend>,
-    table: &WeightTable<u8, 8>,
-) -> bool
-where
-    Backend::WriteError: Drop,
-{
-    matches!(
-        put_pairs(coder, [(&1, table), (&5, table), (&1, table)]),
-        Put::Unknown
-    )
-}
 
 #[test]
 fn list_stops_at_unknown(rt: HostRuntime) -> Result<(), Fail> {
     let table = table_of(rt.alloc(), &[255, 1])?;
     let mut coder = new_coder(rt.alloc());
     assert!(rt;
-        stops_at_unknown(&mut coder, &table)
-            && small_does(rt.alloc(), &mut coder, &table, &[Act::Holds(255, &[])])
+        put_pairs(&mut coder, [1, 5, 1], &table) == Answer::Unknown
+            && small_does(&mut coder, &table, &[Act::Holds(&255, &[])])
     );
     Ok(())
-}
-
-/// An array with an error between two symbols.
-fn stops_at_bad_model<Backend: WriteWords<u8>>(
-    coder: &mut AnsCoder<u8, u16, Backend>,
-    table: &WeightTable<u8, 8>,
-) -> bool
-where
-    Backend::WriteError: Drop,
-{
-    let items: [Item<'_>; 3] = [Ok((&1, table)), Err(7), Ok((&1, table))];
-    matches!(try_pairs(coder, items), Put::BadModel(7))
 }
 
 #[test]
@@ -63,134 +25,188 @@ fn list_stops_at_bad_model(rt: HostRuntime) -> Result<(), Fail> {
     let table = table_of(rt.alloc(), &[255, 1])?;
     let mut coder = new_coder(rt.alloc());
     assert!(rt;
-        stops_at_bad_model(&mut coder, &table)
-            && small_does(rt.alloc(), &mut coder, &table, &[Act::Holds(255, &[])])
+        matches!(
+            try_pairs(&mut coder, [Ok(1), Err(7), Ok(1)], &table),
+            Err(7)
+        ) && small_does(&mut coder, &table, &[Act::Holds(&255, &[])])
     );
     Ok(())
 }
 
-/// What a coder of the words 255, 255, 255 does, under weights of 255 and 1.
-fn imported_does(alloc: Global, acts: &[Act<'_, u8, u16>]) -> bool {
-    match (table_of(alloc, &[255, 1]), [255u8, 255, 255].to_vec(alloc)) {
-        (Ok(table), Ok(words)) => match coder_of(words) {
-            Some(mut coder) => small_does(alloc, &mut coder, &table, acts),
-            None => false,
-        },
-        _ => false,
+/// What comes of a table in a list, or of its end.
+#[derive(Clone, Copy, PartialEq, Eq)]
+enum Came {
+    Symbol(usize),
+    /// The error that stood for the table.
+    Bad(u8),
+    Refused,
+    End,
+}
+
+/// What came by a list of tables.
+fn what_came<E: Drop>(answer: Option<Result<usize, E>>) -> Came {
+    match answer {
+        Some(Ok(symbol)) => Came::Symbol(symbol),
+        Some(Err(_)) => Came::Refused,
+        None => Came::End,
     }
 }
 
-#[test]
-fn iterator_goes_on(rt: HostRuntime) {
-    let acts = [
-        Act::GivesByItems(&[Ok(1), Err(7), Ok(1)]),
-        Act::Gives(&[1]),
-        Act::Empty,
-    ];
-    assert!(rt; imported_does(rt.alloc(), &acts));
+/// The same where an item may be an error.
+fn what_came_or_bad<E: Drop>(answer: Option<Result<usize, TryCodingError<E, u8>>>) -> Came {
+    match answer {
+        Some(Ok(symbol)) => Came::Symbol(symbol),
+        Some(Err(TryCodingError::InvalidEntropyModel(error))) => Came::Bad(error),
+        Some(Err(TryCodingError::CodingError(_))) => Came::Refused,
+        None => Came::End,
+    }
+}
+
+/// Whether an iterator says that so many items are left.
+fn hints<I: Iterator>(given: &I, count: usize) -> bool {
+    matches!(given.size_hint(), (least, Some(most)) if least == count && most == count)
+}
+
+/// Takes symbols off by three items, and compares what comes of each, and then.
+fn by_items(coder: &mut Small, items: Vec<Result<&Table, u8>>, answers: [Came; 4]) -> bool {
+    let mut given = coder.try_decode_symbols(items);
+    let mut goes = hints(&given, 3);
+    for answer in answers {
+        goes = goes & (what_came_or_bad(given.next()) == answer);
+    }
+    goes
 }
 
 #[test]
-fn iterator_dropped_early(rt: HostRuntime) {
-    let acts = [Act::GivesFirst(3, 1), Act::Gives(&[1, 1]), Act::Empty];
-    assert!(rt; imported_does(rt.alloc(), &acts));
+fn iterator_goes_on(rt: HostRuntime) -> Result<(), Fail> {
+    let table = table_of(rt.alloc(), &[255, 1])?;
+    let Some(mut coder) = coder_of([255u8, 255, 255].to_vec(rt.alloc())?) else {
+        return Err(Fail::from("words of a coder"));
+    };
+    let items = [Ok(&table), Err(7u8), Ok(&table)].to_vec(rt.alloc())?;
+    let answers = [Came::Symbol(1), Came::Bad(7), Came::Symbol(1), Came::End];
+    let acts = [Act::Gives(&[1]), Act::Empty];
+    assert!(rt; by_items(&mut coder, items, answers) && small_does(&mut coder, &table, &acts));
+    Ok(())
+}
+
+/// Takes the first of so many symbols off by one table, and compares them. The others are left.
+fn by_one(coder: &mut Small, table: &Table, count: usize, symbols: &[usize]) -> bool {
+    let mut given = coder.decode_iid_symbols(count, table);
+    let mut goes = hints(&given, count);
+    for symbol in symbols {
+        goes = goes & (what_came(given.next()) == Came::Symbol(*symbol));
+    }
+    goes
 }
 
 #[test]
-fn lists_at_u8_and_u16(rt: HostRuntime) {
-    let acts = [
-        Act::Done(Call::List, &[]),
+fn iterator_dropped_early(rt: HostRuntime) -> Result<(), Fail> {
+    let table = table_of(rt.alloc(), &[255, 1])?;
+    let Some(mut coder) = coder_of([255u8, 255, 255].to_vec(rt.alloc())?) else {
+        return Err(Fail::from("words of a coder"));
+    };
+    let acts = [Act::Gives(&[1, 1]), Act::Empty];
+    assert!(rt; by_one(&mut coder, &table, 3, &[1]) && small_does(&mut coder, &table, &acts));
+    Ok(())
+}
+
+/// Takes symbols off by two tables, and compares what comes of each, and then.
+fn by_tables(coder: &mut Small, tables: &[Table; 2], answers: [Came; 3]) -> bool {
+    let mut given = coder.decode_symbols(tables.iter());
+    let mut goes = hints(&given, 2);
+    for answer in answers {
+        goes = goes & (what_came(given.next()) == answer);
+    }
+    goes
+}
+
+#[test]
+fn lists_at_u8_and_u16(rt: HostRuntime) -> Result<(), Fail> {
+    let tables = [
+        table_of(rt.alloc(), &[255, 1])?,
+        table_of(rt.alloc(), &[255, 1])?,
+    ];
+    let mut coder = new_coder(rt.alloc());
+    let lists = [
+        Act::List(&[], Answer::Done),
         Act::Empty,
-        Act::Done(Call::List, &[1, 0]),
-        Act::Done(Call::Pairs, &[1]),
-        Act::Done(Call::Items, &[1]),
-        Act::GivesByTables(&[1, 1]),
-        Act::GivesList(&[0, 1]),
+        Act::List(&[1, 0], Answer::Done),
+        Act::List(&[1, 1], Answer::Done),
+    ];
+    let answers = [Came::Symbol(1), Came::Symbol(1), Came::End];
+    assert!(rt;
+        small_does(&mut coder, &tables[0], &lists)
+            && by_tables(&mut coder, &tables, answers)
+            && by_one(&mut coder, &tables[0], 2, &[0, 1])
+            && small_does(&mut coder, &tables[0], &[Act::Empty])
+    );
+    Ok(())
+}
+
+/// Three symbols, each with its table, and as the items of a list that may be faulty.
+#[test]
+fn lists_of_pairs_at_u8_and_u16(rt: HostRuntime) -> Result<(), Fail> {
+    let table = table_of(rt.alloc(), &[255, 1])?;
+    let mut coder = new_coder(rt.alloc());
+    let acts = [
+        Act::Holds(&65535, &[255]),
+        Act::Gives(&[1, 1, 1]),
         Act::Empty,
     ];
-    assert!(rt; new_does(rt.alloc(), &[255, 1], &acts));
+    assert!(rt;
+        put_pairs(&mut coder, [1, 1, 1], &table) == Answer::Done
+            && small_does(&mut coder, &table, &acts)
+            && matches!(
+                try_pairs(&mut coder, [Ok(1), Ok(1), Ok(1)], &table),
+                Ok(Answer::Done)
+            )
+            && small_does(&mut coder, &table, &acts)
+    );
+    Ok(())
 }
 
 /// The lists over a cursor with no room for a word: each stops at the step that owes one.
 #[test]
-fn lists_over_a_full_cursor(rt: HostRuntime) {
+fn lists_over_a_full_cursor(rt: HostRuntime) -> Result<(), Fail> {
+    let table = table_of(rt.alloc(), &[255, 1])?;
     let acts = [
-        Act::Done(Call::List, &[1]),
-        Act::Refused(Call::Pairs, &[1, 1]),
-        Act::Holds(65535, &[]),
-        Act::Refused(Call::Items, &[1]),
-        Act::Holds(65535, &[]),
-        Act::GivesByTables(&[1, 1]),
-        Act::GivesList(&[0, 0]),
+        Act::List(&[1], Answer::Done),
+        Act::List(&[1, 1], Answer::OutOfSpace),
+        Act::Holds(&65535, &[]),
+        Act::List(&[1], Answer::OutOfSpace),
+        Act::Holds(&65535, &[]),
+        Act::Gives(&[1, 1, 0, 0]),
     ];
-    assert!(rt; cursor_does(rt.alloc(), &[255, 1], &mut [], &acts));
+    assert!(rt; cursor_does(&mut [], 0, &table, &acts));
+    Ok(())
 }
 
 /// The symbols 1, 0 and 2, 0 by two lists, and back: heads 3, 16777216, 16777226 and
 /// 93825036976130, which owe no word.
 #[test]
-fn lists_of_pairs_at_u32_and_u64(rt: HostRuntime) {
+fn two_lists_at_u32_and_u64(rt: HostRuntime) {
     let acts = [
-        Act::Done(Call::Pairs, &[1, 0]),
-        Act::Holds(16777216, &[]),
-        Act::Done(Call::Items, &[2, 0]),
-        Act::Holds(93825036976130, &[]),
-        Act::GivesByTables(&[0, 2]),
-        Act::GivesByItems(&[Ok(0)]),
-        Act::Holds(3, &[]),
+        Act::List(&[1, 0], Answer::Done),
+        Act::Holds(&16777216, &[]),
+        Act::List(&[2, 0], Answer::Done),
+        Act::Holds(&93825036976130, &[]),
+        Act::Gives(&[0, 2, 0]),
+        Act::Holds(&3, &[]),
     ];
     assert!(rt; new_wide_does(rt.alloc(), &acts));
 }
 
-/// Puts two symbols on any coder and takes two off.
-fn two_through_the_bounds<C, M>(coder: &mut C, symbols: &[M::Symbol; 2], model: &M) -> bool
-where
-    C: Encode<24> + Decode<24>,
-    <C as Encode<24>>::FrontendError: Drop,
-    <C as Encode<24>>::BackendError: Drop,
-    <C as Decode<24>>::FrontendError: Drop,
-    <C as Decode<24>>::BackendError: Drop,
-    M: EncoderModel<24> + DecoderModel<24>,
-    M::Probability: WordOf<C::Word>,
-    requires { 2 ≤ C.symbols_left coder.old }
-{
-    if coder.encode_iid_symbols(symbols.as_slice(), model).is_err() {
-        return false;
-    }
-    let mut answers = coder.decode_iid_symbols(2, model);
-    matches!(answers.next(), Some(Ok(_))) && matches!(answers.next(), Some(Ok(_)))
-}
-
-/// The symbols 1 and 1, by a filter, which doesn't know how many symbols it keeps.
-fn two_by_a_filter<Backend: WriteWords<u32>>(
-    coder: &mut AnsCoder<u32, u64, Backend>,
-    table: &WeightTable<u32, 24>,
-) -> bool
-where
-    Backend::WriteError: Drop,
-{
-    let odd = [1usize, 2, 1, 4];
-    coder
-        .encode_iid_symbols(odd.iter().filter(|symbol| **symbol == 1), table)
-        .is_ok()
-}
-
+/// The symbols 1 and 1, and back.
 #[test]
-fn lists_at_u32_and_u64(rt: HostRuntime) -> Result<(), Fail> {
-    let table = WeightTable::new(rt.alloc(), WIDE_WEIGHTS.as_slice())?;
-    let mut coder: DefaultAnsCoder = new_coder(rt.alloc());
+fn lists_at_u32_and_u64(rt: HostRuntime) {
     let acts = [
-        Act::Holds(16777220, &[]),
-        Act::GivesByTables(&[1]),
-        Act::GivesByItems(&[Ok(1), Err(7)]),
+        Act::List(&[1, 1], Answer::Done),
+        Act::Holds(&16777220, &[]),
+        Act::Gives(&[1, 1]),
         Act::Empty,
+        Act::NoLimit,
+        Act::Exhausted,
     ];
-    assert!(rt;
-        two_by_a_filter(&mut coder, &table)
-            && wide_does(rt.alloc(), &mut coder, &table, &acts)
-            && two_through_the_bounds(&mut coder, &[0, 2], &table)
-    );
-    let acts = [Act::Empty, Act::NoLimit, Act::Exhausted];
-    assert!(rt; wide_does(rt.alloc(), &mut coder, &table, &acts));
-    Ok(())
+    assert!(rt; new_wide_does(rt.alloc(), &acts));
 }

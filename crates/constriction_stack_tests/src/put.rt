@@ -2,8 +2,9 @@
 
 ghost use Rattle.constriction_stream.specs.Lists.{GivesAtMost};
 
+use crate::coders::{Small, Table};
 use constriction_base::backends::WriteWords;
-use constriction_base::errors::{CoderError, DefaultEncoderError, DefaultEncoderFrontendError};
+use constriction_base::errors::{BoundedWriteError, CoderError, DefaultEncoderError};
 use constriction_base::model::{EncoderModel, EntropyModel};
 use constriction_base::weights::WeightTable;
 use constriction_stack::AnsCoder;
@@ -11,67 +12,72 @@ use constriction_stream::coder::Code;
 use constriction_stream::encoding::{Encode, EncodeReverse, Lent};
 use constriction_stream::errors::TryCodingError;
 use constriction_words::{BitArray, WordOf};
-use std::alloc::{AllocError, Global};
+use std::alloc::AllocError;
 
-/// What a call that puts symbols on returns.
-#[derive(Drop)]
-pub enum Put<E> {
+/// What a call comes to.
+#[derive(Clone, Copy, PartialEq, Eq)]
+pub enum Answer {
+    /// It is done, with the words that are expected.
     Done,
+    /// It is done, with other words.
+    OtherWords,
+    /// The table doesn't know the symbol.
     Unknown,
-    Refused(E),
-    BadModel(u8),
-    /// The list itself found no memory.
+    /// The buffer ends.
+    OutOfSpace,
+    /// There is no memory.
     NoMemory,
+    /// There is no binary form.
+    NoBinary,
 }
 
-/// A symbol and its table.
-pub type Pair<'a, Probability, const PRECISION: usize> = (
-    &'a usize,
-    &'a WeightTable<Probability, PRECISION>,
-);
+/// An error of a backend that finds no room.
+pub trait Lack {
+    fn answer(&self) -> Answer;
+}
+
+impl Lack for AllocError {
+    fn answer(&self) -> Answer {
+        Answer::NoMemory
+    }
+}
+
+impl Lack for BoundedWriteError {
+    fn answer(&self) -> Answer {
+        match self {
+            BoundedWriteError::OutOfSpace => Answer::OutOfSpace,
+            BoundedWriteError::Memory => Answer::NoMemory,
+        }
+    }
+}
+
+/// The answer of a call that shows words.
+pub fn words_are(are_expected: bool) -> Answer {
+    if are_expected {
+        Answer::Done
+    } else {
+        Answer::OtherWords
+    }
+}
 
 /// The answer of a step or a list.
-fn answer_of<E>(answer: Result<(), DefaultEncoderError<E>>) -> Put<E> {
+fn answer_of<E: Lack + Drop>(answer: Result<(), DefaultEncoderError<E>>) -> Answer {
     match answer {
-        Ok(()) => Put::Done,
-        Err(CoderError::Frontend(DefaultEncoderFrontendError::ImpossibleSymbol)) => Put::Unknown,
-        Err(CoderError::Backend(error)) => Put::Refused(error),
+        Ok(()) => Answer::Done,
+        Err(CoderError::Frontend(_)) => Answer::Unknown,
+        Err(CoderError::Backend(error)) => error.answer(),
     }
 }
 
-/// The answer of a list whose items may be errors.
-fn tried_answer_of<E>(answer: Result<(), TryCodingError<DefaultEncoderError<E>, u8>>) -> Put<E> {
+/// The answer of a list whose items may be errors, or the error.
+fn tried_answer_of<E: Lack + Drop>(
+    answer: Result<(), TryCodingError<DefaultEncoderError<E>, u8>>,
+) -> Result<Answer, u8> {
     match answer {
-        Ok(()) => Put::Done,
-        Err(TryCodingError::InvalidEntropyModel(error)) => Put::BadModel(error),
-        Err(TryCodingError::CodingError(error)) => answer_of(Err(error)),
+        Ok(()) => Ok(Answer::Done),
+        Err(TryCodingError::InvalidEntropyModel(error)) => Err(error),
+        Err(TryCodingError::CodingError(error)) => Ok(answer_of(Err(error))),
     }
-}
-
-/// Symbols, each with a table.
-fn pairs_of<'a, Probability: BitArray, const PRECISION: usize>(
-    alloc: Global,
-    table: &'a WeightTable<Probability, PRECISION>,
-    symbols: &'a [usize],
-) -> Result<Vec<Pair<'a, Probability, PRECISION>>, AllocError> {
-    let mut pairs = Vec::new(alloc);
-    for symbol in symbols {
-        pairs.push((symbol, table))?;
-    }
-    Ok(pairs)
-}
-
-/// The same as the items of a list that may be faulty.
-fn items_of<'a, Probability: BitArray, const PRECISION: usize>(
-    alloc: Global,
-    table: &'a WeightTable<Probability, PRECISION>,
-    symbols: &'a [usize],
-) -> Result<Vec<Result<Pair<'a, Probability, PRECISION>, u8>>, AllocError> {
-    let mut items = Vec::new(alloc);
-    for symbol in symbols {
-        items.push(Ok((symbol, table)))?;
-    }
-    Ok(items)
 }
 
 /// Puts symbols on one by one, and compares the head after each.
@@ -87,99 +93,103 @@ where
     Backend::WriteError: Drop,
     Probability: WordOf<Word>,
 {
+    let mut goes = true;
     for (symbol, head) in steps {
-        if coder.encode_symbol(symbol, table).is_err() || coder.state() != *head {
-            return false;
-        }
+        goes = goes & coder.encode_symbol(symbol, table).is_ok() & (coder.state() == *head);
     }
-    true
+    goes
 }
 
-/// Puts symbols on one by one, up to the first that is refused.
-fn put_each<Word, State, Backend, Probability, const PRECISION: usize>(
+/// Puts one symbol on.
+pub fn put_one<Word, State, Backend, Probability, const PRECISION: usize>(
+    coder: &mut AnsCoder<Word, State, Backend>,
+    table: &WeightTable<Probability, PRECISION>,
+    symbol: &usize,
+) -> Answer
+where
+    Word: WordOf<State>,
+    State: BitArray,
+    Backend: WriteWords<Word>,
+    Backend::WriteError: Lack + Drop,
+    Probability: WordOf<Word>,
+{
+    answer_of(coder.encode_symbol(symbol, table))
+}
+
+/// Puts a list on by one table.
+pub fn put_list<Word, State, Backend, Probability, const PRECISION: usize>(
     coder: &mut AnsCoder<Word, State, Backend>,
     table: &WeightTable<Probability, PRECISION>,
     symbols: &[usize],
-) -> Put<Backend::WriteError>
+) -> Answer
 where
     Word: WordOf<State>,
     State: BitArray,
     Backend: WriteWords<Word>,
+    Backend::WriteError: Lack + Drop,
     Probability: WordOf<Word>,
 {
-    for symbol in symbols {
-        match coder.encode_symbol(symbol, table) {
-            Ok(()) => {}
-            Err(error) => return answer_of(Err(error)),
-        }
-    }
-    Put::Done
+    answer_of(coder.encode_iid_symbols(symbols, table))
 }
 
-/// By which call symbols are put on.
-#[derive(Clone, Copy)]
-pub enum Call {
-    /// One step after the other.
-    Each,
-    /// A list by one table.
-    List,
-    /// A vector of pairs of a symbol and a table.
-    Pairs,
-    /// The same as items that may be errors.
-    Items,
-    /// The three from the last to the first.
-    ListBack,
-    PairsBack,
-    ItemsBack,
+/// Puts a list on by one table, the last symbol first.
+pub fn put_list_back<Word, State, Backend, Probability, const PRECISION: usize>(
+    coder: &mut AnsCoder<Word, State, Backend>,
+    table: &WeightTable<Probability, PRECISION>,
+    symbols: &[usize],
+) -> Answer
+where
+    Word: WordOf<State>,
+    State: BitArray,
+    Backend: WriteWords<Word>,
+    Backend::WriteError: Lack + Drop,
+    Probability: WordOf<Word>,
+{
+    answer_of(coder.encode_iid_symbols_reverse(symbols, table))
+}
+
+/// An item of a list that may be faulty: a symbol and its table, or an error.
+fn item_of<'a>(
+    symbol: &'a Result<usize, u8>,
+    table: &'a Table,
+) -> Result<(&'a usize, &'a Table), u8> {
+    match symbol {
+        Ok(symbol) => Ok((symbol, table)),
+        Err(error) => Err(*error),
+    }
 }
 
 /// Puts a list on, a table for each symbol.
-pub fn put_pairs<S, M, I, Word, State, Backend, const PRECISION: usize>(
-    coder: &mut AnsCoder<Word, State, Backend>,
-    pairs: I,
-) -> Put<Backend::WriteError>
-where
-    Word: WordOf<State>,
-    State: BitArray,
-    Backend: WriteWords<Word>,
-    M: EncoderModel<PRECISION>,
-    M::Probability: WordOf<Word>,
-    S: Lent<M::Symbol> + Drop,
-    I: IntoIterator<Item = (S, M)>,
-    I::IntoIter: Drop,
-    requires { GivesAtMost (I.into_iter_gives pairs) I.IntoIter.can_next I.IntoIter.remaining ⊥ 0 }
-{
-    answer_of(coder.encode_symbols(pairs))
+pub fn put_pairs(coder: &mut Small, symbols: [usize; 3], table: &Table) -> Answer {
+    let [first, second, third] = symbols;
+    answer_of(coder.encode_symbols([(&first, table), (&second, table), (&third, table)]))
 }
 
 /// The same, where an item may be an error.
-pub fn try_pairs<S, M, I, Word, State, Backend, const PRECISION: usize>(
-    coder: &mut AnsCoder<Word, State, Backend>,
-    items: I,
-) -> Put<Backend::WriteError>
-where
-    Word: WordOf<State>,
-    State: BitArray,
-    Backend: WriteWords<Word>,
-    M: EncoderModel<PRECISION>,
-    M::Probability: WordOf<Word>,
-    S: Lent<M::Symbol> + Drop,
-    I: IntoIterator<Item = Result<(S, M), u8>>,
-    I::IntoIter: Drop,
-    requires { GivesAtMost (I.into_iter_gives items) I.IntoIter.can_next I.IntoIter.remaining ⊥ 0 }
-{
+pub fn try_pairs(
+    coder: &mut Small,
+    symbols: [Result<usize, u8>; 3],
+    table: &Table,
+) -> Result<Answer, u8> {
+    let [first, second, third] = symbols;
+    let items = [
+        item_of(&first, table),
+        item_of(&second, table),
+        item_of(&third, table),
+    ];
     tried_answer_of(coder.try_encode_symbols(items))
 }
 
-/// Puts a list on, a table for each symbol, the last one first.
-pub fn put_pairs_back<S, M, I, Word, State, Backend, const PRECISION: usize>(
+/// Puts pairs on, the last one first.
+fn pairs_back<S, M, I, Word, State, Backend, const PRECISION: usize>(
     coder: &mut AnsCoder<Word, State, Backend>,
     pairs: I,
-) -> Put<Backend::WriteError>
+) -> Answer
 where
     Word: WordOf<State>,
     State: BitArray,
     Backend: WriteWords<Word>,
+    Backend::WriteError: Lack + Drop,
     M: EncoderModel<PRECISION>,
     M::Probability: WordOf<Word>,
     S: Lent<M::Symbol> + Drop,
@@ -191,14 +201,15 @@ where
 }
 
 /// The same, where an item may be an error.
-pub fn try_pairs_back<S, M, I, Word, State, Backend, const PRECISION: usize>(
+fn items_back<S, M, I, Word, State, Backend, const PRECISION: usize>(
     coder: &mut AnsCoder<Word, State, Backend>,
     items: I,
-) -> Put<Backend::WriteError>
+) -> Result<Answer, u8>
 where
     Word: WordOf<State>,
     State: BitArray,
     Backend: WriteWords<Word>,
+    Backend::WriteError: Lack + Drop,
     M: EncoderModel<PRECISION>,
     M::Probability: WordOf<Word>,
     S: Lent<M::Symbol> + Drop,
@@ -209,133 +220,33 @@ where
     tried_answer_of(coder.try_encode_symbols_reverse(items))
 }
 
-/// Puts a list on by one table.
-fn put_list<Word, State, Backend, Probability, const PRECISION: usize>(
-    coder: &mut AnsCoder<Word, State, Backend>,
-    table: &WeightTable<Probability, PRECISION>,
-    symbols: &[usize],
-) -> Put<Backend::WriteError>
+/// Puts a list on, a table for each symbol, the last one first.
+pub fn put_pairs_back<Backend: WriteWords<u8>>(
+    coder: &mut AnsCoder<u8, u16, Backend>,
+    symbols: [usize; 3],
+    table: &Table,
+) -> Answer
 where
-    Word: WordOf<State>,
-    State: BitArray,
-    Backend: WriteWords<Word>,
-    Probability: WordOf<Word>,
+    Backend::WriteError: Lack + Drop,
 {
-    answer_of(coder.encode_iid_symbols(symbols, table))
+    let [first, second, third] = symbols;
+    pairs_back(coder, [(&first, table), (&second, table), (&third, table)])
 }
 
-/// Puts a list on by one table, the last symbol first.
-fn put_list_back<Word, State, Backend, Probability, const PRECISION: usize>(
-    coder: &mut AnsCoder<Word, State, Backend>,
-    table: &WeightTable<Probability, PRECISION>,
-    symbols: &[usize],
-) -> Put<Backend::WriteError>
+/// The same, where an item may be an error.
+pub fn try_pairs_back<Backend: WriteWords<u8>>(
+    coder: &mut AnsCoder<u8, u16, Backend>,
+    symbols: [Result<usize, u8>; 3],
+    table: &Table,
+) -> Result<Answer, u8>
 where
-    Word: WordOf<State>,
-    State: BitArray,
-    Backend: WriteWords<Word>,
-    Probability: WordOf<Word>,
+    Backend::WriteError: Lack + Drop,
 {
-    answer_of(coder.encode_iid_symbols_reverse(symbols, table))
-}
-
-/// Puts a vector of pairs on.
-fn put_some<Word, State, Backend, Probability, const PRECISION: usize>(
-    alloc: Global,
-    coder: &mut AnsCoder<Word, State, Backend>,
-    table: &WeightTable<Probability, PRECISION>,
-    symbols: &[usize],
-) -> Put<Backend::WriteError>
-where
-    Word: WordOf<State>,
-    State: BitArray,
-    Backend: WriteWords<Word>,
-    Probability: WordOf<Word>,
-{
-    match pairs_of(alloc, table, symbols) {
-        Ok(list) => put_pairs(coder, list),
-        Err(AllocError) => Put::NoMemory,
-    }
-}
-
-/// Puts a vector of pairs on, the last one first.
-fn put_some_back<Word, State, Backend, Probability, const PRECISION: usize>(
-    alloc: Global,
-    coder: &mut AnsCoder<Word, State, Backend>,
-    table: &WeightTable<Probability, PRECISION>,
-    symbols: &[usize],
-) -> Put<Backend::WriteError>
-where
-    Word: WordOf<State>,
-    State: BitArray,
-    Backend: WriteWords<Word>,
-    Probability: WordOf<Word>,
-{
-    match pairs_of(alloc, table, symbols) {
-        Ok(list) => put_pairs_back(coder, list),
-        Err(AllocError) => Put::NoMemory,
-    }
-}
-
-/// Puts a vector of items on.
-fn try_some<Word, State, Backend, Probability, const PRECISION: usize>(
-    alloc: Global,
-    coder: &mut AnsCoder<Word, State, Backend>,
-    table: &WeightTable<Probability, PRECISION>,
-    symbols: &[usize],
-) -> Put<Backend::WriteError>
-where
-    Word: WordOf<State>,
-    State: BitArray,
-    Backend: WriteWords<Word>,
-    Probability: WordOf<Word>,
-{
-    match items_of(alloc, table, symbols) {
-        Ok(list) => try_pairs(coder, list),
-        Err(AllocError) => Put::NoMemory,
-    }
-}
-
-/// Puts a vector of items on, the last one first.
-fn try_some_back<Word, State, Backend, Probability, const PRECISION: usize>(
-    alloc: Global,
-    coder: &mut AnsCoder<Word, State, Backend>,
-    table: &WeightTable<Probability, PRECISION>,
-    symbols: &[usize],
-) -> Put<Backend::WriteError>
-where
-    Word: WordOf<State>,
-    State: BitArray,
-    Backend: WriteWords<Word>,
-    Probability: WordOf<Word>,
-{
-    match items_of(alloc, table, symbols) {
-        Ok(list) => try_pairs_back(coder, list),
-        Err(AllocError) => Put::NoMemory,
-    }
-}
-
-/// Puts symbols on by a call.
-pub fn put_by<Word, State, Backend, Probability, const PRECISION: usize>(
-    alloc: Global,
-    coder: &mut AnsCoder<Word, State, Backend>,
-    table: &WeightTable<Probability, PRECISION>,
-    call: Call,
-    symbols: &[usize],
-) -> Put<Backend::WriteError>
-where
-    Word: WordOf<State>,
-    State: BitArray,
-    Backend: WriteWords<Word>,
-    Probability: WordOf<Word>,
-{
-    match call {
-        Call::Each => put_each(coder, table, symbols),
-        Call::List => put_list(coder, table, symbols),
-        Call::ListBack => put_list_back(coder, table, symbols),
-        Call::Pairs => put_some(alloc, coder, table, symbols),
-        Call::PairsBack => put_some_back(alloc, coder, table, symbols),
-        Call::Items => try_some(alloc, coder, table, symbols),
-        Call::ItemsBack => try_some_back(alloc, coder, table, symbols),
-    }
+    let [first, second, third] = symbols;
+    let items = [
+        item_of(&first, table),
+        item_of(&second, table),
+        item_of(&third, table),
+    ];
+    items_back(coder, items)
 }

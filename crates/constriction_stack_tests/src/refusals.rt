@@ -1,55 +1,46 @@
 //! Steps that are refused, and what they leave.
 
 use crate::cases::{cursor_does, made_does};
-use crate::coders::{coder_with, table_of};
+use crate::coders::{Table, coder_with, table_of};
 use crate::expect::{gives, has_head};
-use crate::put::Call;
+use crate::put::Answer;
 use crate::script::Act;
 use constriction_base::backends::{ReadWords, Stack};
 use constriction_base::errors::CoderError;
 use constriction_base::iterators::FallibleIteratorReadWords;
-use constriction_base::weights::WeightTable;
 use constriction_stack::AnsCoder;
 use constriction_stream::decoding::Decode;
 use std::test::Fail;
 
 #[test]
 fn an_unknown_symbol_changes_nothing(rt: HostRuntime) {
-    let acts = [Act::Unknown(Call::Each, &[2]), Act::Holds(65535, &[7])];
-    assert!(rt; made_does(rt.alloc(), &[255, 1], &[7], 65535, &acts));
+    let acts = [Act::Step(2, Answer::Unknown), Act::Holds(&65535, &[7])];
+    assert!(rt; made_does(rt.alloc(), &[7], 65535, &acts));
 }
 
 /// A buffer of one word takes one, and no other.
 #[test]
-fn a_full_cursor_keeps_the_head(rt: HostRuntime) {
+fn a_full_cursor_keeps_the_head(rt: HostRuntime) -> Result<(), Fail> {
+    let table = table_of(rt.alloc(), &[255, 1])?;
     let acts = [
         Act::Steps(&[(1, 255), (1, 65535), (1, 65535)]),
         Act::Full,
-        Act::Refused(Call::Each, &[1]),
-        Act::Holds(65535, &[255]),
+        Act::Step(1, Answer::OutOfSpace),
+        Act::Holds(&65535, &[255]),
         Act::Gives(&[1, 1, 1]),
         Act::Exhausted,
     ];
-    assert!(rt; cursor_does(rt.alloc(), &[255, 1], &mut [0], &acts));
+    assert!(rt; cursor_does(&mut [0], 0, &table, &acts));
+    Ok(())
 }
 
-/// A decode whose read returns the error 3.
-fn read_is_refused<Backend: ReadWords<u8, Stack, ReadError = u8>>(
-    coder: &mut AnsCoder<u8, u16, Backend>,
-    table: &WeightTable<u8, 8>,
-) -> bool {
-    matches!(coder.decode_symbol(table), Err(CoderError::Backend(3)))
-}
-
-/// The same decode goes once the read does.
+/// A decode whose read returns the error 3, and goes once the read does.
 fn goes_after_a_read_error<Backend: ReadWords<u8, Stack, ReadError = u8>>(
     coder: &mut AnsCoder<u8, u16, Backend>,
-    table: &WeightTable<u8, 8>,
+    table: &Table,
 ) -> bool {
-    read_is_refused(coder, table)
-        && has_head(coder, 65535)
-        && gives(coder, table, &[1])
-        && has_head(coder, 65535)
+    let is_refused = matches!(coder.decode_symbol(table), Err(CoderError::Backend(3)));
+    is_refused && has_head(coder, 65535) && gives(coder, table, &[1]) && has_head(coder, 65535)
 }
 
 #[test]

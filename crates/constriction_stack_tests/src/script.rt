@@ -1,16 +1,16 @@
 //! What a test does with a coder, act by act, and what it expects of each.
 
-use crate::expect::{
-    gives, gives_by_items, gives_by_tables, gives_first, gives_list, has_head, has_no_limit,
-    seems_exhausted, seems_full,
-};
-use crate::put::{Call, Put, put_by, puts};
+ghost use Rattle.std.specs.Prelude.{◌≡◌};
+
+use crate::expect::{gives, has_no_limit, holds, seems_exhausted, seems_full};
+use crate::put::{Answer, Lack, put_list, put_list_back, put_one, puts, words_are};
 use constriction_base::backends::{BoundedReadWords, ReadWords, Stack, Words, WriteWords};
 use constriction_base::cursor::Cursor;
+use constriction_base::errors::CoderError;
 use constriction_base::weights::WeightTable;
 use constriction_stack::AnsCoder;
 use constriction_words::{BitArray, WordOf};
-use std::alloc::{Allocator, Global};
+use std::alloc::{AllocError, Allocator};
 
 /// Lends the words of the stack that a backend holds, the top one last.
 pub trait Below<Word> {
@@ -34,28 +34,23 @@ impl<'a, Word: BitArray + 'a> Below<Word> for Cursor<Word, &'a mut [Word]> {
 }
 
 /// An act on a coder, and what is expected of it.
-#[derive(Clone, Copy)]
 pub enum Act<'a, Word, State> {
     /// Symbols are put on one by one: the head after each.
     Steps(&'a [(usize, State)]),
+    /// A symbol is put on.
+    Step(usize, Answer),
     /// A list is put on.
-    Done(Call, &'a [usize]),
-    /// A list stops at a symbol that the table doesn't know.
-    Unknown(Call, &'a [usize]),
-    /// A list stops for want of room.
-    Refused(Call, &'a [usize]),
+    List(&'a [usize], Answer),
+    /// A list is put on, the last symbol first.
+    ListBack(&'a [usize], Answer),
     /// Symbols are taken off one by one.
     Gives(&'a [usize]),
-    /// Symbols are taken off by an iterator over one table.
-    GivesList(&'a [usize]),
-    /// The first of so many symbols is taken off by an iterator over one table, and no other.
-    GivesFirst(usize, usize),
-    /// Symbols are taken off by an iterator over a list of tables.
-    GivesByTables(&'a [usize]),
-    /// The same over a list in which an error stands for a table.
-    GivesByItems(&'a [Result<usize, u8>]),
     /// The head, and the words below it.
-    Holds(State, &'a [Word]),
+    Holds(&'a State, &'a [Word]),
+    /// A guard shows these words.
+    Shows(&'a [Word], Answer),
+    /// A guard of the binary form shows these words.
+    ShowsBinary(&'a [Word], Answer),
     /// The head is 0.
     Empty,
     /// The next step may be refused for lack of room.
@@ -66,36 +61,56 @@ pub enum Act<'a, Word, State> {
     Exhausted,
 }
 
-/// Whether a coder gives what an act expects.
-fn gives_as<Word, State, Backend, Probability, const PRECISION: usize>(
-    alloc: Global,
-    coder: &mut AnsCoder<Word, State, Backend>,
-    table: &WeightTable<Probability, PRECISION>,
-    act: &Act<'_, Word, State>,
-) -> bool
+impl<'a, Word, State> Copy for Act<'a, Word, State> {}
+
+impl<'a, Word, State> Clone for Act<'a, Word, State> {
+    ghost is_clone = { λ x y. y ≡ x };
+
+    ghost is_infallible = { λ _. Unit {0} };
+
+    fn clone(&self) -> Result<Self, AllocError> {
+        Ok(*self)
+    }
+}
+
+/// Whether a guard shows these words.
+fn shown<Word, State, Backend>(coder: &mut AnsCoder<Word, State, Backend>, words: &[Word]) -> Answer
 where
-    Word: WordOf<State>,
+    Word: WordOf<State> + PartialEq,
     State: BitArray,
-    Backend: ReadWords<Word, Stack>,
+    Backend: WriteWords<Word> + ReadWords<Word, Stack> + Below<Word>,
     Backend::ReadError: Drop,
-    Probability: WordOf<Word>,
+    Backend::WriteError: Lack + Drop,
 {
-    match act {
-        Act::Gives(symbols) => gives(coder, table, symbols),
-        Act::GivesList(symbols) => gives_list(coder, table, symbols),
-        Act::GivesFirst(count, symbol) => gives_first(coder, table, *count, *symbol),
-        Act::GivesByTables(symbols) => gives_by_tables(alloc, coder, table, symbols),
-        Act::GivesByItems(answers) => gives_by_items(alloc, coder, table, answers),
-        _ => false,
+    match coder.get_compressed() {
+        Ok(guard) => words_are(guard.backend().below() == words),
+        Err(error) => error.answer(),
+    }
+}
+
+/// The same of the binary form.
+fn shown_in_binary<Word, State, Backend>(
+    coder: &mut AnsCoder<Word, State, Backend>,
+    words: &[Word],
+) -> Answer
+where
+    Word: WordOf<State> + PartialEq,
+    State: BitArray,
+    Backend: WriteWords<Word> + ReadWords<Word, Stack> + Below<Word>,
+    Backend::ReadError: Drop,
+    Backend::WriteError: Lack + Drop,
+{
+    match coder.get_binary() {
+        Ok(guard) => words_are(guard.backend().below() == words),
+        Err(CoderError::Backend(error)) => error.answer(),
+        Err(CoderError::Frontend(())) => Answer::NoBinary,
     }
 }
 
 /// Whether a coder does as an act expects.
 fn does<Word, State, Backend, Probability, const PRECISION: usize>(
-    alloc: Global,
     coder: &mut AnsCoder<Word, State, Backend>,
     table: &WeightTable<Probability, PRECISION>,
-    lack: &Backend::WriteError,
     act: &Act<'_, Word, State>,
 ) -> bool
 where
@@ -103,35 +118,29 @@ where
     State: BitArray + PartialEq,
     Backend: WriteWords<Word> + ReadWords<Word, Stack> + Below<Word>,
     Backend::ReadError: Drop,
-    Backend::WriteError: Drop + PartialEq,
+    Backend::WriteError: Lack + Drop,
     Probability: WordOf<Word>,
 {
     match act {
         Act::Steps(steps) => puts(coder, table, steps),
-        Act::Done(call, symbols) => {
-            matches!(put_by(alloc, coder, table, *call, symbols), Put::Done)
-        }
-        Act::Unknown(call, symbols) => {
-            matches!(put_by(alloc, coder, table, *call, symbols), Put::Unknown)
-        }
-        Act::Refused(call, symbols) => {
-            matches!(put_by(alloc, coder, table, *call, symbols), Put::Refused(error) if error == *lack)
-        }
-        Act::Holds(head, words) => has_head(coder, *head) && coder.bulk().below() == *words,
+        Act::Step(symbol, answer) => put_one(coder, table, symbol) == *answer,
+        Act::List(symbols, answer) => put_list(coder, table, symbols) == *answer,
+        Act::ListBack(symbols, answer) => put_list_back(coder, table, symbols) == *answer,
+        Act::Gives(symbols) => gives(coder, table, symbols),
+        Act::Holds(head, words) => holds(coder, **head, words),
+        Act::Shows(words, answer) => shown(coder, words) == *answer,
+        Act::ShowsBinary(words, answer) => shown_in_binary(coder, words) == *answer,
         Act::Empty => coder.is_empty(),
         Act::Full => seems_full::<_, _, _, PRECISION>(coder),
         Act::NoLimit => has_no_limit::<_, _, _, PRECISION>(coder),
         Act::Exhausted => seems_exhausted::<_, _, _, PRECISION>(coder),
-        _ => gives_as(alloc, coder, table, act),
     }
 }
 
-/// Whether a coder does as expected, act by act. Where its backend finds no room it returns `lack`.
+/// Whether a coder does as expected, act by act.
 pub fn follows<Word, State, Backend, Probability, const PRECISION: usize>(
-    alloc: Global,
     coder: &mut AnsCoder<Word, State, Backend>,
     table: &WeightTable<Probability, PRECISION>,
-    lack: &Backend::WriteError,
     acts: &[Act<'_, Word, State>],
 ) -> bool
 where
@@ -139,11 +148,11 @@ where
     State: BitArray + PartialEq,
     Backend: WriteWords<Word> + ReadWords<Word, Stack> + Below<Word>,
     Backend::ReadError: Drop,
-    Backend::WriteError: Drop + PartialEq,
+    Backend::WriteError: Lack + Drop,
     Probability: WordOf<Word>,
 {
     for act in acts {
-        if !does(alloc, coder, table, lack, act) {
+        if !does(coder, table, act) {
             return false;
         }
     }

@@ -3,9 +3,9 @@
 
 ghost use Rattle.constriction_base.specs.Steps.{IsSizes};
 
-use crate::coders::{coder_with, new_coder};
-use crate::expect::{exports, gives_all, holds};
-use crate::put::puts;
+use crate::coders::coder_with;
+use crate::expect::{coder_of, exports, gives_all};
+use crate::put::{Answer, puts};
 use constriction_base::weights::WeightTable;
 use constriction_stack::AnsCoder;
 use constriction_words::{BitArray, WordOf};
@@ -15,15 +15,53 @@ use std::test::Fail;
 /// What a run of steps leads to: the words below the head, and all the words. And its symbols, the
 /// last one first.
 #[derive(Drop)]
-struct Run<'a, Word, State> {
-    steps: &'a [(usize, State)],
-    below: &'a [Word],
-    words: &'a [Word],
-    back: &'a [usize],
+pub struct Run<'a, Word, State> {
+    pub steps: &'a [(usize, State)],
+    pub below: &'a [Word],
+    pub words: &'a [Word],
+    pub back: &'a [usize],
 }
 
-/// Compares the words after the steps of a run, which go through the coder's parts.
+/// Clears a coder of the words of a run, and compares the words after its steps, which go through
+/// the coder's parts.
 fn put_on<Word, State, Probability, const PRECISION: usize>(
+    words: Vec<Word>,
+    table: &WeightTable<Probability, PRECISION>,
+    run: &Run<'_, Word, State>,
+) -> bool
+where
+    Word: WordOf<State> + PartialEq,
+    State: BitArray + PartialEq,
+    Probability: WordOf<Word>,
+    requires { IsSizes Word.BITS State.BITS }
+{
+    let mut coder = coder_with(words, State::unit());
+    coder.clear();
+    let is_cleared = coder.is_empty();
+    let is_put = puts(&mut coder, table, run.steps);
+    let (bulk, state) = coder.into_raw_parts();
+    let is_above = bulk.as_slice() == run.below;
+    is_cleared & is_put & is_above & (exports(coder_with(bulk, state), run.words) == Answer::Done)
+}
+
+/// Takes symbols off, by a decoder that borrows the words and by one that owns them.
+fn decoders_give<Word, State, Probability, const PRECISION: usize>(
+    coder: AnsCoder<Word, State>,
+    table: &WeightTable<Probability, PRECISION>,
+    symbols: &[usize],
+) -> bool
+where
+    Word: WordOf<State>,
+    State: BitArray,
+    Probability: WordOf<Word>,
+{
+    let is_given = gives_all(&mut coder.as_decoder(), table, symbols);
+    let mut owned = coder.into_decoder();
+    is_given & gives_all(&mut owned, table, symbols)
+}
+
+/// Puts symbols on and takes them off.
+pub fn there_and_back<Word, State, Probability, const PRECISION: usize>(
     alloc: Global,
     table: &WeightTable<Probability, PRECISION>,
     run: &Run<'_, Word, State>,
@@ -34,20 +72,16 @@ where
     Probability: WordOf<Word>,
     requires { IsSizes Word.BITS State.BITS }
 {
-    let mut coder: AnsCoder<Word, State> = new_coder(alloc);
-    if !coder.is_empty() || !puts(&mut coder, table, run.steps) || coder.is_empty() {
-        return false;
-    }
-    if coder.bulk().as_slice() != run.below {
-        return false;
-    }
-    let (bulk, state) = coder.into_raw_parts();
-    exports(coder_with(bulk, state), run.words)
+    let is_put = match run.words.to_vec(alloc) {
+        Ok(words) => put_on(words, table, run),
+        Err(_) => false,
+    };
+    is_put && comes_back(alloc, table, run)
 }
 
-/// Takes the symbols of a run off, by a decoder that borrows the words and by one that owns them.
-fn take_off<Word, State, Probability, const PRECISION: usize>(
-    words: Vec<Word>,
+/// Imports the words of a run, and takes its symbols off.
+fn comes_back<Word, State, Probability, const PRECISION: usize>(
+    alloc: Global,
     table: &WeightTable<Probability, PRECISION>,
     run: &Run<'_, Word, State>,
 ) -> bool
@@ -57,57 +91,12 @@ where
     Probability: WordOf<Word>,
     requires { IsSizes Word.BITS State.BITS }
 {
-    let Ok(coder) = AnsCoder::<Word, State>::from_compressed(words) else {
-        return false;
-    };
-    let mut lent = coder.as_decoder();
-    let is_lent = gives_all(&mut lent, table, run.back);
-    let mut owned = coder.into_decoder();
-    is_lent && gives_all(&mut owned, table, run.back)
-}
-
-/// Clears a coder of some words and a head.
-fn clears<Word, State>(words: Vec<Word>, head: State) -> bool
-where
-    Word: WordOf<State> + PartialEq,
-    State: BitArray + PartialEq,
-    requires { IsSizes Word.BITS State.BITS }
-{
-    let mut coder = coder_with(words, head);
-    coder.clear();
-    holds(&coder, State::nothing(), &[])
-}
-
-/// Puts symbols on, takes them off, and clears a coder of the words.
-fn there_and_back<Word, State, Probability, const PRECISION: usize>(
-    alloc: Global,
-    table: &WeightTable<Probability, PRECISION>,
-    run: &Run<'_, Word, State>,
-) -> bool
-where
-    Word: WordOf<State> + PartialEq,
-    State: BitArray + PartialEq,
-    Probability: WordOf<Word>,
-    requires { IsSizes Word.BITS State.BITS }
-{
-    put_on(alloc, table, run) && words_go(alloc, table, run)
-}
-
-/// Imports the words of a run.
-fn words_go<Word, State, Probability, const PRECISION: usize>(
-    alloc: Global,
-    table: &WeightTable<Probability, PRECISION>,
-    run: &Run<'_, Word, State>,
-) -> bool
-where
-    Word: WordOf<State> + PartialEq,
-    State: BitArray + PartialEq,
-    Probability: WordOf<Word>,
-    requires { IsSizes Word.BITS State.BITS }
-{
-    match (run.words.to_vec(alloc), run.words.to_vec(alloc)) {
-        (Ok(words), Ok(others)) => take_off(words, table, run) & clears(others, State::unit()),
-        _ => false,
+    match run.words.to_vec(alloc) {
+        Ok(words) => match coder_of::<Word, State, Vec<Word>>(words) {
+            Some(coder) => decoders_give(coder, table, run.back),
+            None => false,
+        },
+        Err(_) => false,
     }
 }
 

@@ -1,7 +1,8 @@
 //! Words that a coder exports or is made of: memory and room that are wanting, and what no coder has.
 
 use crate::coders::{HeapCoder, coder_over_with, coder_with};
-use crate::expect::{coder_of, export_is_refused, exports, holds};
+use crate::expect::{coder_of, exports, holds};
+use crate::put::Answer;
 use constriction_base::iterators::FallibleIteratorReadWords;
 use constriction_stack::DefaultAnsCoder;
 use constriction_stack::coder::words::CompressedDataEndsWithZeroWord;
@@ -9,14 +10,26 @@ use linked_list_allocator::LocalHeap;
 use std::alloc::Global;
 use std::test::Fail;
 
+/// Whether words are refused, and these given back.
+fn gives_back(words: Vec<u32>, rest: &[u32]) -> bool {
+    match DefaultAnsCoder::from_compressed(words) {
+        Ok(_) => false,
+        Err(found) => found.as_slice() == rest,
+    }
+}
+
+/// Whether no words are those of an empty coder.
+fn none_are_empty(alloc: Global) -> bool {
+    match coder_of::<u32, u64, Vec<u32>>(Vec::new(alloc)) {
+        Some(coder) => holds(&coder, 0, &[]) & coder.is_empty(),
+        None => false,
+    }
+}
+
 #[test]
 fn ans_zero_last_word(rt: HostRuntime) -> Result<(), Fail> {
     let words = [7u32, 0].to_vec(rt.alloc())?;
-    let Err(rest) = DefaultAnsCoder::from_compressed(words) else {
-        return Err(Fail::from("a zero last word"));
-    };
-    let coder: DefaultAnsCoder = coder_of(Vec::new(rt.alloc()))?;
-    assert!(rt; rest.as_slice() == [7u32].as_slice() && holds(&coder, 0, &[]) && coder.is_empty());
+    assert!(rt; gives_back(words, &[7]) && none_are_empty(rt.alloc()));
     Ok(())
 }
 
@@ -34,13 +47,13 @@ fn the_text_of_a_zero_last_word(rt: HostRuntime) -> Result<(), Fail> {
 fn a_read_error_ends_an_import(rt: HostRuntime) {
     for answers in [[Err(3u8), Ok(1u8)], [Ok(1), Err(3)]] {
         let words = FallibleIteratorReadWords::new(answers.into_iter());
-        assert!(rt; coder_of::<u8, u32, FallibleIteratorReadWords<_>>(words).is_err());
+        assert!(rt; coder_of::<u8, u32, FallibleIteratorReadWords<_>>(words).is_none());
     }
 }
 
 /// An export of the head 515, which asks for memory.
 fn exports_two_words(alloc: Global) -> bool {
-    exports(coder_with(Vec::<u8>::new(alloc), 515u16), &[3, 2])
+    exports(coder_with(Vec::<u8>::new(alloc), 515u16), &[3, 2]) == Answer::Done
 }
 
 /// Where memory is refused, it is asked for once more, so that this passes whichever allocation
@@ -50,9 +63,9 @@ fn an_export_finds_memory(rt: HostRuntime) {
     assert!(rt; exports_two_words(rt.alloc()) || exports_two_words(rt.alloc()));
 }
 
-/// Whether a buffer has no room for an export of the head 515.
-fn refuses(buf: &mut [u8]) -> bool {
-    export_is_refused(coder_over_with(buf, 515u16))
+/// An export of the head 515 to a buffer.
+fn exports_to(buf: &mut [u8]) -> Answer {
+    exports(coder_over_with(buf, 515u16), &[3, 2])
 }
 
 /// The words of an export have room, or it returns an error after those that had.
@@ -60,7 +73,18 @@ fn refuses(buf: &mut [u8]) -> bool {
 fn a_refused_export(rt: HostRuntime) {
     let mut one = [0u8; 1];
     let mut two = [0u8; 2];
-    assert!(rt; refuses(&mut one) && !refuses(&mut two) && one == [3u8] && two == [3u8, 2]);
+    assert!(rt;
+        exports_to(&mut one) == Answer::OutOfSpace
+            && exports_to(&mut two) == Answer::Done
+            && one == [3u8]
+            && two == [3u8, 2]
+    );
+}
+
+/// An export of the head 515 on a heap.
+fn exports_in(heap: &LocalHeap) -> Answer {
+    let coder: HeapCoder<'_> = coder_with(Vec::new(heap), 515);
+    exports(coder, &[3, 2])
 }
 
 /// On a heap that is full.
@@ -68,7 +92,6 @@ fn a_refused_export(rt: HostRuntime) {
 fn a_full_heap_refuses_an_export(rt: HostRuntime) -> Result<(), Fail> {
     let heap = LocalHeap::new(rt.alloc(), 512)?;
     let _filler: Vec<u8, &LocalHeap> = Vec::with_capacity(&heap, 512)?;
-    let coder: HeapCoder<'_> = coder_with(Vec::new(&heap), 515);
-    assert!(rt; export_is_refused(coder));
+    assert!(rt; exports_in(&heap) == Answer::NoMemory);
     Ok(())
 }

@@ -2,18 +2,18 @@
 
 ghost use Rattle.constriction_base.specs.Steps.{IsSizes};
 
-use crate::coders::{HeapCoder, coder_with, table_of};
-use crate::expect::{has_head, holds, puts};
-use crate::script::Below;
-use constriction_base::backends::{Pos, WriteWords};
+use crate::coders::{HeapCoder, Small, Table, coder_with, table_of};
+use crate::expect::{has_head, holds};
+use crate::put::{Answer, puts, words_are};
+use constriction_base::backends::Pos;
 use constriction_base::cursor::Cursor;
 use constriction_base::iterators::FallibleIteratorReadWords;
 use constriction_base::reverse::Reverse;
-use constriction_base::weights::WeightTable;
 use constriction_stack::coder::words::CompressedDataEndsWithZeroWord;
 use constriction_stack::{AnsCoder, DefaultAnsCoder};
 use constriction_words::{BitArray, WordOf};
 use linked_list_allocator::LocalHeap;
+use std::alloc::AllocError;
 use std::test::Fail;
 
 /// Where the coder of a slice's words stands, and its head.
@@ -87,37 +87,50 @@ fn slices_of_words_of_a_head_of_four(rt: HostRuntime) {
     );
 }
 
+/// Words whose second can't be read leave an iterator at its end.
+fn an_error_ends_words() -> bool {
+    let words = [Ok(5u8), Err('e')].into_iter();
+    match AnsCoder::<u8, u16, FallibleIteratorReadWords<_>>::from_reversed_compressed_iter(words) {
+        Ok(_) => false,
+        Err(mut rest) => rest.next().is_none(),
+    }
+}
+
+/// The same in the binary form, where the head has room for the second.
+fn an_error_ends_binary_words() -> bool {
+    let words = [Ok(0u32), Err('e')].into_iter();
+    matches!(
+        AnsCoder::<u32, u128, FallibleIteratorReadWords<_>>::from_reversed_binary_iter(words),
+        Err('e')
+    )
+}
+
+/// Where the first fills the head, the second isn't read.
+fn a_head_of_one_word() -> bool {
+    let words = [Ok(0u32), Err('e')].into_iter();
+    match AnsCoder::<u32, u64, FallibleIteratorReadWords<_>>::from_reversed_binary_iter(words) {
+        Ok(coder) => has_head(&coder, 4294967296),
+        Err(_) => false,
+    }
+}
+
+/// Where the first two fill the head, the third isn't read.
+fn a_head_of_two_words() -> bool {
+    let words = [Ok(5u8), Ok(4), Err('e')].into_iter();
+    match AnsCoder::<u8, u16, FallibleIteratorReadWords<_>>::from_reversed_compressed_iter(words) {
+        Ok(coder) => has_head(&coder, 1284),
+        Err(_) => false,
+    }
+}
+
 #[test]
-fn ans_reversed_iterators(rt: HostRuntime) -> Result<(), Fail> {
-    let Err(mut rest) = AnsCoder::<
-        u8,
-        u16,
-        FallibleIteratorReadWords<_>,
-    >::from_reversed_compressed_iter([Ok(5u8), Err('e')].into_iter()) else {
-        return Err(Fail::from("an error was read"));
-    };
-    assert!(rt; rest.next().is_none());
-    let answer = AnsCoder::<u32, u128, FallibleIteratorReadWords<_>>::from_reversed_binary_iter([
-        Ok(0u32),
-        Err('e'),
-    ].into_iter());
-    assert!(rt; matches!(answer, Err('e')));
-    let Ok(coder) = AnsCoder::<u32, u64, FallibleIteratorReadWords<_>>::from_reversed_binary_iter([
-        Ok(0u32),
-        Err('e'),
-    ].into_iter()) else {
-        return Err(Fail::from("the head is full"));
-    };
-    assert!(rt; has_head(&coder, 4294967296));
-    let Ok(coder) = AnsCoder::<
-        u8,
-        u16,
-        FallibleIteratorReadWords<_>,
-    >::from_reversed_compressed_iter([Ok(5u8), Ok(4), Err('e')].into_iter()) else {
-        return Err(Fail::from("the head is full"));
-    };
-    assert!(rt; has_head(&coder, 1284));
-    Ok(())
+fn ans_reversed_iterators(rt: HostRuntime) {
+    assert!(rt;
+        an_error_ends_words()
+            && an_error_ends_binary_words()
+            && a_head_of_one_word()
+            && a_head_of_two_words()
+    );
 }
 
 #[test]
@@ -140,15 +153,7 @@ fn the_text_of_a_coder(rt: HostRuntime) -> Result<(), Fail> {
 }
 
 /// From when a coder is cloned on, it and the clone part.
-fn parts<Backend>(
-    coder: &mut AnsCoder<u8, u16, Backend>,
-    clone: &AnsCoder<u8, u16, Backend>,
-    table: &WeightTable<u8, 8>,
-) -> bool
-where
-    Backend: WriteWords<u8> + Below<u8>,
-    Backend::WriteError: Drop,
-{
+fn parts(coder: &mut Small, clone: &Small, table: &Table) -> bool {
     holds(clone, 65535, &[7])
         && puts(coder, table, &[(1, 65535)])
         && holds(coder, 65535, &[7, 255])
@@ -158,21 +163,33 @@ where
 #[test]
 fn a_clone_parts_from_its_coder(rt: HostRuntime) -> Result<(), Fail> {
     let table = table_of(rt.alloc(), &[255, 1])?;
-    let mut coder: AnsCoder<u8, u16> = coder_with([7u8].to_vec(rt.alloc())?, 65535);
+    let mut coder: Small = coder_with([7u8].to_vec(rt.alloc())?, 65535);
     let clone = coder.clone()?;
     assert!(rt; parts(&mut coder, &clone, &table));
     Ok(())
 }
 
-/// The coder's word takes 16 bytes of the heap, and the rest is full.
+/// Clones a coder of the word 7 below the head 515.
+fn clones(coder: &HeapCoder<'_>) -> Answer {
+    match coder.clone() {
+        Ok(clone) => words_are(holds(&clone, 515, &[7]) & holds(coder, 515, &[7])),
+        Err(AllocError) => Answer::NoMemory,
+    }
+}
+
+/// Clones it while the rest of the heap is full, and then when it isn't.
+fn clones_then(heap: &LocalHeap, coder: &HeapCoder<'_>) -> Result<bool, AllocError> {
+    let filler: Vec<u8, &LocalHeap> = Vec::with_capacity(heap, 496)?;
+    let is_refused = clones(coder) == Answer::NoMemory;
+    drop(filler);
+    Ok(is_refused && clones(coder) == Answer::Done)
+}
+
+/// The coder's word takes 16 bytes of the heap.
 #[test]
 fn a_full_heap_refuses_a_clone(rt: HostRuntime) -> Result<(), Fail> {
     let heap = LocalHeap::new(rt.alloc(), 512)?;
     let coder: HeapCoder<'_> = coder_with([7u8].to_vec(&heap)?, 515);
-    let filler: Vec<u8, &LocalHeap> = Vec::with_capacity(&heap, 496)?;
-    let is_refused = coder.clone().is_err();
-    drop(filler);
-    let clone = coder.clone()?;
-    assert!(rt; is_refused && holds(&clone, 515, &[7]) && holds(&coder, 515, &[7]));
+    assert!(rt; clones_then(&heap, &coder)?);
     Ok(())
 }

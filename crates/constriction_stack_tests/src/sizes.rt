@@ -1,11 +1,10 @@
 //! How much a coder holds.
 
 use crate::binary::from_binary;
-use crate::coders::{coder_over, coder_with, new_coder, table_of};
-use crate::expect::puts;
+use crate::coders::{Small, Table, coder_over, coder_with, new_coder, table_of};
+use crate::put::puts;
 use constriction_base::backends::{BoundedReadWords, Stack, WriteWords};
-use constriction_base::weights::WeightTable;
-use constriction_stack::{AnsCoder, DefaultAnsCoder};
+use constriction_stack::AnsCoder;
 use constriction_words::{BitArray, WordOf};
 use std::test::Fail;
 
@@ -26,7 +25,7 @@ where
 }
 
 /// Compares the sizes of an empty coder, and after three steps.
-fn grows<Backend>(coder: &mut AnsCoder<u8, u16, Backend>, table: &WeightTable<u8, 8>) -> bool
+fn grows<Backend>(coder: &mut AnsCoder<u8, u16, Backend>, table: &Table) -> bool
 where
     Backend: WriteWords<u8> + BoundedReadWords<u8, Stack>,
     Backend::WriteError: Drop,
@@ -36,17 +35,25 @@ where
         && has_sizes(coder, (3, 24, 23))
 }
 
+/// Compares the sizes of the coder of a binary form.
+fn binary_has_sizes(words: Vec<u32>, sizes: (usize, usize, usize)) -> bool {
+    match from_binary::<u32, u64, Vec<u32>>(words) {
+        Some(coder) => has_sizes(&coder, sizes),
+        None => false,
+    }
+}
+
 #[test]
 fn ans_sizes(rt: HostRuntime) -> Result<(), Fail> {
     let table = table_of(rt.alloc(), &[255, 1])?;
-    let mut coder: AnsCoder<u8, u16> = new_coder(rt.alloc());
-    let wide: DefaultAnsCoder = from_binary([5u32, 0].to_vec(rt.alloc())?)?;
-    assert!(rt; grows(&mut coder, &table) && has_sizes(&wide, (3, 96, 64)));
+    let mut coder: Small = new_coder(rt.alloc());
+    let words = [5u32, 0].to_vec(rt.alloc())?;
+    assert!(rt; grows(&mut coder, &table) && binary_has_sizes(words, (3, 96, 64)));
     Ok(())
 }
 
 /// Steps to a head of four words above one word.
-fn grows_to_four_words(coder: &mut AnsCoder<u8, u32>, table: &WeightTable<u8, 8>) -> bool {
+fn grows_to_four_words(coder: &mut AnsCoder<u8, u32>, table: &Table) -> bool {
     let steps = [
         (2, 255u32),
         (1, 1259),

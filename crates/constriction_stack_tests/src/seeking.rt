@@ -2,12 +2,12 @@
 
 ghost use Rattle.constriction_base.specs.Steps.{IsSizes};
 
-use crate::coders::{coder_with, new_coder, table_of};
-use crate::expect::{gives, gives_all, has_head, holds, puts};
+use crate::coders::{Small, Table, coder_with, new_coder, table_of};
+use crate::expect::{gives, gives_all, has_head, holds};
+use crate::put::puts;
 use constriction_base::backends::{Holds, IntoReversed, Pos, PosSeek, ReadWords, Seek, Stack};
 use constriction_base::cursor::Cursor;
 use constriction_base::reverse::Reverse;
-use constriction_base::weights::WeightTable;
 use constriction_stack::AnsCoder;
 use constriction_words::{BitArray, WordOf};
 use std::alloc::AllocError;
@@ -54,7 +54,7 @@ struct Run<'a, State> {
 /// Takes the symbols of a run off, goes back, and takes them off once more.
 fn twice<State, Backend>(
     coder: &mut AnsCoder<u8, State, Backend>,
-    table: &WeightTable<u8, 8>,
+    table: &Table,
     run: &Run<'_, State>,
 ) -> bool
 where
@@ -73,7 +73,7 @@ where
 }
 
 /// The same over a slice.
-fn twice_over_slice<State>(words: &[u8], table: &WeightTable<u8, 8>, run: &Run<'_, State>) -> bool
+fn twice_over_slice<State>(words: &[u8], table: &Table, run: &Run<'_, State>) -> bool
 where
     u8: WordOf<State>,
     State: BitArray + PartialEq,
@@ -112,7 +112,7 @@ where
 /// The same over words in reverse, turned round.
 fn twice_turned<State>(
     words: Vec<u8>,
-    table: &WeightTable<u8, 8>,
+    table: &Table,
     run: &Run<'_, State>,
     back: &Run<'_, State>,
 ) -> bool
@@ -136,7 +136,7 @@ where
 /// The same of a clone that is turned round once more.
 fn twice_turned_again<State>(
     third: &AnsCoder<u8, State, Cursor<u8, Vec<u8>>>,
-    table: &WeightTable<u8, 8>,
+    table: &Table,
     back: &Run<'_, State>,
 ) -> bool
 where
@@ -232,7 +232,7 @@ struct Recorded<'a, State> {
 /// Puts symbols on, records the position, and puts more on.
 fn writes_on<State>(
     coder: &mut AnsCoder<u8, State>,
-    table: &WeightTable<u8, 8>,
+    table: &Table,
     run: &Recorded<'_, State>,
 ) -> bool
 where
@@ -245,11 +245,7 @@ where
 }
 
 /// Takes symbols off through the decoder that is made from a reference.
-fn through_reference<State>(
-    coder: &AnsCoder<u8, State>,
-    table: &WeightTable<u8, 8>,
-    symbols: &[usize],
-) -> bool
+fn through_reference<State>(coder: &AnsCoder<u8, State>, table: &Table, symbols: &[usize]) -> bool
 where
     u8: WordOf<State>,
     State: BitArray,
@@ -262,7 +258,7 @@ where
 /// the other takes off what lies above it.
 fn lent_goes_back<State>(
     coder: &AnsCoder<u8, State>,
-    table: &WeightTable<u8, 8>,
+    table: &Table,
     run: &Recorded<'_, State>,
 ) -> bool
 where
@@ -278,7 +274,7 @@ where
 /// A decoder that owns the words takes off what lies above the position, and stands there.
 fn owned_goes_back<State>(
     coder: AnsCoder<u8, State>,
-    table: &WeightTable<u8, 8>,
+    table: &Table,
     run: &Recorded<'_, State>,
 ) -> bool
 where

@@ -1,0 +1,170 @@
+//! Words that a guard shows, and what its drop leaves. Heads and words by hand.
+
+ghost use Rattle.constriction_base.specs.Readings.{NeverRefused};
+ghost use Rattle.std.specs.Prelude.{◌≡◌};
+
+use crate::cases::{cursor_does, new_does, small_does, tall_cursor_does, tall_does};
+use crate::coders::{Small, coder_with, table_of};
+use crate::put::Answer;
+use crate::script::Act;
+use constriction_base::backends::{BoundedReadWords, Stack, WriteWords};
+use constriction_stack::AnsCoder;
+use std::alloc::Global;
+use std::mem;
+use std::test::Fail;
+
+/// How many words a guard shows. The coder is as before then.
+fn count_shown<Backend>(
+    coder: &mut AnsCoder<u8, u16, Backend>,
+) -> Result<usize, Backend::WriteError>
+where
+    Backend: WriteWords<u8> + BoundedReadWords<u8, Stack>,
+    Backend::ReadError: Drop,
+    requires { NeverRefused Backend.reads }
+    ensures { coder.new.state ≡ coder.old.state }
+{
+    let guard = coder.get_compressed()?;
+    Ok(guard.backend().remaining())
+}
+
+#[test]
+fn words_through_a_guard(rt: HostRuntime) {
+    let acts = [
+        Act::Shows(&[], Answer::Done),
+        Act::Steps(&[(1, 255), (1, 65535), (1, 65535)]),
+        Act::Shows(&[255, 255, 255], Answer::Done),
+        Act::Holds(&65535, &[255]),
+        Act::ShowsBinary(&[], Answer::NoBinary),
+        Act::Holds(&65535, &[255]),
+        Act::Gives(&[1, 1, 1]),
+    ];
+    assert!(rt; new_does(rt.alloc(), &[255, 1], &acts));
+}
+
+/// How many words a caller sees that knows of the guard what its contract says.
+#[test]
+fn words_that_a_caller_sees(rt: HostRuntime) -> Result<(), Fail> {
+    let mut coder = coder_with([255u8].to_vec(rt.alloc())?, 65535u16);
+    assert!(rt; matches!(count_shown(&mut coder), Ok(3)));
+    Ok(())
+}
+
+/// Compares the text of a guard.
+fn guard_reads(alloc: Global, coder: &mut Small, text: &str) -> bool {
+    match coder.get_compressed() {
+        Ok(guard) => match format!(in alloc; "{:?}", guard) {
+            Ok(found) => found.as_str() == text,
+            Err(_) => false,
+        },
+        Err(_) => false,
+    }
+}
+
+#[test]
+fn the_text_of_a_guard(rt: HostRuntime) -> Result<(), Fail> {
+    let mut coder = coder_with([255u8].to_vec(rt.alloc())?, 65535u16);
+    assert!(rt; guard_reads(rt.alloc(), &mut coder, "[255, 255, 255]"));
+    Ok(())
+}
+
+/// The cursor still stands at its beginning then, with no word before it.
+#[test]
+fn ans_cursor_full(rt: HostRuntime) -> Result<(), Fail> {
+    let table = table_of(rt.alloc(), &[255, 1])?;
+    let acts = [
+        Act::Steps(&[(1, 255), (1, 65535)]),
+        Act::Shows(&[], Answer::OutOfSpace),
+        Act::Holds(&65535, &[]),
+    ];
+    assert!(rt; cursor_does(&mut [0], 0, &table, &acts));
+    Ok(())
+}
+
+/// A binary head of three words over a buffer of two, and then of three.
+#[test]
+fn a_full_cursor_refuses_a_binary_guard(rt: HostRuntime) -> Result<(), Fail> {
+    let table = table_of(rt.alloc(), &[255, 1])?;
+    let head = 16777216 + 2 * 65536 + 1u32;
+    let refused = [
+        Act::ShowsBinary(&[], Answer::OutOfSpace),
+        Act::Holds(&head, &[]),
+    ];
+    let shown = [
+        Act::ShowsBinary(&[1, 0, 2], Answer::Done),
+        Act::Holds(&head, &[]),
+    ];
+    assert!(rt;
+        tall_cursor_does(&mut [0, 0], head, &table, &refused)
+            && tall_cursor_does(&mut [0, 0, 0], head, &table, &shown)
+    );
+    Ok(())
+}
+
+/// The words of either form on a cursor with room for them, which are taken off again.
+#[test]
+fn words_through_a_guard_over_a_cursor(rt: HostRuntime) -> Result<(), Fail> {
+    let table = table_of(rt.alloc(), &[255, 1])?;
+    let mut buf = [0u8; 2];
+    let acts = [
+        Act::Shows(&[3, 1], Answer::Done),
+        Act::ShowsBinary(&[3], Answer::Done),
+        Act::Holds(&259, &[]),
+    ];
+    assert!(rt; cursor_does(&mut buf, 259, &table, &acts) && buf == [3u8, 1]);
+    Ok(())
+}
+
+/// A head of four words, which is a 1 above three words: both forms over a vector, and over a buffer
+/// of three words and of four.
+#[test]
+fn guards_of_a_head_of_four_words(rt: HostRuntime) -> Result<(), Fail> {
+    let table = table_of(rt.alloc(), &[255, 1])?;
+    let mut coder = coder_with([9u8].to_vec(rt.alloc())?, 16909060u32);
+    let both = [
+        Act::Shows(&[9, 4, 3, 2, 1], Answer::Done),
+        Act::Holds(&16909060, &[9]),
+        Act::ShowsBinary(&[9, 4, 3, 2], Answer::Done),
+        Act::Holds(&16909060, &[9]),
+    ];
+    let refused = [
+        Act::Shows(&[], Answer::OutOfSpace),
+        Act::Holds(&16909060, &[]),
+    ];
+    let shown = [
+        Act::Shows(&[4, 3, 2, 1], Answer::Done),
+        Act::Holds(&16909060, &[]),
+    ];
+    assert!(rt;
+        tall_does(&mut coder, &table, &both)
+            && tall_cursor_does(&mut [0, 0, 0], 16909060, &table, &refused)
+            && tall_cursor_does(&mut [0, 0, 0, 0], 16909060, &table, &shown)
+    );
+    Ok(())
+}
+
+/// Forgets a guard, whose words stay below the head.
+fn forgets(coder: &mut Small) -> bool {
+    match coder.get_compressed() {
+        Ok(guard) => {
+            mem::forget(guard);
+            true
+        }
+        Err(_) => false,
+    }
+}
+
+/// Calls go on after a guard was forgotten.
+#[test]
+fn a_forgotten_guard(rt: HostRuntime) -> Result<(), Fail> {
+    let table = table_of(rt.alloc(), &[255, 1])?;
+    let mut coder = coder_with(Vec::<u8>::new(rt.alloc()), 515u16);
+    let acts = [
+        Act::Holds(&515, &[3, 2]),
+        Act::Steps(&[(0, 517)]),
+        Act::Gives(&[0]),
+        Act::Shows(&[3, 2, 3, 2], Answer::Done),
+        Act::Holds(&515, &[3, 2]),
+    ];
+    assert!(rt; forgets(&mut coder) && small_does(&mut coder, &table, &acts));
+    Ok(())
+}
