@@ -20,8 +20,6 @@ mod cases;
 #[cfg(test)]
 mod coders;
 #[cfg(test)]
-mod cursors;
-#[cfg(test)]
 mod expect;
 #[cfg(test)]
 mod faults;
