@@ -21,25 +21,32 @@ where
     coder.into_remainders()
 }
 
-/// Compares the compressed words, and the remainders with the words of both heads on top, by taking the coder
-/// apart.
-pub fn has_parts<Word, State, A, B, const PRECISION: usize>(
-    coder: Over<Word, State, A, B, PRECISION>,
+/// Compares what a coder is taken apart into: the compressed words, and the remainders with both heads on top.
+pub fn are_parts<Word, A, B>(
+    parts: Result<(Vec<Word, A>, Vec<Word, B>), AllocError>,
     compressed: &[Word],
     remainders: &[Word],
 ) -> bool
 where
-    Word: WordOf<State> + PartialEq,
-    State: BitArray,
+    Word: BitArray + PartialEq,
     A: Allocator,
     B: Allocator,
 {
-    match parts_of(coder) {
+    match parts {
         Ok((prefix, suffix)) => {
             (prefix.as_slice() == compressed) & (suffix.as_slice() == remainders)
         }
-        Err(_) => false,
+        Err(AllocError) => false,
     }
+}
+
+/// The same of a coder of bytes, which is taken apart.
+pub fn has_parts<A: Allocator, B: Allocator, const PRECISION: usize>(
+    coder: Over<u8, u16, A, B, PRECISION>,
+    compressed: &[u8],
+    remainders: &[u8],
+) -> bool {
+    are_parts(parts_of(coder), compressed, remainders)
 }
 
 /// A copy of a coder.

@@ -3,15 +3,16 @@
 use crate::cases::fine_does;
 use crate::coders::{Bytes, WEIGHTS, fine_of, table_of};
 use crate::faults::{Fault, fault_of_put, is_same};
-use crate::put::{answer_of, has_no_limit, tried_answer_of};
+use crate::put::{Put, answer_of, has_no_limit, tried_answer_of};
 use crate::script::Act;
+use constriction_base::backends::{ReadWords, Stack, WriteWords};
 use constriction_base::errors::CoderError;
 use constriction_base::weights::WeightTable;
-use constriction_chain::{BackendError, DecoderError};
+use constriction_chain::{BackendError, ChainCoder, DecoderError};
 use constriction_stream::decoding::Decode;
 use constriction_stream::encoding::{Encode, EncodeReverse};
 use constriction_stream::errors::TryCodingError;
-use std::alloc::AllocError;
+use std::alloc::{AllocError, Global};
 use std::convert::Infallible;
 
 /// A symbol and its table.
@@ -36,22 +37,12 @@ fn put_items(coder: &mut Bytes<8>, items: [Item<'_>; 3]) -> Option<Fault> {
 }
 
 /// The same as [`put_list`], the last symbol first.
-fn put_list_back(
-    coder: &mut Bytes<8>,
+fn put_list_back<C: WriteWords<u8>, R: ReadWords<u8, Stack>>(
+    coder: &mut ChainCoder<u8, u16, C, R, 8>,
     table: &WeightTable<u8, 8>,
     symbols: &[usize],
-) -> Option<Fault> {
-    fault_of_put(answer_of(coder.encode_iid_symbols_reverse(symbols, table)))
-}
-
-/// The same of two symbols, a table for each.
-fn put_pairs_back(coder: &mut Bytes<8>, pairs: [Pair<'_>; 2]) -> Option<Fault> {
-    fault_of_put(answer_of(coder.encode_symbols_reverse(pairs)))
-}
-
-/// The same of items, each of which may be an error.
-fn put_items_back(coder: &mut Bytes<8>, items: [Item<'_>; 2]) -> Option<Fault> {
-    fault_of_put(tried_answer_of(coder.try_encode_symbols_reverse(items)))
+) -> Put<C::WriteError, R::ReadError> {
+    answer_of(coder.encode_iid_symbols_reverse(symbols, table))
 }
 
 /// Whether the list ends at this fault.
@@ -80,27 +71,22 @@ fn come_back(coder: &mut Bytes<8>, table: &WeightTable<u8, 8>) -> bool {
         & fine_does(coder, table, &[BEFORE])
 }
 
-/// The same by each call that begins with the last symbol.
+/// The same by the call that begins with the last symbol.
 fn come_back_reversed(coder: &mut Bytes<8>, table: &WeightTable<u8, 8>) -> bool {
     fine_does(coder, table, &[Act::Gives(&[0, 1, 1, 0, 1, 0]), AFTER])
-        & is_same(put_pairs_back(coder, [(&1, table), (&0, table)]), None)
-        & is_same(
-            put_items_back(coder, [Ok((&1, table)), Ok((&0, table))]),
-            None,
-        )
-        & is_same(put_list_back(coder, table, &[0, 1]), None)
-        & is_same(put_list_back(coder, table, &[]), None)
+        & matches!(put_list_back(coder, table, &[0, 1, 1, 0, 1, 0]), Put::Done)
+        & matches!(put_list_back(coder, table, &[]), Put::Done)
         & fine_does(coder, table, &[BEFORE])
 }
 
 /// Both of the coder of the words, whose symbols are then taken by each call.
-fn lists_go(table: &WeightTable<u8, 8>, found: Option<Bytes<8>>) -> bool {
+fn lists_go(alloc: Global, table: &WeightTable<u8, 8>, found: Option<Bytes<8>>) -> bool {
     match found {
         Some(mut coder) => {
             has_no_limit(&coder)
                 & come_back(&mut coder, table)
                 & come_back_reversed(&mut coder, table)
-                & taken_by_each_call(&mut coder, table)
+                & taken_by_each_call(alloc, &mut coder, table)
         }
         None => false,
     }
@@ -110,7 +96,7 @@ fn lists_go(table: &WeightTable<u8, 8>, found: Option<Bytes<8>>) -> bool {
 #[test]
 fn lists(rt: HostRuntime) {
     let goes = match table_of(rt.alloc(), &WEIGHTS) {
-        Ok(table) => lists_go(&table, fine_of(rt.alloc(), &WORDS)),
+        Ok(table) => lists_go(rt.alloc(), &table, fine_of(rt.alloc(), &WORDS)),
         Err(_) => false,
     };
     assert!(rt; goes);
@@ -140,22 +126,14 @@ fn run_out(coder: &mut Bytes<8>, table: &WeightTable<u8, 8>) -> bool {
     stops_at(put_list(coder, table, &[0, 1, 0]), Fault::OutOfRemainders) & has_one(coder, table)
 }
 
-/// A list that begins with the last symbol ends at a symbol that the table doesn't know, at an error, and where no
-/// remainders are left. Exactly the symbols behind are put back.
+/// A list that begins with the last symbol ends at a symbol that the table doesn't know, and where no remainders
+/// are left. Exactly the symbols behind are put back.
 fn stop_reversed(coder: &mut Bytes<8>, table: &WeightTable<u8, 8>) -> bool {
-    let faulty = [Err(7), Ok((&0, table))];
-    let unknown = [Ok((&2, table)), Ok((&0, table))];
-    stops_at(
-        put_pairs_back(coder, [(&5, table), (&0, table)]),
-        Fault::Unknown,
-    ) & has_one(coder, table)
-        & stops_at(put_items_back(coder, faulty), Fault::BadModel(7))
+    matches!(put_list_back(coder, table, &[5, 0]), Put::Unknown)
         & has_one(coder, table)
-        & stops_at(put_items_back(coder, unknown), Fault::Unknown)
-        & has_one(coder, table)
-        & stops_at(
+        & matches!(
             put_list_back(coder, table, &[0, 1, 0]),
-            Fault::OutOfRemainders,
+            Put::OutOfRemainders
         )
         & has_one(coder, table)
 }
@@ -199,10 +177,10 @@ fn gives_list(
     are_given
 }
 
-/// Takes symbols by two tables, and compares what is given: a symbol, or none.
+/// Takes symbols by some tables, and compares what is given: a symbol, or none.
 fn gives_by(
     coder: &mut Bytes<8>,
-    tables: [&WeightTable<u8, 8>; 2],
+    tables: Vec<&WeightTable<u8, 8>>,
     answers: &[Option<usize>],
 ) -> bool {
     let mut given = coder.decode_symbols(tables);
@@ -215,6 +193,19 @@ fn gives_by(
         are_given = are_given & (found == *answer);
     }
     are_given
+}
+
+/// The same by two tables.
+fn gives_by_tables(
+    alloc: Global,
+    coder: &mut Bytes<8>,
+    table: &WeightTable<u8, 8>,
+    answers: &[Option<usize>],
+) -> bool {
+    match [table, table].to_vec(alloc) {
+        Ok(tables) => gives_by(coder, tables, answers),
+        Err(AllocError) => false,
+    }
 }
 
 /// What is given in the place of a symbol where a table may be an error.
@@ -246,7 +237,7 @@ fn is_given(found: Option<Given>, answer: &Result<usize, Fault>) -> bool {
 /// Takes symbols by items, where a table may be an error, which is returned in the place of a symbol.
 fn answers_by(
     coder: &mut Bytes<8>,
-    items: [Result<&WeightTable<u8, 8>, u8>; 3],
+    items: Vec<Result<&WeightTable<u8, 8>, u8>>,
     answers: &[Result<usize, Fault>],
 ) -> bool {
     let mut given = coder.try_decode_symbols(items);
@@ -257,13 +248,26 @@ fn answers_by(
     are_given
 }
 
+/// The same by an error and two tables.
+fn gives_by_items(
+    alloc: Global,
+    coder: &mut Bytes<8>,
+    table: &WeightTable<u8, 8>,
+    answers: &[Result<usize, Fault>],
+) -> bool {
+    match [Err(7u8), Ok(table), Ok(table)].to_vec(alloc) {
+        Ok(items) => answers_by(coder, items, answers),
+        Err(AllocError) => false,
+    }
+}
+
 /// The six symbols of the words by each call, and the end of the words.
-fn taken_by_each_call(coder: &mut Bytes<8>, table: &WeightTable<u8, 8>) -> bool {
+fn taken_by_each_call(alloc: Global, coder: &mut Bytes<8>, table: &WeightTable<u8, 8>) -> bool {
     let last = [Err(Fault::BadModel(7)), Ok(0), Err(Fault::OutOfData)];
     gives_list(coder, table, 3, &[Some(0)])
-        & gives_by(coder, [table, table], &[Some(1), Some(1), None])
+        & gives_by_tables(alloc, coder, table, &[Some(1), Some(1), None])
         & gives_list(coder, table, 2, &[Some(0), Some(1), None])
         & gives_list(coder, table, 0, &[None])
-        & answers_by(coder, [Err(7), Ok(table), Ok(table)], &last)
+        & gives_by_items(alloc, coder, table, &last)
         & fine_does(coder, table, &[AFTER])
 }

@@ -6,13 +6,13 @@
 
 ghost use Rattle.constriction_chain.specs.Chain.{IsSized};
 
-use crate::coders::{WEIGHTS, coarse_table_of, of_binary, of_remainders, of_words, table_of};
-use crate::expect::{copy_of, has_parts, parts_of};
+use crate::coders::{WEIGHTS, coarse_table_of, of_remainders, of_words, table_of};
+use crate::expect::{are_parts, copy_of, parts_of};
 use crate::faults::Fault;
 use crate::script::{Act, follows};
 use constriction_base::errors::CoderError;
 use constriction_base::weights::WeightTable;
-use constriction_chain::{BackendError, ChainCoder, ChangePrecisionError};
+use constriction_chain::{BackendError, ChainCoder};
 use linked_list_allocator::LocalHeap;
 use std::alloc::{AllocError, Allocator, Global};
 use std::test::Fail;
@@ -59,18 +59,6 @@ fn words_in<'a, const PRECISION: usize>(
 {
     match words.to_vec(heap) {
         Ok(words) => of_words(alloc, words),
-        Err(AllocError) => None,
-    }
-}
-
-/// The same in the binary form.
-fn binary_words_in<'a>(
-    alloc: Global,
-    heap: &'a LocalHeap,
-    words: &[u8],
-) -> Option<FromHeap<'a, 4>> {
-    match words.to_vec(heap) {
-        Ok(words) => of_binary(alloc, words),
         Err(AllocError) => None,
     }
 }
@@ -336,14 +324,6 @@ fn exports_none(coder: FromHeap<'_, 4>, heap: &LocalHeap) -> bool {
     }
 }
 
-/// Whether an export in the binary form finds no memory.
-fn exports_none_binary(coder: FromHeap<'_, 4>, heap: &LocalHeap) -> bool {
-    match fill(heap) {
-        Ok(_filler) => matches!(coder.into_binary(), Err(CoderError::Backend(AllocError))),
-        Err(AllocError) => false,
-    }
-}
-
 /// The export of the compressed words 10, 20 and 30 in the heap.
 fn export_is_refused(alloc: Global, heap: &LocalHeap) -> bool {
     match copied(words_in::<4>(alloc, heap, &[10, 20, 30])) {
@@ -356,21 +336,6 @@ fn export_is_refused(alloc: Global, heap: &LocalHeap) -> bool {
 fn a_full_heap_refuses_an_export(rt: HostRuntime) -> Result<(), Fail> {
     let heap = LocalHeap::new(rt.alloc(), 512)?;
     assert!(rt; export_is_refused(rt.alloc(), &heap));
-    Ok(())
-}
-
-/// The same in the binary form.
-fn binary_export_is_refused(alloc: Global, heap: &LocalHeap) -> bool {
-    match copied(binary_words_in(alloc, heap, &[10, 20, 30])) {
-        Some(coder) => exports_none_binary(coder, heap),
-        None => false,
-    }
-}
-
-#[test]
-fn a_full_heap_refuses_a_binary_export(rt: HostRuntime) -> Result<(), Fail> {
-    let heap = LocalHeap::new(rt.alloc(), 512)?;
-    assert!(rt; binary_export_is_refused(rt.alloc(), &heap));
     Ok(())
 }
 
@@ -387,7 +352,7 @@ fn clone_is_refused(alloc: Global, heap: &LocalHeap) -> bool {
     match remainders_in::<8>(alloc, heap, &[7, 30, 1]) {
         Some(coder) => {
             let is_refused = copies_none(&coder, heap);
-            is_refused & has_parts(coder, &[], &[7, 30, 1])
+            is_refused & are_parts(parts_of(coder), &[], &[7, 30, 1])
         }
         None => false,
     }
@@ -415,36 +380,25 @@ fn is_not_raised(coder: ToHeap<'_, 4>) -> bool {
     )
 }
 
-/// The same by the call that knows both ways.
-fn is_not_changed(coder: ToHeap<'_, 4>) -> bool {
-    let changed: Result<ToHeap<'_, 8>, _> = coder.change_precision();
-    matches!(
-        changed,
-        Err(ChangePrecisionError::Increase(CoderError::Backend(BackendError::Remainders(
-            AllocError
-        ))))
-    )
-}
-
-/// Whether neither finds memory.
-fn are_not_changed(first: ToHeap<'_, 4>, second: ToHeap<'_, 4>, heap: &LocalHeap) -> bool {
+/// The same while the heap is full.
+fn is_not_raised_in_full(coder: ToHeap<'_, 4>, heap: &LocalHeap) -> bool {
     match all_of(heap) {
-        Ok(_filler) => is_not_raised(first) & is_not_changed(second),
+        Ok(_filler) => is_not_raised(coder),
         Err(AllocError) => false,
     }
 }
 
-/// The same of coders that are made.
-fn changes_are_refused(alloc: Global, heap: &LocalHeap) -> bool {
-    match (to_be_raised(alloc, heap), to_be_raised(alloc, heap)) {
-        (Some(first), Some(second)) => are_not_changed(first, second, heap),
-        _ => false,
+/// The same of a coder that is made.
+fn increase_is_refused(alloc: Global, heap: &LocalHeap) -> bool {
+    match to_be_raised(alloc, heap) {
+        Some(coder) => is_not_raised_in_full(coder, heap),
+        None => false,
     }
 }
 
 #[test]
-fn a_full_heap_refuses_changes(rt: HostRuntime) -> Result<(), Fail> {
+fn a_full_heap_refuses_an_increase(rt: HostRuntime) -> Result<(), Fail> {
     let heap = LocalHeap::new(rt.alloc(), 512)?;
-    assert!(rt; changes_are_refused(rt.alloc(), &heap));
+    assert!(rt; increase_is_refused(rt.alloc(), &heap));
     Ok(())
 }

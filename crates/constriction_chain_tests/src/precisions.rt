@@ -1,9 +1,7 @@
 //! Changes of the precision, and what they refuse.
 
-use crate::cases::{coarse_does, fine_follows};
-use crate::coders::{Bytes, Form, fine_of, made};
+use crate::coders::{Bytes, Form, made};
 use crate::expect::{has_parts, places_of};
-use crate::script::Act;
 use constriction_base::errors::CoderError;
 use constriction_chain::{ChangePrecisionError, EncoderFrontendError};
 use std::alloc::Global;
@@ -125,56 +123,7 @@ fn changes_both_ways(rt: HostRuntime) {
     );
 }
 
-/// The symbol 1 is put back at 8 bits of precision.
-fn puts_last(mut coder: Bytes<8>, alloc: Global) -> bool {
-    let acts = [Act::Puts(&[1]), Act::Is(&[77, 10, 0xb3, 20], &[30, 1])];
-    fine_follows(&mut coder, alloc, &acts)
-}
-
-/// Two symbols are taken at 4 bits of precision, and put back.
-fn goes_at_four(mut coder: Bytes<4>, alloc: Global) -> bool {
-    let acts = [
-        Act::Gives(&[0, 1]),
-        Act::Is(&[77, 10], &[36, 43, 6, 1]),
-        Act::Puts(&[0, 1]),
-    ];
-    let goes = coarse_does(&mut coder, alloc, &[5, 11], &acts);
-    match raised(coder) {
-        Some(coder) => goes & puts_last(coder, alloc),
-        None => false,
-    }
-}
-
-/// The first symbol is taken at 8 bits of precision.
-fn goes_at_eight(mut coder: Bytes<8>, alloc: Global) -> bool {
-    let is_taken = fine_follows(&mut coder, alloc, &[Act::Gives(&[1])]);
-    match lowered(coder) {
-        Some(coder) => is_taken & goes_at_four(coder, alloc),
-        None => false,
-    }
-}
-
-/// Words are taken at two precisions, and come back.
-#[test]
-fn symbols_at_two_precisions(rt: HostRuntime) {
-    let alloc = rt.alloc();
-    let goes = match fine_of(alloc, &[77, 10, 0xb3, 20, 30]) {
-        Some(coder) => goes_at_eight(coder, alloc),
-        None => false,
-    };
-    assert!(rt; goes);
-}
-
-/// Whether a decrease finds no word.
-fn cannot_decrease(coder: Bytes<8>) -> bool {
-    let lower: Result<Bytes<4>, _> = coder.decrease_precision();
-    matches!(
-        lower,
-        Err(CoderError::Frontend(EncoderFrontendError::OutOfRemainders))
-    )
-}
-
-/// The same by the call that knows both ways.
+/// Whether a decrease by the call that knows both ways finds no word.
 fn cannot_change(coder: Bytes<8>) -> bool {
     let lower: Result<Bytes<4>, _> = coder.change_precision();
     matches!(
@@ -185,17 +134,12 @@ fn cannot_change(coder: Bytes<8>) -> bool {
     )
 }
 
-/// Whether neither finds a word.
-fn are_short(first: Option<Bytes<8>>, second: Option<Bytes<8>>) -> bool {
-    match (first, second) {
-        (Some(first), Some(second)) => cannot_decrease(first) & cannot_change(second),
-        _ => false,
-    }
-}
-
 /// The number 8 with no word below it, where 4 bits of precision want 16 at least.
 #[test]
 fn a_decrease_without_a_word(rt: HostRuntime) {
-    let alloc = rt.alloc();
-    assert!(rt; are_short(fine(alloc, &[8, 1]), fine(alloc, &[8, 1])));
+    let is_short = match fine(rt.alloc(), &[8, 1]) {
+        Some(coder) => cannot_change(coder),
+        None => false,
+    };
+    assert!(rt; is_short);
 }

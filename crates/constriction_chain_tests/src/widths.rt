@@ -4,7 +4,7 @@ ghost use Rattle.constriction_chain.specs.Chain.{IsSized};
 ghost use Rattle.std.specs.Prelude.{◌≤◌};
 
 use crate::coders::{Form, Whole, made};
-use crate::expect::{exports, has_parts};
+use crate::expect::{are_parts, exports, parts_of};
 use crate::put::puts;
 use crate::take::gives;
 use constriction_base::weights::WeightTable;
@@ -39,7 +39,7 @@ where
     match found {
         Some(mut coder) => {
             let are_taken = gives(&mut coder, table, symbols);
-            are_taken & has_parts(coder, prefix, suffix)
+            are_taken & are_parts(parts_of(coder), prefix, suffix)
         }
         None => false,
     }
