@@ -1,8 +1,5 @@
 //! Words that are decoded and come back, at each width of words.
 
-ghost use Rattle.constriction_chain.specs.Chain.{IsSized};
-ghost use Rattle.std.specs.Prelude.{◌≤◌};
-
 use crate::coders::{Form, Whole, made};
 use crate::expect::{are_parts, exports, parts_of};
 use crate::put::puts;
@@ -67,23 +64,88 @@ where
 }
 
 /// Whether words go to the two lists, and come back of the second.
-fn comes_back<Word, State, const PRECISION: usize>(alloc: Global, run: &Run<'_, Word>) -> bool
-where
-    Word: WordOf<State> + WordOf<Word> + PartialEq,
-    State: BitArray,
-    requires sized { IsSized Word.BITS State.BITS PRECISION }
-    requires table { (1 ≤ PRECISION) × (PRECISION ≤ Word.BITS) }
-{
-    match WeightTable::<Word, PRECISION>::new(alloc, run.weights) {
+fn bytes_come_back(alloc: Global, run: &Run<'_, u8>) -> bool {
+    match WeightTable::<u8, 5>::new(alloc, run.weights) {
         Ok(table) => {
-            let first: Option<Whole<Word, State, PRECISION>> = made(alloc, run.form, run.words);
-            let is_split = splits(first, &table, run.symbols, run.prefix, run.suffix);
-            let second: Option<Whole<Word, State, PRECISION>> = made(
-                alloc,
-                Form::Remainders,
+            splits::<u8, u16, 5>(
+                made(alloc, run.form, run.words),
+                &table,
+                run.symbols,
+                run.prefix,
                 run.suffix,
-            );
-            is_split & returns(second, &table, run.symbols, run.form, run.back)
+            ) & returns::<u8, u16, 5>(
+                made(alloc, Form::Remainders, run.suffix),
+                &table,
+                run.symbols,
+                run.form,
+                run.back,
+            )
+        }
+        Err(_) => false,
+    }
+}
+
+/// The same of words of 16 bits.
+fn words_of_16_bits_come_back(alloc: Global, run: &Run<'_, u16>) -> bool {
+    match WeightTable::<u16, 12>::new(alloc, run.weights) {
+        Ok(table) => {
+            splits::<u16, u32, 12>(
+                made(alloc, run.form, run.words),
+                &table,
+                run.symbols,
+                run.prefix,
+                run.suffix,
+            ) & returns::<u16, u32, 12>(
+                made(alloc, Form::Remainders, run.suffix),
+                &table,
+                run.symbols,
+                run.form,
+                run.back,
+            )
+        }
+        Err(_) => false,
+    }
+}
+
+/// The same of words of 32 bits.
+fn words_of_32_bits_come_back(alloc: Global, run: &Run<'_, u32>) -> bool {
+    match WeightTable::<u32, 24>::new(alloc, run.weights) {
+        Ok(table) => {
+            splits::<u32, u64, 24>(
+                made(alloc, run.form, run.words),
+                &table,
+                run.symbols,
+                run.prefix,
+                run.suffix,
+            ) & returns::<u32, u64, 24>(
+                made(alloc, Form::Remainders, run.suffix),
+                &table,
+                run.symbols,
+                run.form,
+                run.back,
+            )
+        }
+        Err(_) => false,
+    }
+}
+
+/// The same of bytes, with a number of the remainders of four.
+fn bytes_below_32_bits_come_back(alloc: Global, run: &Run<'_, u8>) -> bool {
+    match WeightTable::<u8, 5>::new(alloc, run.weights) {
+        Ok(table) => {
+            splits::<u8, u32, 5>(
+                made(alloc, run.form, run.words),
+                &table,
+                run.symbols,
+                run.prefix,
+                run.suffix,
+            ) & returns::<u8, u32, 5>(
+                made(alloc, Form::Remainders, run.suffix),
+                &table,
+                run.symbols,
+                run.form,
+                run.back,
+            )
         }
         Err(_) => false,
     }
@@ -101,7 +163,7 @@ fn u8_and_u16(rt: HostRuntime) {
         suffix: &[173, 98, 224, 236],
         back: &[137, 179, 73, 195, 18],
     };
-    assert!(rt; comes_back::<u8, u16, 5>(rt.alloc(), &run));
+    assert!(rt; bytes_come_back(rt.alloc(), &run));
 }
 
 /// Words of 16 bits, of which a symbol takes 12, in both forms.
@@ -127,7 +189,7 @@ fn u16_and_u32(rt: HostRuntime) {
     };
     let alloc = rt.alloc();
     assert!(rt;
-        comes_back::<u16, u32, 12>(alloc, &run) & comes_back::<u16, u32, 12>(alloc, &binary)
+        words_of_16_bits_come_back(alloc, &run) & words_of_16_bits_come_back(alloc, &binary)
     );
 }
 
@@ -158,7 +220,7 @@ fn u32_and_u64(rt: HostRuntime) {
     };
     let alloc = rt.alloc();
     assert!(rt;
-        comes_back::<u32, u64, 24>(alloc, &run) & comes_back::<u32, u64, 24>(alloc, &binary)
+        words_of_32_bits_come_back(alloc, &run) & words_of_32_bits_come_back(alloc, &binary)
     );
 }
 
@@ -174,5 +236,5 @@ fn u8_and_u32(rt: HostRuntime) {
         suffix: &[236, 101, 206, 203, 237, 18, 149],
         back: &[179, 73, 195, 5, 191, 247, 140],
     };
-    assert!(rt; comes_back::<u8, u32, 5>(rt.alloc(), &run));
+    assert!(rt; bytes_below_32_bits_come_back(rt.alloc(), &run));
 }
