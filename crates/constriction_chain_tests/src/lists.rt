@@ -3,14 +3,13 @@
 use crate::cases::fine_does;
 use crate::coders::{Bytes, WEIGHTS, fine_of, table_of};
 use crate::faults::{Fault, fault_of_put, is_same};
-use crate::put::{Put, answer_of, has_no_limit, tried_answer_of};
+use crate::put::{Put, answer_of, has_no_limit, put_list_back, tried_answer_of};
 use crate::script::Act;
-use constriction_base::backends::{ReadWords, Stack, WriteWords};
 use constriction_base::errors::CoderError;
 use constriction_base::weights::WeightTable;
-use constriction_chain::{BackendError, ChainCoder, DecoderError};
+use constriction_chain::{BackendError, DecoderError};
 use constriction_stream::decoding::Decode;
-use constriction_stream::encoding::{Encode, EncodeReverse};
+use constriction_stream::encoding::Encode;
 use constriction_stream::errors::TryCodingError;
 use std::alloc::{AllocError, Global};
 use std::convert::Infallible;
@@ -34,15 +33,6 @@ fn put_pairs(coder: &mut Bytes<8>, pairs: [Pair<'_>; 2]) -> Option<Fault> {
 /// The same of items, each of which may be an error.
 fn put_items(coder: &mut Bytes<8>, items: [Item<'_>; 3]) -> Option<Fault> {
     fault_of_put(tried_answer_of(coder.try_encode_symbols(items)))
-}
-
-/// The same as [`put_list`], the last symbol first.
-fn put_list_back<C: WriteWords<u8>, R: ReadWords<u8, Stack>>(
-    coder: &mut ChainCoder<u8, u16, C, R, 8>,
-    table: &WeightTable<u8, 8>,
-    symbols: &[usize],
-) -> Put<C::WriteError, R::ReadError> {
-    answer_of(coder.encode_iid_symbols_reverse(symbols, table))
 }
 
 /// Whether the list ends at this fault.

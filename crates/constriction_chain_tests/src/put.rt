@@ -7,7 +7,7 @@ use constriction_base::errors::CoderError;
 use constriction_base::weights::WeightTable;
 use constriction_chain::{BackendError, ChainCoder, EncoderError, EncoderFrontendError};
 use constriction_stream::coder::Code;
-use constriction_stream::encoding::Encode;
+use constriction_stream::encoding::{Encode, EncodeReverse};
 use constriction_stream::errors::TryCodingError;
 use constriction_words::{BitArray, WordOf};
 use std::alloc::Allocator;
@@ -74,6 +74,22 @@ pub fn puts_none<A: Allocator, B: Allocator, const PRECISION: usize>(
     let heads = coder.state();
     let found = fault_of_put(put_one(coder, table, symbol));
     is_same(found, Some(fault)) & (coder.state() == heads)
+}
+
+/// Puts a list back, the last symbol first.
+pub fn put_list_back<Word, State, C, R, Probability, const PRECISION: usize>(
+    coder: &mut ChainCoder<Word, State, C, R, PRECISION>,
+    table: &WeightTable<Probability, PRECISION>,
+    symbols: &[usize],
+) -> Put<C::WriteError, R::ReadError>
+where
+    Word: WordOf<State>,
+    State: BitArray,
+    C: WriteWords<Word>,
+    R: ReadWords<Word, Stack>,
+    Probability: WordOf<Word>,
+{
+    answer_of(coder.encode_iid_symbols_reverse(symbols, table))
 }
 
 /// Whether symbols are put back one by one, the last one first.
