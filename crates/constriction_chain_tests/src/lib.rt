@@ -16,6 +16,8 @@
 #![tactic(auto)]
 
 #[cfg(test)]
+mod buffers;
+#[cfg(test)]
 mod cases;
 #[cfg(test)]
 mod coders;
