@@ -8,6 +8,15 @@ use constriction_chain::ChainCoder;
 use constriction_words::{BitArray, WordOf};
 use std::alloc::{AllocError, Global};
 
+/// A coder over vectors of some heaps.
+pub type Over<Word, State, A, B, const PRECISION: usize> = ChainCoder<
+    Word,
+    State,
+    Vec<Word, A>,
+    Vec<Word, B>,
+    PRECISION,
+>;
+
 /// A coder over vectors.
 pub type Whole<Word, State, const PRECISION: usize> = ChainCoder<
     Word,
@@ -19,6 +28,9 @@ pub type Whole<Word, State, const PRECISION: usize> = ChainCoder<
 
 /// A coder of bytes over vectors, with a number of the remainders of two bytes.
 pub type Bytes<const PRECISION: usize> = Whole<u8, u16, PRECISION>;
+
+/// The weights of the table at 8 bits of precision.
+pub const WEIGHTS: [u8; 2] = [16, 240];
 
 /// A table of 8 bits. Where memory is refused, it is asked for once more.
 pub fn table_of(alloc: Global, weights: &[u8]) -> Result<WeightTable<u8, 8>, TableError> {
@@ -122,4 +134,9 @@ where
         Ok(words) => made_of(alloc, form, words),
         Err(AllocError) => None,
     }
+}
+
+/// The coder of some compressed words at 8 bits of precision, if there is one.
+pub fn fine_of(alloc: Global, words: &[u8]) -> Option<Bytes<8>> {
+    made(alloc, Form::Words, words)
 }

@@ -16,11 +16,11 @@
 #![tactic(auto)]
 
 #[cfg(test)]
+mod buffers;
+#[cfg(test)]
 mod cases;
 #[cfg(test)]
 mod coders;
-#[cfg(test)]
-mod cursors;
 #[cfg(test)]
 mod expect;
 #[cfg(test)]

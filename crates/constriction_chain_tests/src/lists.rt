@@ -1,9 +1,9 @@
 //! Lists of symbols, and iterators of symbols, through the coder traits.
 
-use crate::cases::{bytes_do, stays};
-use crate::coders::{Bytes, Form, made, table_of};
+use crate::cases::fine_does;
+use crate::coders::{Bytes, WEIGHTS, fine_of, table_of};
 use crate::faults::{Fault, fault_of_put, is_same};
-use crate::put::{answer_of, tried_answer_of};
+use crate::put::{Put, answer_of, has_no_limit, put_list_back, tried_answer_of};
 use crate::script::Act;
 use constriction_base::errors::CoderError;
 use constriction_base::weights::WeightTable;
@@ -13,7 +13,6 @@ use constriction_stream::encoding::Encode;
 use constriction_stream::errors::TryCodingError;
 use std::alloc::{AllocError, Global};
 use std::convert::Infallible;
-use std::test::Fail;
 
 /// A symbol and its table.
 type Pair<'a> = (&'a usize, &'a WeightTable<u8, 8>);
@@ -36,50 +35,70 @@ fn put_items(coder: &mut Bytes<8>, items: [Item<'_>; 3]) -> Option<Fault> {
     fault_of_put(tried_answer_of(coder.try_encode_symbols(items)))
 }
 
-/// The same, where the list is to end at this fault.
+/// Whether the list ends at this fault.
 fn stops_at(found: Option<Fault>, fault: Fault) -> bool {
     is_same(found, Some(fault))
 }
 
 /// Words that hold six symbols.
-pub const WORDS: [u8; 7] = [5, 77, 3, 130, 60, 10, 30];
+const WORDS: [u8; 7] = [5, 77, 3, 130, 60, 10, 30];
 
 /// What the coder of these words is, and what is left of it.
-pub const BEFORE: Act<'static, u8> = Act::Is(&[5, 77, 3, 130, 60, 10], &[30, 1]);
+const BEFORE: Act<'static> = Act::Is(&[5, 77, 3, 130, 60, 10], &[30, 1]);
 
 /// What is left of it when all six were taken.
-pub const AFTER: Act<'static, u8> = Act::Is(&[], &[234, 28, 98, 13, 37, 1, 1]);
+const AFTER: Act<'static> = Act::Is(&[], &[234, 28, 98, 13, 37, 1, 1]);
 
 /// The six symbols come back by each call, the last one first.
 fn come_back(coder: &mut Bytes<8>, table: &WeightTable<u8, 8>) -> bool {
-    stays(coder, table, &[Act::Gives(&[0, 1, 1, 0, 1, 0]), AFTER])
+    fine_does(coder, table, &[Act::Gives(&[0, 1, 1, 0, 1, 0]), AFTER])
         & is_same(put_pairs(coder, [(&0, table), (&1, table)]), None)
         & is_same(
             put_items(coder, [Ok((&0, table)), Ok((&1, table)), Ok((&1, table))]),
             None,
         )
         & is_same(put_list(coder, table, &[0]), None)
-        & stays(coder, table, &[BEFORE])
+        & fine_does(coder, table, &[BEFORE])
 }
 
+/// The same by the call that begins with the last symbol.
+fn come_back_reversed(coder: &mut Bytes<8>, table: &WeightTable<u8, 8>) -> bool {
+    fine_does(coder, table, &[Act::Gives(&[0, 1, 1, 0, 1, 0]), AFTER])
+        & matches!(put_list_back(coder, table, &[0, 1, 1, 0, 1, 0]), Put::Done)
+        & matches!(put_list_back(coder, table, &[]), Put::Done)
+        & fine_does(coder, table, &[BEFORE])
+}
+
+/// Both of the coder of the words, whose symbols are then taken by each call.
+fn lists_go(alloc: Global, table: &WeightTable<u8, 8>, found: Option<Bytes<8>>) -> bool {
+    match found {
+        Some(mut coder) => {
+            has_no_limit(&coder)
+                & come_back(&mut coder, table)
+                & come_back_reversed(&mut coder, table)
+                & taken_by_each_call(alloc, &mut coder, table)
+        }
+        None => false,
+    }
+}
+
+/// Lists in both orders, and iterators.
 #[test]
-fn lists(rt: HostRuntime) -> Result<(), Fail> {
-    let table = table_of(rt.alloc(), &[16, 240])?;
-    let found: Option<Bytes<8>> = made(rt.alloc(), Form::Words, &WORDS);
-    let Some(mut coder) = found else {
-        return Err(Fail::from("there are enough words"));
+fn lists(rt: HostRuntime) {
+    let goes = match table_of(rt.alloc(), &WEIGHTS) {
+        Ok(table) => lists_go(rt.alloc(), &table, fine_of(rt.alloc(), &WORDS)),
+        Err(_) => false,
     };
-    assert!(rt; come_back(&mut coder, &table));
-    Ok(())
+    assert!(rt; goes);
 }
 
 /// The coder of the words 10, 20 and 30 once the symbol 0 was put back.
-const HAS_ONE: Act<'static, u8> = Act::Is(&[10, 20, 14], &[1, 1]);
+const HAS_ONE: Act<'static> = Act::Is(&[10, 20, 14], &[1, 1]);
 
 /// The symbol 0 was put back, and is taken again.
-pub fn has_one(coder: &mut Bytes<8>, table: &WeightTable<u8, 8>) -> bool {
+fn has_one(coder: &mut Bytes<8>, table: &WeightTable<u8, 8>) -> bool {
     let acts = [HAS_ONE, Act::Gives(&[0]), Act::Is(&[10, 20], &[30, 1])];
-    stays(coder, table, &acts)
+    fine_does(coder, table, &acts)
 }
 
 /// A list stops at a symbol that the table doesn't know, and at an error. Exactly the symbols before are put
@@ -97,58 +116,39 @@ fn run_out(coder: &mut Bytes<8>, table: &WeightTable<u8, 8>) -> bool {
     stops_at(put_list(coder, table, &[0, 1, 0]), Fault::OutOfRemainders) & has_one(coder, table)
 }
 
+/// A list that begins with the last symbol ends at a symbol that the table doesn't know, and where no remainders
+/// are left. Exactly the symbols behind are put back.
+fn stop_reversed(coder: &mut Bytes<8>, table: &WeightTable<u8, 8>) -> bool {
+    matches!(put_list_back(coder, table, &[5, 0]), Put::Unknown)
+        & has_one(coder, table)
+        & matches!(
+            put_list_back(coder, table, &[0, 1, 0]),
+            Put::OutOfRemainders
+        )
+        & has_one(coder, table)
+}
+
+/// All of them of the coder of the words 10, 20 and 30.
+fn lists_stop(table: &WeightTable<u8, 8>, found: Option<Bytes<8>>) -> bool {
+    match found {
+        Some(mut coder) => {
+            stop(&mut coder, table) & run_out(&mut coder, table) & stop_reversed(&mut coder, table)
+        }
+        None => false,
+    }
+}
+
 #[test]
-fn lists_stop_at_the_first_fault(rt: HostRuntime) -> Result<(), Fail> {
-    let table = table_of(rt.alloc(), &[16, 240])?;
-    let found: Option<Bytes<8>> = made(rt.alloc(), Form::Words, &[10, 20, 30]);
-    let Some(mut coder) = found else {
-        return Err(Fail::from("there are enough words"));
+fn lists_stop_at_the_first_fault(rt: HostRuntime) {
+    let stop = match table_of(rt.alloc(), &WEIGHTS) {
+        Ok(table) => lists_stop(&table, fine_of(rt.alloc(), &[10, 20, 30])),
+        Err(_) => false,
     };
-    assert!(rt; stop(&mut coder, &table) & run_out(&mut coder, &table));
-    Ok(())
+    assert!(rt; stop);
 }
 
-/// The six symbols come back by each call that begins with the last one.
-#[test]
-fn reversed_lists(rt: HostRuntime) {
-    let acts = [
-        Act::Gives(&[0, 1, 1, 0, 1, 0]),
-        AFTER,
-        Act::PutsPairs(1, 0, None),
-        Act::PutsItems(Ok(1), 0, None),
-        Act::PutsList(&[0, 1], None),
-        BEFORE,
-        Act::Gives(&[0, 1, 1, 0, 1, 0]),
-        Act::PutsList(&[], None),
-        AFTER,
-    ];
-    assert!(rt; bytes_do(rt.alloc(), Form::Words, &WORDS, &acts));
-}
-
-/// Such a list ends at a symbol that the table doesn't know, at an error, and where no remainders are left. Exactly
-/// the symbols behind are put back.
-#[test]
-fn reversed_lists_stop_at_the_first_fault(rt: HostRuntime) {
-    let acts = [
-        Act::PutsPairs(5, 0, Some(Fault::Unknown)),
-        HAS_ONE,
-        Act::Gives(&[0]),
-        Act::PutsItems(Err(7), 0, Some(Fault::BadModel(7))),
-        HAS_ONE,
-        Act::Gives(&[0]),
-        Act::PutsItems(Ok(2), 0, Some(Fault::Unknown)),
-        HAS_ONE,
-        Act::Gives(&[0]),
-        Act::PutsList(&[0, 1, 0], Some(Fault::OutOfRemainders)),
-        HAS_ONE,
-        Act::Gives(&[0]),
-        Act::Is(&[10, 20], &[30, 1]),
-    ];
-    assert!(rt; bytes_do(rt.alloc(), Form::Words, &[10, 20, 30], &acts));
-}
-
-/// Takes symbols by one table, and compares what is given for each of the first: a symbol, or none where it is
-/// refused. The others aren't taken.
+/// Takes symbols by one table, and compares what is given for each of the first: a symbol, or none. The others
+/// aren't taken.
 fn gives_list(
     coder: &mut Bytes<8>,
     table: &WeightTable<u8, 8>,
@@ -156,31 +156,33 @@ fn gives_list(
     answers: &[Option<usize>],
 ) -> bool {
     let mut given = coder.decode_iid_symbols(count, table);
-    if given.size_hint() != (count, Some(count)) {
-        return false;
-    }
+    let mut are_given = true;
     for answer in answers {
         let found = match given.next() {
-            Some(found) => found.ok(),
-            None => return false,
+            Some(Ok(symbol)) => Some(symbol),
+            _ => None,
         };
-        if found != *answer {
-            return false;
-        }
+        are_given = are_given & (found == *answer);
     }
-    answers.len() < count || given.next().is_none()
+    are_given
 }
 
-/// Takes symbols by a list of tables, until there is none.
-fn gives_by(coder: &mut Bytes<8>, tables: Vec<&WeightTable<u8, 8>>, symbols: &[usize]) -> bool {
+/// Takes symbols by some tables, and compares what is given: a symbol, or none.
+fn gives_by(
+    coder: &mut Bytes<8>,
+    tables: Vec<&WeightTable<u8, 8>>,
+    answers: &[Option<usize>],
+) -> bool {
     let mut given = coder.decode_symbols(tables);
-    for symbol in symbols {
-        match given.next() {
-            Some(Ok(found)) if found == *symbol => {}
-            _ => return false,
-        }
+    let mut are_given = true;
+    for answer in answers {
+        let found = match given.next() {
+            Some(Ok(symbol)) => Some(symbol),
+            _ => None,
+        };
+        are_given = are_given & (found == *answer);
     }
-    given.next().is_none()
+    are_given
 }
 
 /// The same by two tables.
@@ -188,10 +190,10 @@ fn gives_by_tables(
     alloc: Global,
     coder: &mut Bytes<8>,
     table: &WeightTable<u8, 8>,
-    symbols: &[usize],
+    answers: &[Option<usize>],
 ) -> bool {
     match [table, table].to_vec(alloc) {
-        Ok(tables) => gives_by(coder, tables, symbols),
+        Ok(tables) => gives_by(coder, tables, answers),
         Err(AllocError) => false,
     }
 }
@@ -229,15 +231,11 @@ fn answers_by(
     answers: &[Result<usize, Fault>],
 ) -> bool {
     let mut given = coder.try_decode_symbols(items);
-    if given.size_hint() != (answers.len(), Some(answers.len())) {
-        return false;
-    }
+    let mut are_given = true;
     for answer in answers {
-        if !is_given(given.next(), answer) {
-            return false;
-        }
+        are_given = is_given(given.next(), answer) & are_given;
     }
-    given.next().is_none()
+    are_given
 }
 
 /// The same by an error and two tables.
@@ -257,20 +255,9 @@ fn gives_by_items(
 fn taken_by_each_call(alloc: Global, coder: &mut Bytes<8>, table: &WeightTable<u8, 8>) -> bool {
     let last = [Err(Fault::BadModel(7)), Ok(0), Err(Fault::OutOfData)];
     gives_list(coder, table, 3, &[Some(0)])
-        & gives_by_tables(alloc, coder, table, &[1, 1])
-        & gives_list(coder, table, 2, &[Some(0), Some(1)])
-        & gives_list(coder, table, 0, &[])
+        & gives_by_tables(alloc, coder, table, &[Some(1), Some(1), None])
+        & gives_list(coder, table, 2, &[Some(0), Some(1), None])
+        & gives_list(coder, table, 0, &[None])
         & gives_by_items(alloc, coder, table, &last)
-        & stays(coder, table, &[AFTER])
-}
-
-#[test]
-fn iterators(rt: HostRuntime) -> Result<(), Fail> {
-    let table = table_of(rt.alloc(), &[16, 240])?;
-    let found: Option<Bytes<8>> = made(rt.alloc(), Form::Words, &WORDS);
-    let Some(mut coder) = found else {
-        return Err(Fail::from("there are enough words"));
-    };
-    assert!(rt; taken_by_each_call(rt.alloc(), &mut coder, &table));
-    Ok(())
+        & fine_does(coder, table, &[AFTER])
 }

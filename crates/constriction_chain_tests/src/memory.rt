@@ -6,14 +6,13 @@
 
 ghost use Rattle.constriction_chain.specs.Chain.{IsSized};
 
-use crate::cases::stays;
-use crate::coders::{coarse_table_of, of_binary, of_remainders, of_words, table_of};
-use crate::expect::{copy_of, has_parts, parts_of};
+use crate::coders::{WEIGHTS, coarse_table_of, of_remainders, of_words, table_of};
+use crate::expect::{are_parts, copy_of, parts_of};
 use crate::faults::Fault;
-use crate::script::Act;
+use crate::script::{Act, follows};
 use constriction_base::errors::CoderError;
 use constriction_base::weights::WeightTable;
-use constriction_chain::{BackendError, ChainCoder, ChangePrecisionError};
+use constriction_chain::{BackendError, ChainCoder};
 use linked_list_allocator::LocalHeap;
 use std::alloc::{AllocError, Allocator, Global};
 use std::test::Fail;
@@ -64,18 +63,6 @@ fn words_in<'a, const PRECISION: usize>(
     }
 }
 
-/// The same in the binary form.
-fn binary_words_in<'a>(
-    alloc: Global,
-    heap: &'a LocalHeap,
-    words: &[u8],
-) -> Option<FromHeap<'a, 4>> {
-    match words.to_vec(heap) {
-        Ok(words) => of_binary(alloc, words),
-        Err(AllocError) => None,
-    }
-}
-
 /// A copy of a coder, if there is one.
 fn copied<A, B, const PRECISION: usize>(
     found: Option<ChainCoder<u8, u16, Vec<u8, A>, Vec<u8, B>, PRECISION>>,
@@ -94,7 +81,7 @@ where
 fn copied_after<A, B, const PRECISION: usize>(
     found: Option<ChainCoder<u8, u16, Vec<u8, A>, Vec<u8, B>, PRECISION>>,
     table: &WeightTable<u8, PRECISION>,
-    acts: &[Act<'_, u8>],
+    acts: &[Act<'_>],
 ) -> Option<ChainCoder<u8, u16, Vec<u8, A>, Vec<u8, B>, PRECISION>>
 where
     A: Allocator + Clone,
@@ -102,7 +89,7 @@ where
 {
     match found {
         Some(mut coder) => {
-            if stays(&mut coder, table, acts) {
+            if follows(&mut coder, table, acts) {
                 copy_of(&coder).ok()
             } else {
                 None
@@ -117,34 +104,28 @@ fn all_of(heap: &LocalHeap) -> Result<Vec<u8, &LocalHeap>, AllocError> {
     Vec::with_capacity(heap, 512)
 }
 
-/// Whether a coder does as expected while the heap is full, and then while it isn't.
-fn goes_later<A, B, const PRECISION: usize>(
-    coder: &mut ChainCoder<u8, u16, Vec<u8, A>, Vec<u8, B>, PRECISION>,
+/// Whether two decodes find no memory while the heap is full, and a coder then does as expected.
+fn goes_later<const PRECISION: usize>(
+    coder: &mut ToHeap<'_, PRECISION>,
     table: &WeightTable<u8, PRECISION>,
     heap: &LocalHeap,
-    refused: &[Act<'_, u8>],
-    goes: &[Act<'_, u8>],
-) -> bool
-where
-    A: Allocator + Clone,
-    B: Allocator + Clone,
-{
-    stays_in_full(coder, table, heap, refused) & stays(coder, table, goes)
+    goes: &[Act<'_>],
+) -> bool {
+    stays_in_full(coder, table, heap) & follows(coder, table, goes)
 }
 
 /// The first of the two.
-fn stays_in_full<A, B, const PRECISION: usize>(
-    coder: &mut ChainCoder<u8, u16, Vec<u8, A>, Vec<u8, B>, PRECISION>,
+fn stays_in_full<const PRECISION: usize>(
+    coder: &mut ToHeap<'_, PRECISION>,
     table: &WeightTable<u8, PRECISION>,
     heap: &LocalHeap,
-    refused: &[Act<'_, u8>],
-) -> bool
-where
-    A: Allocator + Clone,
-    B: Allocator + Clone,
-{
+) -> bool {
+    let refused = [
+        Act::GivesNone(Fault::Remainders),
+        Act::GivesNone(Fault::Remainders),
+    ];
     match all_of(heap) {
-        Ok(_filler) => stays(coder, table, refused),
+        Ok(_filler) => follows(coder, table, &refused),
         Err(AllocError) => false,
     }
 }
@@ -156,31 +137,34 @@ fn to_heap<'a>(
     table: &WeightTable<u8, 8>,
 ) -> Option<ToHeap<'a, 8>> {
     let found = remainders_in::<8>(alloc, heap, &[36, 202, 1, 1]);
-    copied_after(found, table, &[Act::Puts(&[0, 1])])
+    copied_after(found, table, &[Act::Puts(&[1, 0])])
 }
 
 /// A decode is refused twice, and then goes.
 fn growth_goes_later(alloc: Global, heap: &LocalHeap, table: &WeightTable<u8, 8>) -> bool {
-    let refused = [
-        Act::GivesNone(Fault::Remainders),
-        Act::GivesNone(Fault::Remainders),
-    ];
     let goes = [
         Act::Is(&[10, 20], &[30, 1]),
         Act::Gives(&[1]),
         Act::Is(&[10], &[36, 28, 1]),
     ];
     match to_heap(alloc, heap, table) {
-        Some(mut coder) => goes_later(&mut coder, table, heap, &refused, &goes),
+        Some(mut coder) => goes_later(&mut coder, table, heap, &goes),
         None => false,
+    }
+}
+
+/// The same, by the table.
+fn growth_is_refused(alloc: Global, heap: &LocalHeap) -> bool {
+    match table_of(alloc, &WEIGHTS) {
+        Ok(table) => growth_goes_later(alloc, heap, &table),
+        Err(_) => false,
     }
 }
 
 #[test]
 fn chain_growth_refused(rt: HostRuntime) -> Result<(), Fail> {
-    let table = table_of(rt.alloc(), &[16, 240])?;
     let heap = LocalHeap::new(rt.alloc(), 512)?;
-    assert!(rt; growth_goes_later(rt.alloc(), &heap, &table));
+    assert!(rt; growth_is_refused(rt.alloc(), &heap));
     Ok(())
 }
 
@@ -189,26 +173,29 @@ fn chain_growth_refused(rt: HostRuntime) -> Result<(), Fail> {
 ///
 /// No word is read for the quantile 5, and so no room is asked for, but the number 24739 moves a word out.
 fn bits_left_go_later(alloc: Global, heap: &LocalHeap, table: &WeightTable<u8, 4>) -> bool {
-    let refused = [
-        Act::GivesNone(Fault::Remainders),
-        Act::GivesNone(Fault::Remainders),
-    ];
     let goes = [
         Act::Is(&[], &[201, 8, 21]),
         Act::Gives(&[1]),
         Act::Is(&[], &[163, 96, 1]),
     ];
     match copied(remainders_in::<4>(alloc, heap, &[201, 8, 21])) {
-        Some(mut coder) => goes_later(&mut coder, table, heap, &refused, &goes),
+        Some(mut coder) => goes_later(&mut coder, table, heap, &goes),
         None => false,
+    }
+}
+
+/// The same, by the table.
+fn bits_left_are_refused(alloc: Global, heap: &LocalHeap) -> bool {
+    match coarse_table_of(alloc, &[5, 11]) {
+        Ok(table) => bits_left_go_later(alloc, heap, &table),
+        Err(_) => false,
     }
 }
 
 #[test]
 fn a_full_heap_refuses_a_decode_of_bits_left_over(rt: HostRuntime) -> Result<(), Fail> {
-    let table = coarse_table_of(rt.alloc(), &[5, 11])?;
     let heap = LocalHeap::new(rt.alloc(), 512)?;
-    assert!(rt; bits_left_go_later(rt.alloc(), &heap, &table));
+    assert!(rt; bits_left_are_refused(rt.alloc(), &heap));
     Ok(())
 }
 
@@ -228,11 +215,18 @@ fn suffix_is_refused(alloc: Global, heap: &LocalHeap, table: &WeightTable<u8, 8>
     }
 }
 
+/// The same, by the table.
+fn suffix_finds_no_memory(alloc: Global, heap: &LocalHeap) -> bool {
+    match table_of(alloc, &WEIGHTS) {
+        Ok(table) => suffix_is_refused(alloc, heap, &table),
+        Err(_) => false,
+    }
+}
+
 #[test]
 fn a_full_heap_refuses_a_suffix(rt: HostRuntime) -> Result<(), Fail> {
-    let table = table_of(rt.alloc(), &[16, 240])?;
     let heap = LocalHeap::new(rt.alloc(), 512)?;
-    assert!(rt; suffix_is_refused(rt.alloc(), &heap, &table));
+    assert!(rt; suffix_finds_no_memory(rt.alloc(), &heap));
     Ok(())
 }
 
@@ -265,10 +259,10 @@ fn stays_beside(
     coder: &mut FromHeap<'_, 8>,
     table: &WeightTable<u8, 8>,
     heap: &LocalHeap,
-    acts: &[Act<'_, u8>],
+    acts: &[Act<'_>],
 ) -> bool {
     match fill(heap) {
-        Ok(_filler) => stays(coder, table, acts),
+        Ok(_filler) => follows(coder, table, acts),
         Err(AllocError) => false,
     }
 }
@@ -282,17 +276,13 @@ fn encodes_go_later(
     let refused = [
         Act::PutsNone(1, Fault::Compressed),
         Act::PutsNone(1, Fault::Compressed),
-        Act::PutsList(&[0, 1], Some(Fault::Compressed)),
-        Act::PutsPairs(0, 1, Some(Fault::Compressed)),
-        Act::PutsItems(Ok(0), 1, Some(Fault::Compressed)),
     ];
     let goes = [
         Act::Is(&[10], &[36, 28, 1]),
         Act::Puts(&[1]),
         Act::Is(&[10, 20], &[30, 1]),
-        Act::Exports(&[], &[10, 20, 30]),
     ];
-    stays_beside(coder, table, heap, &refused) & stays(coder, table, &goes)
+    stays_beside(coder, table, heap, &refused) & follows(coder, table, &goes)
 }
 
 /// The same of the coder of the compressed words 10, 20 and 30.
@@ -303,12 +293,19 @@ fn encode_goes_later(alloc: Global, heap: &LocalHeap, table: &WeightTable<u8, 8>
     }
 }
 
+/// The same, by the table.
+fn encode_is_refused(alloc: Global, heap: &LocalHeap) -> bool {
+    match table_of(alloc, &WEIGHTS) {
+        Ok(table) => encode_goes_later(alloc, heap, &table),
+        Err(_) => false,
+    }
+}
+
 /// An encode is refused twice, and then goes.
 #[test]
 fn a_full_heap_refuses_an_encode(rt: HostRuntime) -> Result<(), Fail> {
-    let table = table_of(rt.alloc(), &[16, 240])?;
     let heap = LocalHeap::new(rt.alloc(), 512)?;
-    assert!(rt; encode_goes_later(rt.alloc(), &heap, &table));
+    assert!(rt; encode_is_refused(rt.alloc(), &heap));
     Ok(())
 }
 
@@ -323,14 +320,6 @@ fn exports_none(coder: FromHeap<'_, 4>, heap: &LocalHeap) -> bool {
                     Err(CoderError::Backend(AllocError))
                 )
         }
-        Err(AllocError) => false,
-    }
-}
-
-/// Whether an export in the binary form finds no memory.
-fn exports_none_binary(coder: FromHeap<'_, 4>, heap: &LocalHeap) -> bool {
-    match fill(heap) {
-        Ok(_filler) => matches!(coder.into_binary(), Err(CoderError::Backend(AllocError))),
         Err(AllocError) => false,
     }
 }
@@ -350,21 +339,6 @@ fn a_full_heap_refuses_an_export(rt: HostRuntime) -> Result<(), Fail> {
     Ok(())
 }
 
-/// The same in the binary form.
-fn binary_export_is_refused(alloc: Global, heap: &LocalHeap) -> bool {
-    match copied(binary_words_in(alloc, heap, &[10, 20, 30])) {
-        Some(coder) => exports_none_binary(coder, heap),
-        None => false,
-    }
-}
-
-#[test]
-fn a_full_heap_refuses_a_binary_export(rt: HostRuntime) -> Result<(), Fail> {
-    let heap = LocalHeap::new(rt.alloc(), 512)?;
-    assert!(rt; binary_export_is_refused(rt.alloc(), &heap));
-    Ok(())
-}
-
 /// Whether a copy finds no memory for the remainders.
 fn copies_none(coder: &ToHeap<'_, 8>, heap: &LocalHeap) -> bool {
     match Vec::<u8, &LocalHeap>::with_capacity(heap, 496) {
@@ -374,19 +348,21 @@ fn copies_none(coder: &ToHeap<'_, 8>, heap: &LocalHeap) -> bool {
 }
 
 /// The same, and the coder stays.
-fn clone_is_refused(coder: ToHeap<'_, 8>, heap: &LocalHeap) -> bool {
-    let is_refused = copies_none(&coder, heap);
-    is_refused & has_parts(coder, &[], &[7, 30, 1])
+fn clone_is_refused(alloc: Global, heap: &LocalHeap) -> bool {
+    match remainders_in::<8>(alloc, heap, &[7, 30, 1]) {
+        Some(coder) => {
+            let is_refused = copies_none(&coder, heap);
+            is_refused & are_parts(parts_of(coder), &[], &[7, 30, 1])
+        }
+        None => false,
+    }
 }
 
 /// A copy wants memory for the remainders, too.
 #[test]
 fn a_full_heap_refuses_a_clone(rt: HostRuntime) -> Result<(), Fail> {
     let heap = LocalHeap::new(rt.alloc(), 512)?;
-    let Some(coder) = remainders_in::<8>(rt.alloc(), &heap, &[7, 30, 1]) else {
-        return Err(Fail::from("there are enough words"));
-    };
-    assert!(rt; clone_is_refused(coder, &heap));
+    assert!(rt; clone_is_refused(rt.alloc(), &heap));
     Ok(())
 }
 
@@ -404,36 +380,25 @@ fn is_not_raised(coder: ToHeap<'_, 4>) -> bool {
     )
 }
 
-/// The same by the call that knows both ways.
-fn is_not_changed(coder: ToHeap<'_, 4>) -> bool {
-    let changed: Result<ToHeap<'_, 8>, _> = coder.change_precision();
-    matches!(
-        changed,
-        Err(ChangePrecisionError::Increase(CoderError::Backend(BackendError::Remainders(
-            AllocError
-        ))))
-    )
-}
-
-/// Whether neither finds memory.
-fn are_not_changed(first: ToHeap<'_, 4>, second: ToHeap<'_, 4>, heap: &LocalHeap) -> bool {
+/// The same while the heap is full.
+fn is_not_raised_in_full(coder: ToHeap<'_, 4>, heap: &LocalHeap) -> bool {
     match all_of(heap) {
-        Ok(_filler) => is_not_raised(first) & is_not_changed(second),
+        Ok(_filler) => is_not_raised(coder),
         Err(AllocError) => false,
     }
 }
 
-/// The same of coders that are made.
-fn changes_are_refused(alloc: Global, heap: &LocalHeap) -> bool {
-    match (to_be_raised(alloc, heap), to_be_raised(alloc, heap)) {
-        (Some(first), Some(second)) => are_not_changed(first, second, heap),
-        _ => false,
+/// The same of a coder that is made.
+fn increase_is_refused(alloc: Global, heap: &LocalHeap) -> bool {
+    match to_be_raised(alloc, heap) {
+        Some(coder) => is_not_raised_in_full(coder, heap),
+        None => false,
     }
 }
 
 #[test]
-fn a_full_heap_refuses_changes(rt: HostRuntime) -> Result<(), Fail> {
+fn a_full_heap_refuses_an_increase(rt: HostRuntime) -> Result<(), Fail> {
     let heap = LocalHeap::new(rt.alloc(), 512)?;
-    assert!(rt; changes_are_refused(rt.alloc(), &heap));
+    assert!(rt; increase_is_refused(rt.alloc(), &heap));
     Ok(())
 }

@@ -1,5 +1,6 @@
 //! Encodes, and what they return.
 
+use crate::coders::Over;
 use crate::faults::{Fault, fault_of_put, is_same};
 use constriction_base::backends::{ReadWords, Stack, WriteWords};
 use constriction_base::errors::CoderError;
@@ -9,6 +10,7 @@ use constriction_stream::coder::Code;
 use constriction_stream::encoding::{Encode, EncodeReverse};
 use constriction_stream::errors::TryCodingError;
 use constriction_words::{BitArray, WordOf};
+use std::alloc::Allocator;
 
 /// What a call that puts symbols back returns.
 #[derive(Drop)]
@@ -63,28 +65,19 @@ pub fn tried_answer_of<C, R>(
 }
 
 /// Whether a symbol isn't put back for this reason, and the heads stay.
-pub fn puts_none<Word, State, C, R, Probability, const PRECISION: usize>(
-    coder: &mut ChainCoder<Word, State, C, R, PRECISION>,
-    table: &WeightTable<Probability, PRECISION>,
+pub fn puts_none<A: Allocator, B: Allocator, const PRECISION: usize>(
+    coder: &mut Over<u8, u16, A, B, PRECISION>,
+    table: &WeightTable<u8, PRECISION>,
     symbol: usize,
     fault: Fault,
-) -> bool
-where
-    Word: WordOf<State> + PartialEq,
-    State: BitArray + PartialEq,
-    C: WriteWords<Word>,
-    C::WriteError: Drop,
-    R: ReadWords<Word, Stack>,
-    R::ReadError: Drop,
-    Probability: WordOf<Word>,
-{
+) -> bool {
     let heads = coder.state();
     let found = fault_of_put(put_one(coder, table, symbol));
     is_same(found, Some(fault)) & (coder.state() == heads)
 }
 
 /// Puts a list back, the last symbol first.
-pub fn put_list<Word, State, C, R, Probability, const PRECISION: usize>(
+pub fn put_list_back<Word, State, C, R, Probability, const PRECISION: usize>(
     coder: &mut ChainCoder<Word, State, C, R, PRECISION>,
     table: &WeightTable<Probability, PRECISION>,
     symbols: &[usize],
@@ -99,89 +92,17 @@ where
     answer_of(coder.encode_iid_symbols_reverse(symbols, table))
 }
 
-/// The same of two symbols, a table for each.
-pub fn put_pairs<Word, State, C, R, Probability, const PRECISION: usize>(
-    coder: &mut ChainCoder<Word, State, C, R, PRECISION>,
-    table: &WeightTable<Probability, PRECISION>,
-    first: usize,
-    second: usize,
-) -> Put<C::WriteError, R::ReadError>
-where
-    Word: WordOf<State>,
-    State: BitArray,
-    C: WriteWords<Word>,
-    R: ReadWords<Word, Stack>,
-    Probability: WordOf<Word>,
-{
-    answer_of(coder.encode_symbols_reverse([(&first, table), (&second, table)]))
-}
-
-/// An item of a list: the symbol with its table, or the error.
-fn item_of<'a, Probability: BitArray, const PRECISION: usize>(
-    item: &'a Result<usize, u8>,
-    table: &'a WeightTable<Probability, PRECISION>,
-) -> Result<(&'a usize, &'a WeightTable<Probability, PRECISION>), u8> {
-    match item {
-        Ok(symbol) => Ok((symbol, table)),
-        Err(error) => Err(*error),
-    }
-}
-
-/// The same of two items, of which the first may be an error.
-pub fn put_items<Word, State, C, R, Probability, const PRECISION: usize>(
-    coder: &mut ChainCoder<Word, State, C, R, PRECISION>,
-    table: &WeightTable<Probability, PRECISION>,
-    first: &Result<usize, u8>,
-    second: usize,
-) -> Put<C::WriteError, R::ReadError>
-where
-    Word: WordOf<State>,
-    State: BitArray,
-    C: WriteWords<Word>,
-    R: ReadWords<Word, Stack>,
-    Probability: WordOf<Word>,
-{
-    tried_answer_of(coder.try_encode_symbols_reverse([item_of(first, table), Ok((&second, table))]))
-}
-
-/// Whether symbols are put back one by one.
-pub fn puts<Word, State, C, R, Probability, const PRECISION: usize>(
-    coder: &mut ChainCoder<Word, State, C, R, PRECISION>,
-    table: &WeightTable<Probability, PRECISION>,
-    symbols: &[usize],
-) -> bool
-where
-    Word: WordOf<State>,
-    State: BitArray,
-    C: WriteWords<Word>,
-    C::WriteError: Drop,
-    R: ReadWords<Word, Stack>,
-    R::ReadError: Drop,
-    Probability: WordOf<Word>,
-{
-    for symbol in symbols {
-        match put_one(coder, table, *symbol) {
-            Put::Done => {}
-            _ => return false,
-        }
-    }
-    true
-}
-
 /// Whether symbols are put back one by one, the last one first.
-pub fn puts_back<Word, State, C, R, Probability, const PRECISION: usize>(
-    coder: &mut ChainCoder<Word, State, C, R, PRECISION>,
-    table: &WeightTable<Probability, PRECISION>,
+pub fn puts<Word, State, A, B, const PRECISION: usize>(
+    coder: &mut Over<Word, State, A, B, PRECISION>,
+    table: &WeightTable<Word, PRECISION>,
     symbols: &[usize],
 ) -> bool
 where
-    Word: WordOf<State>,
+    Word: WordOf<State> + WordOf<Word>,
     State: BitArray,
-    C: WriteWords<Word>,
-    C::WriteError: Drop,
-    R: ReadWords<Word, Stack>,
-    R::ReadError: Drop,
-    Probability: WordOf<Word>,
+    A: Allocator,
+    B: Allocator,
 {
     for place in 0..symbols.len() {
         let symbol = symbols[symbols.len() - 1 - place];

@@ -1,7 +1,8 @@
 //! What is refused, and what stays then.
 
-use crate::cases::{bytes_do, coarse_bytes_do};
-use crate::coders::Form;
+use crate::cases::{bytes_do, coarse_does};
+use crate::coders::{Bytes, Form, made};
+use crate::expect::{exports, has_parts};
 use crate::faults::Fault;
 use crate::script::Act;
 use constriction_base::errors::CoderError;
@@ -67,49 +68,74 @@ fn chain_too_short(rt: HostRuntime) {
     );
 }
 
+/// The coder that the first export hands back, if it does.
+fn handed_back(coder: Bytes<4>) -> Option<Bytes<4>> {
+    match coder.into_compressed() {
+        Err(CoderError::Frontend(coder)) => Some(coder),
+        _ => None,
+    }
+}
+
+/// The same of the export in the binary form.
+fn handed_back_binary(coder: Bytes<4>) -> Option<Bytes<4>> {
+    match coder.into_binary() {
+        Err(CoderError::Frontend(coder)) => Some(coder),
+        _ => None,
+    }
+}
+
+/// Whether both exports hand the coder back as it was.
+fn is_handed_back(coder: Bytes<4>, compressed: &[u8], remainders: &[u8]) -> bool {
+    match handed_back(coder) {
+        Some(coder) => match handed_back_binary(coder) {
+            Some(coder) => has_parts(coder, compressed, remainders),
+            None => false,
+        },
+        None => false,
+    }
+}
+
+/// A coder of which one symbol was taken isn't whole, and is handed back.
+fn stays_when_not_whole(alloc: Global) -> bool {
+    let found: Option<Bytes<4>> = made(alloc, Form::Words, &[9, 0xab, 0x12]);
+    match found {
+        Some(mut coder) => {
+            let acts = [Act::Gives(&[1]), Act::Whole(false)];
+            let is_taken = coarse_does(&mut coder, alloc, &[5, 11], &acts);
+            is_taken & is_handed_back(coder, &[9], &[204, 26])
+        }
+        None => false,
+    }
+}
+
 /// A coder with bits left over is handed back by both exports, as it was.
 #[test]
 fn exports_of_a_coder_that_is_not_whole(rt: HostRuntime) {
-    let begin = [Act::Exports(&[], &[9, 0xab, 0x12]), Act::Gives(&[1])];
-    let end = [
-        Act::Whole(false),
-        Act::NotExported(&[9], &[204, 26]),
-        Act::Is(&[9], &[204, 26]),
-    ];
-    assert!(rt;
-        coarse_bytes_do(
-            rt.alloc(),
-            Form::Words,
-            &[9, 0xab, 0x12],
-            (&[5, 11], &begin),
-            (&[5, 11], &end)
-        )
-    );
+    let alloc = rt.alloc();
+    assert!(rt; coarse_exports(alloc, Form::Words, &[9, 0xab, 0x12]) & stays_when_not_whole(alloc));
+}
+
+/// Whether the coder of these words exports them again.
+fn coarse_exports(alloc: Global, form: Form, words: &[u8]) -> bool {
+    match made(alloc, form, words) {
+        Some(coder) => exports::<u8, u16, 4>(coder, form, words),
+        None => false,
+    }
+}
+
+/// Whether the coder of these words is handed back by the export in the binary form.
+fn has_no_binary_form(alloc: Global, words: &[u8]) -> bool {
+    match made(alloc, Form::Words, words) {
+        Some(coder) => handed_back_binary(coder).is_some(),
+        None => false,
+    }
 }
 
 /// The binary form wants a number that is a 1 above whole words: 256, and not 18.
 #[test]
 fn binary_exports(rt: HostRuntime) {
-    let goes = [Act::Is(&[7], &[0, 1, 1]), Act::ExportsBinary(&[], &[7, 0])];
-    assert!(rt;
-        coarse_bytes_do(
-            rt.alloc(),
-            Form::Binary,
-            &[7, 0],
-            (&[5, 11], &goes),
-            (&[5, 11], &[])
-        )
-    );
-    let stays = [Act::ExportsBinary(&[], &[7, 18])];
-    assert!(rt;
-        !coarse_bytes_do(
-            rt.alloc(),
-            Form::Words,
-            &[7, 18],
-            (&[5, 11], &stays),
-            (&[5, 11], &[])
-        )
-    );
+    let alloc = rt.alloc();
+    assert!(rt; coarse_exports(alloc, Form::Binary, &[7, 0]) & has_no_binary_form(alloc, &[7, 18]));
 }
 
 /// The number 30 is enough for the symbol 0, of weight 16, and not for the symbol 1.

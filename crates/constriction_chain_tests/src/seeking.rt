@@ -1,27 +1,56 @@
-//! Positions, and going to them, and copies that part from their coder.
+//! Coders over buffers: positions, and going to them, and an encode without room.
 
-use crate::cases::{FromBuffer, from_buffer_does};
-use crate::coders::{of_words, table_of};
-use crate::expect::{copy_of, has_parts, heads_of};
-use crate::script::Act;
-use constriction_base::backends::{Pos, Seek};
+use crate::coders::{WEIGHTS, of_words, table_of};
+use crate::expect::{copy_of, heads_of, parts_of};
+use crate::put::{Put, put_one};
+use crate::take::{Taken, take};
+use constriction_base::backends::{Pos, Seek, Words};
 use constriction_base::cursor::Cursor;
+use constriction_base::errors::BoundedWriteError;
 use constriction_base::weights::WeightTable;
-use constriction_chain::{BackendPosition, ChainCoderHeads};
+use constriction_chain::{BackendPosition, ChainCoder, ChainCoderHeads};
 use std::alloc::{AllocError, Global};
-use std::test::Fail;
 
-/// A coder over a buffer of compressed words, which goes back and forth.
-pub type Seekable = FromBuffer<8>;
+/// A coder of bytes over a buffer of compressed words, which goes back and forth.
+type Seekable = ChainCoder<u8, u16, Cursor<u8, Vec<u8>>, Vec<u8>, 8>;
 
 /// A place of it.
 type Place = (BackendPosition<usize, usize>, ChainCoderHeads<u8, u16, 8>);
 
 /// The coder of some words.
-pub fn seekable_of(alloc: Global, words: &[u8]) -> Option<Seekable> {
+fn seekable_of(alloc: Global, words: &[u8]) -> Option<Seekable> {
     match words.to_vec(alloc) {
         Ok(words) => of_words(alloc, Cursor::new_at_write_end(words)),
         Err(AllocError) => None,
+    }
+}
+
+/// Whether this symbol is taken.
+fn gives(coder: &mut Seekable, table: &WeightTable<u8, 8>, symbol: usize) -> bool {
+    matches!(take(coder, table), Taken::Symbol(found) if found == symbol)
+}
+
+/// The words of a buffer below its place.
+fn below(cursor: &Cursor<u8, Vec<u8>>) -> &[u8] {
+    let words: &[u8] = cursor.buf().words();
+    &words[..cursor.pos().min(words.len())]
+}
+
+/// Compares the compressed words, and the remainders with the words of both heads on top.
+fn has_parts(coder: Seekable, compressed: &[u8], remainders: &[u8]) -> bool {
+    match parts_of(coder) {
+        Ok((prefix, suffix)) => {
+            (below(&prefix) == compressed) & (suffix.as_slice() == remainders)
+        }
+        Err(AllocError) => false,
+    }
+}
+
+/// The same of a coder that stays, by a copy of it.
+fn is_at(coder: &Seekable, compressed: &[u8], remainders: &[u8]) -> bool {
+    match copy_of(coder) {
+        Ok(copy) => has_parts(copy, compressed, remainders),
+        Err(AllocError) => false,
     }
 }
 
@@ -52,17 +81,17 @@ fn stands_at(coder: &Seekable, compressed: usize, remainders: usize) -> bool {
 
 /// Takes a symbol, goes back, and takes it again.
 fn takes_again(coder: &mut Seekable, table: &WeightTable<u8, 8>) -> bool {
-    let is_taken = from_buffer_does(coder, table, &[Act::Gives(&[1])]);
+    let is_taken = gives(coder, table, 1) & stands_at(coder, 1, 1);
     let place = place_of(coder);
-    let acts = [Act::Gives(&[0]), Act::Is(&[], &[36, 202, 1, 1])];
     is_taken
-        & stands_at(coder, 1, 1)
-        & from_buffer_does(coder, table, &acts)
+        & gives(coder, table, 0)
+        & is_at(coder, &[], &[36, 202, 1, 1])
         & stands_at(coder, 0, 2)
         & goes_to(coder, &place)
         & is_at_place(coder, &place)
-        & from_buffer_does(coder, table, &[Act::Is(&[10], &[36, 28, 1])])
-        & from_buffer_does(coder, table, &acts)
+        & is_at(coder, &[10], &[36, 28, 1])
+        & gives(coder, table, 0)
+        & is_at(coder, &[], &[36, 202, 1, 1])
 }
 
 /// The same of the coder of the words 10, 20 and 30.
@@ -74,10 +103,12 @@ fn goes_back(alloc: Global, table: &WeightTable<u8, 8>) -> bool {
 }
 
 #[test]
-fn chain_seek(rt: HostRuntime) -> Result<(), Fail> {
-    let table = table_of(rt.alloc(), &[16, 240])?;
-    assert!(rt; goes_back(rt.alloc(), &table));
-    Ok(())
+fn chain_seek(rt: HostRuntime) {
+    let is_done = match table_of(rt.alloc(), &WEIGHTS) {
+        Ok(table) => goes_back(rt.alloc(), &table),
+        Err(_) => false,
+    };
+    assert!(rt; is_done);
 }
 
 /// A place past the end of one of the backends, with other heads, is refused, and the heads stay.
@@ -96,60 +127,56 @@ fn refuses(coder: &mut Seekable, first: &Place, compressed: usize, remainders: u
 /// A backend that was moved before the other refused stays moved.
 fn refuses_both(coder: &mut Seekable, table: &WeightTable<u8, 8>) -> bool {
     let first = place_of(coder);
-    from_buffer_does(coder, table, &[Act::Gives(&[1])])
+    gives(coder, table, 1)
         & refuses(coder, &first, 4, 0)
         & stands_at(coder, 1, 1)
         & refuses(coder, &first, 2, 2)
         & stands_at(coder, 2, 1)
         & goes_to(coder, &first)
         & is_at_place(coder, &first)
-        & from_buffer_does(coder, table, &[Act::Is(&[10, 20], &[30, 1])])
+        & is_at(coder, &[10, 20], &[30, 1])
 }
 
-/// The same of the coder of the words 10, 20 and 30.
-fn is_refused_past_the_end(alloc: Global, table: &WeightTable<u8, 8>) -> bool {
+/// Whether the compressed words find no room for that of an encode.
+fn puts_none(coder: &mut Seekable, table: &WeightTable<u8, 8>, symbol: usize) -> bool {
+    matches!(
+        put_one(coder, table, symbol),
+        Put::Compressed(BoundedWriteError::OutOfSpace)
+    )
+}
+
+/// Whether this symbol is put back.
+fn puts(coder: &mut Seekable, table: &WeightTable<u8, 8>, symbol: usize) -> bool {
+    matches!(put_one(coder, table, symbol), Put::Done)
+}
+
+/// The word of the remainders that was read before the write was refused is gone then.
+fn fills_up(coder: &mut Seekable, table: &WeightTable<u8, 8>, other: &WeightTable<u8, 8>) -> bool {
+    gives(coder, table, 1)
+        & puts(coder, other, 0)
+        & puts(coder, other, 0)
+        & puts_none(coder, table, 1)
+        & is_at(coder, &[10, 0, 0], &[28, 1])
+}
+
+/// Both of the coder of the words 10, 20 and 30.
+fn is_refused(alloc: Global, table: &WeightTable<u8, 8>, other: &WeightTable<u8, 8>) -> bool {
     match seekable_of(alloc, &[10, 20, 30]) {
-        Some(mut coder) => refuses_both(&mut coder, table),
+        Some(mut coder) => { refuses_both(&mut coder, table) & fills_up(&mut coder, table, other) }
         None => false,
     }
 }
 
-#[test]
-fn places_past_the_end(rt: HostRuntime) -> Result<(), Fail> {
-    let table = table_of(rt.alloc(), &[16, 240])?;
-    assert!(rt; is_refused_past_the_end(rt.alloc(), &table));
-    Ok(())
-}
-
-/// A copy stands where its coder does, and parts from it then.
-fn parts(coder: &mut Seekable, copy: Seekable, table: &WeightTable<u8, 8>) -> bool {
-    let acts = [Act::Gives(&[0]), Act::Is(&[], &[36, 202, 1, 1])];
-    let place = place_of(&copy);
-    let is_there = is_at_place(coder, &place);
-    let goes = from_buffer_does(coder, table, &acts);
-    is_there & goes & has_parts(copy, &[10], &[36, 28, 1])
-}
-
-/// The same of the copy of a coder of which one word was taken.
-fn copies(coder: &mut Seekable, table: &WeightTable<u8, 8>) -> bool {
-    let is_taken = from_buffer_does(coder, table, &[Act::Gives(&[1])]);
-    match copy_of(coder) {
-        Ok(copy) => is_taken & parts(coder, copy, table),
-        Err(AllocError) => false,
+/// The same under two tables.
+fn is_refused_by_tables(alloc: Global) -> bool {
+    match (table_of(alloc, &WEIGHTS), table_of(alloc, &[1, 255])) {
+        (Ok(table), Ok(other)) => is_refused(alloc, &table, &other),
+        _ => false,
     }
 }
 
-/// The same of the coder of the words 10, 20 and 30.
-fn copy_goes(alloc: Global, table: &WeightTable<u8, 8>) -> bool {
-    match seekable_of(alloc, &[10, 20, 30]) {
-        Some(mut coder) => copies(&mut coder, table),
-        None => false,
-    }
-}
-
+/// A place past the end, and a word that a full buffer has no room for.
 #[test]
-fn a_clone_parts_from_its_coder(rt: HostRuntime) -> Result<(), Fail> {
-    let table = table_of(rt.alloc(), &[16, 240])?;
-    assert!(rt; copy_goes(rt.alloc(), &table));
-    Ok(())
+fn places_past_the_end_and_a_full_buffer(rt: HostRuntime) {
+    assert!(rt; is_refused_by_tables(rt.alloc()));
 }

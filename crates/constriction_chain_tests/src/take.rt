@@ -1,5 +1,6 @@
 //! Decodes, and what they return.
 
+use crate::coders::Over;
 use crate::faults::{Fault, fault_of_take, is_same};
 use constriction_base::backends::{ReadWords, Stack, WriteWords};
 use constriction_base::errors::CoderError;
@@ -8,6 +9,7 @@ use constriction_chain::{BackendError, ChainCoder, DecoderError};
 use constriction_stream::coder::Code;
 use constriction_stream::decoding::Decode;
 use constriction_words::{BitArray, WordOf};
+use std::alloc::Allocator;
 
 /// What a decode returns.
 #[derive(Drop)]
@@ -46,19 +48,16 @@ where
 }
 
 /// Takes symbols one by one, and compares each.
-pub fn gives<Word, State, C, R, Probability, const PRECISION: usize>(
-    coder: &mut ChainCoder<Word, State, C, R, PRECISION>,
-    table: &WeightTable<Probability, PRECISION>,
+pub fn gives<Word, State, A, B, const PRECISION: usize>(
+    coder: &mut Over<Word, State, A, B, PRECISION>,
+    table: &WeightTable<Word, PRECISION>,
     symbols: &[usize],
 ) -> bool
 where
-    Word: WordOf<State>,
+    Word: WordOf<State> + WordOf<Word>,
     State: BitArray,
-    C: ReadWords<Word, Stack>,
-    C::ReadError: Drop,
-    R: WriteWords<Word>,
-    R::WriteError: Drop,
-    Probability: WordOf<Word>,
+    A: Allocator,
+    B: Allocator,
 {
     for symbol in symbols {
         match take(coder, table) {
@@ -70,20 +69,11 @@ where
 }
 
 /// Whether a decode is refused for this reason, and the heads stay.
-pub fn gives_none<Word, State, C, R, Probability, const PRECISION: usize>(
-    coder: &mut ChainCoder<Word, State, C, R, PRECISION>,
-    table: &WeightTable<Probability, PRECISION>,
+pub fn gives_none<A: Allocator, B: Allocator, const PRECISION: usize>(
+    coder: &mut Over<u8, u16, A, B, PRECISION>,
+    table: &WeightTable<u8, PRECISION>,
     fault: Fault,
-) -> bool
-where
-    Word: WordOf<State> + PartialEq,
-    State: BitArray + PartialEq,
-    C: ReadWords<Word, Stack>,
-    C::ReadError: Drop,
-    R: WriteWords<Word>,
-    R::WriteError: Drop,
-    Probability: WordOf<Word>,
-{
+) -> bool {
     let heads = coder.state();
     is_same(fault_of_take(take(coder, table)), Some(fault)) & (coder.state() == heads)
 }

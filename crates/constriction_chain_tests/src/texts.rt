@@ -1,11 +1,10 @@
 //! The texts of coders, heads, positions and errors, and their equality.
 
-use crate::cases::stays;
-use crate::coders::{Bytes, Form, made, table_of};
+use crate::cases::fine_follows;
+use crate::coders::{Bytes, fine_of};
 use crate::expect::{copy_of, heads_of};
 use crate::script::Act;
 use constriction_base::errors::{BoundedWriteError, CoderError};
-use constriction_base::weights::WeightTable;
 use constriction_chain::{
     BackendError, BackendPosition, ChainCoderHeads, ChangePrecisionError, DecoderFrontendError,
     EncoderFrontendError,
@@ -13,7 +12,6 @@ use constriction_chain::{
 use std::alloc::{AllocError, Global};
 use std::convert::Infallible;
 use std::fmt::{Debug, Display};
-use std::test::Fail;
 
 /// Whether an error has this text.
 fn says<E: Display + Drop>(alloc: Global, error: E, text: &str) -> bool {
@@ -95,29 +93,6 @@ fn texts_of_refused_changes(rt: HostRuntime) {
     );
 }
 
-/// A coder of the words 10, 20 and 30, of which one was taken.
-fn taken(alloc: Global, table: &WeightTable<u8, 8>) -> Option<Bytes<8>> {
-    match made(alloc, Form::Words, &[10, 20, 30]) {
-        Some(mut coder) => {
-            let is_taken = stays(&mut coder, table, &[Act::Gives(&[1])]);
-            if is_taken { Some(coder) } else { None }
-        }
-        None => None,
-    }
-}
-
-#[test]
-fn the_text_of_a_coder(rt: HostRuntime) -> Result<(), Fail> {
-    let table = table_of(rt.alloc(), &[16, 240])?;
-    let Some(coder) = taken(rt.alloc(), &table) else {
-        return Err(Fail::from("there are enough words"));
-    };
-    let text =
-        "ChainCoder { compressed: [10], remainders: [36], heads: ChainCoderHeads { compressed: 1, remainders: 28 } }";
-    assert!(rt; prints(rt.alloc(), &coder, text));
-    Ok(())
-}
-
 #[test]
 fn texts_of_positions_and_errors(rt: HostRuntime) {
     let alloc = rt.alloc();
@@ -156,10 +131,10 @@ fn are_heads(heads: &Heads, others: &Heads) -> bool {
 }
 
 /// The heads are no more those of before when a symbol was taken.
-fn heads_move(coder: &mut Bytes<8>, table: &WeightTable<u8, 8>) -> bool {
+fn heads_move(alloc: Global, coder: &mut Bytes<8>) -> bool {
     let first = heads_of(coder);
     let is_first = are_heads(&first, &heads_of(coder));
-    let is_taken = stays(coder, table, &[Act::Gives(&[1])]);
+    let is_taken = fine_follows(coder, alloc, &[Act::Gives(&[1])]);
     is_first & is_taken & (heads_of(coder) != first) & first.is_whole()
 }
 
@@ -179,15 +154,23 @@ fn copy_has_heads(alloc: Global, coder: &Bytes<8>) -> bool {
     }
 }
 
+/// The coder of the words 10, 20 and 30 when a symbol was taken, its text, and its heads.
+fn coder_prints(alloc: Global) -> bool {
+    let text =
+        "ChainCoder { compressed: [10], remainders: [36], heads: ChainCoderHeads { compressed: 1, remainders: 28 } }";
+    match fine_of(alloc, &[10, 20, 30]) {
+        Some(mut coder) => {
+            heads_move(alloc, &mut coder)
+                & prints(alloc, &coder, text)
+                & copy_has_heads(alloc, &coder)
+        }
+        None => false,
+    }
+}
+
 #[test]
-fn heads_and_positions_are_equal(rt: HostRuntime) -> Result<(), Fail> {
-    let table = table_of(rt.alloc(), &[16, 240])?;
-    let found: Option<Bytes<8>> = made(rt.alloc(), Form::Words, &[10, 20, 30]);
-    let Some(mut coder) = found else {
-        return Err(Fail::from("there are enough words"));
-    };
-    assert!(rt; heads_move(&mut coder, &table) & copy_has_heads(rt.alloc(), &coder));
-    Ok(())
+fn the_text_of_a_coder_and_its_heads(rt: HostRuntime) {
+    assert!(rt; coder_prints(rt.alloc()));
 }
 
 /// Errors compare by their variants and what they hold.
