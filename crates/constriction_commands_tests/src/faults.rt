@@ -1,11 +1,11 @@
 //! The line of each fault, and which of two comes.
 
 use crate::runs::{ran, ran_with};
-use constriction_commands::fault::Fault;
 use constriction::DefaultEncoderFrontendError;
 use constriction::stream::chain;
 use constriction::stream::queue::DecoderFrontendError;
 use constriction::stream::stack::CompressedDataEndsWithZeroWord;
+use constriction_commands::fault::Fault;
 use std::test::Fail;
 
 const USAGE: &[u8] =
