@@ -7,4 +7,5 @@ pub mod PositionsKept
 pub mod SizesCounted
 pub mod WordsShown
 pub mod Guards
+pub mod Errors
 mod BinaryRows
