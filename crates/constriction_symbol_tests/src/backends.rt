@@ -6,6 +6,7 @@ use constriction_base::backends::{Queue, Stack};
 use constriction_base::cursor::Cursor;
 use constriction_base::errors::{BoundedWriteError, CoderError};
 use constriction_base::iterators::FallibleIteratorReadWords;
+use constriction_base::reverse::Reverse;
 use constriction_symbol::coder::{QueueEncoder, StackCoder};
 use constriction_symbol::exp_golomb::ExpGolomb;
 use constriction_symbol::queue::QueueDecoder;
@@ -79,6 +80,15 @@ fn a_stack_over_a_full_buffer(rt: HostRuntime) {
             && eight == [255u8]
             && room == [255u8, 1]
     );
+}
+
+/// The first word is the last one of the slice.
+#[test]
+fn a_queue_of_a_turned_backend(rt: HostRuntime) {
+    let mut decoder = QueueDecoder::from_compressed(Reverse(Cursor::new_at_write_end([
+        241u8, 205,
+    ].as_slice())));
+    assert!(rt; gives::<Queue, _>(&mut decoder, b"1011001110001111.."));
 }
 
 /// Gives a word, the error 3, the word 241 and the error 4, and then ends.

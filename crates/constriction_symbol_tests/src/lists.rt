@@ -1,16 +1,17 @@
 //! Each list call, in order and in reverse, and where lists stop.
 
-use crate::coders::{LentQueue, exports_queue, has_len, word_queue};
+use crate::coders::{exports_queue, has_len, word_queue};
 use crate::codewords::{Put, Took, refusal_of, takes};
 use crate::guards::shows_stack;
-use constriction_base::backends::{Queue, Stack};
+use constriction_base::backends::{Queue, Semantics, Stack};
 use constriction_base::errors::{CoderError, DefaultEncoderError};
+use constriction_symbol::codebooks::{BitOrder, SymbolCodeError};
 use constriction_symbol::coder::{QueueEncoder, StackCoder};
-use constriction_symbol::exp_golomb::ExpGolomb;
-use constriction_symbol::iterators::{DecodeSymbols, RepeatCodebook};
+use constriction_symbol::exp_golomb::{ExpGolomb, InvalidCodeword};
 use constriction_symbol::reading::ReadBitStream;
 use constriction_symbol::writing::WriteBitStream;
 use std::alloc::{AllocError, Global};
+use std::convert::Infallible;
 
 /// Numbers of a byte, each with a codebook.
 type Pairs<'a> = Vec<(&'a u8, &'a ExpGolomb<u8>)>;
@@ -38,14 +39,19 @@ fn answer_of(answer: Result<(), DefaultEncoderError<AllocError>>) -> Put {
 }
 
 /// Writes a list by one codebook, and a list of pairs.
-fn puts_lists(alloc: Global, coder: &mut QueueEncoder<u8>, first: &[u8], second: &[u8]) -> bool {
+fn puts_lists<S: BitOrder, Stream: WriteBitStream<S, WriteError = AllocError>>(
+    alloc: Global,
+    stream: &mut Stream,
+    first: &[u8],
+    second: &[u8],
+) -> bool {
     let codebook = ExpGolomb::<u8>::new();
     match pairs_of(alloc, second, &codebook) {
         Ok(pairs) => {
             matches!(
-                answer_of(coder.encode_iid_symbols(first, &codebook)),
+                answer_of(stream.encode_iid_symbols(first, &codebook)),
                 Put::Done
-            ) && matches!(answer_of(coder.encode_symbols(pairs)), Put::Done)
+            ) && matches!(answer_of(stream.encode_symbols(pairs)), Put::Done)
         }
         Err(_) => false,
     }
@@ -77,11 +83,12 @@ const END: u16 = 258;
 /// Stands for another refusal.
 const REFUSED: u16 = 259;
 
-/// What comes next of the numbers of a queue by one codebook: a number, or what stands for it.
-fn next_of(
-    given: &mut DecodeSymbols<'_, LentQueue<'_, u8>, RepeatCodebook<'_, ExpGolomb<u8>>, Queue>,
-) -> u16 {
-    match given.next() {
+/// What an iterator gives by a codebook.
+type Given = Option<Result<u8, CoderError<SymbolCodeError<InvalidCodeword>, Infallible>>>;
+
+/// A number, or what stands for it.
+fn code_of(given: Given) -> u16 {
+    match given {
         Some(Ok(found)) => found as u16,
         Some(Err(error)) => match refusal_of(error) {
             Took::Invalid => INVALID,
@@ -93,14 +100,18 @@ fn next_of(
 }
 
 /// Whether so many numbers by one codebook are said to come, and these come first.
-fn gives_list(queue: &mut LentQueue<'_, u8>, count: usize, expected: &[u16]) -> bool {
+fn gives_list<S: Semantics, Stream: ReadBitStream<S, ReadError = Infallible>>(
+    stream: &mut Stream,
+    count: usize,
+    expected: &[u16],
+) -> bool {
     let codebook = ExpGolomb::<u8>::new();
-    let mut given = queue.decode_iid_symbols(count, &codebook);
+    let mut given = stream.decode_iid_symbols(count, &codebook);
     if given.size_hint() != (count, Some(count)) || given.len() != count {
         return false;
     }
     for item in expected {
-        if next_of(&mut given) != *item {
+        if code_of(given.next()) != *item {
             return false;
         }
     }
@@ -120,15 +131,31 @@ fn takes_two(coder: &mut StackCoder<u8>, first: u8, second: u8) -> bool {
 #[test]
 fn lists_in_a_queue(rt: HostRuntime) {
     let mut coder: QueueEncoder<u8> = QueueEncoder::new(rt.alloc());
-    let are_written = puts_lists(rt.alloc(), &mut coder, &[0, 5], &[255, 254, 7, 1]);
+    let are_written = puts_lists::<Queue, _>(rt.alloc(), &mut coder, &[0, 5], &[255, 254, 7, 1]);
     let words = [25u8, 64, 0, 192, 63, 66];
     let are_exported = exports_queue(coder, &words);
     let mut queue = word_queue(words.as_slice());
     assert!(rt;
         are_written
             && are_exported
-            && gives_list(&mut queue, 4, &[0, 5, 255, 254, END])
-            && gives_list(&mut queue, 3, &[7, 1, SHORT, END])
+            && gives_list::<Queue, _>(&mut queue, 4, &[0, 5, 255, 254, END])
+            && gives_list::<Queue, _>(&mut queue, 3, &[7, 1, SHORT, END])
+    );
+}
+
+/// The same numbers on a stack, of which the last one comes first.
+#[test]
+fn lists_on_a_stack(rt: HostRuntime) {
+    let mut coder: StackCoder<u8> = StackCoder::new(rt.alloc());
+    assert!(rt;
+        puts_lists::<Stack, _>(rt.alloc(), &mut coder, &[0, 5], &[255, 254, 7, 1])
+            && matches!(
+                shows_stack(&mut coder, &[13, 64, 128, 127, 0, 66, 1]),
+                Ok(true)
+            )
+            && gives_list::<Stack, _>(&mut coder, 3, &[1, 7, 254, END])
+            && takes_two(&mut coder, 255, 5)
+            && gives_list::<Stack, _>(&mut coder, 2, &[0, SHORT, END])
     );
 }
 
@@ -156,7 +183,7 @@ fn lists_in_reverse(rt: HostRuntime) {
 #[test]
 fn iterators_go_on_after_errors(rt: HostRuntime) {
     let mut queue = word_queue([0u8, 12].as_slice());
-    assert!(rt; gives_list(&mut queue, 4, &[INVALID, 2, SHORT, SHORT, END]));
+    assert!(rt; gives_list::<Queue, _>(&mut queue, 4, &[INVALID, 2, SHORT, SHORT, END]));
 }
 
 /// One number of three is taken, and the others stay.
@@ -164,8 +191,8 @@ fn iterators_go_on_after_errors(rt: HostRuntime) {
 fn iterators_are_dropped_early(rt: HostRuntime) {
     let mut queue = word_queue([25u8, 64, 0, 192, 63, 66].as_slice());
     assert!(rt;
-        gives_list(&mut queue, 3, &[0])
-            && gives_list(&mut queue, 3, &[5])
-            && gives_list(&mut queue, 1, &[255, END])
+        gives_list::<Queue, _>(&mut queue, 3, &[0])
+            && gives_list::<Queue, _>(&mut queue, 3, &[5])
+            && gives_list::<Queue, _>(&mut queue, 1, &[255, END])
     );
 }

@@ -53,14 +53,19 @@ fn bit_is_exported(heap: &LocalHeap) -> bool {
     writes::<Queue, _>(&mut coder, b"1") && exports_queue(coder, &[1])
 }
 
+/// Whether a queue without bits needs no memory for its words.
+fn nothing_is_exported(heap: &LocalHeap) -> bool {
+    exports_queue(QueueEncoder::from_compressed(Vec::new(heap)), &[])
+}
+
 #[test]
 fn a_full_heap_refuses_a_queue(rt: HostRuntime) -> Result<(), Fail> {
     let heap = LocalHeap::new(rt.alloc(), 512)?;
     let filler: Vec<u8, &LocalHeap> = Vec::with_capacity(&heap, 512)?;
     let mut coder: HeapQueue<'_> = QueueEncoder::from_compressed(Vec::new(&heap));
-    let stops = queue_stops(&mut coder) && !bit_is_exported(&heap);
+    let stops = queue_stops(&mut coder) & !bit_is_exported(&heap) & nothing_is_exported(&heap);
     drop(filler);
-    let goes = queue_goes(&mut coder) && bit_is_exported(&heap);
+    let goes = queue_goes(&mut coder) & bit_is_exported(&heap);
     let is_exported = exports_queue(coder, &[205, 17]);
     assert!(rt; stops && goes && is_exported);
     Ok(())
@@ -101,11 +106,11 @@ fn a_full_heap_refuses_a_stack(rt: HostRuntime) -> Result<(), Fail> {
     let Some(mut coder) = empty_stack(&heap) else {
         return Err(Fail::from("no empty stack"));
     };
-    let stops = stack_stops(&mut coder) && guard_stops(&mut coder) && !empty_is_exported(&heap);
+    let stops = stack_stops(&mut coder) & guard_stops(&mut coder) & !empty_is_exported(&heap);
     drop(filler);
     let goes = matches!(shows_stack(&mut coder, &[255, 1]), Ok(true))
-        && matches!(puts::<Stack, _, u8>(&mut coder, &[0]), Put::Done)
-        && empty_is_exported(&heap);
+        & matches!(puts::<Stack, _, u8>(&mut coder, &[0]), Put::Done)
+        & empty_is_exported(&heap);
     let is_exported = exports(coder, &[255, 3]);
     assert!(rt; stops && goes && is_exported);
     Ok(())
