@@ -1,6 +1,7 @@
 -- What the two tests promise: no step is refused because data ended, or for lack of room.
-use Rattle.std.specs.Prelude.{ℕ, List, Option, None, Result, Ok, Err}
-use Rattle.std.proofs.Common.{inl, inr}
+use Rattle.std.specs.Prelude.{◌≡◌, ⊤, ℕ, Bool, true, false, List, Option, None, Result, Ok, Err}
+use Rattle.std.specs.Bool.{OnFalse}
+use Rattle.std.proofs.Common.{inl, inr, refl}
 use Rattle.constriction_base.specs.Steps.{Step}
 use Rattle.constriction_base.specs.declared.errors.CoderError.{CoderError}
 use Rattle.constriction_base.specs.declared.errors.CoderError.TheVariants.{Frontend, Backend}
@@ -42,3 +43,22 @@ module _ {W E C R F : Type 0} (number : W → ℕ) (is_list : Type 0) (held : C 
     | inr write ↦ not_full x lacks write.1
   ]
   has_room step (Backend (Remainders x)) new call lacks = lacks
+
+-- the same of an answer that is false only where there is room
+module _ {W E C R F : Type 0} (number : W → ℕ) (is_list : Type 0) (held : C → List W) (held' : R → List W) (reads : C → Result (Option W) E → C → Type 0)
+    (prepare_fails : R → ℕ → F → Type 0) (write_fails : R → F → Type 0) (room : R → ℕ) (makes_room : Type 0) (lack : F → Type 0) (w s P : ℕ) (coder : ChainValue C R) where
+  pub goes_unless : (full : Bool) → ((after : C) → reads coder.compressed (Ok None) after → ⊥) → (full ≡ false → (e : F) → lack e → write_fails coder.remainders e → ⊥)
+      → (full ≡ false → (e : F) → lack e → prepare_fails coder.remainders 1 e → ⊥)
+      → OnFalse full (GoesOn (DecodeCall number is_list held held' reads write_fails room makes_room w s) (Halted number is_list held held' reads prepare_fails w s P) (IsEndOfData lack) coder)
+  goes_unless true some_left not_full has_place = tt
+  goes_unless false some_left not_full has_place =
+      goes_on number is_list held held' reads prepare_fails write_fails room makes_room lack w s P coder some_left (not_full refl) (has_place refl)
+
+module _ {W E C R F : Type 0} (number : W → ℕ) (is_list : Type 0) (held : C → List W) (held' : R → List W) (reads : R → Result (Option W) F → R → Type 0)
+    (prepare_fails : C → ℕ → E → Type 0) (write_fails : C → E → Type 0) (room : C → ℕ) (makes_room : Type 0) (lack : E → Type 0) (w s : ℕ) (coder : ChainValue C R) where
+  pub has_room_unless : (full : Bool) → ((after : R) → reads coder.remainders (Ok None) after → ⊥) → (full ≡ false → (e : E) → lack e → write_fails coder.compressed e → ⊥)
+      → (full ≡ false → (e : E) → lack e → prepare_fails coder.compressed 1 e → ⊥)
+      → OnFalse full (⊤ → HasRoom (EncodeCall number is_list held held' reads prepare_fails write_fails room makes_room w s) (IsLackOfRoom {F = F} lack) coder)
+  has_room_unless true some_left not_full has_place = tt
+  has_room_unless false some_left not_full has_place =
+      λ any. has_room number is_list held held' reads prepare_fails write_fails room makes_room lack w s coder some_left (not_full refl) (has_place refl)

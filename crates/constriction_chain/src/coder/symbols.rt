@@ -75,7 +75,8 @@ impl<
         let precision = PRECISION as u32;
         match keep::<Word, State, R>(&mut self.remainders, r, quantile, left, p, precision) {
             Ok(r) => {
-                self.heads = ChainCoderHeads::of(h, r);
+                let after = ChainCoderHeads::of(h, r);
+                self.heads = after;
                 Ok(symbol)
             }
             Err(error) => Err(CoderError::Backend(BackendError::Remainders(error))),
@@ -163,7 +164,8 @@ impl<
             precision,
         ) {
             Ok((h, r)) => {
-                self.heads = ChainCoderHeads::of(h, r);
+                let after = ChainCoderHeads::of(h, r);
+                self.heads = after;
                 Ok(())
             }
             Err(error) => Err(error),

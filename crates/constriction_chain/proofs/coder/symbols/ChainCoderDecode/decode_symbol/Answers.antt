@@ -1,4 +1,4 @@
-use Rattle.std.proofs.Common.{rules, arith, inr}
+use Rattle.std.proofs.Common.{arith, inr}
 use Rattle.constriction_base.proofs.Entries.{in_range}
 use Rattle.constriction_chain.proofs.Outcomes.{decoded, undecoded}
 use Rattle.constriction_chain.proofs.Sizes.{narrowed}
@@ -20,15 +20,12 @@ keep-requires-clause-few g c =
     let within = in_range _ _ _ _ _ _ (g.M.EntropyModel.lawful c.args.model).follow c.quantile_function-symbol.ensures.found in
     rw (c.widen-p.ensures, c.from_nonzero.ensures) (omega (arith, within.2))
 
-pub of-self-inside-requires : goal.of-self-inside-requires
-of-self-inside-requires g c = (search rules, (c.parts-r.ensures.sized, (c.in-Ok.ensures.some, c.in-Ok-keep.ensures.window)))
-
 pub returns-in-Ok-keep : goal.returns-in-Ok-keep
 returns-in-Ok-keep g c =
     let taken = c.in-Ok.ensures in
     let covers = covered _ _ _ _ _ _ taken.below (g.met.M.EntropyModel.sized c.args.model).1 c.narrow.ensures c.quantile_function-symbol.ensures.covers in
     let kept = rw (c.widen-left.ensures, c.widen-p.ensures, c.from_nonzero.ensures, c.parts-r.ensures.is) at c.in-Ok-keep.ensures in
-    rw (← c.self.view_is, c.of-self-inside.ensures) (record {
+    rw (← c.self.view_is, c.of-after.ensures) (record {
       step = (
         _,
         _,

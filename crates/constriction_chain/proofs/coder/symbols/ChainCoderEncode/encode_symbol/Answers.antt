@@ -1,4 +1,4 @@
-use Rattle.std.proofs.Common.{rules, inl}
+use Rattle.std.proofs.Common.{inl}
 use Rattle.constriction_base.proofs.Entries.{in_range}
 use Rattle.constriction_chain.proofs.coder.symbols.ChainCoderEncode.encode_symbol.Goals as goal
 
@@ -12,13 +12,10 @@ give-requires-clause-total g c =
     let within = in_range _ _ _ _ _ _ (g.M.EntropyModel.lawful c.args.model).follow c.in-Some.ensures.found in
     rw (c.widen-left.ensures, c.widen-p.ensures, c.from_nonzero.ensures) within.2
 
-pub of-self-inside-requires : goal.of-self-inside-requires
-of-self-inside-requires g c = (search rules, (c.parts-heads.ensures.sized, (c.in-Ok.ensures.after.chain.some, c.in-Ok.ensures.after.chain.window)))
-
 pub returns-in-Ok-clause-step : goal.returns-in-Ok-clause-step
 returns-in-Ok-clause-step g c =
     let call = rw (c.widen-left.ensures, c.widen-p.ensures, c.from_nonzero.ensures, c.parts-heads.ensures.is) at c.in-Ok.ensures in
-    rw (← c.self.view_is, c.of-self-inside.ensures) (inl (_, _, c.in-Some.ensures.found, call))
+    rw (← c.self.view_is, c.of-after.ensures) (inl (_, _, c.in-Some.ensures.found, call))
 
 pub returns-clause-step : goal.returns-clause-step
 returns-clause-step g c =
