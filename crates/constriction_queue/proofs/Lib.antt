@@ -3,6 +3,7 @@ pub mod Carry
 pub mod Runs
 pub mod Parts
 pub mod Begun
+pub mod Owed
 pub mod Seals
 pub mod Encoders
 pub mod Decoders

@@ -26,6 +26,25 @@ over_part s n left p l r z l1 r1 z_is l1_is r1_is total l_fits r_fits over =
     let part = rw (← z_is) at (part_inside r n left p total) in
     l1_is ∙ mod-eq_of_lt (inverted_stays l (z * left) r1 r (2 ^ s) l_fits (omega arith) r_fits (rw (← l1_is) over))
 
+-- a part is no longer than the whole
+pub part_within : (n left p r z r1 : ℕ) → z ≡ r / n → r1 ≡ z * p → left + p ≤ n → r1 ≤ r
+part_within n left p r z r1 z_is r1_is total =
+    let part = rw (← z_is) at (part_inside r n left p total) in
+    omega arith
+
+-- and so is what lies before it
+pub before_fits : (s n left p r z : ℕ) → z ≡ r / n → left + p ≤ n → r < 2 ^ s → z * left < 2 ^ s
+before_fits s n left p r z z_is total fits =
+    let part = rw (← z_is) at (part_inside r n left p total) in
+    omega arith
+
+-- an interval reaches over the end or doesn't
+pub not_over : (s l r : ℕ) (over : Bool) → over ≡ false → (IsTrue over ↔ (2 ^ s ≤ l + r)) → l + r < 2 ^ s
+not_over s l r over is says = elim (cases_lt (l + r) (2 ^ s)) [
+  | inl below ↦ below
+  | inr reaches ↦ absurd (let no = says.1 reaches in cc)
+]
+
 -- no carry: the words are as they were
 pub part_run : (w s P left p l r z l1 r1 : ℕ) (words : List ℕ) → z ≡ r / 2 ^ P → r1 ≡ z * p → l1 ≡ l + z * left
     → run_of w s words l1 r1 ≡ cut (record { precision = P; left = left; p = p }) (run_of w s words l r)

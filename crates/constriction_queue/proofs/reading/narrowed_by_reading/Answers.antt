@@ -1,7 +1,8 @@
-use Rattle.std.proofs.Common.{inl, inr}
+use Rattle.std.proofs.Common.{arith, inl, inr}
 use Rattle.constriction_queue.specs.Range.{cut}
 use Rattle.constriction_queue.proofs.Fits.{cut_wide}
-use Rattle.constriction_queue.proofs.Pointing.{at_cut}
+use Rattle.constriction_queue.proofs.Parts.{before_fits}
+use Rattle.constriction_queue.proofs.Pointing.{at_cut, part_fits}
 use Rattle.constriction_queue.proofs.reading.narrowed_by_reading.Goals as goal
 
 pub refilled-requires-clause-wide : goal.refilled-requires-clause-wide
@@ -32,3 +33,24 @@ returns-in-Ok-clause-reads g c =
         λ ws r rest h. none.2 ws (cut _ r) rest (at_cut _ _ _ _ _ ws r _ _ _ _ _ _ _ scale lower c.times-part.ensures h),
       )
     ]
+
+pub shifted_right-scale-requires : goal.shifted_right-scale-requires
+shifted_right-scale-requires g c = omega (arith, c.requires.step.within_word, c.requires.sizes.two_words, c.requires.sizes.some_bits)
+
+pub times-part-requires : goal.times-part-requires
+times-part-requires g c = part_fits _ _ _ _ _ _ c.shifted_right-scale.ensures c.requires.step.inside (g.met.State.BitArray.number_law _)
+
+pub times-requires : goal.times-requires
+times-requires g c = before_fits _ _ _ _ _ _ c.shifted_right-scale.ensures c.requires.step.inside (g.met.State.BitArray.number_law _)
+
+pub refilled-requires-clause-sized : goal.refilled-requires-clause-sized
+refilled-requires-clause-sized g c = c.requires.sizes.two_words
+
+pub returns-in-Ok-clause-wide : goal.returns-in-Ok-clause-wide
+returns-in-Ok-clause-wide g c = c.in-Ok.ensures.wide
+
+pub returns-in-Err-clause-kept : goal.returns-in-Err-clause-kept
+returns-in-Err-clause-kept g c = λ list. c.in-Err.ensures.kept list
+
+pub returns-in-Err-clause-err : goal.returns-in-Err-clause-err
+returns-in-Err-clause-err g c = (rw (c.times-part.ensures, c.shifted_right-scale.ensures) at c.in-Err.ensures.err.0, c.in-Err.ensures.err.1)

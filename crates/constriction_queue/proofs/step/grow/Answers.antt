@@ -1,6 +1,7 @@
 use Rattle.std.proofs.Common.{arith, refl, ◌∙◌, sym}
 use Rattle.constriction_base.proofs.Heads.{large_of_shr, small_of_shr}
-use Rattle.constriction_queue.proofs.Parts.{top_is, shifted_run, held_run, lower_fits, range_fits, over_fits, first_fits}
+use Rattle.constriction_queue.proofs.Owed.{held_one_more}
+use Rattle.constriction_queue.proofs.Parts.{long_run, not_over, top_is, shifted_run, held_run, lower_fits, range_fits, over_fits, first_fits}
 use Rattle.constriction_queue.proofs.step.grow.Goals as goal
 
 pub returns-then-not-is_nothing-clause-wide : goal.returns-then-not-is_nothing-clause-wide
@@ -84,3 +85,40 @@ returns-else-reaches_over-clause-run g c words =
     let top_same = top ∙ top_is _ _ _ (omega arith) (g.met.State.BitArray.number_law _) in
     rw c.in-Normal.is
     (shifted_run _ _ _ _ _ _ _ words (omega arith) (g.met.State.BitArray.number_law _) short top_same lower range)
+
+pub returns-then-not-is_nothing-clause-fit : goal.returns-then-not-is_nothing-clause-fit
+returns-then-not-is_nothing-clause-fit g c = c.requires.fit
+
+pub returns-then-not-is_nothing-clause-held : goal.returns-then-not-is_nothing-clause-held
+returns-then-not-is_nothing-clause-held g c = omega arith
+
+pub returns-then-not-is_nothing-clause-run : goal.returns-then-not-is_nothing-clause-run
+returns-then-not-is_nothing-clause-run g c words = long_run _ _ _ (returns-then-not-is_nothing-clause-wide g c)
+
+pub returns-in-Inverted-clause-wide : goal.returns-in-Inverted-clause-wide
+returns-in-Inverted-clause-wide g c =
+    let range = rw c.BITS-4.ensures at c.shifted_left-range.ensures in
+    rw range c.requires.wide
+
+pub returns-in-Inverted-clause-held : goal.returns-in-Inverted-clause-held
+returns-in-Inverted-clause-held g c =
+    rw (c.in-Inverted.is, c.nonzero_count.ensures, c.get.ensures.value) (held_one_more _ _ _ (omega arith))
+
+pub returns-then-reaches_over-clause-wide : goal.returns-then-reaches_over-clause-wide
+returns-then-reaches_over-clause-wide g c =
+    let range = rw c.BITS-4.ensures at c.shifted_left-range.ensures in
+    rw range c.requires.wide
+
+pub returns-then-reaches_over-clause-held : goal.returns-then-reaches_over-clause-held
+returns-then-reaches_over-clause-held g c = rw (c.in-Normal.is, c.nonzero_count-then-reaches_over.ensures) (omega arith)
+
+pub returns-else-reaches_over-clause-wide : goal.returns-else-reaches_over-clause-wide
+returns-else-reaches_over-clause-wide g c =
+    let range = rw c.BITS-4.ensures at c.shifted_left-range.ensures in
+    rw range c.requires.wide
+
+pub returns-else-reaches_over-clause-fit : goal.returns-else-reaches_over-clause-fit
+returns-else-reaches_over-clause-fit g c = not_over _ _ _ _ refl c.if-reaches_over.ensures
+
+pub returns-else-reaches_over-clause-held : goal.returns-else-reaches_over-clause-held
+returns-else-reaches_over-clause-held g c = omega arith
