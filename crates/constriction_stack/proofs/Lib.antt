@@ -8,4 +8,6 @@ pub mod SizesCounted
 pub mod WordsShown
 pub mod Guards
 pub mod Errors
+pub mod Buffers
+pub mod FirstReads
 mod BinaryRows
