@@ -15,6 +15,12 @@ use linked_list_allocator::LocalHeap;
 use std::convert::Infallible;
 use std::test::Fail;
 
+/// A cursor over words that it owns.
+type Owned = Cursor<u32, Vec<u32>>;
+
+/// A cursor over words in a heap of its own.
+type HeapCursor<'a> = Cursor<u32, Vec<u32, &'a LocalHeap>>;
+
 /// Before the words `[1, 2, 3]`, reads go to and fro.
 fn goes_to_and_fro<B>(cursor: &mut B) -> bool
 where
@@ -23,15 +29,15 @@ where
         + ReadWords<u32, Queue, ReadError = Infallible>,
 {
     seems_popped(cursor)
-        && !seems_taken(cursor)
-        && pops(cursor, None)
-        && takes(cursor, Some(1))
-        && takes(cursor, Some(2))
-        && stacks(cursor, 2)
-        && queues(cursor, 1)
-        && pops(cursor, Some(2))
-        && stacks(cursor, 1)
-        && queues(cursor, 2)
+        & !seems_taken(cursor)
+        & pops(cursor, None)
+        & takes(cursor, Some(1))
+        & takes(cursor, Some(2))
+        & stacks(cursor, 2)
+        & queues(cursor, 1)
+        & pops(cursor, Some(2))
+        & stacks(cursor, 1)
+        & queues(cursor, 2)
 }
 
 /// The cursor's buffer has the words.
@@ -46,7 +52,7 @@ fn parts_into<Buf: Words<u32> + Drop>(
     position: usize,
 ) -> bool {
     let (rest, found) = cursor.into_buf_and_pos();
-    rest.words() == words && found == position
+    (rest.words() == words) & (found == position)
 }
 
 /// Three words are written, and no fourth one.
@@ -55,10 +61,10 @@ where
     B: WriteWords<u32, WriteError = BoundedWriteError>,
 {
     prepares(cursor, 100)
-        && !seems_full(cursor)
-        && filled(cursor) == 3
-        && seems_full(cursor)
-        && matches!(cursor.write(9), Err(BoundedWriteError::OutOfSpace))
+        & !seems_full(cursor)
+        & (filled(cursor) == 3)
+        & seems_full(cursor)
+        & matches!(cursor.write(9), Err(BoundedWriteError::OutOfSpace))
 }
 
 /// At the end of the words `[0, 1, 2]`, the last is taken off and another written.
@@ -69,10 +75,10 @@ where
         + ReadWords<u32, Queue, ReadError = Infallible>,
 {
     seems_taken(cursor)
-        && takes(cursor, None)
-        && pops(cursor, Some(2))
-        && !seems_full(cursor)
-        && puts(cursor, 9)
+        & takes(cursor, None)
+        & pops(cursor, Some(2))
+        & !seems_full(cursor)
+        & puts(cursor, 9)
 }
 
 /// Behind the words `[4, 5, 6]`, positions within them are gone to.
@@ -84,23 +90,18 @@ where
     requires { (backend : B) → B.can_tell backend }
 {
     stands(cursor, 3)
-        && seeks(cursor, 1)
-        && stands(cursor, 1)
-        && takes(cursor, Some(5))
-        && !seeks(cursor, 4)
-        && stands(cursor, 2)
-        && seeks(cursor, 3)
-        && pops(cursor, Some(6))
+        & seeks(cursor, 1)
+        & stands(cursor, 1)
+        & takes(cursor, Some(5))
+        & !seeks(cursor, 4)
+        & stands(cursor, 2)
+        & seeks(cursor, 3)
+        & pops(cursor, Some(6))
 }
 
 /// Of two cursors behind the words `[4, 5]`, what one does is not seen by the other.
-fn stand_alone<B>(cursor: &mut B, other: &mut B) -> bool
-where
-    B: ReadWords<u32, Stack, ReadError = Infallible>,
-    B: WriteWords<u32, WriteError = BoundedWriteError> + Pos + PosSeek<Position = usize>,
-    requires { (backend : B) → B.can_tell backend }
-{
-    pops(cursor, Some(5)) && puts(cursor, 8) && stands(other, 2) && pops(other, Some(5))
+fn stand_alone(cursor: &mut Owned, other: &mut Owned) -> bool {
+    pops(cursor, Some(5)) & puts(cursor, 8) & stands(other, 2) & pops(other, Some(5))
 }
 
 /// With its roles changed, the words `[7, 8, 9]` behind the cursor are a stack.
@@ -113,57 +114,63 @@ where
     requires { (backend : B) → B.can_tell backend }
 {
     seems_taken(reversed)
-        && !seems_popped(reversed)
-        && pops(reversed, Some(7))
-        && pops(reversed, Some(8))
-        && stacks(reversed, 1)
-        && queues(reversed, 2)
-        && takes(reversed, Some(8))
-        && stands(reversed, 1)
-        && !seeks(reversed, 4)
-        && seeks(reversed, 3)
-        && pops(reversed, None)
-        && takes(reversed, Some(9))
+        & !seems_popped(reversed)
+        & pops(reversed, Some(7))
+        & pops(reversed, Some(8))
+        & stacks(reversed, 1)
+        & queues(reversed, 2)
+        & takes(reversed, Some(8))
+        & stands(reversed, 1)
+        & !seeks(reversed, 4)
+        & seeks(reversed, 3)
+        & pops(reversed, None)
+        & takes(reversed, Some(9))
 }
 
 /// A cursor stands at the position, and gives the word as a stack.
-fn pops_at<B>(backend: &mut B, position: usize, word: u32) -> bool
-where
-    B: ReadWords<u32, Stack, ReadError = Infallible> + Pos + PosSeek<Position = usize>,
-    requires { (backend : B) → B.can_tell backend }
-{
-    stands(backend, position) && pops(backend, Some(word))
+fn pops_at(cursor: &mut Owned, position: usize, word: u32) -> bool {
+    stands(cursor, position) & pops(cursor, Some(word))
+}
+
+/// The same with the roles changed.
+fn reversed_pops_at(reversed: &mut Reverse<Owned>, position: usize, word: u32) -> bool {
+    stands(reversed, position) & pops(reversed, Some(word))
+}
+
+/// Turns a cursor round.
+fn turned(cursor: Owned) -> Reverse<Owned> {
+    cursor.into_reversed()
+}
+
+/// Turns it back.
+fn turned_back(reversed: Reverse<Owned>) -> Owned {
+    reversed.into_reversed()
 }
 
 /// Turns a cursor behind `[1, 2, 3, 4]` round, and back. Reads go on as if it had not been turned.
-fn turns_there_and_back(mut cursor: Cursor<u32, Vec<u32>>) -> bool {
+fn turns_there_and_back(mut cursor: Owned) -> bool {
     let first = pops_at(&mut cursor, 4, 4);
-    let mut reversed = cursor.into_reversed();
-    let turned = lends(&reversed.0, &[4, 3, 2, 1]) && pops_at(&mut reversed, 1, 3);
-    let mut cursor = reversed.into_reversed();
-    first
-        && turned
-        && lends(&cursor, &[1, 2, 3, 4])
-        && pops_at(&mut cursor, 2, 2)
-        && takes(&mut cursor, Some(2))
+    let mut reversed = turned(cursor);
+    let is_turned = lends(&reversed.0, &[4, 3, 2, 1]) & reversed_pops_at(&mut reversed, 1, 3);
+    let mut cursor = turned_back(reversed);
+    let is_back = lends(&cursor, &[1, 2, 3, 4]) & pops_at(&mut cursor, 2, 2);
+    first & is_turned & is_back & takes(&mut cursor, Some(2))
 }
 
 #[test]
 fn a_cursor_parts_a_stack_from_a_queue(rt: HostRuntime) {
     let mut words = [1u32, 2, 3];
     let mut cursor = Cursor::new_at_write_beginning(words.as_mut_slice());
-    assert!(rt; goes_to_and_fro(&mut cursor) && lends(&cursor, &[1, 2, 3]));
-    assert!(rt; parts_into(cursor, &[1, 2, 3], 1));
+    let goes = goes_to_and_fro(&mut cursor) & lends(&cursor, &[1, 2, 3]);
+    assert!(rt; goes & parts_into(cursor, &[1, 2, 3], 1));
 }
 
 #[test]
 fn a_cursor_is_full_at_its_end(rt: HostRuntime) {
     let mut words = [0u32; 3];
     let mut cursor = Cursor::new_at_write_beginning(words.as_mut_slice());
-    let is_right = is_filled(&mut cursor)
-        && lends(&cursor, &[0, 1, 2])
-        && writes_again(&mut cursor);
-    assert!(rt; is_right && words == [0u32, 1, 9]);
+    let is_right = is_filled(&mut cursor) & lends(&cursor, &[0, 1, 2]) & writes_again(&mut cursor);
+    assert!(rt; is_right & (words == [0u32, 1, 9]));
 }
 
 #[test]
@@ -172,78 +179,68 @@ fn a_cursor_seeks_within_its_buffer(rt: HostRuntime) {
     assert!(rt; seeks_within(&mut cursor));
 }
 
-/// The clone of a cursor behind the words `[4, 5]`, which stands alone.
-fn clone_stands_alone<B>(cursor: &mut B) -> Option<B>
-where
-    B: ReadWords<u32, Stack, ReadError = Infallible>,
-    B: WriteWords<u32, WriteError = BoundedWriteError> + Pos + PosSeek<Position = usize>,
-    B: Clone + Drop,
-    requires { (backend : B) → B.can_tell backend }
-{
-    match cursor.clone() {
-        Ok(mut other) => {
-            if stand_alone(cursor, &mut other) {
-                Some(other)
-            } else {
-                None
-            }
-        }
-        Err(_) => None,
-    }
+/// The clone of a cursor, if there is one.
+fn clone_of(cursor: &Owned) -> Option<Owned> {
+    cursor.clone().ok()
 }
 
-/// The word is read from the backend's clone.
-fn clone_pops<B>(backend: &B, word: u32) -> bool
-where
-    B: ReadWords<u32, Stack, ReadError = Infallible> + Clone + Drop,
-{
-    match backend.clone() {
+/// The word is read from the clone of a reversed cursor.
+fn reversed_clone_pops(reversed: &Reverse<Owned>, word: u32) -> bool {
+    match reversed.clone() {
         Ok(mut other) => pops(&mut other, Some(word)),
         Err(_) => false,
     }
 }
 
+/// A cursor behind the words `[4, 5]` and its clone stand alone, and so does the clone of the clone.
+fn clones_stand_alone(mut cursor: Owned) -> bool {
+    match clone_of(&cursor) {
+        Some(mut other) => {
+            let stand = stand_alone(&mut cursor, &mut other);
+            stand & reversed_clone_pops(&Reverse(other), 5)
+        }
+        None => false,
+    }
+}
+
 #[test]
 fn a_clone_of_a_cursor_stands_alone(rt: HostRuntime) -> Result<(), Fail> {
-    let mut cursor = Cursor::new_at_write_end([4u32, 5].to_vec(rt.alloc())?);
-    let Some(other) = clone_stands_alone(&mut cursor) else {
-        return Err(Fail::from("another clone"));
-    };
-    assert!(rt; clone_pops(&Reverse(other), 5));
+    let words = [4u32, 5].to_vec(rt.alloc())?;
+    assert!(rt; clones_stand_alone(Cursor::new_at_write_end(words)));
     Ok(())
 }
 
-/// The backend's clone stands at the position.
-fn clone_stands<B>(backend: &B, position: usize) -> bool
-where
-    B: Pos + PosSeek<Position = usize> + Clone + Drop,
-    requires { (other : B) → B.can_tell other }
-{
-    match backend.clone() {
-        Ok(other) => stands(&other, position),
+/// Where a clone stands, if there is one.
+fn place_of_clone(cursor: &HeapCursor<'_>) -> Option<usize> {
+    match cursor.clone() {
+        Ok(other) => Some(other.pos()),
+        Err(_) => None,
+    }
+}
+
+/// There is no clone while the rest of the heap is full.
+fn clone_is_refused(heap: &LocalHeap, cursor: &HeapCursor<'_>) -> bool {
+    match Vec::<u8, &LocalHeap>::with_capacity(heap, 200) {
+        Ok(_filler) => place_of_clone(cursor).is_none(),
         Err(_) => false,
     }
 }
 
-/// There is no clone before the filler is gone, and one then.
-fn is_cloned_after<B, F>(backend: &B, filler: F, position: usize) -> bool
-where
-    B: Pos + PosSeek<Position = usize> + Clone + Drop,
-    F: Drop,
-    requires { (other : B) → B.can_tell other }
-{
-    let is_refused = backend.clone().is_err();
-    drop(filler);
-    is_refused & clone_stands(backend, position)
+/// A cursor behind sixty words has no clone while the heap is full, and one then.
+fn is_cloned_with_memory(heap: &LocalHeap) -> bool {
+    match Vec::from_slice(heap, [4u32; 60].as_slice()) {
+        Ok(words) => {
+            let cursor = Cursor::new_at_write_end(words);
+            clone_is_refused(heap, &cursor) & (place_of_clone(&cursor) == Some(60))
+        }
+        Err(_) => false,
+    }
 }
 
 #[test]
 fn a_clone_of_a_cursor_is_refused(rt: HostRuntime) -> Result<(), Fail> {
     let heap = LocalHeap::new(rt.alloc(), 512)?;
-    let words = Vec::from_slice(&heap, [4u32; 60].as_slice())?;
-    let filler: Vec<u8, &LocalHeap> = Vec::with_capacity(&heap, 200)?;
-    let cursor: Cursor<u32, Vec<u32, &LocalHeap>> = Cursor::new_at_write_end(words);
-    assert!(rt; is_cloned_after(&cursor, filler, 60));
+    assert!(rt; is_cloned_with_memory(&heap));
     Ok(())
 }
 
@@ -255,7 +252,7 @@ fn a_reversed_cursor_changes_the_roles(rt: HostRuntime) {
 
 #[test]
 fn a_cursor_is_turned_round(rt: HostRuntime) -> Result<(), Fail> {
-    let cursor = Cursor::new_at_write_end([1u32, 2, 3, 4].to_vec(rt.alloc())?);
-    assert!(rt; turns_there_and_back(cursor));
+    let words = [1u32, 2, 3, 4].to_vec(rt.alloc())?;
+    assert!(rt; turns_there_and_back(Cursor::new_at_write_end(words)));
     Ok(())
 }

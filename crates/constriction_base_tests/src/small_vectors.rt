@@ -34,10 +34,11 @@ where
 
 /// There are so many words, and every call says so.
 fn holds<B: WriteWords<usize> + BoundedReadWords<usize, Stack>>(words: &B, count: usize) -> bool {
-    words.remaining() == count
-        && words.is_exhausted() == (count == 0)
-        && words.maybe_exhausted() == (count == 0)
-        && !words.maybe_full()
+    let is_empty = count == 0;
+    (words.remaining() == count)
+        & (words.is_exhausted() == is_empty)
+        & (words.maybe_exhausted() == is_empty)
+        & !words.maybe_full()
 }
 
 /// Words come back, the last one first.
@@ -67,15 +68,15 @@ where
     B::ReadError: Drop,
 {
     prepares(words, 0)
-        && prepares(words, 1)
-        && !prepares(words, 2)
-        && puts(words, 7)
-        && prepares(words, 0)
-        && !prepares(words, 1)
-        && !puts(words, 8)
-        && holds(words, 1)
-        && pops(words, Some(7))
-        && puts(words, 6)
+        & prepares(words, 1)
+        & !prepares(words, 2)
+        & puts(words, 7)
+        & prepares(words, 0)
+        & !prepares(words, 1)
+        & !puts(words, 8)
+        & holds(words, 1)
+        & pops(words, Some(7))
+        & puts(words, 6)
 }
 
 /// Once there is memory, more follow.
@@ -84,7 +85,7 @@ where
     B::WriteError: Drop,
     B::ReadError: Drop,
 {
-    puts(words, 8) && holds(words, 2) && pops(words, Some(8)) && pops(words, Some(6))
+    puts(words, 8) & holds(words, 2) & pops(words, Some(8)) & pops(words, Some(6))
 }
 
 #[test]

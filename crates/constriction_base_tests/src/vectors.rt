@@ -9,27 +9,41 @@ use std::alloc::AllocError;
 use std::convert::Infallible;
 use std::test::Fail;
 
-/// A backend with no words grows by writes, and reads take its last words.
-fn grows_and_shrinks<B>(backend: &mut B) -> bool
+/// A backend with no words grows by writes.
+fn grows<B>(backend: &mut B) -> bool
+where
+    B: BoundedReadWords<u32, Stack> + ReadWords<u32, Stack, ReadError = Infallible>,
+    B: WriteWords<u32, WriteError = AllocError>,
+{
+    seems_popped(backend)
+        & stacks(backend, 0)
+        & pops(backend, None)
+        & prepares(backend, 3)
+        & puts(backend, 7)
+        & puts(backend, 8)
+        & puts(backend, 9)
+}
+
+/// Reads take the last of the words `[7, 8, 9]`.
+fn shrinks<B>(backend: &mut B) -> bool
 where
     B: BoundedReadWords<u32, Stack> + ReadWords<u32, Stack, ReadError = Infallible>,
     B: WriteWords<u32, WriteError = AllocError> + Words<u32>,
 {
-    seems_popped(backend)
-        && stacks(backend, 0)
-        && pops(backend, None)
-        && prepares(backend, 3)
-        && puts(backend, 7)
-        && puts(backend, 8)
-        && puts(backend, 9)
-        && !seems_full(backend)
-        && !seems_popped(backend)
-        && stacks(backend, 3)
-        && backend.words() == [7u32, 8, 9].as_slice()
-        && pops(backend, Some(9))
-        && pops(backend, Some(8))
-        && stacks(backend, 1)
-        && backend.words() == [7u32].as_slice()
+    let are_three = !seems_full(backend)
+        & !seems_popped(backend)
+        & stacks(backend, 3)
+        & (backend.words() == [7u32, 8, 9].as_slice());
+    are_three
+        & pops(backend, Some(9))
+        & pops(backend, Some(8))
+        & stacks(backend, 1)
+        & (backend.words() == [7u32].as_slice())
+}
+
+/// A vector with no words grows by writes, and reads take its last words.
+fn grows_and_shrinks(words: &mut Vec<u32>) -> bool {
+    grows(words) && shrinks(words)
 }
 
 /// The positions of the words `[7, 8, 9]` are lengths, of which the greater ones are refused.
@@ -39,13 +53,13 @@ where
     requires { (other : B) → B.can_tell other }
 {
     stands(backend, 3)
-        && !seeks(backend, 4)
-        && backend.words() == [7u32, 8, 9].as_slice()
-        && seeks(backend, 3)
-        && seeks(backend, 1)
-        && backend.words() == [7u32].as_slice()
-        && !seeks(backend, 2)
-        && stands(backend, 1)
+        & !seeks(backend, 4)
+        & (backend.words() == [7u32, 8, 9].as_slice())
+        & seeks(backend, 3)
+        & seeks(backend, 1)
+        & (backend.words() == [7u32].as_slice())
+        & !seeks(backend, 2)
+        & stands(backend, 1)
 }
 
 /// Where a backend is full it is refused memory, and takes the word for which it has room.
@@ -55,14 +69,16 @@ where
     B: WriteWords<u32, WriteError = AllocError>,
 {
     let count = filled(backend);
-    count > 0
-        && stacks(backend, count as usize)
-        && pops(backend, Some(count - 1))
-        && !prepares(backend, 200)
-        && stacks(backend, count as usize - 1)
-        && puts(backend, 6)
-        && !puts(backend, 7)
-        && pops(backend, Some(6))
+    if count == 0 {
+        return false;
+    }
+    stacks(backend, count as usize)
+        & pops(backend, Some(count - 1))
+        & !prepares(backend, 200)
+        & stacks(backend, count as usize - 1)
+        & puts(backend, 6)
+        & !puts(backend, 7)
+        & pops(backend, Some(6))
 }
 
 /// A backend that was refused memory goes on once there is some.
@@ -71,7 +87,7 @@ where
     B: ReadWords<u32, Stack, ReadError = Infallible>,
     B: WriteWords<u32, WriteError = AllocError>,
 {
-    prepares(backend, 4) && puts(backend, 7) && pops(backend, Some(7))
+    prepares(backend, 4) & puts(backend, 7) & pops(backend, Some(7))
 }
 
 /// A vector's words `[1, 2, 3]` are changed and turned round.
