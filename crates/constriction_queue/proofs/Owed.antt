@@ -58,3 +58,12 @@ last_never Q (Err e) last mid enough short = absurd (omega (arith, enough, short
 pub last_err : {T E M : Type 0} (A B : E → Type 0) (r : Result T E) (last mid : ℕ) → (M → last ≤ mid) → OnErr r (mid < last) → IfErr r B → IfErr r (λ e. A e ⊎ ((M → ⊥) × B e))
 last_err A B (Ok x) last mid enough short fails = tt
 last_err A B (Err e) last mid enough short fails = inr (λ makes. omega (arith, enough makes, short), fails)
+
+-- one held word, and another behind it
+pub one_room : {T E : Type 0} (r : Result T E) (last : List ℕ) (first old new : ℕ) → OnOk r (old ≤ new + length last + 1) → OnOk r (old ≤ new + length (last ++ first ∷ []))
+one_room (Ok x) last first old new holds = omega (arith, length-append last (first ∷ []), holds)
+one_room (Err e) last first old new holds = tt
+
+pub one_short : {T E : Type 0} (r : Result T E) (last : List ℕ) (first old : ℕ) → OnErr r (old < length last + 1) → OnErr r (old < length (last ++ first ∷ []))
+one_short (Ok x) last first old holds = tt
+one_short (Err e) last first old holds = omega (arith, length-append last (first ∷ []), holds)
