@@ -6,7 +6,7 @@
 //! which take memory succeed where there is some, and that a caller reaches each call at each type.
 //! They are a crate of their own so that `constriction_base` is proved once.
 //!
-//! A case is a function of one chain of `&&` over the calls of [`calls`], which have no contract, so
+//! A case is a function of one chain over the calls of [`calls`], which have no contract, so
 //! that no case pays for what a call promises besides.
 #![tactic(auto)]
 
