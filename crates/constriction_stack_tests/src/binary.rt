@@ -2,7 +2,7 @@
 
 ghost use Rattle.constriction_base.specs.Steps.{IsSizes};
 
-use crate::cases::{WIDE_WEIGHTS, wide_does};
+use crate::cases::{WIDE_WEIGHTS, new_wide_does, wide_does};
 use crate::coders::{HeapCoder, coder_over_with, coder_with, new_coder};
 use crate::expect::holds;
 use crate::put::{Answer, Lack, words_are};
@@ -63,37 +63,68 @@ where
     requires { IsSizes Word.BITS State.BITS }
 {
     match from_binary::<Word, State, Vec<Word>>(words) {
-        Some(coder) => {
-            let is_read = holds(&coder, head, below);
-            (exports_in_binary(coder, all) == Answer::Done) & is_read
-        }
+        Some(coder) => holds(&coder, head, below) & is_written(coder, all),
         None => false,
     }
+}
+
+/// Whether these are the words of the binary form.
+fn is_written<Word, State>(coder: AnsCoder<Word, State>, all: &[Word]) -> bool
+where
+    Word: WordOf<State> + PartialEq,
+    State: BitArray,
+{
+    exports_in_binary(coder, all) == Answer::Done
+}
+
+/// The same at words of 32 bits.
+fn wide_goes(words: Vec<u32>, head: u64, below: &[u32], all: &[u32]) -> bool {
+    binary_goes(words, head, below, all)
+}
+
+/// Of the head 3 there is no binary form.
+fn none_of_three(alloc: Global) -> bool {
+    head_in_binary::<u32, u64>(alloc, 3, &[]) == Answer::NoBinary
+}
+
+/// Of a new coder there is no binary form.
+fn none_of_new(alloc: Global) -> bool {
+    exports_in_binary(new_coder::<u32, u64>(alloc), &[]) == Answer::NoBinary
 }
 
 #[test]
 fn ans_binary_zero_words(rt: HostRuntime) -> Result<(), Fail> {
     let words = [5u32, 0].to_vec(rt.alloc())?;
-    assert!(rt;
-        binary_goes::<u32, u64>(words, 4294967296, &[5], &[5, 0])
-            && exports_in_binary(new_coder::<u32, u64>(rt.alloc()), &[]) == Answer::NoBinary
-    );
+    let goes = wide_goes(words, 4294967296, &[5], &[5, 0]);
+    assert!(rt; goes & none_of_new(rt.alloc()));
     Ok(())
 }
 
 /// Heads that are no 1 above whole words, and heads that are.
+/// The binary form of a head of two words of 16 bits.
+fn halves_in_binary(alloc: Global, head: u32, words: &[u16]) -> Answer {
+    head_in_binary(alloc, head, words)
+}
+
+/// None of the heads has a binary form.
+fn none_of_heads(alloc: Global) -> bool {
+    let mut is_none = true;
+    for head in [0u32, 2, 3, 255, 32768, 131072, 4294967295] {
+        is_none = is_none & (halves_in_binary(alloc, head, &[]) == Answer::NoBinary);
+    }
+    is_none
+}
+
 #[test]
 fn heads_of_whole_words(rt: HostRuntime) -> Result<(), Fail> {
-    for head in [0u32, 2, 3, 255, 32768, 131072, 4294967295] {
-        assert!(rt; head_in_binary::<u16, u32>(rt.alloc(), head, &[]) == Answer::NoBinary);
-    }
     // three words below a leading 1, the lowest first
     let head = 16777216 + 2 * 65536 + 1;
     let words = [1u8, 0, 2].to_vec(rt.alloc())?;
+    let goes = binary_goes::<u8, u32>(words, head, &[], &[1, 0, 2]);
     assert!(rt;
-        head_in_binary::<u16, u32>(rt.alloc(), 65543, &[7]) == Answer::Done
-            && head_in_binary::<u8, u32>(rt.alloc(), head, &[1, 0, 2]) == Answer::Done
-            && binary_goes::<u8, u32>(words, head, &[], &[1, 0, 2])
+        goes & none_of_heads(rt.alloc())
+            & (halves_in_binary(rt.alloc(), 65543, &[7]) == Answer::Done)
+            & (head_in_binary::<u8, u32>(rt.alloc(), head, &[1, 0, 2]) == Answer::Done)
     );
     Ok(())
 }
@@ -115,12 +146,13 @@ fn shows_binary(words: Vec<u32>, table: &WeightTable<u32, 24>) -> bool {
 fn ans_binary_forms(rt: HostRuntime) -> Result<(), Fail> {
     let table = WeightTable::<u32, 24>::new(rt.alloc(), WIDE_WEIGHTS.as_slice())?;
     let words = [5u32, 0].to_vec(rt.alloc())?;
-    let none = [Act::ShowsBinary(&[], Answer::NoBinary)];
+    let is_shown = shows_binary(words, &table);
+    let is_none = new_wide_does(rt.alloc(), &[Act::ShowsBinary(&[], Answer::NoBinary)]);
     assert!(rt;
-        shows_binary(words, &table)
-            && wide_does(&mut new_coder(rt.alloc()), &table, &none)
-            && head_in_binary::<u32, u64>(rt.alloc(), 3, &[]) == Answer::NoBinary
-            && binary_goes::<u32, u64>(Vec::new(rt.alloc()), 1, &[], &[])
+        is_shown
+            & is_none
+            & none_of_three(rt.alloc())
+            & wide_goes(Vec::new(rt.alloc()), 1, &[], &[])
     );
     Ok(())
 }
@@ -135,11 +167,13 @@ fn exports_to(buf: &mut [u8]) -> Answer {
 fn binary_exports_to_cursors(rt: HostRuntime) {
     let mut one = [0u8; 1];
     let mut two = [0u8; 2];
+    let short = exports_to(&mut one);
+    let enough = exports_to(&mut two);
     assert!(rt;
-        exports_to(&mut one) == Answer::OutOfSpace
-            && exports_to(&mut two) == Answer::Done
-            && one == [3u8]
-            && two == [3u8, 2]
+        (short == Answer::OutOfSpace)
+            & (enough == Answer::Done)
+            & (one == [3u8])
+            & (two == [3u8, 2])
     );
 }
 
@@ -149,13 +183,19 @@ fn exports_in(heap: &LocalHeap) -> Answer {
     exports_in_binary(coder, &[3])
 }
 
+/// The same while the heap is full.
+fn exports_in_full(heap: &LocalHeap) -> Option<Answer> {
+    match Vec::<u8, &LocalHeap>::with_capacity(heap, 512) {
+        Ok(_filler) => Some(exports_in(heap)),
+        Err(_) => None,
+    }
+}
+
 /// On a heap that is full, and then isn't.
 #[test]
 fn a_full_heap_refuses_a_binary_export(rt: HostRuntime) -> Result<(), Fail> {
     let heap = LocalHeap::new(rt.alloc(), 512)?;
-    let filler: Vec<u8, &LocalHeap> = Vec::with_capacity(&heap, 512)?;
-    let is_refused = exports_in(&heap) == Answer::NoMemory;
-    drop(filler);
-    assert!(rt; is_refused && exports_in(&heap) == Answer::Done);
+    let full = exports_in_full(&heap);
+    assert!(rt; (full == Some(Answer::NoMemory)) & (exports_in(&heap) == Answer::Done));
     Ok(())
 }

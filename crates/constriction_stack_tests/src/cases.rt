@@ -1,7 +1,9 @@
 //! Acts at concrete types. The dear call of [`follows`] stands here once for each type, so that no
 //! test makes it itself.
 
-use crate::coders::{HeapCoder, Small, Table, coder_over_with, coder_with, new_coder, table_of};
+use crate::coders::{
+    HeapCoder, Small, Table, WideTable, coder_over_with, coder_with, new_small, new_wide, table_of,
+};
 use crate::script::{Act, follows};
 use constriction_base::weights::WeightTable;
 use constriction_stack::{AnsCoder, DefaultAnsCoder};
@@ -15,7 +17,7 @@ pub fn small_does(coder: &mut Small, table: &Table, acts: &[Act<'_, u8, u16>]) -
 /// The same of a new coder, under a table of these weights.
 pub fn new_does(alloc: Global, weights: &[u8], acts: &[Act<'_, u8, u16>]) -> bool {
     match table_of(alloc, weights) {
-        Ok(table) => small_does(&mut new_coder(alloc), &table, acts),
+        Ok(table) => small_does(&mut new_small(alloc), &table, acts),
         Err(_) => false,
     }
 }
@@ -59,7 +61,7 @@ pub const WIDE_WEIGHTS: [u32; 3] = [3, 2, 16777211];
 /// Whether a coder at words of 32 bits does as expected.
 pub fn wide_does(
     coder: &mut DefaultAnsCoder,
-    table: &WeightTable<u32, 24>,
+    table: &WideTable,
     acts: &[Act<'_, u32, u64>],
 ) -> bool {
     follows(coder, table, acts)
@@ -68,7 +70,7 @@ pub fn wide_does(
 /// The same of a new coder, under the table of [`WIDE_WEIGHTS`].
 pub fn new_wide_does(alloc: Global, acts: &[Act<'_, u32, u64>]) -> bool {
     match WeightTable::new(alloc, WIDE_WEIGHTS.as_slice()) {
-        Ok(table) => wide_does(&mut new_coder(alloc), &table, acts),
+        Ok(table) => wide_does(&mut new_wide(alloc), &table, acts),
         Err(_) => false,
     }
 }

@@ -5,7 +5,7 @@ ghost use Rattle.constriction_base.specs.Steps.{IsSizes};
 use constriction_base::backends::{Holds, Stack};
 use constriction_base::cursor::Cursor;
 use constriction_base::weights::{TableError, WeightTable};
-use constriction_stack::AnsCoder;
+use constriction_stack::{AnsCoder, DefaultAnsCoder};
 use constriction_words::{BitArray, WordOf};
 use linked_list_allocator::LocalHeap;
 use std::alloc::Global;
@@ -15,6 +15,9 @@ pub type Small = AnsCoder<u8, u16>;
 
 /// A table of 8 bits.
 pub type Table = WeightTable<u8, 8>;
+
+/// A table of 24 bits.
+pub type WideTable = WeightTable<u32, 24>;
 
 /// A coder over words in a heap of its own.
 pub type HeapCoder<'a> = AnsCoder<u8, u16, Vec<u8, &'a LocalHeap>>;
@@ -35,6 +38,16 @@ pub fn new_coder<Word: WordOf<State>, State: BitArray>(alloc: Global) -> AnsCode
     requires { IsSizes Word.BITS State.BITS }
 {
     AnsCoder::new(alloc)
+}
+
+/// A coder of bytes that holds nothing.
+pub fn new_small(alloc: Global) -> Small {
+    new_coder(alloc)
+}
+
+/// A coder at words of 32 bits that holds nothing.
+pub fn new_wide(alloc: Global) -> DefaultAnsCoder {
+    new_coder(alloc)
 }
 
 /// A coder of the words of a backend below a head.

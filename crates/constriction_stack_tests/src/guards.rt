@@ -4,7 +4,7 @@ ghost use Rattle.constriction_base.specs.Readings.{NeverRefused};
 ghost use Rattle.std.specs.Prelude.{◌≡◌};
 
 use crate::cases::{cursor_does, new_does, small_does, tall_cursor_does, tall_does};
-use crate::coders::{Small, coder_with, table_of};
+use crate::coders::{Small, Table, coder_with, table_of};
 use crate::put::Answer;
 use crate::script::Act;
 use constriction_base::backends::{BoundedReadWords, Stack, WriteWords};
@@ -80,23 +80,32 @@ fn ans_cursor_full(rt: HostRuntime) -> Result<(), Fail> {
     Ok(())
 }
 
+/// A binary head of three words.
+const HEAD: u32 = 16777216 + 2 * 65536 + 1;
+
+/// Over a buffer of two.
+fn two_are_too_few(table: &Table) -> bool {
+    let refused = [
+        Act::ShowsBinary(&[], Answer::OutOfSpace),
+        Act::Holds(&HEAD, &[]),
+    ];
+    tall_cursor_does(&mut [0, 0], HEAD, table, &refused)
+}
+
+/// Over a buffer of three.
+fn three_are_enough(table: &Table) -> bool {
+    let shown = [
+        Act::ShowsBinary(&[1, 0, 2], Answer::Done),
+        Act::Holds(&HEAD, &[]),
+    ];
+    tall_cursor_does(&mut [0, 0, 0], HEAD, table, &shown)
+}
+
 /// A binary head of three words over a buffer of two, and then of three.
 #[test]
 fn a_full_cursor_refuses_a_binary_guard(rt: HostRuntime) -> Result<(), Fail> {
     let table = table_of(rt.alloc(), &[255, 1])?;
-    let head = 16777216 + 2 * 65536 + 1u32;
-    let refused = [
-        Act::ShowsBinary(&[], Answer::OutOfSpace),
-        Act::Holds(&head, &[]),
-    ];
-    let shown = [
-        Act::ShowsBinary(&[1, 0, 2], Answer::Done),
-        Act::Holds(&head, &[]),
-    ];
-    assert!(rt;
-        tall_cursor_does(&mut [0, 0], head, &table, &refused)
-            && tall_cursor_does(&mut [0, 0, 0], head, &table, &shown)
-    );
+    assert!(rt; two_are_too_few(&table) & three_are_enough(&table));
     Ok(())
 }
 
@@ -110,8 +119,37 @@ fn words_through_a_guard_over_a_cursor(rt: HostRuntime) -> Result<(), Fail> {
         Act::ShowsBinary(&[3], Answer::Done),
         Act::Holds(&259, &[]),
     ];
-    assert!(rt; cursor_does(&mut buf, 259, &table, &acts) && buf == [3u8, 1]);
+    assert!(rt; cursor_does(&mut buf, 259, &table, &acts) & (buf == [3u8, 1]));
     Ok(())
+}
+
+/// Both forms of a head of four words above a vector.
+fn both_are_shown(words: Vec<u8>, table: &Table) -> bool {
+    let both = [
+        Act::Shows(&[9, 4, 3, 2, 1], Answer::Done),
+        Act::Holds(&16909060, &[9]),
+        Act::ShowsBinary(&[9, 4, 3, 2], Answer::Done),
+        Act::Holds(&16909060, &[9]),
+    ];
+    tall_does(&mut coder_with(words, 16909060), table, &both)
+}
+
+/// The head over a buffer of three words.
+fn three_are_too_few(table: &Table) -> bool {
+    let refused = [
+        Act::Shows(&[], Answer::OutOfSpace),
+        Act::Holds(&16909060, &[]),
+    ];
+    tall_cursor_does(&mut [0, 0, 0], 16909060, table, &refused)
+}
+
+/// The head over a buffer of four words.
+fn four_are_enough(table: &Table) -> bool {
+    let shown = [
+        Act::Shows(&[4, 3, 2, 1], Answer::Done),
+        Act::Holds(&16909060, &[]),
+    ];
+    tall_cursor_does(&mut [0, 0, 0, 0], 16909060, table, &shown)
 }
 
 /// A head of four words, which is a 1 above three words: both forms over a vector, and over a buffer
@@ -119,26 +157,9 @@ fn words_through_a_guard_over_a_cursor(rt: HostRuntime) -> Result<(), Fail> {
 #[test]
 fn guards_of_a_head_of_four_words(rt: HostRuntime) -> Result<(), Fail> {
     let table = table_of(rt.alloc(), &[255, 1])?;
-    let mut coder = coder_with([9u8].to_vec(rt.alloc())?, 16909060u32);
-    let both = [
-        Act::Shows(&[9, 4, 3, 2, 1], Answer::Done),
-        Act::Holds(&16909060, &[9]),
-        Act::ShowsBinary(&[9, 4, 3, 2], Answer::Done),
-        Act::Holds(&16909060, &[9]),
-    ];
-    let refused = [
-        Act::Shows(&[], Answer::OutOfSpace),
-        Act::Holds(&16909060, &[]),
-    ];
-    let shown = [
-        Act::Shows(&[4, 3, 2, 1], Answer::Done),
-        Act::Holds(&16909060, &[]),
-    ];
-    assert!(rt;
-        tall_does(&mut coder, &table, &both)
-            && tall_cursor_does(&mut [0, 0, 0], 16909060, &table, &refused)
-            && tall_cursor_does(&mut [0, 0, 0, 0], 16909060, &table, &shown)
-    );
+    let words = [9u8].to_vec(rt.alloc())?;
+    let are_shown = both_are_shown(words, &table);
+    assert!(rt; are_shown & three_are_too_few(&table) & four_are_enough(&table));
     Ok(())
 }
 
@@ -153,11 +174,15 @@ fn forgets(coder: &mut Small) -> bool {
     }
 }
 
+/// The same, and the coder does as expected then.
+fn goes_on_then(mut coder: Small, table: &Table, acts: &[Act<'_, u8, u16>]) -> bool {
+    forgets(&mut coder) & small_does(&mut coder, table, acts)
+}
+
 /// Calls go on after a guard was forgotten.
 #[test]
 fn a_forgotten_guard(rt: HostRuntime) -> Result<(), Fail> {
     let table = table_of(rt.alloc(), &[255, 1])?;
-    let mut coder = coder_with(Vec::<u8>::new(rt.alloc()), 515u16);
     let acts = [
         Act::Holds(&515, &[3, 2]),
         Act::Steps(&[(0, 517)]),
@@ -165,6 +190,7 @@ fn a_forgotten_guard(rt: HostRuntime) -> Result<(), Fail> {
         Act::Shows(&[3, 2, 3, 2], Answer::Done),
         Act::Holds(&515, &[3, 2]),
     ];
-    assert!(rt; forgets(&mut coder) && small_does(&mut coder, &table, &acts));
+    let coder = coder_with(Vec::<u8>::new(rt.alloc()), 515u16);
+    assert!(rt; goes_on_then(coder, &table, &acts));
     Ok(())
 }

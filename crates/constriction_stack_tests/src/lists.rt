@@ -1,35 +1,46 @@
 //! Lists of symbols, and iterators of symbols, through the coder traits.
 
-use crate::cases::{cursor_does, new_does, new_wide_does, small_does};
-use crate::coders::{Small, Table, new_coder, table_of};
+ghost use Rattle.std.specs.Prelude.{◌≤◌};
+
+use crate::cases::{WIDE_WEIGHTS, cursor_does, new_wide_does, small_does, wide_does};
+use crate::coders::{Small, Table, WideTable, new_small, new_wide, table_of};
 use crate::expect::coder_of;
-use crate::put::{Answer, put_pairs, try_pairs};
+use crate::put::{Answer, put_pairs, put_wide_items, put_wide_odd, put_wide_pairs, try_pairs};
 use crate::script::Act;
+use constriction_base::model::{DecoderModel, EncoderModel, EntropyModel};
+use constriction_base::weights::WeightTable;
+use constriction_stack::DefaultAnsCoder;
+use constriction_stream::coder::Code;
 use constriction_stream::decoding::Decode;
+use constriction_stream::encoding::Encode;
 use constriction_stream::errors::TryCodingError;
+use constriction_words::{BitArray, WordOf};
+use std::alloc::Global;
 use std::test::Fail;
+
+/// The symbols before an unknown one are put on.
+fn stops_at_unknown(coder: &mut Small, table: &Table) -> bool {
+    let answer = put_pairs(coder, [1, 5, 1], table);
+    (answer == Answer::Unknown) & small_does(coder, table, &[Act::Holds(&255, &[])])
+}
 
 #[test]
 fn list_stops_at_unknown(rt: HostRuntime) -> Result<(), Fail> {
     let table = table_of(rt.alloc(), &[255, 1])?;
-    let mut coder = new_coder(rt.alloc());
-    assert!(rt;
-        put_pairs(&mut coder, [1, 5, 1], &table) == Answer::Unknown
-            && small_does(&mut coder, &table, &[Act::Holds(&255, &[])])
-    );
+    assert!(rt; stops_at_unknown(&mut new_small(rt.alloc()), &table));
     Ok(())
+}
+
+/// The symbols before an error are put on.
+fn stops_at_bad_model(coder: &mut Small, table: &Table) -> bool {
+    let answer = try_pairs(coder, [Ok(1), Err(7), Ok(1)], table);
+    matches!(answer, Err(7)) & small_does(coder, table, &[Act::Holds(&255, &[])])
 }
 
 #[test]
 fn list_stops_at_bad_model(rt: HostRuntime) -> Result<(), Fail> {
     let table = table_of(rt.alloc(), &[255, 1])?;
-    let mut coder = new_coder(rt.alloc());
-    assert!(rt;
-        matches!(
-            try_pairs(&mut coder, [Ok(1), Err(7), Ok(1)], &table),
-            Err(7)
-        ) && small_does(&mut coder, &table, &[Act::Holds(&255, &[])])
-    );
+    assert!(rt; stops_at_bad_model(&mut new_small(rt.alloc()), &table));
     Ok(())
 }
 
@@ -63,71 +74,142 @@ fn what_came_or_bad<E: Drop>(answer: Option<Result<usize, TryCodingError<E, u8>>
 }
 
 /// Whether an iterator says that so many items are left.
-fn hints<I: Iterator>(given: &I, count: usize) -> bool {
-    matches!(given.size_hint(), (least, Some(most)) if least == count && most == count)
+fn is_count(hint: (usize, Option<usize>), count: usize) -> bool {
+    (hint.0 == count) & (hint.1 == Some(count))
 }
 
-/// Takes symbols off by three items, and compares what comes of each, and then.
-fn by_items(coder: &mut Small, items: Vec<Result<&Table, u8>>, answers: [Came; 4]) -> bool {
+/// Takes symbols off any coder by three items, and compares what comes of each, and then.
+fn by_items<C, M, const PRECISION: usize>(
+    coder: &mut C,
+    items: Vec<Result<&M, u8>>,
+    answers: [Came; 4],
+) -> bool
+where
+    C: Decode<PRECISION>,
+    C::FrontendError: Drop,
+    C::BackendError: Drop,
+    M: DecoderModel<PRECISION, Symbol = usize>,
+    M::Probability: WordOf<C::Word>,
+{
     let mut given = coder.try_decode_symbols(items);
-    let mut goes = hints(&given, 3);
+    let mut goes = is_count(given.size_hint(), 3);
     for answer in answers {
         goes = goes & (what_came_or_bad(given.next()) == answer);
     }
     goes
 }
 
-#[test]
-fn iterator_goes_on(rt: HostRuntime) -> Result<(), Fail> {
-    let table = table_of(rt.alloc(), &[255, 1])?;
-    let Some(mut coder) = coder_of([255u8, 255, 255].to_vec(rt.alloc())?) else {
-        return Err(Fail::from("words of a coder"));
-    };
-    let items = [Ok(&table), Err(7u8), Ok(&table)].to_vec(rt.alloc())?;
-    let answers = [Came::Symbol(1), Came::Bad(7), Came::Symbol(1), Came::End];
-    let acts = [Act::Gives(&[1]), Act::Empty];
-    assert!(rt; by_items(&mut coder, items, answers) && small_does(&mut coder, &table, &acts));
-    Ok(())
-}
-
-/// Takes the first of so many symbols off by one table, and compares them. The others are left.
-fn by_one(coder: &mut Small, table: &Table, count: usize, symbols: &[usize]) -> bool {
+/// Takes the first of so many symbols off any coder by one table, and compares them. The others are left.
+fn by_one<C, M, const PRECISION: usize>(
+    coder: &mut C,
+    table: &M,
+    count: usize,
+    symbols: &[usize],
+) -> bool
+where
+    C: Decode<PRECISION>,
+    C::FrontendError: Drop,
+    C::BackendError: Drop,
+    M: DecoderModel<PRECISION, Symbol = usize>,
+    M::Probability: WordOf<C::Word>,
+{
     let mut given = coder.decode_iid_symbols(count, table);
-    let mut goes = hints(&given, count);
+    let mut goes = is_count(given.size_hint(), count);
     for symbol in symbols {
         goes = goes & (what_came(given.next()) == Came::Symbol(*symbol));
     }
     goes
 }
 
-#[test]
-fn iterator_dropped_early(rt: HostRuntime) -> Result<(), Fail> {
-    let table = table_of(rt.alloc(), &[255, 1])?;
-    let Some(mut coder) = coder_of([255u8, 255, 255].to_vec(rt.alloc())?) else {
-        return Err(Fail::from("words of a coder"));
-    };
-    let acts = [Act::Gives(&[1, 1]), Act::Empty];
-    assert!(rt; by_one(&mut coder, &table, 3, &[1]) && small_does(&mut coder, &table, &acts));
-    Ok(())
-}
-
-/// Takes symbols off by two tables, and compares what comes of each, and then.
-fn by_tables(coder: &mut Small, tables: &[Table; 2], answers: [Came; 3]) -> bool {
-    let mut given = coder.decode_symbols(tables.iter());
-    let mut goes = hints(&given, 2);
+/// Takes symbols off any coder by two tables, and compares what comes of each, and then.
+fn by_tables<C, M, const PRECISION: usize>(
+    coder: &mut C,
+    tables: Vec<&M>,
+    answers: [Came; 3],
+) -> bool
+where
+    C: Decode<PRECISION>,
+    C::FrontendError: Drop,
+    C::BackendError: Drop,
+    M: DecoderModel<PRECISION, Symbol = usize>,
+    M::Probability: WordOf<C::Word>,
+{
+    let mut given = coder.decode_symbols(tables);
+    let mut goes = is_count(given.size_hint(), 2);
     for answer in answers {
         goes = goes & (what_came(given.next()) == answer);
     }
     goes
 }
 
+/// Takes symbols off a coder of bytes by one table.
+fn small_by_one(coder: &mut Small, table: &Table, count: usize, symbols: &[usize]) -> bool {
+    by_one::<_, _, 8>(coder, table, count, symbols)
+}
+
+/// The coder of the words 255, 255 and 255, if there is one.
+fn imported(alloc: Global) -> Option<Small> {
+    match [255u8, 255, 255].to_vec(alloc) {
+        Ok(words) => coder_of(words),
+        Err(_) => None,
+    }
+}
+
+/// The same by two tables, and then none.
+fn small_by_tables(alloc: Global, coder: &mut Small, table: &Table, answers: [Came; 3]) -> bool {
+    match [table, table].to_vec(alloc) {
+        Ok(tables) => by_tables::<_, _, 8>(coder, tables, answers),
+        Err(_) => false,
+    }
+}
+
+/// The same by items, of which the second is an error.
+fn small_by_items(alloc: Global, coder: &mut Small, table: &Table, answers: [Came; 4]) -> bool {
+    match [Ok(table), Err(7u8), Ok(table)].to_vec(alloc) {
+        Ok(items) => by_items::<_, _, 8>(coder, items, answers),
+        Err(_) => false,
+    }
+}
+
+/// An error in the place of a table keeps the coder, and the next table goes on.
+fn goes_on(alloc: Global, table: &Table) -> bool {
+    let answers = [Came::Symbol(1), Came::Bad(7), Came::Symbol(1), Came::End];
+    match imported(alloc) {
+        Some(mut coder) => {
+            small_by_items(alloc, &mut coder, table, answers)
+                & small_does(&mut coder, table, &[Act::Gives(&[1]), Act::Empty])
+        }
+        None => false,
+    }
+}
+
 #[test]
-fn lists_at_u8_and_u16(rt: HostRuntime) -> Result<(), Fail> {
-    let tables = [
-        table_of(rt.alloc(), &[255, 1])?,
-        table_of(rt.alloc(), &[255, 1])?,
-    ];
-    let mut coder = new_coder(rt.alloc());
+fn iterator_goes_on(rt: HostRuntime) -> Result<(), Fail> {
+    let table = table_of(rt.alloc(), &[255, 1])?;
+    assert!(rt; goes_on(rt.alloc(), &table));
+    Ok(())
+}
+
+/// Symbols that an iterator didn't give stay on the coder.
+fn stay(alloc: Global, table: &Table) -> bool {
+    match imported(alloc) {
+        Some(mut coder) => {
+            small_by_one(&mut coder, table, 3, &[1])
+                & small_does(&mut coder, table, &[Act::Gives(&[1, 1]), Act::Empty])
+        }
+        None => false,
+    }
+}
+
+#[test]
+fn iterator_dropped_early(rt: HostRuntime) -> Result<(), Fail> {
+    let table = table_of(rt.alloc(), &[255, 1])?;
+    assert!(rt; stay(rt.alloc(), &table));
+    Ok(())
+}
+
+/// Symbols by lists, and back by iterators.
+fn lists_go(alloc: Global, coder: &mut Small, table: &Table) -> bool {
     let lists = [
         Act::List(&[], Answer::Done),
         Act::Empty,
@@ -135,34 +217,39 @@ fn lists_at_u8_and_u16(rt: HostRuntime) -> Result<(), Fail> {
         Act::List(&[1, 1], Answer::Done),
     ];
     let answers = [Came::Symbol(1), Came::Symbol(1), Came::End];
-    assert!(rt;
-        small_does(&mut coder, &tables[0], &lists)
-            && by_tables(&mut coder, &tables, answers)
-            && by_one(&mut coder, &tables[0], 2, &[0, 1])
-            && small_does(&mut coder, &tables[0], &[Act::Empty])
-    );
+    small_does(coder, table, &lists)
+        & small_by_tables(alloc, coder, table, answers)
+        & small_by_one(coder, table, 2, &[0, 1])
+        & small_does(coder, table, &[Act::Empty])
+}
+
+#[test]
+fn lists_at_u8_and_u16(rt: HostRuntime) -> Result<(), Fail> {
+    let table = table_of(rt.alloc(), &[255, 1])?;
+    assert!(rt; lists_go(rt.alloc(), &mut new_small(rt.alloc()), &table));
     Ok(())
 }
 
 /// Three symbols, each with its table, and as the items of a list that may be faulty.
-#[test]
-fn lists_of_pairs_at_u8_and_u16(rt: HostRuntime) -> Result<(), Fail> {
-    let table = table_of(rt.alloc(), &[255, 1])?;
-    let mut coder = new_coder(rt.alloc());
+fn pairs_go(coder: &mut Small, table: &Table) -> bool {
     let acts = [
         Act::Holds(&65535, &[255]),
         Act::Gives(&[1, 1, 1]),
         Act::Empty,
     ];
-    assert!(rt;
-        put_pairs(&mut coder, [1, 1, 1], &table) == Answer::Done
-            && small_does(&mut coder, &table, &acts)
-            && matches!(
-                try_pairs(&mut coder, [Ok(1), Ok(1), Ok(1)], &table),
-                Ok(Answer::Done)
-            )
-            && small_does(&mut coder, &table, &acts)
-    );
+    let pairs = put_pairs(coder, [1, 1, 1], table);
+    let are_taken = small_does(coder, table, &acts);
+    let items = try_pairs(coder, [Ok(1), Ok(1), Ok(1)], table);
+    (pairs == Answer::Done)
+        & are_taken
+        & matches!(items, Ok(Answer::Done))
+        & small_does(coder, table, &acts)
+}
+
+#[test]
+fn lists_of_pairs_at_u8_and_u16(rt: HostRuntime) -> Result<(), Fail> {
+    let table = table_of(rt.alloc(), &[255, 1])?;
+    assert!(rt; pairs_go(&mut new_small(rt.alloc()), &table));
     Ok(())
 }
 
@@ -195,6 +282,102 @@ fn two_lists_at_u32_and_u64(rt: HostRuntime) {
         Act::Holds(&3, &[]),
     ];
     assert!(rt; new_wide_does(rt.alloc(), &acts));
+}
+
+/// Takes symbols off a coder at words of 32 bits by two tables, and then none.
+fn wide_by_tables(
+    alloc: Global,
+    coder: &mut DefaultAnsCoder,
+    table: &WideTable,
+    answers: [Came; 3],
+) -> bool {
+    match [table, table].to_vec(alloc) {
+        Ok(tables) => by_tables::<_, _, 24>(coder, tables, answers),
+        Err(_) => false,
+    }
+}
+
+/// The same by items, of which the second is an error.
+fn wide_by_items(
+    alloc: Global,
+    coder: &mut DefaultAnsCoder,
+    table: &WideTable,
+    answers: [Came; 4],
+) -> bool {
+    match [Ok(table), Err(7u8), Ok(table)].to_vec(alloc) {
+        Ok(items) => by_items::<_, _, 24>(coder, items, answers),
+        Err(_) => false,
+    }
+}
+
+/// The symbols 1, 0 as pairs and 2, 0 as items, and back.
+fn wide_pairs_go(alloc: Global, coder: &mut DefaultAnsCoder, table: &WideTable) -> bool {
+    let pairs = put_wide_pairs(coder, [1, 0], table);
+    let first = wide_does(coder, table, &[Act::Holds(&16777216, &[])]);
+    let items = put_wide_items(coder, [2, 0], table);
+    let second = wide_does(coder, table, &[Act::Holds(&93825036976130, &[])]);
+    let answers = [Came::Symbol(0), Came::Symbol(2), Came::End];
+    let last = [Act::Gives(&[0]), Act::Holds(&3, &[])];
+    (pairs == Answer::Done)
+        & first
+        & matches!(items, Ok(Answer::Done))
+        & second
+        & wide_by_tables(alloc, coder, table, answers)
+        & wide_does(coder, table, &last)
+}
+
+/// The symbols 1, 0 and 2, 0 as pairs and as items, and back by tables.
+#[test]
+fn lists_of_pairs_at_u32_and_u64(rt: HostRuntime) -> Result<(), Fail> {
+    let table = WeightTable::new(rt.alloc(), WIDE_WEIGHTS.as_slice())?;
+    assert!(rt; wide_pairs_go(rt.alloc(), &mut new_wide(rt.alloc()), &table));
+    Ok(())
+}
+
+/// Puts two symbols on any coder and takes two off.
+fn two_through_the_bounds<C, M>(coder: &mut C, symbols: &[M::Symbol; 2], model: &M) -> bool
+where
+    C: Encode<24> + Decode<24>,
+    <C as Encode<24>>::FrontendError: Drop,
+    <C as Encode<24>>::BackendError: Drop,
+    <C as Decode<24>>::FrontendError: Drop,
+    <C as Decode<24>>::BackendError: Drop,
+    M: EncoderModel<24> + DecoderModel<24>,
+    M::Probability: WordOf<C::Word>,
+    requires { 2 ≤ C.symbols_left coder.old }
+{
+    if coder.encode_iid_symbols(symbols.as_slice(), model).is_err() {
+        return false;
+    }
+    let mut answers = coder.decode_iid_symbols(2, model);
+    matches!(answers.next(), Some(Ok(_))) && matches!(answers.next(), Some(Ok(_)))
+}
+
+/// The symbols 1 and 1 by a filter, and back: one by items, of which the next is an error, and the other. Two more
+/// go through the bounds.
+fn filtered_go(alloc: Global, coder: &mut DefaultAnsCoder, table: &WideTable) -> bool {
+    let is_put = put_wide_odd(coder, table);
+    let acts = [Act::Holds(&16777220, &[])];
+    let is_held = wide_does(coder, table, &acts);
+    let answers = [Came::Symbol(1), Came::Bad(7), Came::Symbol(1), Came::End];
+    let is_taken = wide_by_items(alloc, coder, table, answers);
+    is_put & is_held & is_taken & wide_does(coder, table, &[Act::Empty])
+}
+
+/// Through the bounds alone a coder is empty again.
+fn through_the_bounds(coder: &mut DefaultAnsCoder, table: &WideTable) -> bool {
+    let acts = [Act::Empty, Act::NoLimit, Act::Exhausted];
+    two_through_the_bounds(coder, &[0, 2], table) & wide_does(coder, table, &acts)
+}
+
+#[test]
+fn lists_by_a_filter(rt: HostRuntime) -> Result<(), Fail> {
+    let table = WeightTable::new(rt.alloc(), WIDE_WEIGHTS.as_slice())?;
+    let mut coder = new_wide(rt.alloc());
+    assert!(rt;
+        filtered_go(rt.alloc(), &mut coder, &table) & through_the_bounds(&mut coder, &table)
+    );
+    Ok(())
 }
 
 /// The symbols 1 and 1, and back.

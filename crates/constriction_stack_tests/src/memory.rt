@@ -16,13 +16,30 @@ fn goes_over(
     start: (&[u8], u16),
     table: &Table,
     acts: (&[Act<'_, u8, u16>], &[Act<'_, u8, u16>]),
-) -> Result<bool, AllocError> {
+) -> bool {
     let room = if start.0.is_empty() { 512 } else { 496 };
-    let mut coder: HeapCoder<'_> = coder_with(start.0.to_vec(heap)?, start.1);
-    let filler: Vec<u8, &LocalHeap> = Vec::with_capacity(heap, room)?;
-    let is_kept = heap_does(&mut coder, table, acts.0);
-    drop(filler);
-    Ok(is_kept & heap_does(&mut coder, table, acts.1))
+    match start.0.to_vec(heap) {
+        Ok(words) => {
+            let mut coder: HeapCoder<'_> = coder_with(words, start.1);
+            does_in_full(heap, room, &mut coder, table, acts.0)
+                & heap_does(&mut coder, table, acts.1)
+        }
+        Err(AllocError) => false,
+    }
+}
+
+/// Whether a coder does as expected while so many bytes of a heap are taken.
+fn does_in_full(
+    heap: &LocalHeap,
+    room: usize,
+    coder: &mut HeapCoder<'_>,
+    table: &Table,
+    acts: &[Act<'_, u8, u16>],
+) -> bool {
+    match Vec::<u8, &LocalHeap>::with_capacity(heap, room) {
+        Ok(_filler) => heap_does(coder, table, acts),
+        Err(AllocError) => false,
+    }
 }
 
 /// The same over a new heap, under a table of these weights.
@@ -34,7 +51,7 @@ fn made_does(
 ) -> Result<bool, Fail> {
     let table = table_of(alloc, weights)?;
     let heap = LocalHeap::new(alloc, 512)?;
-    Ok(goes_over(&heap, start, &table, acts)?)
+    Ok(goes_over(&heap, start, &table, acts))
 }
 
 /// The step that was refused, where there is memory.

@@ -2,12 +2,12 @@
 
 ghost use Rattle.constriction_stream.specs.Lists.{GivesAtMost};
 
-use crate::coders::{Small, Table};
+use crate::coders::{Small, Table, WideTable};
 use constriction_base::backends::WriteWords;
 use constriction_base::errors::{BoundedWriteError, CoderError, DefaultEncoderError};
 use constriction_base::model::{EncoderModel, EntropyModel};
 use constriction_base::weights::WeightTable;
-use constriction_stack::AnsCoder;
+use constriction_stack::{AnsCoder, DefaultAnsCoder};
 use constriction_stream::coder::Code;
 use constriction_stream::encoding::{Encode, EncodeReverse, Lent};
 use constriction_stream::errors::TryCodingError;
@@ -249,4 +249,52 @@ where
         item_of(&third, table),
     ];
     items_back(coder, items)
+}
+
+/// Puts two symbols on at words of 32 bits, each with the table.
+pub fn put_wide_pairs(
+    coder: &mut DefaultAnsCoder,
+    symbols: [usize; 2],
+    table: &WideTable,
+) -> Answer {
+    let [first, second] = symbols;
+    answer_of(coder.encode_symbols([(&first, table), (&second, table)]))
+}
+
+/// The same as items, none of which is an error.
+pub fn put_wide_items(
+    coder: &mut DefaultAnsCoder,
+    symbols: [usize; 2],
+    table: &WideTable,
+) -> Result<Answer, u8> {
+    let [first, second] = symbols;
+    tried_answer_of(coder.try_encode_symbols([Ok((&first, table)), Ok((&second, table))]))
+}
+
+/// Puts three symbols on at words of 32 bits, the last one first.
+pub fn put_wide_pairs_back(
+    coder: &mut DefaultAnsCoder,
+    symbols: [usize; 3],
+    table: &WideTable,
+) -> Answer {
+    let [first, second, third] = symbols;
+    pairs_back(coder, [(&first, table), (&second, table), (&third, table)])
+}
+
+/// Puts two symbols on as items, none of which is an error, the last one first.
+pub fn put_wide_items_back(
+    coder: &mut DefaultAnsCoder,
+    symbols: [usize; 2],
+    table: &WideTable,
+) -> Result<Answer, u8> {
+    let [first, second] = symbols;
+    items_back(coder, [Ok((&first, table)), Ok((&second, table))])
+}
+
+/// Puts the symbols 1 and 1 on by a filter, which doesn't know how many symbols it keeps.
+pub fn put_wide_odd(coder: &mut DefaultAnsCoder, table: &WideTable) -> bool {
+    let odd = [1usize, 2, 1, 4];
+    coder
+        .encode_iid_symbols(odd.iter().filter(|symbol| **symbol == 1), table)
+        .is_ok()
 }

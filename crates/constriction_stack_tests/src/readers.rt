@@ -13,7 +13,7 @@ use constriction_stack::coder::words::CompressedDataEndsWithZeroWord;
 use constriction_stack::{AnsCoder, DefaultAnsCoder};
 use constriction_words::{BitArray, WordOf};
 use linked_list_allocator::LocalHeap;
-use std::alloc::AllocError;
+use std::alloc::{AllocError, Global};
 use std::test::Fail;
 
 /// Where the coder of a slice's words stands, and its head.
@@ -62,13 +62,26 @@ where
     AnsCoder::<u8, State, Reverse<Cursor<u8, &[u8]>>>::from_reversed_binary(words).pos()
 }
 
+/// Compares where a coder stands.
+fn is_at<State: PartialEq + Drop>(found: (usize, State), place: usize, head: State) -> bool {
+    (found.0 == place) & (found.1 == head)
+}
+
+/// Whether words are refused, and these given back.
+fn gives_back<State: Drop>(found: Result<(usize, State), &[u8]>, words: &[u8]) -> bool {
+    match found {
+        Ok(_) => false,
+        Err(rest) => rest == words,
+    }
+}
+
 #[test]
 fn slices_of_words(rt: HostRuntime) {
     assert!(rt;
         of_slice::<u16>(&[7, 0]).is_err()
-            && of_binary_slice::<u16>(&[5, 0]) == (1, 256)
-            && of_reversed_binary::<u16>(&[0, 5]) == (1, 256)
-            && matches!(of_reversed::<u16>(&[0, 7]), Err(rest) if rest == [0u8, 7].as_slice())
+            & is_at(of_binary_slice::<u16>(&[5, 0]), 1, 256)
+            & is_at(of_reversed_binary::<u16>(&[0, 5]), 1, 256)
+            & gives_back(of_reversed::<u16>(&[0, 7]), &[0, 7])
     );
 }
 
@@ -76,14 +89,14 @@ fn slices_of_words(rt: HostRuntime) {
 fn slices_of_words_of_a_head_of_four(rt: HostRuntime) {
     assert!(rt;
         of_slice::<u32>(&[7, 0]).is_err()
-            && matches!(of_slice::<u32>(&[1, 2, 3, 4, 5, 6, 7]), Ok((3, 117835012)))
-            && of_binary_slice::<u32>(&[5, 0, 1, 2, 3]) == (2, 16974337)
-            && of_reversed_binary::<u32>(&[3, 2, 1, 0, 5]) == (3, 16974337)
-            && matches!(
+            & matches!(of_slice::<u32>(&[1, 2, 3, 4, 5, 6, 7]), Ok((3, 117835012)))
+            & is_at(of_binary_slice::<u32>(&[5, 0, 1, 2, 3]), 2, 16974337)
+            & is_at(of_reversed_binary::<u32>(&[3, 2, 1, 0, 5]), 3, 16974337)
+            & matches!(
                 of_reversed::<u32>(&[7, 6, 5, 4, 3, 2, 1]),
                 Ok((4, 117835012))
             )
-            && matches!(of_reversed::<u32>(&[0, 7]), Err(rest) if rest == [0u8, 7].as_slice())
+            & gives_back(of_reversed::<u32>(&[0, 7]), &[0, 7])
     );
 }
 
@@ -127,45 +140,67 @@ fn a_head_of_two_words() -> bool {
 fn ans_reversed_iterators(rt: HostRuntime) {
     assert!(rt;
         an_error_ends_words()
-            && an_error_ends_binary_words()
-            && a_head_of_one_word()
-            && a_head_of_two_words()
+            & an_error_ends_binary_words()
+            & a_head_of_one_word()
+            & a_head_of_two_words()
     );
+}
+
+/// The words 9, 1 and 1 of a coder, one by one, and then none.
+fn stays(coder: &DefaultAnsCoder) -> bool {
+    let mut words = coder.iter_compressed();
+    let mut goes = true;
+    for word in [Some(9u32), Some(1), Some(1), None, None] {
+        goes = goes & (words.next() == word);
+    }
+    goes
 }
 
 #[test]
 fn the_words_of_a_coder_that_stays(rt: HostRuntime) -> Result<(), Fail> {
-    let coder: DefaultAnsCoder = coder_with([9u32].to_vec(rt.alloc())?, 4294967297);
-    let mut words = coder.iter_compressed();
-    for word in [Some(9u32), Some(1), Some(1), None, None] {
-        assert!(rt; words.next() == word);
-    }
+    let words = [9u32].to_vec(rt.alloc())?;
+    assert!(rt; stays(&coder_with(words, 4294967297)));
     Ok(())
+}
+
+/// Compares the text of a coder.
+fn coder_reads(alloc: Global, words: Vec<u32>, head: u64, text: &str) -> bool {
+    let coder: DefaultAnsCoder = coder_with(words, head);
+    match format!(in alloc; "{:?}", coder) {
+        Ok(found) => found.as_str() == text,
+        Err(_) => false,
+    }
 }
 
 #[test]
 fn the_text_of_a_coder(rt: HostRuntime) -> Result<(), Fail> {
-    let coder: DefaultAnsCoder = coder_with([9u32].to_vec(rt.alloc())?, 4294967297);
-    let none: DefaultAnsCoder = coder_with(Vec::new(rt.alloc()), 0);
-    let text = format!(in rt.alloc(); "{:?} {:?}", coder, none)?;
-    assert_eq!(rt; text.as_str(), "[9, 1, 1] []");
+    let words = [9u32].to_vec(rt.alloc())?;
+    let is_text = coder_reads(rt.alloc(), words, 4294967297, "[9, 1, 1]");
+    assert!(rt; is_text & coder_reads(rt.alloc(), Vec::new(rt.alloc()), 0, "[]"));
     Ok(())
 }
 
 /// From when a coder is cloned on, it and the clone part.
 fn parts(coder: &mut Small, clone: &Small, table: &Table) -> bool {
     holds(clone, 65535, &[7])
-        && puts(coder, table, &[(1, 65535)])
-        && holds(coder, 65535, &[7, 255])
-        && holds(clone, 65535, &[7])
+        & puts(coder, table, &[(1, 65535)])
+        & holds(coder, 65535, &[7, 255])
+        & holds(clone, 65535, &[7])
+}
+
+/// The same of a coder of the word 7 and its clone.
+fn clone_parts(mut coder: Small, table: &Table) -> bool {
+    match coder.clone() {
+        Ok(clone) => parts(&mut coder, &clone, table),
+        Err(AllocError) => false,
+    }
 }
 
 #[test]
 fn a_clone_parts_from_its_coder(rt: HostRuntime) -> Result<(), Fail> {
     let table = table_of(rt.alloc(), &[255, 1])?;
-    let mut coder: Small = coder_with([7u8].to_vec(rt.alloc())?, 65535);
-    let clone = coder.clone()?;
-    assert!(rt; parts(&mut coder, &clone, &table));
+    let words = [7u8].to_vec(rt.alloc())?;
+    assert!(rt; clone_parts(coder_with(words, 65535), &table));
     Ok(())
 }
 
@@ -177,19 +212,30 @@ fn clones(coder: &HeapCoder<'_>) -> Answer {
     }
 }
 
-/// Clones it while the rest of the heap is full, and then when it isn't.
-fn clones_then(heap: &LocalHeap, coder: &HeapCoder<'_>) -> Result<bool, AllocError> {
-    let filler: Vec<u8, &LocalHeap> = Vec::with_capacity(heap, 496)?;
-    let is_refused = clones(coder) == Answer::NoMemory;
-    drop(filler);
-    Ok(is_refused && clones(coder) == Answer::Done)
+/// Clones it while the rest of the heap is full.
+fn clones_in_full_heap(heap: &LocalHeap, coder: &HeapCoder<'_>) -> Option<Answer> {
+    match Vec::<u8, &LocalHeap>::with_capacity(heap, 496) {
+        Ok(_filler) => Some(clones(coder)),
+        Err(AllocError) => None,
+    }
+}
+
+/// The same, and then when it isn't full.
+fn clones_then(heap: &LocalHeap) -> bool {
+    match [7u8].to_vec(heap) {
+        Ok(words) => {
+            let coder: HeapCoder<'_> = coder_with(words, 515);
+            let is_refused = clones_in_full_heap(heap, &coder) == Some(Answer::NoMemory);
+            is_refused & (clones(&coder) == Answer::Done)
+        }
+        Err(AllocError) => false,
+    }
 }
 
 /// The coder's word takes 16 bytes of the heap.
 #[test]
 fn a_full_heap_refuses_a_clone(rt: HostRuntime) -> Result<(), Fail> {
     let heap = LocalHeap::new(rt.alloc(), 512)?;
-    let coder: HeapCoder<'_> = coder_with([7u8].to_vec(&heap)?, 515);
-    assert!(rt; clones_then(&heap, &coder)?);
+    assert!(rt; clones_then(&heap));
     Ok(())
 }

@@ -40,17 +40,22 @@ fn goes_after_a_read_error<Backend: ReadWords<u8, Stack, ReadError = u8>>(
     table: &Table,
 ) -> bool {
     let is_refused = matches!(coder.decode_symbol(table), Err(CoderError::Backend(3)));
-    is_refused && has_head(coder, 65535) && gives(coder, table, &[1]) && has_head(coder, 65535)
+    is_refused & has_head(coder, 65535) & gives(coder, table, &[1]) & has_head(coder, 65535)
 }
 
-#[test]
-fn a_read_error_keeps_the_head(rt: HostRuntime) -> Result<(), Fail> {
-    let table = table_of(rt.alloc(), &[255, 1])?;
+/// The same of a coder over such an iterator.
+fn read_error_keeps_the_head(table: &Table) -> bool {
     let answers = [Err(3u8), Ok(255u8)];
     let mut coder: AnsCoder<u8, u16, FallibleIteratorReadWords<_>> = coder_with(
         FallibleIteratorReadWords::new(answers.into_iter()),
         65535,
     );
-    assert!(rt; goes_after_a_read_error(&mut coder, &table));
+    goes_after_a_read_error(&mut coder, table)
+}
+
+#[test]
+fn a_read_error_keeps_the_head(rt: HostRuntime) -> Result<(), Fail> {
+    let table = table_of(rt.alloc(), &[255, 1])?;
+    assert!(rt; read_error_keeps_the_head(&table));
     Ok(())
 }

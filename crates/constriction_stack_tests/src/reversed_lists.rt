@@ -1,10 +1,14 @@
 //! Lists of symbols from the last to the first.
 
-use crate::cases::{cursor_does, new_does, new_wide_does, small_does};
-use crate::coders::{Small, Table, new_coder, table_of};
+use crate::cases::{WIDE_WEIGHTS, cursor_does, new_does, new_wide_does, small_does, wide_does};
+use crate::coders::{Small, Table, WideTable, new_small, new_wide, table_of};
 use crate::expect::has_head;
-use crate::put::{Answer, put_pairs_back, try_pairs_back};
+use crate::put::{
+    Answer, put_pairs_back, put_wide_items_back, put_wide_pairs_back, try_pairs_back,
+};
 use crate::script::Act;
+use constriction_base::weights::WeightTable;
+use constriction_stack::DefaultAnsCoder;
 use std::test::Fail;
 
 #[test]
@@ -24,21 +28,67 @@ fn reversed_lists_at_u8_and_u16(rt: HostRuntime) {
     assert!(rt; new_does(rt.alloc(), &[200, 55, 1], &acts));
 }
 
+/// Puts symbols on, each with the table, the last one first.
+fn put_small_back(coder: &mut Small, symbols: [usize; 3], table: &Table) -> Answer {
+    put_pairs_back(coder, symbols, table)
+}
+
+/// The same as items, of which some may be errors.
+fn try_small_back(
+    coder: &mut Small,
+    symbols: [Result<usize, u8>; 3],
+    table: &Table,
+) -> Result<Answer, u8> {
+    try_pairs_back(coder, symbols, table)
+}
+
 /// Three symbols, each with its table, and as the items of a list that may be faulty.
+fn pairs_go(coder: &mut Small, table: &Table) -> bool {
+    let acts = [Act::Holds(&511, &[0]), Act::Gives(&[2, 0, 1]), Act::Empty];
+    let pairs = put_small_back(coder, [2, 0, 1], table);
+    let are_taken = small_does(coder, table, &acts);
+    let items = try_small_back(coder, [Ok(2), Ok(0), Ok(1)], table);
+    (pairs == Answer::Done)
+        & are_taken
+        & matches!(items, Ok(Answer::Done))
+        & small_does(coder, table, &acts)
+}
+
 #[test]
 fn reversed_lists_of_pairs(rt: HostRuntime) -> Result<(), Fail> {
     let table = table_of(rt.alloc(), &[200, 55, 1])?;
-    let mut coder = new_coder(rt.alloc());
-    let acts = [Act::Holds(&511, &[0]), Act::Gives(&[2, 0, 1]), Act::Empty];
-    assert!(rt;
-        put_pairs_back(&mut coder, [2, 0, 1], &table) == Answer::Done
-            && small_does(&mut coder, &table, &acts)
-            && matches!(
-                try_pairs_back(&mut coder, [Ok(2), Ok(0), Ok(1)], &table),
-                Ok(Answer::Done)
-            )
-            && small_does(&mut coder, &table, &acts)
-    );
+    assert!(rt; pairs_go(&mut new_small(rt.alloc()), &table));
+    Ok(())
+}
+
+/// Pairs, a list and items at words of 32 bits, and back.
+fn wide_pairs_go(coder: &mut DefaultAnsCoder, table: &WideTable) -> bool {
+    let list = [
+        Act::Holds(&33554436, &[]),
+        Act::ListBack(&[0, 1, 1, 0], Answer::Done),
+        Act::Holds(&4003138579202049, &[2885681152, 16777220]),
+    ];
+    let last = [
+        Act::Holds(
+            &10166992900,
+            &[2885681152, 16777220, 1426063361, 2617245697],
+        ),
+        Act::Gives(&[1, 0, 0, 1, 1, 0, 1, 2, 0]),
+        Act::Empty,
+    ];
+    let pairs = put_wide_pairs_back(coder, [1, 2, 0], table);
+    let are_put = wide_does(coder, table, &list);
+    let items = put_wide_items_back(coder, [1, 0], table);
+    (pairs == Answer::Done)
+        & are_put
+        & matches!(items, Ok(Answer::Done))
+        & wide_does(coder, table, &last)
+}
+
+#[test]
+fn reversed_lists_of_pairs_at_u32_and_u64(rt: HostRuntime) -> Result<(), Fail> {
+    let table = WeightTable::new(rt.alloc(), WIDE_WEIGHTS.as_slice())?;
+    assert!(rt; wide_pairs_go(&mut new_wide(rt.alloc()), &table));
     Ok(())
 }
 
@@ -62,37 +112,37 @@ fn reversed_lists_at_u32_and_u64(rt: HostRuntime) {
 
 /// The symbols behind the unknown one are on the coder, and no other.
 fn stops_at_unknown(coder: &mut Small, table: &Table) -> bool {
-    put_pairs_back(coder, [0, 5, 1], table) == Answer::Unknown && has_head(coder, 255)
+    let answer = put_small_back(coder, [0, 5, 1], table);
+    let acts = [
+        Act::Holds(&255, &[]),
+        Act::ListBack(&[0, 5, 1], Answer::Unknown),
+        Act::Holds(&65535, &[]),
+    ];
+    (answer == Answer::Unknown) & small_does(coder, table, &acts)
 }
 
 #[test]
 fn a_reversed_list_stops_at_unknown(rt: HostRuntime) -> Result<(), Fail> {
     let table = table_of(rt.alloc(), &[255, 1])?;
-    let mut coder = new_coder(rt.alloc());
-    let acts = [
-        Act::ListBack(&[0, 5, 1], Answer::Unknown),
-        Act::Holds(&65535, &[]),
-    ];
-    assert!(rt; stops_at_unknown(&mut coder, &table) && small_does(&mut coder, &table, &acts));
+    assert!(rt; stops_at_unknown(&mut new_small(rt.alloc()), &table));
     Ok(())
 }
 
 /// An error in the place of an item, before and behind an unknown symbol.
 fn stops_at_bad_model(coder: &mut Small, table: &Table) -> bool {
-    matches!(try_pairs_back(coder, [Ok(0), Err(7), Ok(1)], table), Err(7))
-        && has_head(coder, 255)
-        && matches!(
-            try_pairs_back(coder, [Err(7), Ok(5), Ok(1)], table),
-            Ok(Answer::Unknown)
-        )
-        && has_head(coder, 65535)
+    let behind = try_small_back(coder, [Ok(0), Err(7), Ok(1)], table);
+    let is_kept = has_head(coder, 255);
+    let before = try_small_back(coder, [Err(7), Ok(5), Ok(1)], table);
+    is_kept
+        & matches!(behind, Err(7))
+        & matches!(before, Ok(Answer::Unknown))
+        & has_head(coder, 65535)
 }
 
 #[test]
 fn a_reversed_list_stops_at_bad_model(rt: HostRuntime) -> Result<(), Fail> {
     let table = table_of(rt.alloc(), &[255, 1])?;
-    let mut coder: Small = new_coder(rt.alloc());
-    assert!(rt; stops_at_bad_model(&mut coder, &table));
+    assert!(rt; stops_at_bad_model(&mut new_small(rt.alloc()), &table));
     Ok(())
 }
 

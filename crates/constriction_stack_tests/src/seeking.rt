@@ -65,11 +65,11 @@ where
     requires { Backend.can_tell coder.old.backend }
 {
     stands_at(coder, run.place, run.head)
-        && gives(coder, table, run.symbols)
-        && has_head(coder, run.last)
-        && goes_to(coder, run.place, run.head)
-        && gives(coder, table, run.symbols)
-        && has_head(coder, run.last)
+        & gives(coder, table, run.symbols)
+        & has_head(coder, run.last)
+        & goes_to(coder, run.place, run.head)
+        & gives(coder, table, run.symbols)
+        & has_head(coder, run.last)
 }
 
 /// The same over a slice.
@@ -123,14 +123,25 @@ where
 {
     match AnsCoder::<u8, State, Reverse<Cursor<u8, Vec<u8>>>>::from_reversed_compressed(words) {
         Ok(second) => {
-            if !stands_at(&second, back.place, back.head) {
-                return false;
-            }
-            let mut third = turned(second);
-            twice_turned_again(&third, table, back) && twice(&mut third, table, run)
+            stands_at(&second, back.place, back.head)
+                & twice_of_turned(turned(second), table, run, back)
         }
         Err(_) => false,
     }
+}
+
+/// The same of the coder that was turned round.
+fn twice_of_turned<State>(
+    mut third: AnsCoder<u8, State, Cursor<u8, Vec<u8>>>,
+    table: &Table,
+    run: &Run<'_, State>,
+    back: &Run<'_, State>,
+) -> bool
+where
+    u8: WordOf<State>,
+    State: BitArray + PartialEq,
+{
+    twice_turned_again(&third, table, back) & twice(&mut third, table, run)
 }
 
 /// The same of a clone that is turned round once more.
@@ -167,7 +178,7 @@ fn ans_seekable_and_reversed(rt: HostRuntime) -> Result<(), Fail> {
     };
     let words = [5u8, 4, 3, 2, 1].to_vec(rt.alloc())?;
     assert!(rt;
-        twice_over_slice(&[1, 2, 3, 4, 5], &table, &run) && twice_turned(words, &table, &run, &back)
+        twice_over_slice(&[1, 2, 3, 4, 5], &table, &run) & twice_turned(words, &table, &run, &back)
     );
     Ok(())
 }
@@ -192,28 +203,41 @@ fn seekable_and_reversed_at_four_words(rt: HostRuntime) -> Result<(), Fail> {
     let words = [7u8, 6, 5, 4, 3, 2, 1].to_vec(rt.alloc())?;
     assert!(rt;
         twice_over_slice(&[1, 2, 3, 4, 5, 6, 7], &table, &run)
-            && twice_turned(words, &table, &run, &back)
+            & twice_turned(words, &table, &run, &back)
     );
     Ok(())
+}
+
+/// Of a coder over borrowed words in reverse.
+fn reversed_seek_is_refused(words: &[u8]) -> bool {
+    let mut first: AnsCoder<u8, u16, Reverse<Cursor<u8, &[u8]>>> = coder_with(
+        Reverse(Cursor::new_at_write_beginning(words)),
+        1284,
+    );
+    !goes_to(&mut first, 6, 7) & stands_at(&first, 0, 1284)
+}
+
+/// Of a coder over a vector of the word 7.
+fn seek_is_refused<State>(words: Vec<u8>, head: State, other: State) -> bool
+where
+    u8: WordOf<State>,
+    State: BitArray + PartialEq,
+    requires { IsSizes 8 State.BITS }
+{
+    let mut coder = coder_with(words, head);
+    !goes_to(&mut coder, 9, other) & holds(&coder, head, &[7])
 }
 
 /// A place past the end is refused, and the coder stays.
 #[test]
 fn a_refused_seek(rt: HostRuntime) -> Result<(), Fail> {
-    let words = [5u8, 4, 3, 2, 1];
-    let mut first: AnsCoder<u8, u16, Reverse<Cursor<u8, &[u8]>>> = coder_with(
-        Reverse(Cursor::new_at_write_beginning(words.as_slice())),
-        1284,
-    );
-    let mut second: AnsCoder<u8, u16> = coder_with([7u8].to_vec(rt.alloc())?, 300);
-    let mut third: AnsCoder<u8, u32> = coder_with([7u8].to_vec(rt.alloc())?, 117835012);
+    let words = [7u8].to_vec(rt.alloc())?;
+    let is_refused = seek_is_refused(words, 300u16, 7);
+    let words = [7u8].to_vec(rt.alloc())?;
     assert!(rt;
-        !goes_to(&mut first, 6, 7)
-            && stands_at(&first, 0, 1284)
-            && !goes_to(&mut second, 9, 7)
-            && holds(&second, 300, &[7])
-            && !goes_to(&mut third, 9, 7)
-            && holds(&third, 117835012, &[7])
+        is_refused
+            & seek_is_refused(words, 117835012u32, 7)
+            & reversed_seek_is_refused(&[5, 4, 3, 2, 1])
     );
     Ok(())
 }
@@ -240,8 +264,8 @@ where
     State: BitArray + PartialEq,
 {
     puts(coder, table, run.before)
-        && stands_at(coder, run.place, run.head)
-        && puts(coder, table, run.after)
+        & stands_at(coder, run.place, run.head)
+        & puts(coder, table, run.after)
 }
 
 /// Takes symbols off through the decoder that is made from a reference.
@@ -254,8 +278,7 @@ where
     gives(&mut borrowed, table, symbols)
 }
 
-/// Decoders that borrow the words: one goes to the position and takes all off that lies below it,
-/// the other takes off what lies above it.
+/// A decoder that borrows the words goes to the position and takes all off that lies below it.
 fn lent_goes_back<State>(
     coder: &AnsCoder<u8, State>,
     table: &Table,
@@ -266,9 +289,7 @@ where
     State: BitArray + PartialEq,
 {
     let mut lent = coder.as_seekable_decoder();
-    goes_to(&mut lent, run.place, run.head)
-        && gives_all(&mut lent, table, run.first)
-        && through_reference(coder, table, run.last)
+    goes_to(&mut lent, run.place, run.head) & gives_all(&mut lent, table, run.first)
 }
 
 /// A decoder that owns the words takes off what lies above the position, and stands there.
@@ -282,7 +303,38 @@ where
     State: BitArray + PartialEq,
 {
     let mut owned = coder.into_seekable_decoder();
-    gives(&mut owned, table, run.last) && stands_at(&owned, run.place, run.head)
+    gives(&mut owned, table, run.last) & stands_at(&owned, run.place, run.head)
+}
+
+/// The same of a clone's.
+fn clone_goes_back<State>(
+    coder: &AnsCoder<u8, State>,
+    table: &Table,
+    run: &Recorded<'_, State>,
+) -> bool
+where
+    u8: WordOf<State>,
+    State: BitArray + PartialEq,
+{
+    match coder.clone() {
+        Ok(owned) => owned_goes_back(owned, table, run),
+        Err(AllocError) => false,
+    }
+}
+
+/// A coder writes on, and decoders that borrow its words take them off.
+fn goes_back<State>(
+    coder: &mut AnsCoder<u8, State>,
+    table: &Table,
+    run: &Recorded<'_, State>,
+) -> bool
+where
+    u8: WordOf<State>,
+    State: BitArray + PartialEq,
+{
+    writes_on(coder, table, run)
+        & lent_goes_back(coder, table, run)
+        & through_reference(coder, table, run.last)
 }
 
 /// A coder that wrote on is brought back to an earlier position.
@@ -298,14 +350,11 @@ fn back_to_a_recorded_position(rt: HostRuntime) -> Result<(), Fail> {
         first: &[1, 1, 1],
     };
     let mut coder = new_coder(rt.alloc());
-    let is_written = writes_on(&mut coder, &table, &run);
-    let owned = coder.clone()?;
     assert!(rt;
-        is_written
-            && lent_goes_back(&coder, &table, &run)
-            && owned_goes_back(owned, &table, &run)
-            && goes_to(&mut coder, run.place, run.head)
-            && holds(&coder, 65535, &[255])
+        goes_back(&mut coder, &table, &run)
+            & clone_goes_back(&coder, &table, &run)
+            & goes_to(&mut coder, run.place, run.head)
+            & holds(&coder, 65535, &[255])
     );
     Ok(())
 }
@@ -331,14 +380,11 @@ fn back_to_a_position_at_four_words(rt: HostRuntime) -> Result<(), Fail> {
         first: &[2, 1, 0, 2, 2, 1, 2],
     };
     let mut coder = new_coder(rt.alloc());
-    let is_written = writes_on(&mut coder, &table, &run);
-    let owned = coder.clone()?;
     assert!(rt;
-        is_written
-            && lent_goes_back(&coder, &table, &run)
-            && owned_goes_back(owned, &table, &run)
-            && goes_to(&mut coder, run.place, run.head)
-            && holds(&coder, 491969023, &[200])
+        goes_back(&mut coder, &table, &run)
+            & clone_goes_back(&coder, &table, &run)
+            & goes_to(&mut coder, run.place, run.head)
+            & holds(&coder, 491969023, &[200])
     );
     Ok(())
 }

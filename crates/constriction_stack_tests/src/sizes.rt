@@ -18,10 +18,12 @@ where
     State: BitArray,
     Backend: BoundedReadWords<Word, Stack>,
 {
-    coder.sizes_fit()
-        && coder.num_words() == sizes.0
-        && coder.num_bits() == sizes.1
-        && coder.num_valid_bits() == sizes.2
+    if !coder.sizes_fit() {
+        return false;
+    }
+    (coder.num_words() == sizes.0)
+        & (coder.num_bits() == sizes.1)
+        & (coder.num_valid_bits() == sizes.2)
 }
 
 /// Compares the sizes of an empty coder, and after three steps.
@@ -31,8 +33,8 @@ where
     Backend::WriteError: Drop,
 {
     has_sizes(coder, (0, 0, 0))
-        && puts(coder, table, &[(1, 255), (1, 65535), (1, 65535)])
-        && has_sizes(coder, (3, 24, 23))
+        & puts(coder, table, &[(1, 255), (1, 65535), (1, 65535)])
+        & has_sizes(coder, (3, 24, 23))
 }
 
 /// Compares the sizes of the coder of a binary form.
@@ -48,8 +50,19 @@ fn ans_sizes(rt: HostRuntime) -> Result<(), Fail> {
     let table = table_of(rt.alloc(), &[255, 1])?;
     let mut coder: Small = new_coder(rt.alloc());
     let words = [5u32, 0].to_vec(rt.alloc())?;
-    assert!(rt; grows(&mut coder, &table) && binary_has_sizes(words, (3, 96, 64)));
+    let has_sizes = binary_has_sizes(words, (3, 96, 64));
+    assert!(rt; has_sizes & grows(&mut coder, &table));
     Ok(())
+}
+
+/// Compares the sizes of a coder of bytes below a head of four.
+fn tall_has_sizes(coder: &AnsCoder<u8, u32>, sizes: (usize, usize, usize)) -> bool {
+    has_sizes(coder, sizes)
+}
+
+/// The same of a coder of some words.
+fn made_has_sizes(words: Vec<u8>, head: u32, sizes: (usize, usize, usize)) -> bool {
+    tall_has_sizes(&coder_with(words, head), sizes)
 }
 
 /// Steps to a head of four words above one word.
@@ -63,16 +76,16 @@ fn grows_to_four_words(coder: &mut AnsCoder<u8, u32>, table: &Table) -> bool {
         (1, 491968968),
         (2, 491969023),
     ];
-    puts(coder, table, &steps) && has_sizes(coder, (5, 40, 36))
+    puts(coder, table, &steps) & tall_has_sizes(coder, (5, 40, 36))
 }
 
 /// Heads of four words, above one word.
 #[test]
 fn sizes_of_a_head_of_four_words(rt: HostRuntime) -> Result<(), Fail> {
     let table = table_of(rt.alloc(), &[200, 55, 1])?;
-    let mut coder = new_coder(rt.alloc());
-    let other: AnsCoder<u8, u32> = coder_with([9u8].to_vec(rt.alloc())?, 16909060);
-    assert!(rt; grows_to_four_words(&mut coder, &table) && has_sizes(&other, (5, 40, 32)));
+    let words = [9u8].to_vec(rt.alloc())?;
+    let has_sizes = made_has_sizes(words, 16909060, (5, 40, 32));
+    assert!(rt; has_sizes & grows_to_four_words(&mut new_coder(rt.alloc()), &table));
     Ok(())
 }
 

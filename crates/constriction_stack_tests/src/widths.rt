@@ -39,9 +39,47 @@ where
     coder.clear();
     let is_cleared = coder.is_empty();
     let is_put = puts(&mut coder, table, run.steps);
+    is_cleared & is_put & parts_are(coder, run)
+}
+
+/// Takes a coder apart, and compares the words below its head. The coder of the parts exports all.
+fn parts_are<Word, State>(coder: AnsCoder<Word, State>, run: &Run<'_, Word, State>) -> bool
+where
+    Word: WordOf<State> + PartialEq,
+    State: BitArray,
+    requires { IsSizes Word.BITS State.BITS }
+{
     let (bulk, state) = coder.into_raw_parts();
     let is_above = bulk.as_slice() == run.below;
-    is_cleared & is_put & is_above & (exports(coder_with(bulk, state), run.words) == Answer::Done)
+    is_above & (exports(coder_with(bulk, state), run.words) == Answer::Done)
+}
+
+/// Takes symbols off by a decoder that borrows the words.
+fn lent_gives<Word, State, Probability, const PRECISION: usize>(
+    coder: &AnsCoder<Word, State>,
+    table: &WeightTable<Probability, PRECISION>,
+    symbols: &[usize],
+) -> bool
+where
+    Word: WordOf<State>,
+    State: BitArray,
+    Probability: WordOf<Word>,
+{
+    gives_all(&mut coder.as_decoder(), table, symbols)
+}
+
+/// The same by one that owns them.
+fn owned_gives<Word, State, Probability, const PRECISION: usize>(
+    coder: AnsCoder<Word, State>,
+    table: &WeightTable<Probability, PRECISION>,
+    symbols: &[usize],
+) -> bool
+where
+    Word: WordOf<State>,
+    State: BitArray,
+    Probability: WordOf<Word>,
+{
+    gives_all(&mut coder.into_decoder(), table, symbols)
 }
 
 /// Takes symbols off, by a decoder that borrows the words and by one that owns them.
@@ -55,9 +93,7 @@ where
     State: BitArray,
     Probability: WordOf<Word>,
 {
-    let is_given = gives_all(&mut coder.as_decoder(), table, symbols);
-    let mut owned = coder.into_decoder();
-    is_given & gives_all(&mut owned, table, symbols)
+    lent_gives(&coder, table, symbols) & owned_gives(coder, table, symbols)
 }
 
 /// Puts symbols on and takes them off.
@@ -76,7 +112,7 @@ where
         Ok(words) => put_on(words, table, run),
         Err(_) => false,
     };
-    is_put && comes_back(alloc, table, run)
+    is_put & comes_back(alloc, table, run)
 }
 
 /// Imports the words of a run, and takes its symbols off.
@@ -92,11 +128,26 @@ where
     requires { IsSizes Word.BITS State.BITS }
 {
     match run.words.to_vec(alloc) {
-        Ok(words) => match coder_of::<Word, State, Vec<Word>>(words) {
-            Some(coder) => decoders_give(coder, table, run.back),
-            None => false,
-        },
+        Ok(words) => imported_gives::<Word, State, Probability, PRECISION>(words, table, run.back),
         Err(_) => false,
+    }
+}
+
+/// The same of the words.
+fn imported_gives<Word, State, Probability, const PRECISION: usize>(
+    words: Vec<Word>,
+    table: &WeightTable<Probability, PRECISION>,
+    symbols: &[usize],
+) -> bool
+where
+    Word: WordOf<State>,
+    State: BitArray,
+    Probability: WordOf<Word>,
+    requires { IsSizes Word.BITS State.BITS }
+{
+    match coder_of::<Word, State, Vec<Word>>(words) {
+        Some(coder) => decoders_give(coder, table, symbols),
+        None => false,
     }
 }
 
