@@ -18,6 +18,8 @@ pub enum Fault {
     Remainders,
     /// An item of a list was this error.
     BadModel(u8),
+    /// The coder takes no more symbols, so the call was not made.
+    NoneLeft,
 }
 
 /// Whether two answers are the same.
@@ -44,5 +46,6 @@ pub fn fault_of_put<C: Drop, R: Drop>(put: Put<C, R>) -> Option<Fault> {
         Put::Compressed(_) => Some(Fault::Compressed),
         Put::Remainders(_) => Some(Fault::Remainders),
         Put::BadModel(error) => Some(Fault::BadModel(error)),
+        Put::NoneLeft => Some(Fault::NoneLeft),
     }
 }

@@ -3,14 +3,18 @@
 use crate::cases::fine_does;
 use crate::coders::{Bytes, WEIGHTS, fine_of, table_of};
 use crate::faults::{Fault, fault_of_put, is_same};
-use crate::put::{Put, answer_of, has_no_limit, put_list_back, tried_answer_of};
+use crate::put::{Put, answer_of, has_no_limit, tried_answer_of};
 use crate::script::Act;
+use constriction_base::backends::{ReadWords, Stack, WriteWords};
 use constriction_base::errors::CoderError;
 use constriction_base::weights::WeightTable;
-use constriction_chain::{BackendError, DecoderError};
+use constriction_chain::{
+    BackendError, ChainCoder, DecoderError, DecoderFrontendError, EncoderFrontendError,
+};
 use constriction_stream::decoding::Decode;
-use constriction_stream::encoding::Encode;
+use constriction_stream::encoding::{Encode, EncodeReverse};
 use constriction_stream::errors::TryCodingError;
+use constriction_words::{BitArray, WordOf};
 use std::alloc::{AllocError, Global};
 use std::convert::Infallible;
 
@@ -21,18 +25,141 @@ type Pair<'a> = (&'a usize, &'a WeightTable<u8, 8>);
 type Item<'a> = Result<Pair<'a>, u8>;
 
 /// Puts symbols back by one table. Returns why the list stops, if it does.
-fn put_list(coder: &mut Bytes<8>, table: &WeightTable<u8, 8>, symbols: &[usize]) -> Option<Fault> {
+fn put_list<C>(coder: &mut C, table: &WeightTable<u8, 8>, symbols: &[usize]) -> Option<Fault>
+where
+    C: Encode<
+        8,
+        FrontendError = EncoderFrontendError,
+        BackendError = BackendError<AllocError, Infallible>,
+    >,
+    u8: WordOf<C::Word>,
+{
+    if coder.symbols_left() < symbols.len() {
+        return Some(Fault::NoneLeft);
+    }
     fault_of_put(answer_of(coder.encode_iid_symbols(symbols, table)))
 }
 
 /// The same of two symbols, a table for each.
-fn put_pairs(coder: &mut Bytes<8>, pairs: [Pair<'_>; 2]) -> Option<Fault> {
+fn put_pairs<C>(coder: &mut C, pairs: [Pair<'_>; 2]) -> Option<Fault>
+where
+    C: Encode<
+        8,
+        FrontendError = EncoderFrontendError,
+        BackendError = BackendError<AllocError, Infallible>,
+    >,
+    u8: WordOf<C::Word>,
+{
+    if coder.symbols_left() < 2 {
+        return Some(Fault::NoneLeft);
+    }
     fault_of_put(answer_of(coder.encode_symbols(pairs)))
 }
 
 /// The same of items, each of which may be an error.
-fn put_items(coder: &mut Bytes<8>, items: [Item<'_>; 3]) -> Option<Fault> {
+fn put_items<C>(coder: &mut C, items: [Item<'_>; 3]) -> Option<Fault>
+where
+    C: Encode<
+        8,
+        FrontendError = EncoderFrontendError,
+        BackendError = BackendError<AllocError, Infallible>,
+    >,
+    u8: WordOf<C::Word>,
+{
+    if coder.symbols_left() < 3 {
+        return Some(Fault::NoneLeft);
+    }
     fault_of_put(tried_answer_of(coder.try_encode_symbols(items)))
+}
+
+/// Puts symbols back by one table, the last one first.
+fn list_back<Word, State, C, R, Probability, const PRECISION: usize>(
+    coder: &mut ChainCoder<Word, State, C, R, PRECISION>,
+    table: &WeightTable<Probability, PRECISION>,
+    symbols: &[usize],
+) -> Put<C::WriteError, R::ReadError>
+where
+    Word: WordOf<State>,
+    State: BitArray,
+    C: WriteWords<Word>,
+    R: ReadWords<Word, Stack>,
+    Probability: WordOf<Word>,
+{
+    answer_of(coder.encode_iid_symbols_reverse(symbols, table))
+}
+
+/// The same of two symbols, each with its table.
+fn pairs_back<Word, State, C, R, Probability, const PRECISION: usize>(
+    coder: &mut ChainCoder<Word, State, C, R, PRECISION>,
+    table: &WeightTable<Probability, PRECISION>,
+    first: usize,
+    second: usize,
+) -> Put<C::WriteError, R::ReadError>
+where
+    Word: WordOf<State>,
+    State: BitArray,
+    C: WriteWords<Word>,
+    R: ReadWords<Word, Stack>,
+    Probability: WordOf<Word>,
+{
+    answer_of(coder.encode_symbols_reverse([(&first, table), (&second, table)]))
+}
+
+/// An item of a list: the symbol with its table, or the error.
+fn item_of<'a, Probability: BitArray, const PRECISION: usize>(
+    item: &'a Result<usize, u8>,
+    table: &'a WeightTable<Probability, PRECISION>,
+) -> Result<(&'a usize, &'a WeightTable<Probability, PRECISION>), u8> {
+    match item {
+        Ok(symbol) => Ok((symbol, table)),
+        Err(error) => Err(*error),
+    }
+}
+
+/// The same of two items, of which the first may be an error.
+fn items_back<Word, State, C, R, Probability, const PRECISION: usize>(
+    coder: &mut ChainCoder<Word, State, C, R, PRECISION>,
+    table: &WeightTable<Probability, PRECISION>,
+    first: &Result<usize, u8>,
+    second: usize,
+) -> Put<C::WriteError, R::ReadError>
+where
+    Word: WordOf<State>,
+    State: BitArray,
+    C: WriteWords<Word>,
+    R: ReadWords<Word, Stack>,
+    Probability: WordOf<Word>,
+{
+    tried_answer_of(coder.try_encode_symbols_reverse([item_of(first, table), Ok((&second, table))]))
+}
+
+/// Why a list at bytes is not put back, the last symbol first, if it isn't.
+fn put_list_back(
+    coder: &mut Bytes<8>,
+    table: &WeightTable<u8, 8>,
+    symbols: &[usize],
+) -> Option<Fault> {
+    fault_of_put(list_back(coder, table, symbols))
+}
+
+/// The same of two symbols, each with its table.
+fn put_pairs_back(
+    coder: &mut Bytes<8>,
+    table: &WeightTable<u8, 8>,
+    first: usize,
+    second: usize,
+) -> Option<Fault> {
+    fault_of_put(pairs_back(coder, table, first, second))
+}
+
+/// The same of two items, of which the first may be an error.
+fn put_items_back(
+    coder: &mut Bytes<8>,
+    table: &WeightTable<u8, 8>,
+    first: &Result<usize, u8>,
+    second: usize,
+) -> Option<Fault> {
+    fault_of_put(items_back(coder, table, first, second))
 }
 
 /// Whether the list ends at this fault.
@@ -61,11 +188,13 @@ fn come_back(coder: &mut Bytes<8>, table: &WeightTable<u8, 8>) -> bool {
         & fine_does(coder, table, &[BEFORE])
 }
 
-/// The same by the call that begins with the last symbol.
+/// The same by the calls that begin with the last symbol.
 fn come_back_reversed(coder: &mut Bytes<8>, table: &WeightTable<u8, 8>) -> bool {
     fine_does(coder, table, &[Act::Gives(&[0, 1, 1, 0, 1, 0]), AFTER])
-        & matches!(put_list_back(coder, table, &[0, 1, 1, 0, 1, 0]), Put::Done)
-        & matches!(put_list_back(coder, table, &[]), Put::Done)
+        & is_same(put_pairs_back(coder, table, 1, 0), None)
+        & is_same(put_items_back(coder, table, &Ok(1), 0), None)
+        & is_same(put_list_back(coder, table, &[0, 1]), None)
+        & is_same(put_list_back(coder, table, &[]), None)
         & fine_does(coder, table, &[BEFORE])
 }
 
@@ -116,14 +245,20 @@ fn run_out(coder: &mut Bytes<8>, table: &WeightTable<u8, 8>) -> bool {
     stops_at(put_list(coder, table, &[0, 1, 0]), Fault::OutOfRemainders) & has_one(coder, table)
 }
 
-/// A list that begins with the last symbol ends at a symbol that the table doesn't know, and where no remainders
-/// are left. Exactly the symbols behind are put back.
+/// A list that begins with the last symbol ends at a symbol that the table doesn't know, at an error, and where no
+/// remainders are left. Exactly the symbols behind are put back.
 fn stop_reversed(coder: &mut Bytes<8>, table: &WeightTable<u8, 8>) -> bool {
-    matches!(put_list_back(coder, table, &[5, 0]), Put::Unknown)
+    stops_at(put_pairs_back(coder, table, 5, 0), Fault::Unknown)
         & has_one(coder, table)
-        & matches!(
+        & stops_at(put_items_back(coder, table, &Err(7), 0), Fault::BadModel(7))
+        & has_one(coder, table)
+        & stops_at(put_items_back(coder, table, &Ok(2), 0), Fault::Unknown)
+        & has_one(coder, table)
+        & stops_at(put_list_back(coder, table, &[5, 0]), Fault::Unknown)
+        & has_one(coder, table)
+        & stops_at(
             put_list_back(coder, table, &[0, 1, 0]),
-            Put::OutOfRemainders
+            Fault::OutOfRemainders,
         )
         & has_one(coder, table)
 }
@@ -149,12 +284,18 @@ fn lists_stop_at_the_first_fault(rt: HostRuntime) {
 
 /// Takes symbols by one table, and compares what is given for each of the first: a symbol, or none. The others
 /// aren't taken.
-fn gives_list(
-    coder: &mut Bytes<8>,
+fn gives_list<C>(
+    coder: &mut C,
     table: &WeightTable<u8, 8>,
     count: usize,
     answers: &[Option<usize>],
-) -> bool {
+) -> bool
+where
+    C: Decode<8>,
+    C::FrontendError: Drop,
+    C::BackendError: Drop,
+    u8: WordOf<C::Word>,
+{
     let mut given = coder.decode_iid_symbols(count, table);
     let mut are_given = true;
     for answer in answers {
@@ -168,11 +309,13 @@ fn gives_list(
 }
 
 /// Takes symbols by some tables, and compares what is given: a symbol, or none.
-fn gives_by(
-    coder: &mut Bytes<8>,
-    tables: Vec<&WeightTable<u8, 8>>,
-    answers: &[Option<usize>],
-) -> bool {
+fn gives_by<C>(coder: &mut C, tables: Vec<&WeightTable<u8, 8>>, answers: &[Option<usize>]) -> bool
+where
+    C: Decode<8>,
+    C::FrontendError: Drop,
+    C::BackendError: Drop,
+    u8: WordOf<C::Word>,
+{
     let mut given = coder.decode_symbols(tables);
     let mut are_given = true;
     for answer in answers {
@@ -225,11 +368,19 @@ fn is_given(found: Option<Given>, answer: &Result<usize, Fault>) -> bool {
 }
 
 /// Takes symbols by items, where a table may be an error, which is returned in the place of a symbol.
-fn answers_by(
-    coder: &mut Bytes<8>,
+fn answers_by<C>(
+    coder: &mut C,
     items: Vec<Result<&WeightTable<u8, 8>, u8>>,
     answers: &[Result<usize, Fault>],
-) -> bool {
+) -> bool
+where
+    C: Decode<
+        8,
+        FrontendError = DecoderFrontendError,
+        BackendError = BackendError<Infallible, AllocError>,
+    >,
+    u8: WordOf<C::Word>,
+{
     let mut given = coder.try_decode_symbols(items);
     let mut are_given = true;
     for answer in answers {

@@ -12,7 +12,7 @@ use crate::faults::Fault;
 use crate::script::{Act, follows};
 use constriction_base::errors::CoderError;
 use constriction_base::weights::WeightTable;
-use constriction_chain::{BackendError, ChainCoder};
+use constriction_chain::{BackendError, ChainCoder, ChangePrecisionError};
 use linked_list_allocator::LocalHeap;
 use std::alloc::{AllocError, Allocator, Global};
 use std::test::Fail;
@@ -332,10 +332,26 @@ fn export_is_refused(alloc: Global, heap: &LocalHeap) -> bool {
     }
 }
 
+/// Whether an export in the binary form finds no memory.
+fn exports_none_binary(coder: FromHeap<'_, 4>, heap: &LocalHeap) -> bool {
+    match fill(heap) {
+        Ok(_filler) => matches!(coder.into_binary(), Err(CoderError::Backend(AllocError))),
+        Err(AllocError) => false,
+    }
+}
+
+/// The same of the number 256, which is a 1 above the word 0.
+fn binary_export_is_refused(alloc: Global, heap: &LocalHeap) -> bool {
+    match copied(words_in::<4>(alloc, heap, &[10, 20, 0, 1])) {
+        Some(coder) => exports_none_binary(coder, heap),
+        None => false,
+    }
+}
+
 #[test]
 fn a_full_heap_refuses_an_export(rt: HostRuntime) -> Result<(), Fail> {
     let heap = LocalHeap::new(rt.alloc(), 512)?;
-    assert!(rt; export_is_refused(rt.alloc(), &heap));
+    assert!(rt; export_is_refused(rt.alloc(), &heap) & binary_export_is_refused(rt.alloc(), &heap));
     Ok(())
 }
 
@@ -380,25 +396,36 @@ fn is_not_raised(coder: ToHeap<'_, 4>) -> bool {
     )
 }
 
-/// The same while the heap is full.
-fn is_not_raised_in_full(coder: ToHeap<'_, 4>, heap: &LocalHeap) -> bool {
+/// The same by the call that knows both ways.
+fn is_not_changed(coder: ToHeap<'_, 4>) -> bool {
+    let changed: Result<ToHeap<'_, 8>, _> = coder.change_precision();
+    matches!(
+        changed,
+        Err(ChangePrecisionError::Increase(CoderError::Backend(BackendError::Remainders(
+            AllocError
+        ))))
+    )
+}
+
+/// Both while the heap is full.
+fn are_not_raised(first: ToHeap<'_, 4>, second: ToHeap<'_, 4>, heap: &LocalHeap) -> bool {
     match all_of(heap) {
-        Ok(_filler) => is_not_raised(coder),
+        Ok(_filler) => is_not_raised(first) & is_not_changed(second),
         Err(AllocError) => false,
     }
 }
 
-/// The same of a coder that is made.
-fn increase_is_refused(alloc: Global, heap: &LocalHeap) -> bool {
-    match to_be_raised(alloc, heap) {
-        Some(coder) => is_not_raised_in_full(coder, heap),
-        None => false,
+/// The same of coders that are made.
+fn increases_are_refused(alloc: Global, heap: &LocalHeap) -> bool {
+    match (to_be_raised(alloc, heap), to_be_raised(alloc, heap)) {
+        (Some(first), Some(second)) => are_not_raised(first, second, heap),
+        _ => false,
     }
 }
 
 #[test]
 fn a_full_heap_refuses_an_increase(rt: HostRuntime) -> Result<(), Fail> {
     let heap = LocalHeap::new(rt.alloc(), 512)?;
-    assert!(rt; increase_is_refused(rt.alloc(), &heap));
+    assert!(rt; increases_are_refused(rt.alloc(), &heap));
     Ok(())
 }

@@ -7,7 +7,7 @@ use constriction_base::errors::CoderError;
 use constriction_base::weights::WeightTable;
 use constriction_chain::{BackendError, ChainCoder, EncoderError, EncoderFrontendError};
 use constriction_stream::coder::Code;
-use constriction_stream::encoding::{Encode, EncodeReverse};
+use constriction_stream::encoding::Encode;
 use constriction_stream::errors::TryCodingError;
 use constriction_words::{BitArray, WordOf};
 use std::alloc::Allocator;
@@ -24,6 +24,8 @@ pub enum Put<C, R> {
     Remainders(R),
     /// An item of a list was this error.
     BadModel(u8),
+    /// The coder takes no more symbols, so the call was not made.
+    NoneLeft,
 }
 
 /// The answer of a step or a list.
@@ -76,39 +78,22 @@ pub fn puts_none<A: Allocator, B: Allocator, const PRECISION: usize>(
     is_same(found, Some(fault)) & (coder.state() == heads)
 }
 
-/// Puts a list back, the last symbol first.
-pub fn put_list_back<Word, State, C, R, Probability, const PRECISION: usize>(
-    coder: &mut ChainCoder<Word, State, C, R, PRECISION>,
-    table: &WeightTable<Probability, PRECISION>,
-    symbols: &[usize],
-) -> Put<C::WriteError, R::ReadError>
-where
-    Word: WordOf<State>,
-    State: BitArray,
-    C: WriteWords<Word>,
-    R: ReadWords<Word, Stack>,
-    Probability: WordOf<Word>,
-{
-    answer_of(coder.encode_iid_symbols_reverse(symbols, table))
-}
-
 /// Whether symbols are put back one by one, the last one first.
-pub fn puts<Word, State, A, B, const PRECISION: usize>(
-    coder: &mut Over<Word, State, A, B, PRECISION>,
-    table: &WeightTable<Word, PRECISION>,
+pub fn puts<C, Probability, const PRECISION: usize>(
+    coder: &mut C,
+    table: &WeightTable<Probability, PRECISION>,
     symbols: &[usize],
 ) -> bool
 where
-    Word: WordOf<State> + WordOf<Word>,
-    State: BitArray,
-    A: Allocator,
-    B: Allocator,
+    C: Encode<PRECISION>,
+    C::FrontendError: Drop,
+    C::BackendError: Drop,
+    Probability: WordOf<C::Word>,
 {
     for place in 0..symbols.len() {
         let symbol = symbols[symbols.len() - 1 - place];
-        match put_one(coder, table, symbol) {
-            Put::Done => {}
-            _ => return false,
+        if coder.symbols_left() == 0 || coder.encode_symbol(&symbol, table).is_err() {
+            return false;
         }
     }
     true

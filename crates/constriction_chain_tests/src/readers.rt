@@ -1,28 +1,47 @@
 //! Coders over iterators of words, whose reads may fail: of compressed words, and of remainders.
 
+ghost use Rattle.constriction_chain.specs.Chain.{IsSized};
+
 use crate::coders::{WEIGHTS, of_remainders, of_words, table_of};
 use crate::expect::parts_of;
+use crate::precisions::up;
 use crate::put::{Put, put_one, seems_full};
-use crate::take::{Taken, seems_exhausted, take};
+use crate::take::{Taken, gives, seems_exhausted, take};
 use constriction_base::backends::{ReadWords, Stack};
 use constriction_base::errors::CoderError;
 use constriction_base::iterators::FallibleIteratorReadWords;
 use constriction_base::weights::WeightTable;
-use constriction_chain::{BackendError, ChainCoder};
+use constriction_chain::{BackendError, ChainCoder, EncoderFrontendError};
+use constriction_words::{BitArray, WordOf};
 use std::alloc::{AllocError, Global};
 use std::vec::IntoIter;
 
 /// Items of an iterator of words, which may be errors in their place.
-type Given = FallibleIteratorReadWords<IntoIter<Result<u8, u8>>>;
+type Given<Word> = FallibleIteratorReadWords<IntoIter<Result<Word, u8>>>;
 
-/// A coder of bytes whose compressed words are an iterator's.
-type OfGiven<const PRECISION: usize> = ChainCoder<u8, u16, Given, Vec<u8>, PRECISION>;
+/// A coder whose compressed words are an iterator's.
+type OfGiven<Word, State, const PRECISION: usize> = ChainCoder<
+    Word,
+    State,
+    Given<Word>,
+    Vec<Word>,
+    PRECISION,
+>;
+
+/// A coder of bytes at 8 bits of precision whose compressed words are an iterator's.
+type Fine = OfGiven<u8, u16, 8>;
+
+/// The same at 4 bits of precision.
+type Coarse = OfGiven<u8, u16, 4>;
 
 /// A coder of bytes whose remainders are an iterator's.
-type BackFromGiven<const PRECISION: usize> = ChainCoder<u8, u16, Vec<u8>, Given, PRECISION>;
+type BackFromGiven<const PRECISION: usize> = ChainCoder<u8, u16, Vec<u8>, Given<u8>, PRECISION>;
 
 /// An iterator of these items.
-fn given(alloc: Global, items: &[Result<u8, u8>]) -> Result<Given, AllocError> {
+fn given<Word: BitArray>(
+    alloc: Global,
+    items: &[Result<Word, u8>],
+) -> Result<Given<Word>, AllocError> {
     match items.to_vec(alloc) {
         Ok(items) => Ok(FallibleIteratorReadWords::new(items.into_iter())),
         Err(AllocError) => Err(AllocError),
@@ -30,32 +49,128 @@ fn given(alloc: Global, items: &[Result<u8, u8>]) -> Result<Given, AllocError> {
 }
 
 /// Whether a backend gives these words and then none.
-fn gives_words(mut backend: Given, words: &[u8]) -> bool {
+fn gives_words<Word: BitArray + PartialEq>(mut backend: Given<Word>, words: &[Word]) -> bool {
     for word in words {
-        match ReadWords::<u8, Stack>::read(&mut backend) {
+        match ReadWords::<Word, Stack>::read(&mut backend) {
             Ok(Some(found)) if found == *word => {}
             _ => return false,
         }
     }
-    matches!(ReadWords::<u8, Stack>::read(&mut backend), Ok(None))
+    matches!(ReadWords::<Word, Stack>::read(&mut backend), Ok(None))
 }
 
-/// The coder of compressed words at 8 bits of precision, if there is one.
-fn fine(alloc: Global, items: &[Result<u8, u8>]) -> Option<OfGiven<8>> {
+/// The coder of compressed words, if there is one.
+fn of_given<Word, State, const PRECISION: usize>(
+    alloc: Global,
+    items: &[Result<Word, u8>],
+) -> Option<OfGiven<Word, State, PRECISION>>
+where
+    Word: WordOf<State>,
+    State: BitArray,
+    requires { IsSized Word.BITS State.BITS PRECISION }
+{
     match given(alloc, items) {
         Ok(words) => of_words(alloc, words),
         Err(AllocError) => None,
     }
 }
 
+/// Compares the words that are left, in the order in which they are read, and the remainders with the words of
+/// both heads on top.
+fn leaves<Word, State, const PRECISION: usize>(
+    coder: OfGiven<Word, State, PRECISION>,
+    left: &[Word],
+    suffix: &[Word],
+) -> bool
+where
+    Word: WordOf<State> + PartialEq,
+    State: BitArray,
+{
+    match parts_of(coder) {
+        Ok((prefix, remainders)) => (remainders.as_slice() == suffix) & gives_words(prefix, left),
+        Err(AllocError) => false,
+    }
+}
+
+/// Whether symbols are taken of the words that a coder was made of, and leave these two lists.
+fn splits<Word, State, const PRECISION: usize>(
+    found: Option<OfGiven<Word, State, PRECISION>>,
+    table: &WeightTable<Word, PRECISION>,
+    symbols: &[usize],
+    left: &[Word],
+    suffix: &[Word],
+) -> bool
+where
+    Word: WordOf<State> + WordOf<Word> + PartialEq,
+    State: BitArray,
+{
+    match found {
+        Some(mut coder) => {
+            let are_taken = gives(&mut coder, table, symbols);
+            are_taken & leaves(coder, left, suffix)
+        }
+        None => false,
+    }
+}
+
+/// Words of 16 bits.
+fn words_of_16_bits_split(alloc: Global) -> bool {
+    let words = [
+        Ok(300u16),
+        Ok(1725),
+        Ok(8588),
+        Ok(62135),
+        Ok(48490),
+        Ok(17094),
+        Ok(31190),
+    ];
+    match WeightTable::<u16, 12>::new(alloc, &[1000, 3000, 96]) {
+        Ok(table) => splits::<u16, u32, 12>(
+            of_given(alloc, &words),
+            &table,
+            &[1, 0, 0, 0, 1, 0],
+            &[31190],
+            &[64148, 46671, 29450, 1454, 146, 436],
+        ),
+        Err(_) => false,
+    }
+}
+
+/// Words of 32 bits.
+fn words_of_32_bits_split(alloc: Global) -> bool {
+    let words = [
+        Ok(777u32),
+        Ok(3869338171),
+        Ok(2787324501),
+        Ok(4051686260),
+        Ok(3185950873),
+    ];
+    match WeightTable::<u32, 24>::new(alloc, &[8388608, 8388607, 1]) {
+        Ok(table) => splits::<u32, u64, 24>(
+            of_given(alloc, &words),
+            &table,
+            &[1, 0, 0],
+            &[3185950873],
+            &[2569220693, 1509938036, 24872, 31893233],
+        ),
+        Err(_) => false,
+    }
+}
+
+/// The same words as in a vector, the top one first.
+#[test]
+fn words_of_an_iterator(rt: HostRuntime) {
+    assert!(rt; words_of_16_bits_split(rt.alloc()) & words_of_32_bits_split(rt.alloc()));
+}
+
 /// Takes a symbol.
-fn taken(coder: &mut OfGiven<8>, table: &WeightTable<u8, 8>) -> Taken<u8, AllocError> {
+fn taken(coder: &mut Fine, table: &WeightTable<u8, 8>) -> Taken<u8, AllocError> {
     take(coder, table)
 }
 
 /// Each decode goes once its read does, as if there had been no error: the heads stay. After that a word is
 /// needed and none is left. An iterator never promises a word.
-fn goes_on(coder: &mut OfGiven<8>, table: &WeightTable<u8, 8>) -> bool {
+fn goes_on(coder: &mut Fine, table: &WeightTable<u8, 8>) -> bool {
     seems_exhausted(coder)
         & matches!(taken(coder, table), Taken::Symbol(1))
         & matches!(taken(coder, table), Taken::Compressed(3))
@@ -64,20 +179,13 @@ fn goes_on(coder: &mut OfGiven<8>, table: &WeightTable<u8, 8>) -> bool {
         & matches!(taken(coder, table), Taken::OutOfData)
 }
 
-/// Compares the remainders with the words of both heads on top, where no word is left.
-fn leaves(coder: OfGiven<8>, suffix: &[u8]) -> bool {
-    match parts_of(coder) {
-        Ok((prefix, remainders)) => (remainders.as_slice() == suffix) & gives_words(prefix, &[]),
-        Err(AllocError) => false,
-    }
-}
-
 /// Both of the coder of five items, of which two are errors.
 fn goes_to_the_end(alloc: Global, table: &WeightTable<u8, 8>) -> bool {
-    match fine(alloc, &[Ok(30), Ok(20), Err(3), Err(4), Ok(10)]) {
+    let found: Option<Fine> = of_given(alloc, &[Ok(30), Ok(20), Err(3), Err(4), Ok(10)]);
+    match found {
         Some(mut coder) => {
             let goes = goes_on(&mut coder, table);
-            goes & leaves(coder, &[36, 202, 1, 1])
+            goes & leaves(coder, &[], &[36, 202, 1, 1])
         }
         None => false,
     }
@@ -98,7 +206,7 @@ fn read_errors_keep_the_heads(rt: HostRuntime) {
 enum Import {
     Made,
     /// The words are no coder's, and these are left.
-    Left(Given),
+    Left(Given<u8>),
     /// A read was refused.
     Unread(u8),
     /// The items found no memory.
@@ -106,7 +214,7 @@ enum Import {
 }
 
 /// What a call that makes a coder returns.
-fn import_of<T: Drop>(made: Result<T, CoderError<Given, u8>>) -> Import {
+fn import_of<T: Drop>(made: Result<T, CoderError<Given<u8>, u8>>) -> Import {
     match made {
         Ok(_) => Import::Made,
         Err(CoderError::Frontend(left)) => Import::Left(left),
@@ -117,7 +225,7 @@ fn import_of<T: Drop>(made: Result<T, CoderError<Given, u8>>) -> Import {
 /// What the import of compressed words returns.
 fn imported(alloc: Global, items: &[Result<u8, u8>]) -> Import {
     match given(alloc, items) {
-        Ok(words) => import_of(OfGiven::<4>::from_compressed(alloc, words)),
+        Ok(words) => import_of(Coarse::from_compressed(alloc, words)),
         Err(AllocError) => Import::NoMemory,
     }
 }
@@ -125,7 +233,7 @@ fn imported(alloc: Global, items: &[Result<u8, u8>]) -> Import {
 /// The same in the binary form.
 fn imported_binary(alloc: Global, items: &[Result<u8, u8>]) -> Import {
     match given(alloc, items) {
-        Ok(words) => import_of(OfGiven::<4>::from_binary(alloc, words)),
+        Ok(words) => import_of(Coarse::from_binary(alloc, words)),
         Err(AllocError) => Import::NoMemory,
     }
 }
@@ -235,18 +343,58 @@ fn remainders_of_an_iterator(rt: HostRuntime) {
     assert!(rt; goes);
 }
 
-/// Whether the read of the word that a decrease from 8 bits of precision to 4 needs is refused with the error 5.
-fn is_not_lowered(coder: BackFromGiven<8>) -> bool {
-    let lower: Result<BackFromGiven<4>, _> = coder.decrease_precision();
-    matches!(lower, Err(CoderError::Backend(BackendError::Remainders(5))))
+/// What a decrease from 8 bits of precision to 4 returns.
+#[derive(Drop)]
+enum Lowered {
+    Done,
+    OutOfRemainders,
+    Unread(u8),
+    Other,
 }
 
-/// The number 8 is read, and the word below it is an error.
-#[test]
-fn a_read_error_ends_a_decrease(rt: HostRuntime) {
-    let is_refused = match fine_back(rt.alloc(), &[Ok(1), Ok(8), Err(5)]) {
-        Some(coder) => is_not_lowered(coder),
+/// The answer of a decrease.
+fn goes_down(coder: BackFromGiven<8>) -> Lowered {
+    let lower: Result<BackFromGiven<4>, _> = coder.decrease_precision();
+    match lower {
+        Ok(_) => Lowered::Done,
+        Err(CoderError::Frontend(EncoderFrontendError::OutOfRemainders)) => {
+            Lowered::OutOfRemainders
+        }
+        Err(CoderError::Backend(BackendError::Remainders(error))) => Lowered::Unread(error),
+        Err(_) => Lowered::Other,
+    }
+}
+
+/// The same of the coder of these items.
+fn lowers(alloc: Global, items: &[Result<u8, u8>]) -> Lowered {
+    match fine_back(alloc, items) {
+        Some(coder) => goes_down(coder),
+        None => Lowered::Other,
+    }
+}
+
+/// Whether a coder of compressed words leaves these at 8 bits of precision in place of 4.
+fn leaves_above(found: Option<Coarse>, left: &[u8], suffix: &[u8]) -> bool {
+    match found {
+        Some(coder) => match up::<u8, u16, Given<u8>, Vec<u8>, 4, 8>(coder) {
+            Some(high) => leaves(high, left, suffix),
+            None => false,
+        },
         None => false,
-    };
-    assert!(rt; is_refused);
+    }
+}
+
+/// The number 8 is read, and the word 201 below it: before an increase, and by a decrease.
+#[test]
+fn changes_over_an_iterator(rt: HostRuntime) {
+    let alloc = rt.alloc();
+    assert!(rt;
+        leaves_above(
+            of_given(alloc, &[Ok(8), Ok(201), Ok(7)]),
+            &[7],
+            &[201, 8, 1]
+        ) & matches!(lowers(alloc, &[Ok(1), Ok(8), Ok(201)]), Lowered::Done)
+            & matches!(lowers(alloc, &[Ok(1), Ok(8), Err(5)]), Lowered::Unread(5))
+            & matches!(lowers(alloc, &[Ok(1), Ok(8)]), Lowered::OutOfRemainders)
+    );
 }

@@ -1,12 +1,13 @@
-//! Coders over buffers: positions, and going to them, and an encode without room.
+//! Coders over buffers of compressed words: words there and back, positions, and going to them, and an encode
+//! without room.
 
-use crate::coders::{WEIGHTS, of_words, table_of};
+use crate::coders::{WEIGHTS, of_binary, of_words, table_of};
 use crate::expect::{copy_of, heads_of, parts_of};
-use crate::put::{Put, put_one};
-use crate::take::{Taken, take};
+use crate::put::{Put, put_one, seems_full};
+use crate::take::{Taken, seems_exhausted, take};
 use constriction_base::backends::{Pos, Seek, Words};
 use constriction_base::cursor::Cursor;
-use constriction_base::errors::BoundedWriteError;
+use constriction_base::errors::{BoundedWriteError, CoderError};
 use constriction_base::weights::WeightTable;
 use constriction_chain::{BackendPosition, ChainCoder, ChainCoderHeads};
 use std::alloc::{AllocError, Global};
@@ -28,6 +29,16 @@ fn seekable_of(alloc: Global, words: &[u8]) -> Option<Seekable> {
 /// Whether this symbol is taken.
 fn gives(coder: &mut Seekable, table: &WeightTable<u8, 8>, symbol: usize) -> bool {
     matches!(take(coder, table), Taken::Symbol(found) if found == symbol)
+}
+
+/// Whether these symbols are taken one by one.
+fn gives_all(coder: &mut Seekable, table: &WeightTable<u8, 8>, symbols: &[usize]) -> bool {
+    for symbol in symbols {
+        if !gives(coder, table, *symbol) {
+            return false;
+        }
+    }
+    true
 }
 
 /// The words of a buffer below its place.
@@ -111,6 +122,120 @@ fn chain_seek(rt: HostRuntime) {
     assert!(rt; is_done);
 }
 
+/// Whether this symbol is put back.
+fn puts(coder: &mut Seekable, table: &WeightTable<u8, 8>, symbol: usize) -> bool {
+    matches!(put_one(coder, table, symbol), Put::Done)
+}
+
+/// Whether these symbols are put back one by one.
+fn puts_all(coder: &mut Seekable, table: &WeightTable<u8, 8>, symbols: &[usize]) -> bool {
+    for symbol in symbols {
+        if !puts(coder, table, *symbol) {
+            return false;
+        }
+    }
+    true
+}
+
+/// What an export returns.
+#[derive(Drop)]
+enum Export {
+    /// These are its words, and no remainders are left.
+    Done(Cursor<u8, Vec<u8>>),
+    /// The coder is handed back.
+    Back(Seekable),
+    Other,
+}
+
+/// The answer of an export.
+fn export_of(
+    answer: Result<(Vec<u8>, Cursor<u8, Vec<u8>>), CoderError<Seekable, BoundedWriteError>>,
+) -> Export {
+    match answer {
+        Ok((left, all)) if left.is_empty() => Export::Done(all),
+        Err(CoderError::Frontend(coder)) => Export::Back(coder),
+        _ => Export::Other,
+    }
+}
+
+/// Whether an export gives these words.
+fn is_export(export: Export, words: &[u8]) -> bool {
+    match export {
+        Export::Done(all) => below(&all) == words,
+        _ => false,
+    }
+}
+
+/// What the export in the binary form returns.
+fn binary_of(coder: Seekable) -> Export {
+    export_of(coder.into_binary())
+}
+
+/// The six symbols are taken until no word is left, and put back.
+fn goes_there_and_back(coder: &mut Seekable, table: &WeightTable<u8, 8>) -> bool {
+    gives_all(coder, table, &[0, 1, 1, 0, 1, 0])
+        & matches!(take(coder, table), Taken::OutOfData)
+        & seems_exhausted(coder)
+        & !seems_full(coder)
+        & is_at(coder, &[], &[234, 28, 98, 13, 37, 1, 1])
+        & puts_all(coder, table, &[0, 1, 0, 1, 1, 0])
+}
+
+/// The same of the coder of seven words, which are exported then.
+fn words_come_back(alloc: Global, table: &WeightTable<u8, 8>) -> bool {
+    match seekable_of(alloc, &[5, 77, 3, 130, 60, 10, 30]) {
+        Some(mut coder) => {
+            let goes = goes_there_and_back(&mut coder, table);
+            goes & is_export(
+                export_of(coder.into_compressed()),
+                &[5, 77, 3, 130, 60, 10, 30],
+            )
+        }
+        None => false,
+    }
+}
+
+/// The coder of some words in the binary form.
+fn binary_of_words(alloc: Global, words: &[u8]) -> Option<Seekable> {
+    match words.to_vec(alloc) {
+        Ok(words) => of_binary(alloc, Cursor::new_at_write_end(words)),
+        Err(AllocError) => None,
+    }
+}
+
+/// A coder that was handed back, whose symbol 1 is put back. The words 10, 20 and 30 are exported then.
+fn ends_at_words(export: Export, table: &WeightTable<u8, 8>) -> bool {
+    match export {
+        Export::Back(mut coder) => {
+            let is_put = is_at(&coder, &[10, 20], &[254, 1]) & puts(&mut coder, table, 1);
+            is_put & is_export(binary_of(coder), &[10, 20, 30])
+        }
+        _ => false,
+    }
+}
+
+/// The symbol 1 of the words 10, 20 and 30 in the binary form. The number 254 is no 1 above whole words.
+fn binary_words_come_back(alloc: Global, table: &WeightTable<u8, 8>) -> bool {
+    match binary_of_words(alloc, &[10, 20, 30]) {
+        Some(mut coder) => {
+            let is_taken = gives(&mut coder, table, 1);
+            is_taken & ends_at_words(binary_of(coder), table)
+        }
+        None => false,
+    }
+}
+
+/// Words in a buffer, in both forms.
+#[test]
+fn words_in_a_buffer(rt: HostRuntime) {
+    let come_back = match table_of(rt.alloc(), &WEIGHTS) {
+        Ok(table) => words_come_back(rt.alloc(), &table)
+            & binary_words_come_back(rt.alloc(), &table),
+        Err(_) => false,
+    };
+    assert!(rt; come_back);
+}
+
 /// A place past the end of one of the backends, with other heads, is refused, and the heads stay.
 fn refuses(coder: &mut Seekable, first: &Place, compressed: usize, remainders: usize) -> bool {
     let heads = heads_of(coder);
@@ -143,11 +268,6 @@ fn puts_none(coder: &mut Seekable, table: &WeightTable<u8, 8>, symbol: usize) ->
         put_one(coder, table, symbol),
         Put::Compressed(BoundedWriteError::OutOfSpace)
     )
-}
-
-/// Whether this symbol is put back.
-fn puts(coder: &mut Seekable, table: &WeightTable<u8, 8>, symbol: usize) -> bool {
-    matches!(put_one(coder, table, symbol), Put::Done)
 }
 
 /// The word of the remainders that was read before the write was refused is gone then.

@@ -48,20 +48,20 @@ where
 }
 
 /// Takes symbols one by one, and compares each.
-pub fn gives<Word, State, A, B, const PRECISION: usize>(
-    coder: &mut Over<Word, State, A, B, PRECISION>,
-    table: &WeightTable<Word, PRECISION>,
+pub fn gives<C, Probability, const PRECISION: usize>(
+    coder: &mut C,
+    table: &WeightTable<Probability, PRECISION>,
     symbols: &[usize],
 ) -> bool
 where
-    Word: WordOf<State> + WordOf<Word>,
-    State: BitArray,
-    A: Allocator,
-    B: Allocator,
+    C: Decode<PRECISION>,
+    C::FrontendError: Drop,
+    C::BackendError: Drop,
+    Probability: WordOf<C::Word>,
 {
     for symbol in symbols {
-        match take(coder, table) {
-            Taken::Symbol(found) if found == *symbol => {}
+        match coder.decode_symbol(table) {
+            Ok(found) if found == *symbol => {}
             _ => return false,
         }
     }
