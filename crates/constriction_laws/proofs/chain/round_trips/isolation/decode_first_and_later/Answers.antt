@@ -8,6 +8,3 @@ returns-clause-decoded g c = λ known.
     let first = decode_of g.Word.BitArray.number g.C.Holds.is_list g.C.Holds.words g.R.Holds.words g.C.ReadWords.reads g.R.WriteWords.write_fails g.R.WriteWords.room g.R.WriteWords.makes_room
     g.Word.BitArray.BITS g.State.BitArray.BITS model c.in-Ok.symbol c.args.coder.now c.decode_symbol.new.self known c.in-Ok.ensures.step in
     (c.decode_symbol.new.self.state, first, c.in_ok-rest.ensures.decoded known)
-
-pub returns-clause-count : goal.returns-clause-count
-returns-clause-count g c = c.in_ok-rest.ensures.count
