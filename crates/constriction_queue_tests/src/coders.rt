@@ -1,10 +1,11 @@
 //! The coders that tests begin with, and the tables.
 
+use constriction_base::backends::{Holds, Stack};
 use constriction_base::cursor::Cursor;
 use constriction_base::weights::{TableError, WeightTable};
 use constriction_queue::{EncoderSituation, RangeCoderState, RangeDecoder, RangeEncoder};
 use linked_list_allocator::LocalHeap;
-use std::alloc::{Allocator, Global};
+use std::alloc::Global;
 use std::num::NonZeroUsize;
 
 /// The tables of most tests.
@@ -58,16 +59,16 @@ pub fn inverted(count: usize, first: u8) -> EncoderSituation<u8> {
 }
 
 /// An encoder put together from its parts, where they fit.
-pub fn encoder_with<A: Allocator>(
-    bulk: Vec<u8, A>,
+pub fn encoder_with<Backend: Holds<u8, Stack> + Drop>(
+    bulk: Backend,
     lower: u16,
     range: u16,
     situation: EncoderSituation<u8>,
-) -> Option<RangeEncoder<u8, u16, Vec<u8, A>>> {
+) -> Option<RangeEncoder<u8, u16, Backend>> {
     let Ok(state) = RangeCoderState::<u8, u16>::new(lower, range) else {
         return None;
     };
-    if !RangeEncoder::<u8, u16, Vec<u8, A>>::parts_fit(state, situation) {
+    if !RangeEncoder::<u8, u16, Backend>::parts_fit(state, situation) {
         return None;
     }
     Some(RangeEncoder::from_raw_parts(bulk, state, situation))
@@ -75,5 +76,10 @@ pub fn encoder_with<A: Allocator>(
 
 /// A decoder of words that it borrows.
 pub fn decoder_of(words: &[u8]) -> Option<Decoder<'_>> {
+    RangeDecoder::with_backend(Cursor::new_at_write_beginning(words)).ok()
+}
+
+/// A decoder of words of 32 bits that it borrows.
+pub fn wide_decoder_of(words: &[u32]) -> Option<Lent<'_, u32, u64>> {
     RangeDecoder::with_backend(Cursor::new_at_write_beginning(words)).ok()
 }

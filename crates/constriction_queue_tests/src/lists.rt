@@ -4,7 +4,7 @@ ghost use Rattle.std.specs.Prelude.{◌≤◌};
 
 use crate::coders::{Coder, Decoder, INVERTING, Table, decoder_of, new_encoder, table_of};
 use crate::expect::{At, exports, exports_words, has_parts};
-use crate::put::{Put, put_bytes, put_items, put_list, put_pairs, puts};
+use crate::put::{Call, Put, put_bytes, put_bytes_by, puts};
 use crate::reading::{
     Given, finds_none, first_of_list, given_by_items, gives, gives_by_tables, gives_list, reads_at,
     seems_exhausted, takes,
@@ -27,12 +27,19 @@ fn by_each_call(encoder: &mut Coder, table: &Table) -> bool {
         range: 7874,
         sealed: &[127, 0, 127, 94, 224, 224, 194],
     };
-    let pairs = [(&3, table), (&0, table), (&2, table)];
-    let items = [Ok((&1, table)), Ok((&1, table)), Ok((&1, table))];
-    matches!(put_list(encoder, table, &[]), Put::Done)
-        && matches!(put_list(encoder, table, &[1, 1]), Put::Done)
-        && matches!(put_pairs(encoder, pairs), Put::Done)
-        && matches!(put_items(encoder, items), Put::Done)
+    matches!(put_bytes_by(encoder, table, &Call::List(&[])), Put::Done)
+        && matches!(
+            put_bytes_by(encoder, table, &Call::List(&[1, 1])),
+            Put::Done
+        )
+        && matches!(
+            put_bytes_by(encoder, table, &Call::Pairs(3, 0, 2)),
+            Put::Done
+        )
+        && matches!(
+            put_bytes_by(encoder, table, &Call::Items(1, Ok(1), 1)),
+            Put::Done
+        )
         && put_bytes(encoder, table, &[0])
         && is_seen(encoder, &end)
 }
@@ -46,14 +53,18 @@ fn lists_at_u8_and_u16(rt: HostRuntime) -> Result<(), Fail> {
 
 /// The symbols 1, 5 and 3, of which 5 is unknown. Exactly the first is encoded.
 fn stops_at_unknown(mut encoder: Coder, table: &Table, at: &At<'_, u8, u16>) -> bool {
-    let pairs = [(&1, table), (&5, table), (&3, table)];
-    matches!(put_pairs(&mut encoder, pairs), Put::Unknown) & has_parts(encoder, at)
+    matches!(
+        put_bytes_by(&mut encoder, table, &Call::Pairs(1, 5, 3)),
+        Put::Unknown
+    ) & has_parts(encoder, at)
 }
 
 /// An error between two symbols. Exactly the first is encoded.
 fn stops_at_bad_model(mut encoder: Coder, table: &Table, at: &At<'_, u8, u16>) -> bool {
-    let items = [Ok((&1, table)), Err(7), Ok((&3, table))];
-    matches!(put_items(&mut encoder, items), Put::BadModel(7)) & has_parts(encoder, at)
+    matches!(
+        put_bytes_by(&mut encoder, table, &Call::Items(1, Err(7), 3)),
+        Put::BadModel(7)
+    ) & has_parts(encoder, at)
 }
 
 #[test]
@@ -73,17 +84,22 @@ fn lists_stop_at_the_first_fault(rt: HostRuntime) -> Result<(), Fail> {
     Ok(())
 }
 
-/// How many more symbols an encoder takes: a step that holds a word more back lowers it by one.
+/// How many more symbols an encoder takes.
+fn left_of(encoder: &Coder) -> usize {
+    Encode::<8>::symbols_left(encoder)
+}
+
+/// A step that holds a word more back lowers it by one.
 fn counts_down(encoder: &mut Coder, table: &Table) -> bool {
     let most = usize::MAX - 17;
-    Encode::<8>::symbols_left(encoder) == most
-        && put_bytes(encoder, table, &[1])
-        && Encode::<8>::symbols_left(encoder) == most - 1
-        && put_bytes(encoder, table, &[1])
-        && Encode::<8>::symbols_left(encoder) == most - 2
-        && put_bytes(encoder, table, &[0])
-        && Encode::<8>::symbols_left(encoder) == most
-        && !Encode::<8>::maybe_full(encoder)
+    (left_of(encoder) == most)
+        & put_bytes(encoder, table, &[1])
+        & (left_of(encoder) == most - 1)
+        & put_bytes(encoder, table, &[1])
+        & (left_of(encoder) == most - 2)
+        & put_bytes(encoder, table, &[0])
+        & (left_of(encoder) == most)
+        & !Encode::<8>::maybe_full(encoder)
 }
 
 #[test]
@@ -100,9 +116,9 @@ fn taken_by_each_call(
     tables: Vec<&Table>,
     items: Vec<Result<&Table, u8>>,
 ) -> bool {
-    first_of_list(&mut decoder, table, 3) == Some(1)
-        && gives_by_tables(&mut decoder, tables, (1, 3))
-        && matches!(
+    (first_of_list(&mut decoder, table, 3) == Some(1))
+        & gives_by_tables(&mut decoder, tables, (1, 3))
+        & matches!(
             given_by_items(&mut decoder, items),
             (
                 Given::Symbol(0),
@@ -111,10 +127,10 @@ fn taken_by_each_call(
                 Given::Nothing
             )
         )
-        && gives_list(&mut decoder, table, &[1, 1, 1, 0])
-        && gives_list(&mut decoder, table, &[])
-        && reads_at(&decoder, 49664, 7874)
-        && seems_exhausted(&decoder)
+        & gives_list(&mut decoder, table, &[1, 1, 1, 0])
+        & gives_list(&mut decoder, table, &[])
+        & reads_at(&decoder, 49664, 7874)
+        & seems_exhausted(&decoder)
 }
 
 #[test]
@@ -203,15 +219,15 @@ where
 }
 
 /// The same at a range encoder.
-fn two_at_u32(mut encoder: DefaultRangeEncoder, table: &WeightTable<u32, 24>) -> bool {
-    Encode::<24>::symbols_left(&encoder) >= 2
-        && two_through_the_bounds(&mut encoder, &[1, 0], table)
-        && exports_words(encoder, &[767, 4294967293])
+fn two_at_u32(encoder: &mut DefaultRangeEncoder, table: &WeightTable<u32, 24>) -> bool {
+    Encode::<24>::symbols_left(encoder) >= 2 && two_through_the_bounds(encoder, &[1, 0], table)
 }
 
 #[test]
 fn lists_at_u32_and_u64(rt: HostRuntime) -> Result<(), Fail> {
     let table = WeightTable::<u32, 24>::new(rt.alloc(), &[3, 2, 16777211])?;
-    assert!(rt; two_at_u32(RangeEncoder::new(rt.alloc()), &table));
+    let mut encoder: DefaultRangeEncoder = RangeEncoder::new(rt.alloc());
+    let are_put = two_at_u32(&mut encoder, &table);
+    assert!(rt; are_put & exports_words(encoder, &[767, 4294967293]));
     Ok(())
 }

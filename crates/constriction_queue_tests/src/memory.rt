@@ -3,7 +3,7 @@
 
 use crate::coders::{HeapEncoder, INVERTING, Table, encoder_with, inverted, table_of};
 use crate::expect::{At, holds_back, is_interval, stands_at};
-use crate::put::{Put, put_onto};
+use crate::put::{Call, Put, put_by};
 use crate::reading::gives;
 use crate::whole::copy_of;
 use constriction_base::errors::ReadWriteError;
@@ -30,9 +30,14 @@ fn one_held(heap: &LocalHeap) -> Option<HeapEncoder<'_>> {
     encoder_with(Vec::new(heap), 33024, 65280, inverted(1, 126))
 }
 
-/// Puts symbols on.
+/// Puts symbols on by a call.
+fn put_there_by(encoder: &mut HeapEncoder<'_>, table: &Table, call: &Call<'_>) -> Put {
+    put_by(encoder, table, call)
+}
+
+/// Puts symbols on one by one.
 fn put_there(encoder: &mut HeapEncoder<'_>, table: &Table, symbols: &[usize]) -> Put {
-    put_onto(encoder, table, symbols)
+    put_there_by(encoder, table, &Call::Each(symbols))
 }
 
 /// Compares where an encoder stands, and the words written.
@@ -62,7 +67,7 @@ fn is_sealed(encoder: HeapEncoder<'_>, words: &[u8]) -> Result<bool, AllocError>
 }
 
 /// The first two symbols owe no word. The third owes two, which are released together.
-fn refuses_two_words(heap: &LocalHeap, table: &Table) -> bool {
+fn refuses_two_words(heap: &LocalHeap, table: &Table, call: &Call<'_>) -> bool {
     let carried = At {
         written: &[127, 0],
         held: &[127],
@@ -73,7 +78,7 @@ fn refuses_two_words(heap: &LocalHeap, table: &Table) -> bool {
     let filler = filler_of(heap, 512);
     let mut encoder: HeapEncoder<'_> = RangeEncoder::with_write_backend(Vec::new(heap));
     let is_refused = filler.is_some()
-        && matches!(put_there(&mut encoder, table, &[1, 1, 3]), Put::Refused)
+        && matches!(put_there_by(&mut encoder, table, call), Put::Refused)
         && is_there(&encoder, 2, (33024, 65280), &[]);
     drop(filler);
     let is_put = matches!(put_there(&mut encoder, table, &[3]), Put::Done);
@@ -114,7 +119,12 @@ fn a_full_heap_refuses_symbols(rt: HostRuntime) -> Result<(), Fail> {
     let table = table_of(rt.alloc(), &INVERTING)?;
     let heap = LocalHeap::new(rt.alloc(), 512)?;
     assert!(rt;
-        refuses_two_words(&heap, &table) && refuses_growth(&heap, &table) && clears(&heap, &table)
+        refuses_two_words(&heap, &table, &Call::Each(&[1, 1, 3]))
+            && refuses_two_words(&heap, &table, &Call::List(&[1, 1, 3]))
+            && refuses_two_words(&heap, &table, &Call::Pairs(1, 1, 3))
+            && refuses_two_words(&heap, &table, &Call::Items(1, Ok(1), 3))
+            && refuses_growth(&heap, &table)
+            && clears(&heap, &table)
     );
     Ok(())
 }

@@ -3,7 +3,7 @@
 use crate::coders::{Coder, Decoder, INVERTING, Owning, Table, decoder_of, new_encoder, table_of};
 use crate::expect::is_interval;
 use crate::put::put_bytes;
-use crate::reading::{ReadAt, all_come, ends_at, gives, reads_at, takes};
+use crate::reading::{Given, ReadAt, all_come, ends_at, given_by_items, gives, reads_at, takes};
 use constriction_base::backends::{Pos, Queue, ReadWords};
 use constriction_base::errors::CoderError;
 use constriction_base::iterators::FallibleIteratorReadWords;
@@ -61,6 +61,36 @@ fn a_read_error_keeps_the_decoder(rt: HostRuntime) -> Result<(), Fail> {
         return Err(Fail::from("the point is read"));
     };
     assert!(rt; goes_after_a_read_error(&mut decoder, &table));
+    Ok(())
+}
+
+/// In a list of items a refused read takes the place of a symbol.
+fn goes_on_in_a_list<Backend: ReadWords<u8, Queue, ReadError = u8>>(
+    decoder: &mut RangeDecoder<u8, u16, Backend>,
+    items: Vec<Result<&Table, u8>>,
+) -> bool {
+    matches!(
+        given_by_items(decoder, items),
+        (
+            Given::Unread,
+            Given::Symbol(1),
+            Given::Symbol(3),
+            Given::Nothing
+        )
+    )
+}
+
+#[test]
+fn a_read_error_among_symbols(rt: HostRuntime) -> Result<(), Fail> {
+    let table = table_of(rt.alloc(), &INVERTING)?;
+    let items = [Ok(&table), Ok(&table), Ok(&table)].to_vec(rt.alloc())?;
+    let answers = [Ok(127u8), Ok(127), Err(3u8), Ok(1)];
+    let words = FallibleIteratorReadWords::new(answers.into_iter());
+    let goes_on = match RangeDecoder::<u8, u16, FallibleIteratorReadWords<_>>::with_backend(words) {
+        Ok(mut decoder) => goes_on_in_a_list(&mut decoder, items),
+        Err(_) => false,
+    };
+    assert!(rt; goes_on);
     Ok(())
 }
 

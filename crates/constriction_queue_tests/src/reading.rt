@@ -127,7 +127,13 @@ pub fn come(words: &[u8], table: &Table, symbols: &[usize], at: &ReadAt<u16>) ->
 }
 
 /// Takes symbols by one table through an iterator, until there is none.
-pub fn gives_list(decoder: &mut Decoder<'_>, table: &Table, symbols: &[usize]) -> bool {
+pub fn gives_list<C>(decoder: &mut C, table: &Table, symbols: &[usize]) -> bool
+where
+    C: Decode<8>,
+    C::FrontendError: Drop,
+    C::BackendError: Drop,
+    u8: WordOf<C::Word>,
+{
     let mut given = decoder.decode_iid_symbols(symbols.len(), table);
     let is_sized = given.size_hint() == (symbols.len(), Some(symbols.len()));
     for symbol in symbols {
@@ -140,7 +146,13 @@ pub fn gives_list(decoder: &mut Decoder<'_>, table: &Table, symbols: &[usize]) -
 }
 
 /// The first of so many symbols by one table. The others aren't taken.
-pub fn first_of_list(decoder: &mut Decoder<'_>, table: &Table, count: usize) -> Option<usize> {
+pub fn first_of_list<C>(decoder: &mut C, table: &Table, count: usize) -> Option<usize>
+where
+    C: Decode<8>,
+    C::FrontendError: Drop,
+    C::BackendError: Drop,
+    u8: WordOf<C::Word>,
+{
     match decoder.decode_iid_symbols(count, table).next() {
         Some(Ok(symbol)) => Some(symbol),
         _ => None,
@@ -148,11 +160,17 @@ pub fn first_of_list(decoder: &mut Decoder<'_>, table: &Table, count: usize) -> 
 }
 
 /// Takes two symbols by two tables through an iterator.
-pub fn gives_by_tables(
-    decoder: &mut Decoder<'_>,
+pub fn gives_by_tables<C>(
+    decoder: &mut C,
     tables: Vec<&Table>,
     (first, second): (usize, usize),
-) -> bool {
+) -> bool
+where
+    C: Decode<8>,
+    C::FrontendError: Drop,
+    C::BackendError: Drop,
+    u8: WordOf<C::Word>,
+{
     let mut given = decoder.decode_symbols(tables);
     matches!(given.next(), Some(Ok(found)) if found == first)
         && matches!(given.next(), Some(Ok(found)) if found == second)
@@ -174,8 +192,8 @@ pub enum Given {
 }
 
 /// The answer of an iterator.
-fn given_of<E: Drop>(
-    answer: Option<Result<usize, TryCodingError<CoderError<DecoderFrontendError, E>, u8>>>,
+fn given_of<F: Drop, E: Drop>(
+    answer: Option<Result<usize, TryCodingError<CoderError<F, E>, u8>>>,
 ) -> Given {
     match answer {
         Some(Ok(symbol)) => Given::Symbol(symbol),
@@ -187,10 +205,16 @@ fn given_of<E: Drop>(
 }
 
 /// The answers where a table may be an error, which is answered in the place of a symbol.
-pub fn given_by_items(
-    decoder: &mut Decoder<'_>,
+pub fn given_by_items<C>(
+    decoder: &mut C,
     items: Vec<Result<&Table, u8>>,
-) -> (Given, Given, Given, Given) {
+) -> (Given, Given, Given, Given)
+where
+    C: Decode<8>,
+    C::FrontendError: Drop,
+    C::BackendError: Drop,
+    u8: WordOf<C::Word>,
+{
     let mut given = decoder.try_decode_symbols(items);
     let first = given_of(given.next());
     let second = given_of(given.next());

@@ -1,11 +1,15 @@
 //! Decoders that go to positions which an encoder recorded.
 
-use crate::coders::{Coder, Decoder, INVERTING, Table, decoder_of, new_encoder, table_of};
-use crate::expect::stands;
-use crate::put::put_bytes;
-use crate::reading::{ReadAt, ends_at, finds_none, reads_at, seems_exhausted, takes};
+use crate::coders::{
+    Coder, Decoder, INVERTING, Lent, Table, decoder_of, new_encoder, table_of, wide_decoder_of,
+};
+use crate::expect::{stands, stands_at};
+use crate::put::{put_bytes, puts};
+use crate::reading::{ReadAt, ends_at, finds_none, gives, reads_at, seems_exhausted, takes};
 use constriction_base::backends::Seek;
-use constriction_queue::RangeCoderState;
+use constriction_base::weights::WeightTable;
+use constriction_queue::{DefaultRangeEncoder, RangeCoderState, RangeEncoder};
+use constriction_stream::decoding::Decode;
 use std::test::Fail;
 
 /// Goes to a place.
@@ -143,5 +147,50 @@ fn from_a_recorded_position(rt: HostRuntime) -> Result<(), Fail> {
     assert!(rt; is_recorded(&mut encoder, &table));
     let words = encoder.into_compressed()?;
     assert!(rt; comes_back(&words, &table));
+    Ok(())
+}
+
+/// Puts symbols of 32 bits on, and compares the position, of two words held.
+fn is_recorded_wide(encoder: &mut DefaultRangeEncoder, table: &WeightTable<u32, 32>) -> bool {
+    puts(encoder, table, &[1, 1])
+        && stands_at(encoder, 2, 9223372041149743104, 18446744069414584320)
+}
+
+/// Goes to that position.
+fn goes_to_wide(decoder: &mut Lent<'_, u32, u64>) -> bool {
+    match RangeCoderState::<u32, u64>::new(9223372041149743104, 18446744069414584320) {
+        Ok(state) => decoder.seek((2, state)).is_ok(),
+        Err(()) => false,
+    }
+}
+
+/// Takes symbols.
+fn gives_wide(
+    decoder: &mut Lent<'_, u32, u64>,
+    table: &WeightTable<u32, 32>,
+    symbols: &[usize],
+) -> bool {
+    gives(decoder, table, symbols)
+}
+
+/// Takes symbols, and those behind the position twice.
+fn comes_back_wide(words: &[u32], table: &WeightTable<u32, 32>) -> bool {
+    let Some(mut decoder) = wide_decoder_of(words) else {
+        return false;
+    };
+    gives_wide(&mut decoder, table, &[1, 1, 3, 0, 2])
+        && goes_to_wide(&mut decoder)
+        && gives_wide(&mut decoder, table, &[3, 0, 2])
+        && Decode::<32>::maybe_exhausted(&decoder)
+}
+
+/// The same with states of two words of 32 bits.
+#[test]
+fn from_a_recorded_position_at_u32(rt: HostRuntime) -> Result<(), Fail> {
+    let table = WeightTable::<u32, 32>::new(rt.alloc(), &[2147483647, 1, 2147483647, 1])?;
+    assert!(rt;
+        is_recorded_wide(&mut RangeEncoder::new(rt.alloc()), &table)
+            && comes_back_wide(&[2147483647, 0, 2147483647, 1073741824], &table)
+    );
     Ok(())
 }

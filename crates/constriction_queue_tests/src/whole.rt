@@ -4,16 +4,22 @@
 use crate::coders::{Coder, INVERTING, new_encoder, table_of};
 use crate::expect::{At, exports_words, has_parts, stands_at};
 use crate::put::puts;
+use constriction_base::backends::{BoundedReadWords, Stack};
 use constriction_base::weights::WeightTable;
 use constriction_queue::RangeEncoder;
 use constriction_words::{BitArray, WordOf};
 use std::alloc::{AllocError, Allocator, Global};
 
 /// Compares the number of words of the export, and of their bits.
-fn has_sizes<Word, State>(encoder: &RangeEncoder<Word, State>, words: usize, bits: usize) -> bool
+pub fn has_sizes<Word, State, Backend>(
+    encoder: &RangeEncoder<Word, State, Backend>,
+    words: usize,
+    bits: usize,
+) -> bool
 where
     Word: WordOf<State>,
     State: BitArray,
+    Backend: BoundedReadWords<Word, Stack>,
 {
     encoder.sizes_fit() && encoder.num_words() == words && encoder.num_bits() == bits
 }

@@ -1,15 +1,14 @@
 //! Worked words, and the symbols that they stand for.
 
-use crate::coders::{INVERTING, Lent, Table, decoder_of, table_of};
+use crate::coders::{INVERTING, Lent, Table, decoder_of, table_of, wide_decoder_of};
 use crate::expect::exports_words;
 use crate::put::puts;
 use crate::reading::{
     ReadAt, all_come, come, come_from, ends_at, reads_at, seems_exhausted, takes,
 };
-use constriction_base::cursor::Cursor;
 use constriction_base::errors::CoderError;
 use constriction_base::weights::WeightTable;
-use constriction_queue::{DecoderFrontendError, DefaultRangeEncoder, RangeDecoder, RangeEncoder};
+use constriction_queue::{DecoderFrontendError, DefaultRangeEncoder, RangeEncoder};
 use constriction_stream::decoding::Decode;
 use std::test::Fail;
 
@@ -249,13 +248,13 @@ fn is_invalid(words: &[u32], table: &WeightTable<u32, 24>) -> bool {
         left: 0,
         exhausted: true,
     };
-    match RangeDecoder::with_backend(Cursor::new_at_write_beginning(words)) {
-        Ok(mut decoder) => {
+    match wide_decoder_of(words) {
+        Some(mut decoder) => {
             finds_none(&mut decoder, table)
                 && finds_none(&mut decoder, table)
                 && all_come(decoder, table, &[], &end)
         }
-        Err(_) => false,
+        None => false,
     }
 }
 
