@@ -138,17 +138,23 @@ fn a_seal_over_a_full_cursor(rt: HostRuntime) -> Result<(), Fail> {
     Ok(())
 }
 
-/// Compares how many words the export has, how many were written and are held, and the interval.
-fn stands(encoder: &CursorEncoder<'_>, words: usize, place: usize, lower: u16, range: u16) -> bool {
-    has_sizes(encoder, words, 8 * words) & stands_at(encoder, place, lower, range)
+/// Compares how many words and bits the export has, how many words were written and are held, and the interval.
+fn stands(
+    encoder: &CursorEncoder<'_>,
+    sizes: (usize, usize),
+    place: usize,
+    lower: u16,
+    range: u16,
+) -> bool {
+    has_sizes(encoder, sizes.0, sizes.1) & stands_at(encoder, place, lower, range)
 }
 
 /// Room for all words, and for the seal's.
 fn fits(encoder: &mut CursorEncoder<'_>, table: &Table, call: &Call<'_>) -> bool {
     encoder.is_empty()
-        && stands(encoder, 0, 0, 0, 65535)
+        && stands(encoder, (0, 0), 0, 0, 65535)
         && matches!(put_over(encoder, table, call), Put::Done)
-        && stands(encoder, 4, 3, 256, 65280)
+        && stands(encoder, (4, 32), 3, 256, 65280)
         && !encoder.is_empty()
         && !seems_full(encoder)
 }
@@ -192,9 +198,9 @@ fn continued(buf: &mut [u8]) -> Option<CursorEncoder<'_>> {
 fn continues(buf: &mut [u8], table: &Table) -> bool {
     match continued(buf) {
         Some(mut encoder) => {
-            stands(&encoder, 3, 2, 33024, 65280)
+            stands(&encoder, (3, 24), 2, 33024, 65280)
                 && matches!(put_over(&mut encoder, table, &Call::Each(&[3])), Put::Done)
-                && stands(&encoder, 4, 3, 256, 65280)
+                && stands(&encoder, (4, 32), 3, 256, 65280)
         }
         None => false,
     }
