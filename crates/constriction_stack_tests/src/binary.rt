@@ -100,7 +100,6 @@ fn ans_binary_zero_words(rt: HostRuntime) -> Result<(), Fail> {
     Ok(())
 }
 
-/// Heads that are no 1 above whole words, and heads that are.
 /// The binary form of a head of two words of 16 bits.
 fn halves_in_binary(alloc: Global, head: u32, words: &[u16]) -> Answer {
     head_in_binary(alloc, head, words)
@@ -115,6 +114,7 @@ fn none_of_heads(alloc: Global) -> bool {
     is_none
 }
 
+/// Heads that are no 1 above whole words, and heads that are.
 #[test]
 fn heads_of_whole_words(rt: HostRuntime) -> Result<(), Fail> {
     // three words below a leading 1, the lowest first
