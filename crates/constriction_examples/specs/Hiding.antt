@@ -1,0 +1,21 @@
+-- Bits back: what it is to hide symbols in the state of a stack coder of 32-bit words and 64-bit heads.
+use Rattle.std.specs.Prelude.{◌≡◌, ℕ, Some, map, slice_get}
+use Rattle.constriction.specs.stack.Ans.{AnsState}
+use Rattle.constriction.specs.Tables.{model_of}
+use Rattle.constriction.specs.Models.{Model}
+use Rattle.constriction.specs.stack.Symbols.{Encodes, Decodes}
+use Rattle.constriction_examples.specs.declared.bits_back.Mixture.{Mixture}
+
+-- a symbol is hidden: a latent comes off under the symbol's posterior, then the symbol goes on under the
+-- latent's table, and then the latent under the prior
+pub record Hides (m : Mixture) (symbol : ℕ) (old new : AnsState) : Type 0 where
+  pub latent : ℕ
+  pub posterior : Model ℕ
+  pub symbols : Model ℕ
+  pub of_symbol : slice_get (map model_of m.posteriors) symbol ≡ Some posterior
+  pub of_latent : slice_get (map model_of m.symbols) latent ≡ Some symbols
+  pub without : AnsState
+  pub between : AnsState
+  pub latent_off : Decodes 32 64 posterior latent old without
+  pub symbol_on : Encodes 32 64 symbols symbol without between
+  pub latent_on : Encodes 32 64 (model_of m.prior) latent between new

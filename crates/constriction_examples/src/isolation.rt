@@ -1,0 +1,86 @@
+//! Isolation: which symbols change where one model is replaced.
+//!
+//! A stack coder decodes from one number. Each symbol takes its share out of it, as large as its model says,
+//! so that another model for the first symbol leaves another number for all that come after.
+//!
+//! A chain coder cuts the words into pieces of 12 bits first, one for each symbol, whatever the models are.
+//! The model then says which symbol the piece stands for, and what the piece tells beyond that goes to a
+//! pile of its own, the remainders. So another model for the first symbol changes that symbol and the
+//! remainders, and no other symbol. Where symbols are samples, as in bits-back coding, a small change of
+//! one model then stays small. The price: to encode, the remainders have to be there.
+//!
+//! [`run`] decodes the same words four times: with both coders, under two models for the first symbol.
+//! That the later symbols of the chain coder stay is no chance: `symbols_are_isolated` of
+//! `constriction::laws::chain::isolation` says it of any words and any models.
+
+use anyhow::{Result, bail};
+use constriction::stream::Decode;
+use constriction::stream::chain::SmallChainCoder;
+use constriction::stream::model::WeightTable;
+use constriction::stream::stack::SmallAnsCoder;
+use std::alloc::Global;
+
+/// Weights of the symbols 0, 1, 2 .., which add up to 4096: tables of 12 bits.
+type Table = WeightTable<u16, 12>;
+
+/// The words that are decoded, eight at random. The last one is read first.
+const WORDS: [u16; 8] = [
+    0x243f, 0x6a88, 0x85a3, 0x08d3, 0x1319, 0x8a2e, 0x0370, 0x7344,
+];
+
+/// How many symbols come after the first one.
+const LATER: usize = 7;
+
+/// The first symbol, and the later ones.
+type Symbols = (usize, Vec<usize>);
+
+/// The words decoded by a stack coder: the first symbol by a model of its own.
+fn by_stack(alloc: Global, first: &Table, later: &[Table]) -> Result<Symbols> {
+    let Ok(mut coder) = SmallAnsCoder::from_compressed(WORDS.to_vec(alloc)?) else {
+        bail!("words that end with a zero word are no coder's");
+    };
+    let symbol = coder.decode_symbol(first)?;
+    let mut rest = Vec::new(alloc);
+    'later: for table in later {
+        rest.push(coder.decode_symbol(table)?)?;
+    }
+    Ok((symbol, rest))
+}
+
+/// The words decoded by a chain coder, by the same models.
+fn by_chain(alloc: Global, first: &Table, later: &[Table]) -> Result<Symbols> {
+    let Ok(mut coder) = SmallChainCoder::from_compressed(alloc, WORDS.to_vec(alloc)?) else {
+        bail!("too few words, or a zero word at the end");
+    };
+    let symbol = coder.decode_symbol(first)?;
+    let mut rest = Vec::new(alloc);
+    'later: for table in later {
+        rest.push(coder.decode_symbol(table)?)?;
+    }
+    Ok((symbol, rest))
+}
+
+/// Prints what one coder gave under each of the two models.
+fn show(rt: &impl Print, coder: &str, one: &Symbols, other: &Symbols) -> Result<()> {
+    println!(rt; "{coder}")?;
+    println!(rt; "  under the one model:   {}, then {:?}", one.0, one.1)?;
+    println!(rt; "  under the other model: {}, then {:?}", other.0, other.1)?;
+    Ok(())
+}
+
+/// Decodes the words with both coders, under two models for the first symbol, and prints the symbols.
+pub fn run(rt: &impl Print, alloc: Global) -> Result<()> {
+    let first = Table::new(alloc, &[2048, 1024, 512, 512])?;
+    let replaced = Table::new(alloc, &[512, 512, 1024, 2048])?;
+    let mut later = Vec::new(alloc);
+    'later: for _ in 0..LATER {
+        later.push(Table::new(alloc, &[256; 16])?)?;
+    }
+    let one = by_stack(alloc, &first, &later)?;
+    let other = by_stack(alloc, &replaced, &later)?;
+    show(rt, "stack coder (ANS)", &one, &other)?;
+    let one = by_chain(alloc, &first, &later)?;
+    let other = by_chain(alloc, &replaced, &later)?;
+    show(rt, "chain coder", &one, &other)?;
+    Ok(())
+}

@@ -1,0 +1,17 @@
+//! Worked examples, which list the facade alone: [`uses`] for a crate whose own contracts say that symbols come back,
+//! [`bits_back`] for bits-back coding, and [`isolation`] for what the chain coder is for. The program runs the three in turn.
+#![tactic(auto)]
+
+mod bits_back;
+mod isolation;
+mod uses;
+
+use anyhow::Result;
+
+fn main(rt: HostRuntime) -> Result<()> {
+    let alloc = rt.alloc();
+    uses::run(&rt, alloc)?;
+    bits_back::run(&rt, alloc)?;
+    isolation::run(&rt, alloc)?;
+    Ok(())
+}

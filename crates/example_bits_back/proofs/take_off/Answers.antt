@@ -1,8 +1,0 @@
-use Rattle.constriction.specs.stack.Ans.{DecodeCall}
-use Rattle.constriction.proofs.Outcomes.{decoded_by}
-use Rattle.example_bits_back.proofs.take_off.Goals as goal
-
-pub returns : goal.returns
-returns c =
-    let off = decoded_by (DecodeCall _ _ _ _ 32 64) (λ _ _ _. ⊥) _ _ _ _ _ c.in-Ok.ensures.step in
-    (off.0, off.1, off.2, (off.3.holds, off.3.popped tt))
