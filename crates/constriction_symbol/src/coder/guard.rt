@@ -72,15 +72,27 @@ impl<Word: BitArray, A: Allocator> StackCoder<Word, Vec<Word, A>> {
     {
         let mut last = self.last.copied();
         if last.is_full() {
-            WriteWords::<Word>::prepare(&mut self.backend, 2)?;
-            WriteWords::<Word>::write(&mut self.backend, last.word())?;
+            match WriteWords::<Word>::prepare(&mut self.backend, 2) {
+                Ok(()) => {}
+                Err(error) => return Err(error),
+            }
+            match WriteWords::<Word>::write(&mut self.backend, last.word()) {
+                Ok(()) => {}
+                Err(error) => return Err(error),
+            }
             let mut end = TopBits::<Word>::none();
             end.push(true);
-            WriteWords::<Word>::write(&mut self.backend, end.word())?;
+            match WriteWords::<Word>::write(&mut self.backend, end.word()) {
+                Ok(()) => {}
+                Err(error) => return Err(error),
+            }
             return Ok(2);
         }
         last.push(true);
-        WriteWords::<Word>::write(&mut self.backend, last.word())?;
+        match WriteWords::<Word>::write(&mut self.backend, last.word()) {
+            Ok(()) => {}
+            Err(error) => return Err(error),
+        }
         Ok(1)
     }
 }
@@ -99,7 +111,10 @@ impl<Word: BitArray, A: Allocator> QueueEncoder<Word, Vec<Word, A>> {
         if self.last.is_empty() {
             return Ok(0);
         }
-        WriteWords::<Word>::write(&mut self.backend, self.last.word())?;
+        match WriteWords::<Word>::write(&mut self.backend, self.last.word()) {
+            Ok(()) => {}
+            Err(error) => return Err(error),
+        }
         Ok(1)
     }
 }

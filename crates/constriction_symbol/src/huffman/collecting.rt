@@ -50,7 +50,10 @@ where
 {
     let mut weights = Vec::new(alloc);
     for item in probabilities {
-        weights.push(*item.lend())?;
+        match weights.push(*item.lend()) {
+            Ok(()) => {}
+            Err(_) => return Err(AllocError),
+        }
     }
     Ok(weights)
 }
