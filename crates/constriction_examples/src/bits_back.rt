@@ -12,10 +12,10 @@ ghost use Rattle.constriction.specs.Tables.{model_of};
 
 use anyhow::{Context, Result, bail};
 use constriction::CoderError;
+use constriction::laws::stack::{binary, steps};
 use constriction::stream::model::WeightTable;
 use constriction::stream::stack::DefaultAnsCoder as Coder;
 use constriction::stream::{Decode, Encode};
-use constriction::laws::stack::{binary, steps};
 use std::alloc::Global;
 
 /// The bits of a quantile: weights add up to 4096.
