@@ -1,0 +1,13 @@
+//! The coders as calls over a caller's buffers: no value of ours outlives a call, so a caller in another language keeps the
+//! state itself, as words in a buffer with their number, and heads. `constriction_c` gives each call a C function.
+//!
+//! - [`refusal`]: why a call was refused.
+//! - [`rows`]: rows of weights as models.
+//! - [`intervals`]: intervals without a table.
+//! - [`buffers`]: words put behind others in a buffer.
+#![tactic(auto)]
+
+pub mod buffers;
+pub mod intervals;
+pub mod refusal;
+pub mod rows;
