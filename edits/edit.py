@@ -4,7 +4,8 @@ import collections
 import os
 import re
 
-DECLARATION = re.compile(r"( *)(?:[a-z]+(?:\([^)]*\))? |extern \"C\" )*(?:fn|const) (\w+)")
+# The line of a function or of a constant; a const parameter on a line of its own is neither.
+DECLARATION = re.compile(r"( *)(?:[a-z]+(?:\([^)]*\))? |extern \"C\" )*(?:fn|const) (\w+)\b(?!: \w+[,>]?$)")
 MEMBER = re.compile(r" *ghost (\w+) =")
 
 
