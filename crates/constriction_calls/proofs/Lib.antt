@@ -1,1 +1,3 @@
+pub mod RowItems
+pub mod RowTables
 pub mod RowWeights
