@@ -1,6 +1,6 @@
 //! Rows of weights as models.
 
-mod adding;
+pub mod adding;
 mod models;
 
 ghost use Rattle.std.specs.Prelude.{◌≡◌, ◌≢◌, ◌↔◌, ◌⊎◌, ◌*◌, ◌≤◌, length, map, IfSome, IsSome, IfOk, IfErr, OnOk, IsErrOf};

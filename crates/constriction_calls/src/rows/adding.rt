@@ -6,7 +6,7 @@ ghost use Rattle.constriction_calls.specs.Weights.{IsTotal, AreTotals};
 use constriction_words::BitArray;
 
 /// The number of ones below a place.
-fn ones<P: BitArray>(count: usize) -> P
+pub fn ones<P: BitArray>(count: usize) -> P
     requires { (1 ≤ count) × (count ≤ P.BITS) }
     ensures { P.number result + 1 ≡ 2 ^ count }
 {
