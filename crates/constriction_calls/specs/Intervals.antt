@@ -21,3 +21,9 @@ interval_items precision lefts ps =
 -- each of them is one
 abbrev pub AreIntervals : ℕ → List ℕ → List ℕ → Type 0
 AreIntervals precision lefts ps = AllByRecursion (λ (pair : ℕ × ℕ). IsInterval precision pair.0 pair.1) (zip lefts ps)
+
+-- their weights, one row behind another
+abbrev pub rows_between : ℕ → List ℕ → List ℕ → List ℕ
+rows_between precision [] ps = []
+rows_between precision (left ∷ lefts) [] = []
+rows_between precision (left ∷ lefts) (p ∷ ps) = left ∷ p ∷ (2 ^ precision - (left + p)) ∷ rows_between precision lefts ps

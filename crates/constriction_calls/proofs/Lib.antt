@@ -1,0 +1,4 @@
+pub mod IntervalRows
+pub mod RowItems
+pub mod RowTables
+pub mod RowWeights
