@@ -1,5 +1,5 @@
 -- Intervals as rows of three weights.
-use Rattle.std.proofs.Common.{◌≡◌, ℕ, suc, ◌+◌, ◌-◌, ◌*◌, ◌^◌, ◌≤◌, List, [], ◌∷◌, length, arith, refl, ap}
+use Rattle.std.proofs.Common.{◌≡◌, ℕ, ◌*◌, List, [], ◌∷◌, length, arith, refl, ap}
 use Rattle.std.specs.Prelude.{replicate}
 use Rattle.constriction_base.specs.Models.{Item, item_of}
 use Rattle.constriction_calls.specs.Weights.{weights_model, row_items, AreTotals}

@@ -2,3 +2,4 @@ pub mod IntervalRows
 pub mod RowItems
 pub mod RowTables
 pub mod RowWeights
+pub mod Stacked

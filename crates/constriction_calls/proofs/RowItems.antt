@@ -1,11 +1,10 @@
 -- Symbols under rows of weights, as items; intervals as rows; which items are known.
-use Rattle.std.proofs.Common.{◌≡◌, ℕ, zero, suc, ◌+◌, ◌-◌, ◌*◌, ◌^◌, ◌<◌, ◌≤◌, List, [], ◌∷◌, ◌++◌, length, map, take, drop, reverse, refl, sym, ap, ◌∙◌, subst, arith}
-use Rattle.std.specs.List.{AllByRecursion, zip}
+use Rattle.std.proofs.Common.{◌≡◌, ℕ, List, [], ◌∷◌, ◌++◌, length, map, drop, reverse, refl, ap, subst}
+use Rattle.std.specs.List.{AllByRecursion}
 use Rattle.std.proofs.lemmas.Grind.{reverse_onto}
 use Rattle.std.proofs.lemmas.List.{reverse-reverse}
-use Rattle.constriction_base.specs.Tables.{table_of}
-use Rattle.constriction_base.specs.Models.{Model, Item, item_of, pairs_of, Knows, AreKnown}
-use Rattle.constriction_calls.specs.Weights.{weights_model, row_tables, row_items}
+use Rattle.constriction_base.specs.Models.{Item, item_of, pairs_of, AreKnown}
+use Rattle.constriction_calls.specs.Weights.{row_tables, row_items}
 
 -- lists that are equal begin and go on equally
 first_same : {A : Type 0} {x y : A} {xs ys : List A} → x ∷ xs ≡ y ∷ ys → x ≡ y

@@ -1,5 +1,5 @@
 -- Rows of weights, taken from the first on.
-use Rattle.std.proofs.Common.{◌≡◌, ℕ, suc, ◌+◌, ◌-◌, ◌*◌, ◌≤◌, List, ◌∷◌, length, map, take, drop, arith, sym, ap, subst, ◌∙◌, ◌++◌, [], append_assoc}
+use Rattle.std.proofs.Common.{◌≡◌, ℕ, suc, ◌+◌, ◌-◌, ◌*◌, ◌≤◌, List, ◌∷◌, map, take, drop, arith, sym, ap, subst, ◌∙◌, ◌++◌, [], append_assoc}
 use Rattle.std.proofs.lemmas.List.{take-map, map_push}
 use Rattle.std.proofs.Math.Seq.{drop-drop}
 use Rattle.constriction_base.specs.Tables.{table_of}

@@ -1,7 +1,5 @@
-use Rattle.std.proofs.Common.{◌≡◌, suc, ◌+◌, ◌-◌, ◌∷◌, [], ◌++◌, map, arith, refl, ap, sym, ◌∙◌, append_assoc}
-use Rattle.std.proofs.lemmas.List.{map_push}
+use Rattle.std.proofs.Common.{◌≡◌, suc, ◌+◌, ◌-◌, map, arith, refl, ap, ◌∙◌}
 use Rattle.constriction_base.specs.Tables.{table_of}
-use Rattle.constriction_calls.specs.Weights.{IsTotal, row_tables}
 use Rattle.constriction_calls.proofs.RowTables.{rest_behind, row_numbers, totals_split, tables_split, push_table}
 use Rattle.constriction_calls.proofs.rows.total_rows.Goals as goal
 
