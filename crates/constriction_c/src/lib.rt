@@ -14,4 +14,5 @@
 //! ```
 #![tactic(auto)]
 
+pub mod ans;
 pub mod codes;
