@@ -1,0 +1,1 @@
+//! Symbols taken off a caller's state.
