@@ -1,1 +1,5 @@
+pub mod IntervalRows
+pub mod RowItems
+pub mod RowTables
 pub mod RowWeights
+pub mod Stacked
