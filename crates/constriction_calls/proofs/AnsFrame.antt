@@ -108,3 +108,9 @@ module _ {W : Type 0} (number : W → ℕ) (w s : ℕ) (items : List (Item ℕ))
   refused known k within (Ok u) short is = tt
   refused known k within (Err e) short (inl is) = rw is (tt, tt, k, needs_room within short)
   refused known k within (Err e) short (inr is) = rw is (tt, tt)
+
+-- the same where more was asked for before
+pub all_refused_after : (fits right known : Type 0) (needs : ℕ → Type 0) → fits → right → (r : Result (Unit {0}) Refusal)
+    → IfErr r (PutOnRefused (Unit {0}) (Unit {0}) known needs) → IfErr r (PutOnRefused fits right known needs)
+all_refused_after fits right known needs f r (Ok u) h = tt
+all_refused_after fits right known needs f r (Err e) h = refused_after fits right known needs f r e h

@@ -1,3 +1,4 @@
+mod AnsFrame
 pub mod IntervalRows
 pub mod RowItems
 pub mod RowTables

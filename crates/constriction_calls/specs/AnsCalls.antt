@@ -67,3 +67,10 @@ ExportRefused fits right needs WrongWeights = ⊥
 ExportRefused fits right needs WrongInterval = ⊥
 ExportRefused fits right needs ImpossibleSymbol = ⊥
 ExportRefused fits right needs OutOfData = ⊥
+
+-- a buffer is shorter than a list of words of which this holds, and so long is that
+pub record NoRoomFor (room : ℕ) (holds : List ℕ → Type 0) (needed : ℕ) : Type 0 where
+  pub short : room < needed
+  pub all : List ℕ
+  pub are : holds all
+  pub count : length all ≡ needed

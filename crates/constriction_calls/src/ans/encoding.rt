@@ -8,9 +8,9 @@ ghost use Rattle.constriction_calls.specs.Intervals.{AreIntervals, interval_item
 ghost use Rattle.constriction_calls.specs.Weights.{AreTotals, IsTotal, row_items, weights_model};
 
 use crate::ans::scratch::{coded, coded_pairs, put_behind};
-use crate::refusal::Refusal;
 use crate::intervals::rows_by_intervals;
 use crate::known::{all_known, all_known_by};
+use crate::refusal::Refusal;
 use crate::rows::rows_of;
 use crate::tables::table_by;
 use constriction_base::model::{EncoderModel, EntropyModel};
