@@ -78,7 +78,7 @@ refused_after fits right known needs f r WrongLength h = absurd (h tt)
 refused_after fits right known needs f r WrongWeights h = absurd (h.1 tt)
 refused_after fits right known needs f r ImpossibleSymbol h = (f, r, h.2)
 refused_after fits right known needs f r (NoSpace needed) h = (f, r, h.2, h.3)
-refused_after fits right known needs f r NoMemory h = (f, r)
+refused_after fits right known needs f r NoMemory h = tt
 refused_after fits right known needs f r WrongInterval h = h
 refused_after fits right known needs f r InvalidData h = h
 refused_after fits right known needs f r OutOfData h = h
@@ -107,7 +107,7 @@ module _ {W : Type 0} (number : W → ℕ) (w s : ℕ) (items : List (Item ℕ))
       → IfErr r (λ e. (e ≡ NoSpace (len + length added)) ⊎ (e ≡ NoMemory)) → IfErr r (PutOnRefused (Unit {0}) (Unit {0}) known (NeedsRoom number w s items head buffer len))
   refused known k within (Ok u) short is = tt
   refused known k within (Err e) short (inl is) = rw is (tt, tt, k, needs_room within short)
-  refused known k within (Err e) short (inr is) = rw is (tt, tt)
+  refused known k within (Err e) short (inr is) = rw is tt
 
 -- the same where more was asked for before
 pub all_refused_after : (fits right known : Type 0) (needs : ℕ → Type 0) → fits → right → (r : Result (Unit {0}) Refusal)

@@ -1,3 +1,4 @@
+mod AnsRows
 mod AnsFrame
 pub mod IntervalRows
 pub mod RowItems

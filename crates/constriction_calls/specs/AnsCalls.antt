@@ -30,7 +30,7 @@ PutOnRefused fits right known needs WrongLength = fits → ⊥
 PutOnRefused fits right known needs WrongWeights = fits × (right → ⊥)
 PutOnRefused fits right known needs ImpossibleSymbol = fits × right × (known → ⊥)
 PutOnRefused fits right known needs (NoSpace needed) = fits × right × known × needs needed
-PutOnRefused fits right known needs NoMemory = fits × right
+PutOnRefused fits right known needs NoMemory = Unit {0}
 PutOnRefused fits right known needs WrongInterval = ⊥
 PutOnRefused fits right known needs InvalidData = ⊥
 PutOnRefused fits right known needs OutOfData = ⊥
@@ -50,7 +50,7 @@ IntervalsRefused fits right needs OutOfData = ⊥
 abbrev pub TakeOffRefused : Type 0 → Type 0 → Refusal → Type 0
 TakeOffRefused fits right WrongLength = fits → ⊥
 TakeOffRefused fits right WrongWeights = fits × (right → ⊥)
-TakeOffRefused fits right NoMemory = fits × right
+TakeOffRefused fits right NoMemory = Unit {0}
 TakeOffRefused fits right WrongInterval = ⊥
 TakeOffRefused fits right ImpossibleSymbol = ⊥
 TakeOffRefused fits right (NoSpace needed) = ⊥
@@ -62,7 +62,7 @@ abbrev pub ExportRefused : Type 0 → Type 0 → (ℕ → Type 0) → Refusal �
 ExportRefused fits right needs WrongLength = fits → ⊥
 ExportRefused fits right needs InvalidData = fits × (right → ⊥)
 ExportRefused fits right needs (NoSpace needed) = fits × right × needs needed
-ExportRefused fits right needs NoMemory = fits × right
+ExportRefused fits right needs NoMemory = Unit {0}
 ExportRefused fits right needs WrongWeights = ⊥
 ExportRefused fits right needs WrongInterval = ⊥
 ExportRefused fits right needs ImpossibleSymbol = ⊥

@@ -177,7 +177,6 @@ where
     M::Probability: WordOf<Word>,
     ensures decoded { Decodes Word.BITS State.BITS record { precision = PRECISION; table = M.table model.now } result coder.old.state coder.new.state }
     ensures buffer { coder.new.backend.buf.now ≡ coder.old.backend.buf.now }
-    ensures left { coder.new.backend.pos ≤ coder.old.backend.pos }
 {
     match coder.decode_symbol(model) {
         Ok(symbol) => symbol,
