@@ -1,3 +1,5 @@
+mod AnsRows
+mod AnsFrame
 pub mod IntervalRows
 pub mod RowItems
 pub mod RowTables

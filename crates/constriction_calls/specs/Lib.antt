@@ -1,3 +1,4 @@
+pub mod AnsCalls
 pub mod Buffers
 pub mod Intervals
 pub mod Rows

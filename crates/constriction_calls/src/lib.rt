@@ -7,8 +7,10 @@
 //! - [`known`]: whether models know symbols.
 //! - [`intervals`]: intervals without a table.
 //! - [`buffers`]: words put behind others in a buffer.
+//! - [`ans`]: the stack coder.
 #![tactic(auto)]
 
+pub mod ans;
 pub mod buffers;
 pub mod intervals;
 pub mod known;

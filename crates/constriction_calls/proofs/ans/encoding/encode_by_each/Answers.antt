@@ -1,0 +1,39 @@
+use Rattle.std.proofs.Common.{◌≡◌, ap, arith, map, List, []}
+use Rattle.std.specs.Prelude.{reverse}
+use Rattle.std.proofs.lemmas.Result.{on_ok_weaker}
+use Rattle.constriction_base.specs.Models.{IsModel, AreModels, pairs_of}
+use Rattle.constriction_laws.proofs.stack_coder.ComingBack.{all-reverse}
+use Rattle.constriction_laws.proofs.stack_coder.PairCalls.{are_pairs}
+use Rattle.constriction_calls.proofs.AnsFrame.{put_on, refused, encodes_know, known_turned, on_ok_always}
+use Rattle.constriction_calls.proofs.ans.encoding.encode_by_each.Goals as goal
+
+pub returns-in-Some-clause-ok : goal.returns-in-Some-clause-ok
+returns-in-Some-clause-ok g c =
+    let w = g.Word.BitArray.BITS in
+    let table = g.M.EntropyModel.table in
+    let pairs = pairs_of g.row.PRECISION table c.args.symbols.now c.args.models.now in
+    let lawful : AreModels w pairs = are_pairs g.row.PRECISION table w c.args.symbols.now c.args.models.now
+    (λ m. (let sized = g.met.M.EntropyModel.sized m in record { some_bits = sized.0; within_word = omega (arith, sized.1, g.met.M.Probability.WordOf.width_law); lawful = g.M.EntropyModel.lawful m })) in
+    on_ok_weaker c.put_behind.result
+    (λ e. put_on g.Word.BitArray.number w g.State.BitArray.BITS (reverse pairs) (g.State.BitArray.number c.args.head.now) c.args.words.now c.args.len.now
+    c.in-Some.added.items (g.State.BitArray.number c.in-Some.new_head) c.requires.sizes (all-reverse (λ item. IsModel w item.model) pairs lawful) c.in-Some.ensures
+    (g.State.BitArray.number c.put_behind.new.head) (ap g.State.BitArray.number e.0) c.put_behind.new.words c.put_behind.new.len (rw c.deref.ensures.value at e.1))
+    c.put_behind.ensures.ok
+
+pub returns-in-Some-clause-known : goal.returns-in-Some-clause-known
+returns-in-Some-clause-known g c =
+    let pairs = pairs_of g.row.PRECISION g.M.EntropyModel.table c.args.symbols.now c.args.models.now in
+    on_ok_always c.put_behind.result (known_turned pairs (encodes_know g.Word.BitArray.BITS g.State.BitArray.BITS (reverse pairs) _ _ c.in-Some.ensures))
+
+pub returns-in-Some-clause-err : goal.returns-in-Some-clause-err
+returns-in-Some-clause-err g c =
+    let w = g.Word.BitArray.BITS in
+    let s = g.State.BitArray.BITS in
+    let table = g.M.EntropyModel.table in
+    let pairs = pairs_of g.row.PRECISION table c.args.symbols.now c.args.models.now in
+    let lawful : AreModels w pairs = are_pairs g.row.PRECISION table w c.args.symbols.now c.args.models.now
+    (λ m. (let sized = g.met.M.EntropyModel.sized m in record { some_bits = sized.0; within_word = omega (arith, sized.1, g.met.M.Probability.WordOf.width_law); lawful = g.M.EntropyModel.lawful m })) in
+    refused g.Word.BitArray.number w s (reverse pairs) (g.State.BitArray.number c.args.head.now) c.args.words.now c.args.len.now
+    c.in-Some.added.items (g.State.BitArray.number c.in-Some.new_head) c.requires.sizes (all-reverse (λ item. IsModel w item.model) pairs lawful) c.in-Some.ensures
+    _ (known_turned pairs (encodes_know w s (reverse pairs) _ _ c.in-Some.ensures)) c.requires.within
+    c.put_behind.result (rw c.deref.ensures.value at c.put_behind.ensures.full) (rw c.deref.ensures.value at c.put_behind.ensures.err)
