@@ -186,7 +186,7 @@ pub extern "C" fn constriction_ans_into_compressed_u32(
 ) -> u32
     ensures ok { OnOk (answer_of result needed.new) ((state_in ⟦<u32 as BitArray>⟧.number (⟦<u64 as BitArray>⟧.number head) words.new len.new).words
         ≡ exported 32 (state_in ⟦<u32 as BitArray>⟧.number (⟦<u64 as BitArray>⟧.number head) words.old len.old)) }
-    ensures appended { OnOk (answer_of result needed.new) ((added : List Word) × Appended words.old len.old added words.new len.new) }
+    ensures appended { OnOk (answer_of result needed.new) ((added : List ℕ) × Appended words.old len.old added words.new len.new) }
     ensures variant { OnOk (answer_of result needed.new) (len.old ≤ length words.old) }
     ensures err { IfErr (answer_of result needed.new) (ExportRefused (len.old ≤ length words.old) (Unit {0})
         (NoRoomFor (length words.old) (λ all. all ≡ exported 32 (state_in ⟦<u32 as BitArray>⟧.number (⟦<u64 as BitArray>⟧.number head) words.old len.old)))) }
@@ -213,7 +213,7 @@ pub extern "C" fn constriction_ans_into_binary_u32(
     ensures ok { OnOk (answer_of result needed.new) ((m : ℕ) × IsBinary 32 m (state_in ⟦<u32 as BitArray>⟧.number (⟦<u64 as BitArray>⟧.number head) words.old len.old)
         × ((state_in ⟦<u32 as BitArray>⟧.number (⟦<u64 as BitArray>⟧.number head) words.new len.new).words
         ≡ binary_words 32 m (state_in ⟦<u32 as BitArray>⟧.number (⟦<u64 as BitArray>⟧.number head) words.old len.old))) }
-    ensures appended { OnOk (answer_of result needed.new) ((added : List Word) × Appended words.old len.old added words.new len.new) }
+    ensures appended { OnOk (answer_of result needed.new) ((added : List ℕ) × Appended words.old len.old added words.new len.new) }
     ensures variant { OnOk (answer_of result needed.new) (len.old ≤ length words.old) }
     ensures err { IfErr (answer_of result needed.new) (ExportRefused (len.old ≤ length words.old)
         ((m : ℕ) × IsBinary 32 m (state_in ⟦<u32 as BitArray>⟧.number (⟦<u64 as BitArray>⟧.number head) words.old len.old))
