@@ -48,8 +48,8 @@ def decoded(
     ``rest`` is nothing or a number of symbols, or lists of parameters. ``save`` answers a function that brings back the state as it is now.
     """
     # A model by a function can go with and without parameters: there a single whole number is a number of symbols.
-    if not rest or (len(rest) == 1 and isinstance(rest[0], int) and not model.missing):
-        room = new_symbols(rest[0] if rest else 1)
+    if not rest or (len(rest) == 1 and not model.missing and _is_one(rest[0]) and hasattr(rest[0], "__index__")):
+        room = new_symbols(int(rest[0]) if rest else 1)
         fixed(model.table(), Items(room, len(room)))
         symbols = shifted(room, model.first)
         return symbols if rest else symbols[0]

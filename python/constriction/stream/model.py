@@ -26,6 +26,7 @@ PRECISION = 24
 TOTAL = 1 << PRECISION
 #: Rows of weights are handed over so many weights at a time.
 _ROWS_AT_A_TIME = 1 << 16
+_FALLS = "a cumulative distribution function never falls"
 
 
 class Model:
@@ -45,7 +46,10 @@ class Model:
         """All weights under these parameters."""
         count, bound = self._bounds(parameters)
         ends = [bound(k) for k in range(count + 1)]
-        return array(WORD, map(int.__sub__, ends[1:], ends))
+        weights = list(map(int.__sub__, ends[1:], ends))
+        if min(weights) < 1:
+            raise ValueError(_FALLS)
+        return array(WORD, weights)
 
     def _interval(self, symbol: int, parameters: tuple[Any, ...]) -> tuple[int, int]:
         """The sum of the weights before a symbol, and its weight."""
@@ -53,8 +57,10 @@ class Model:
         place = symbol - self.first
         if not 0 <= place < count:
             raise ImpossibleSymbolError(IMPOSSIBLE_SYMBOL)
-        left = bound(place)
-        return left, bound(place + 1) - left
+        left, end = bound(place), bound(place + 1)
+        if left >= end:
+            raise ValueError(_FALLS)
+        return left, end - left
 
     def table(self) -> Items:
         """The weights of a model that has all its parameters."""
