@@ -3,7 +3,6 @@
 from __future__ import annotations
 
 import ctypes
-import mmap
 import sys
 from array import array
 from collections.abc import Iterable
@@ -18,8 +17,6 @@ List = Union[Iterable[Any], memoryview]
 WORD, SYMBOL, NUMBER = "I", "q", "d"
 #: An address for empty lists: C functions take no null pointer.
 _NOWHERE = (ctypes.c_uint64 * 1)()
-#: From so many words on a buffer's memory is what the system gives page by page.
-_PAGED = 1 << 14
 
 
 class Numbers(array):
@@ -154,11 +151,13 @@ class WordStack:
 
     def _move(self, source: memoryview, capacity: int) -> None:
         """Takes room for so many words, and copies those in use there, which stand in these bytes."""
-        size = 4 * capacity
-        room: Any = mmap.mmap(-1, size) if capacity >= _PAGED else bytearray(size)
         used = 4 * self.length.value
-        memoryview(room)[:used] = source[:used]
-        self._room: Any = room
+        if used == 4 * capacity:
+            room = bytearray(source[:used])
+        else:
+            room = bytearray(4 * capacity)
+            room[:used] = source[:used]
+        self._room = room
         self._memory = (c_uint32 * capacity).from_buffer(room)
         self.capacity = capacity
 
