@@ -33,13 +33,13 @@
 
    REFUSALS. Each function returns one of enum constriction_result. If that is not CONSTRICTION_DONE, nothing changed: neither
    the state, nor a buffer, nor the symbols; only with CONSTRICTION_NO_SPACE *needed is written, and nothing else is. Where
-   several refusals would fit, it is the first of: WRONG_LENGTH; WRONG_WEIGHTS or WRONG_INTERVAL; INVALID_DATA where it speaks of the
-   state that was handed in; IMPOSSIBLE_SYMBOL, INVALID_DATA or OUT_OF_DATA, as the first symbol that fails has it; NO_SPACE.
-   NO_MEMORY can take the place of any of these behind WRONG_LENGTH.
+   several refusals would fit, it is the first of: WRONG_LENGTH; WRONG_WEIGHTS or WRONG_INTERVAL; INVALID_DATA of a state that
+   was handed in; IMPOSSIBLE_SYMBOL, of any symbol; OUT_OF_DATA, or INVALID_DATA of words; NO_SPACE. NO_MEMORY can take the
+   place of any of these behind WRONG_LENGTH.
 
-   MEMORY. Most functions ask malloc, realloc and free of the program for room, and give all of it back before they return. These three
-   come from one allocator; malloc and realloc align a block to each power of two up to 16 that divides its size. A function
-   must not be called from a signal handler, nor from the forked child of a process that had threads. */
+   MEMORY. Most functions ask malloc, realloc and free of the program for room, and give all of it back before they return.
+   These three come from one allocator; malloc and realloc align a block to each power of two up to 16 that divides its size. A
+   function must not be called from a signal handler, nor from the forked child of a process that had threads. */
 #ifndef CONSTRICTION_H
 #define CONSTRICTION_H
 
@@ -124,7 +124,7 @@ uint32_t constriction_ans_from_compressed_u32(const uint32_t *words, size_t word
 
 /* Puts the head's words, at most 2, behind the others, lowest first and without leading zeros. The head is not changed: to go
    on with the coder, keep the old length.
-   Refusals: WRONG_LENGTH (*len > capacity), NO_SPACE. */
+   Refusals: WRONG_LENGTH (*len > capacity), NO_SPACE, NO_MEMORY. */
 uint32_t constriction_ans_into_compressed_u32(uint64_t head, uint32_t *words, size_t capacity, size_t *len, size_t *needed);
 
 /* A coder from any words at all, such as those of bits-back: writes its head, and how many of the words stay below it. */
@@ -132,7 +132,7 @@ uint32_t constriction_ans_from_binary_u32(const uint32_t *words, size_t word_cou
 
 /* Puts the head's words below its leading 1 behind the others: the converse of from_binary.
    Refusals: WRONG_LENGTH (*len > capacity); INVALID_DATA, exactly where the head is 0 or its bit length less one is no multiple
-   of 32, so that it holds no whole number of words; NO_SPACE. */
+   of 32, so that it holds no whole number of words; NO_SPACE; NO_MEMORY. */
 uint32_t constriction_ans_into_binary_u32(uint64_t head, uint32_t *words, size_t capacity, size_t *len, size_t *needed);
 
 /* ---- The range coder: what is encoded first is decoded first ---- */
@@ -182,7 +182,7 @@ uint32_t constriction_range_encode_intervals_u32(struct constriction_range_encod
 uint32_t constriction_range_into_compressed_u32(const struct constriction_range_encoder_state_u32 *encoder,
                                                 uint32_t *words, size_t capacity, size_t *len, size_t *needed);
 
-/* A decoder at the beginning of these words, which may be any. */
+/* A decoder at the beginning of these words, which may be any: it is a decode that refuses what no encoder wrote. */
 uint32_t constriction_range_from_compressed_u32(const uint32_t *words, size_t word_count,
                                                 struct constriction_range_decoder_state_u32 *decoder);
 
@@ -201,7 +201,7 @@ uint32_t constriction_range_decode_each_u32(struct constriction_range_decoder_st
                                             size_t *symbols, size_t symbol_count);
 
 /* Moves a decoder to a position that the words' encoder had: pos = *len + held, and lower and range as they were then.
-   Refusals: WRONG_LENGTH (pos > word_count), INVALID_DATA (no encoder has such a lower and range, or the words have no such place). */
+   Refusals: WRONG_LENGTH (pos > word_count), INVALID_DATA (range is below 2^32). */
 uint32_t constriction_range_seek_u32(struct constriction_range_decoder_state_u32 *decoder,
                                      const uint32_t *words, size_t word_count,
                                      size_t pos, uint64_t lower, uint64_t range);
@@ -252,8 +252,8 @@ uint32_t constriction_chain_decode_each_u32(struct constriction_chain_heads_u32 
                                             size_t *symbols, size_t symbol_count, size_t *needed);
 
 /* Encodes symbols, from the last one of the list to the first: the converse of decode.
-   Refusals: WRONG_LENGTH (*compressed_len > capacity or *remainders_len > remainders_count), WRONG_WEIGHTS, INVALID_DATA (no coder has
-   such heads), IMPOSSIBLE_SYMBOL, OUT_OF_DATA (remainders are too short), NO_SPACE (of compressed), NO_MEMORY. */
+   Refusals: WRONG_LENGTH (*compressed_len > capacity or *remainders_len > remainders_count), WRONG_WEIGHTS, INVALID_DATA (no
+   coder has such heads), IMPOSSIBLE_SYMBOL, OUT_OF_DATA (remainders are too short), NO_SPACE (of compressed), NO_MEMORY. */
 uint32_t constriction_chain_encode_reverse_u32(struct constriction_chain_heads_u32 *heads,
                                                uint32_t *compressed, size_t capacity, size_t *compressed_len,
                                                const uint32_t *remainders, size_t remainders_count, size_t *remainders_len,
@@ -276,9 +276,10 @@ uint32_t constriction_chain_encode_intervals_reverse_u32(struct constriction_cha
                                                          const uint32_t *lefts, size_t left_count,
                                                          const uint32_t *ps, size_t p_count, size_t *needed);
 
-/* Puts the words of heads->remainders behind compressed, lowest first and without leading zeros. What is left in remainders belongs in
-   front of compressed in one list of words.
-   Refusals: WRONG_LENGTH, INVALID_DATA (no coder has such heads, or bits are left over: heads->compressed isn't 1), NO_SPACE. */
+/* Puts the words of heads->remainders behind compressed, lowest first and without leading zeros. What is left in remainders
+   belongs in front of compressed in one list of words.
+   Refusals: WRONG_LENGTH, INVALID_DATA (no coder has such heads, or bits are left over: heads->compressed isn't 1), NO_SPACE,
+   NO_MEMORY. */
 uint32_t constriction_chain_into_compressed_u32(struct constriction_chain_heads_u32 *heads,
                                                 uint32_t *compressed, size_t capacity, size_t *compressed_len,
                                                 const uint32_t *remainders, size_t remainders_count, size_t *remainders_len,
@@ -291,8 +292,9 @@ uint32_t constriction_chain_into_binary_u32(struct constriction_chain_heads_u32 
                                             const uint32_t *remainders, size_t remainders_count, size_t *remainders_len,
                                             size_t *needed);
 
-/* Puts the words of heads->remainders, lowest first, and then heads->compressed behind remainders. What is left in compressed belongs in
-   front of remainders in one list of words. Refusals: WRONG_LENGTH, INVALID_DATA (no coder has such heads), NO_SPACE. */
+/* Puts the words of heads->remainders, lowest first, and then heads->compressed behind remainders. What is left in compressed
+   belongs in front of remainders in one list of words.
+   Refusals: WRONG_LENGTH, INVALID_DATA (no coder has such heads), NO_SPACE, NO_MEMORY. */
 uint32_t constriction_chain_into_remainders_u32(struct constriction_chain_heads_u32 *heads,
                                                 uint32_t *remainders, size_t capacity, size_t *remainders_len, size_t *needed);
 
@@ -378,7 +380,7 @@ uint32_t constriction_ans_from_compressed_u16(const uint16_t *words, size_t word
 
 /* Puts the head's words, at most 2, behind the others, lowest first and without leading zeros. The head is not changed: to go
    on with the coder, keep the old length.
-   Refusals: WRONG_LENGTH (*len > capacity), NO_SPACE. */
+   Refusals: WRONG_LENGTH (*len > capacity), NO_SPACE, NO_MEMORY. */
 uint32_t constriction_ans_into_compressed_u16(uint32_t head, uint16_t *words, size_t capacity, size_t *len, size_t *needed);
 
 /* A coder from any words at all, such as those of bits-back: writes its head, and how many of the words stay below it. */
@@ -386,7 +388,7 @@ uint32_t constriction_ans_from_binary_u16(const uint16_t *words, size_t word_cou
 
 /* Puts the head's words below its leading 1 behind the others: the converse of from_binary.
    Refusals: WRONG_LENGTH (*len > capacity); INVALID_DATA, exactly where the head is 0 or its bit length less one is no multiple
-   of 16, so that it holds no whole number of words; NO_SPACE. */
+   of 16, so that it holds no whole number of words; NO_SPACE; NO_MEMORY. */
 uint32_t constriction_ans_into_binary_u16(uint32_t head, uint16_t *words, size_t capacity, size_t *len, size_t *needed);
 
 /* ---- The range coder: what is encoded first is decoded first ---- */
@@ -436,7 +438,7 @@ uint32_t constriction_range_encode_intervals_u16(struct constriction_range_encod
 uint32_t constriction_range_into_compressed_u16(const struct constriction_range_encoder_state_u16 *encoder,
                                                 uint16_t *words, size_t capacity, size_t *len, size_t *needed);
 
-/* A decoder at the beginning of these words, which may be any. */
+/* A decoder at the beginning of these words, which may be any: it is a decode that refuses what no encoder wrote. */
 uint32_t constriction_range_from_compressed_u16(const uint16_t *words, size_t word_count,
                                                 struct constriction_range_decoder_state_u16 *decoder);
 
@@ -455,7 +457,7 @@ uint32_t constriction_range_decode_each_u16(struct constriction_range_decoder_st
                                             size_t *symbols, size_t symbol_count);
 
 /* Moves a decoder to a position that the words' encoder had: pos = *len + held, and lower and range as they were then.
-   Refusals: WRONG_LENGTH (pos > word_count), INVALID_DATA (no encoder has such a lower and range, or the words have no such place). */
+   Refusals: WRONG_LENGTH (pos > word_count), INVALID_DATA (range is below 2^16). */
 uint32_t constriction_range_seek_u16(struct constriction_range_decoder_state_u16 *decoder,
                                      const uint16_t *words, size_t word_count,
                                      size_t pos, uint32_t lower, uint32_t range);
@@ -506,8 +508,8 @@ uint32_t constriction_chain_decode_each_u16(struct constriction_chain_heads_u16 
                                             size_t *symbols, size_t symbol_count, size_t *needed);
 
 /* Encodes symbols, from the last one of the list to the first: the converse of decode.
-   Refusals: WRONG_LENGTH (*compressed_len > capacity or *remainders_len > remainders_count), WRONG_WEIGHTS, INVALID_DATA (no coder has
-   such heads), IMPOSSIBLE_SYMBOL, OUT_OF_DATA (remainders are too short), NO_SPACE (of compressed), NO_MEMORY. */
+   Refusals: WRONG_LENGTH (*compressed_len > capacity or *remainders_len > remainders_count), WRONG_WEIGHTS, INVALID_DATA (no
+   coder has such heads), IMPOSSIBLE_SYMBOL, OUT_OF_DATA (remainders are too short), NO_SPACE (of compressed), NO_MEMORY. */
 uint32_t constriction_chain_encode_reverse_u16(struct constriction_chain_heads_u16 *heads,
                                                uint16_t *compressed, size_t capacity, size_t *compressed_len,
                                                const uint16_t *remainders, size_t remainders_count, size_t *remainders_len,
@@ -530,9 +532,10 @@ uint32_t constriction_chain_encode_intervals_reverse_u16(struct constriction_cha
                                                          const uint16_t *lefts, size_t left_count,
                                                          const uint16_t *ps, size_t p_count, size_t *needed);
 
-/* Puts the words of heads->remainders behind compressed, lowest first and without leading zeros. What is left in remainders belongs in
-   front of compressed in one list of words.
-   Refusals: WRONG_LENGTH, INVALID_DATA (no coder has such heads, or bits are left over: heads->compressed isn't 1), NO_SPACE. */
+/* Puts the words of heads->remainders behind compressed, lowest first and without leading zeros. What is left in remainders
+   belongs in front of compressed in one list of words.
+   Refusals: WRONG_LENGTH, INVALID_DATA (no coder has such heads, or bits are left over: heads->compressed isn't 1), NO_SPACE,
+   NO_MEMORY. */
 uint32_t constriction_chain_into_compressed_u16(struct constriction_chain_heads_u16 *heads,
                                                 uint16_t *compressed, size_t capacity, size_t *compressed_len,
                                                 const uint16_t *remainders, size_t remainders_count, size_t *remainders_len,
@@ -545,8 +548,9 @@ uint32_t constriction_chain_into_binary_u16(struct constriction_chain_heads_u16 
                                             const uint16_t *remainders, size_t remainders_count, size_t *remainders_len,
                                             size_t *needed);
 
-/* Puts the words of heads->remainders, lowest first, and then heads->compressed behind remainders. What is left in compressed belongs in
-   front of remainders in one list of words. Refusals: WRONG_LENGTH, INVALID_DATA (no coder has such heads), NO_SPACE. */
+/* Puts the words of heads->remainders, lowest first, and then heads->compressed behind remainders. What is left in compressed
+   belongs in front of remainders in one list of words.
+   Refusals: WRONG_LENGTH, INVALID_DATA (no coder has such heads), NO_SPACE, NO_MEMORY. */
 uint32_t constriction_chain_into_remainders_u16(struct constriction_chain_heads_u16 *heads,
                                                 uint16_t *remainders, size_t capacity, size_t *remainders_len, size_t *needed);
 
