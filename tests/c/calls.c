@@ -374,6 +374,10 @@ static void range(size_t count) {
     done("range: encode under rows", range_encode_each, &w);
     done("range: export", range_export, &w);
     done("range: import", range_import, &w);
+    if (w.len > 4) {
+        done("range: not exhausted", range_maybe, &w);
+        CHECK("range: not exhausted", w.maybe == 0);
+    }
     refused_memory("range: decode, memory", range_decode, &w);
     done("range: decode", range_decode, &w);
     CHECK("range: there and back", same_symbols(&w));

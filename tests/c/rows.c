@@ -107,6 +107,29 @@ static void range(void) {
           && C(range_decode)(&decoder, greatest, 2, halves, 2, symbols, 1) == CONSTRICTION_INVALID_DATA);
 }
 
+/* Intervals that hold the point 1/2 of the whole, until words are held back; then one behind it, or one in front of it. The words
+   are the first digits of 1/2, or all those just below it. */
+static void carries(size_t steps, int carry) {
+    struct C(range_encoder_state) encoder;
+    state distance = (state)1 << (8 * sizeof(state) - 1);
+    word left, p = 1;
+    C(range_encoder)(&encoder);
+    len = 0;
+    for (size_t i = 0; i < steps; i++) {
+        state unit = encoder.range / WHOLE;
+        left = (word)(distance / unit);
+        distance -= unit * left;
+        if (unit < (state)1 << BITS) distance <<= BITS;
+        CHECK("carries: encode", !C(range_encode_intervals)(&encoder, words, ROOM, &len, &left, 1, &p, 1, &needed));
+    }
+    size_t held = encoder.held;
+    CHECK("carries: words are held back", held >= 2 && len == 0 && encoder.first == ((word)1 << (BITS - 1)) - 1);
+    left = (word)(distance / (encoder.range / WHOLE) + (carry ? 1 : -1));
+    CHECK("carries: encode", !C(range_encode_intervals)(&encoder, words, ROOM, &len, &left, 1, &p, 1, &needed) && len >= held);
+    CHECK("carries: the first word", words[0] == (word)(((word)1 << (BITS - 1)) - !carry));
+    for (size_t i = 1; i < held; i++) CHECK("carries: the other words", words[i] == (carry ? 0 : (word)-1));
+}
+
 static void chain(void) {
 #if BITS == 32
     const word data[] = {0x11223344, 0x100}, quantile = 0x223344, head = 0x111, left_over = 273;
@@ -199,10 +222,14 @@ static void bits(void) {
     CHECK("golomb_ones", !C(exp_golomb_decode_queue)(all_ones, 1, numbers, BITS) && numbers[0] == 0 && numbers[BITS - 1] == 0);
     CHECK("golomb_ones: no more", C(exp_golomb_decode_queue)(all_ones, 1, numbers, BITS + 1) == CONSTRICTION_OUT_OF_DATA);
     CHECK("golomb_byte_limits", C(exp_golomb_decode_queue)(zeros, 3, numbers, 1) == CONSTRICTION_INVALID_DATA);
+    const word bad_tail[] = {0, 3, 0}, short_tail[] = {0, 1};
+    CHECK("the greatest number's codeword ends with zeros", C(exp_golomb_decode_queue)(bad_tail, 3, numbers, 1) == CONSTRICTION_INVALID_DATA);
+    CHECK("the greatest number's codeword, cut short", C(exp_golomb_decode_queue)(short_tail, 2, numbers, 1) == CONSTRICTION_OUT_OF_DATA);
     CHECK("golomb_byte_limits: none", C(exp_golomb_decode_queue)(zeros, 0, numbers, 1) == CONSTRICTION_OUT_OF_DATA);
 }
 
 int main(void) {
     ans(), range(), chain(), bits();
+    for (size_t steps = 6; steps < 12; steps++) carries(steps, 0), carries(steps, 1);
     return finish();
 }

@@ -153,7 +153,9 @@ class Ans(unittest.TestCase):
             weights = definitions.random_weights(dice, 9)
             symbols = [definitions.random_symbol(dice, weights) for _ in range(count)]
             wanted = definitions.ans_words([weights] * count, symbols)
-            for given in (symbols, tuple(symbols), array("q", symbols), array("Q", symbols), array("i", symbols)):
+            arrays = [array(code, symbols) for code in "qQiB"]
+            views = [memoryview(it) for it in arrays] + [memoryview(arrays[0].tobytes()).cast("q")]
+            for given in (symbols, tuple(symbols), *arrays, *views):
                 coder = AnsCoder()
                 coder.encode_reverse(given, WeightTable(weights))
                 self.assertEqual(coder.get_compressed(), wanted)
@@ -251,6 +253,26 @@ class Range(unittest.TestCase):
                 encoder.encode(symbols[i : i + 3], WeightTable(weights))
             self.assertEqual(encoder.get_compressed(), definitions.range_words([weights] * len(symbols), symbols))
             self.assertEqual(encoder.get_decoder().decode(WeightTable(weights), len(symbols)), symbols)
+
+    def test_carries_over_many_words(self) -> None:
+        # Intervals that hold the point 1/2, then one behind it or in front of it.
+        for steps in range(6, 30):
+            for last in (-1, 1):
+                start, length, half, tables = 0, (1 << 64) - 1, 1 << 63, []
+                for i in range(steps + 1):
+                    unit = length >> 24
+                    left = (half - start) // unit + (last if i == steps else 0)
+                    tables.append([left, 1, (1 << 24) - left - 1])
+                    start, length = start + unit * left, unit
+                    if length < 1 << 32:
+                        start, length, half = start << 32, length << 32, half << 32
+                encoder = RangeEncoder()
+                encoder.encode([1] * steps, WeightTable(), tables[:-1])
+                self.assertEqual(len(encoder._words), 0)
+                encoder.encode([1], WeightTable(), tables[-1:])
+                self.assertEqual(encoder.get_compressed(), definitions.range_words(tables, [1] * (steps + 1)))
+                self.assertEqual(encoder.get_compressed()[0], (1 << 31) - (last < 0))
+                self.assertEqual(encoder.get_decoder().decode(WeightTable(), tables), [1] * (steps + 1))
 
 
 class Chain(unittest.TestCase):
