@@ -17,7 +17,8 @@
    BUFFERS. A buffer of words is a pointer, its length as a count of words (`capacity` where it is written, `.._count` where it is
    only read), and how many of its first words are in use (`*len`). It fills from its beginning, at index 0, upwards: the words in
    use are words[0] .. words[*len - 1], and new ones are put at words[*len]. As a stack its top is the last word in use. Words
-   behind those in use are never read and never changed. All lengths count items, never bytes.
+   behind those in use are never read, and only those that new words take the place of change. All lengths count items, never
+   bytes.
 
    MODELS. A model is a list of weights: symbol 0 has the first weight, symbol 1 the next, and so on. They add up to 2^24 (2^12).
    A symbol whose weight is 0, or that is past the list, is impossible. There are three ways to hand in models:
@@ -87,7 +88,8 @@ enum constriction_result {
 /* ---- The stack coder (ANS): what is encoded last is decoded first ----
 
    State: *head, and words[0] .. words[*len - 1], the last of which is the top. A new coder has head 0 and no words. A coder
-   that from_compressed, from_binary, encodes and decodes made has a head of 2^32 or more, or no words. */
+   that from_compressed, from_binary, encodes and decodes made has a head of 2^32 or more, or no words. Any other head is
+   taken too, but onto such a one an encode is none that a decode has to undo. */
 
 /* Encodes symbols, from the last one of the list to the first, so that a decode gives them in the list's order.
    Refusals: WRONG_LENGTH (*len > capacity), WRONG_WEIGHTS, IMPOSSIBLE_SYMBOL, NO_SPACE, NO_MEMORY. */
@@ -141,8 +143,8 @@ uint32_t constriction_ans_into_binary_u32(uint64_t head, uint32_t *words, size_t
 struct constriction_range_encoder_state_u32 {
     uint64_t lower; /* where the interval begins */
     uint64_t range; /* how long it is: 2^32 at least */
-    size_t held;      /* how many words are held back */
-    uint32_t first;  /* the first of them; the others are all ones; 0 where none is held back */
+    size_t held;    /* how many words are held back */
+    uint32_t first; /* the first of them; the others are all ones; 0 where none is held back */
 };
 
 /* A decoder beside its words. */
@@ -150,7 +152,7 @@ struct constriction_range_decoder_state_u32 {
     uint64_t lower; /* as in an encoder */
     uint64_t range;
     uint64_t point; /* the 2 words of the data that are looked at */
-    size_t pos;       /* how many words were read */
+    size_t pos;     /* how many words were read */
 };
 
 /* An encoder without symbols. Its words are empty: begin with a length of 0. */
@@ -343,7 +345,8 @@ uint32_t constriction_exp_golomb_decode_stack_u32(const uint32_t *words, size_t 
 /* ---- The stack coder (ANS): what is encoded last is decoded first ----
 
    State: *head, and words[0] .. words[*len - 1], the last of which is the top. A new coder has head 0 and no words. A coder
-   that from_compressed, from_binary, encodes and decodes made has a head of 2^16 or more, or no words. */
+   that from_compressed, from_binary, encodes and decodes made has a head of 2^16 or more, or no words. Any other head is
+   taken too, but onto such a one an encode is none that a decode has to undo. */
 
 /* Encodes symbols, from the last one of the list to the first, so that a decode gives them in the list's order.
    Refusals: WRONG_LENGTH (*len > capacity), WRONG_WEIGHTS, IMPOSSIBLE_SYMBOL, NO_SPACE, NO_MEMORY. */
@@ -397,8 +400,8 @@ uint32_t constriction_ans_into_binary_u16(uint32_t head, uint16_t *words, size_t
 struct constriction_range_encoder_state_u16 {
     uint32_t lower; /* where the interval begins */
     uint32_t range; /* how long it is: 2^16 at least */
-    size_t held;      /* how many words are held back */
-    uint16_t first;  /* the first of them; the others are all ones; 0 where none is held back */
+    size_t held;    /* how many words are held back */
+    uint16_t first; /* the first of them; the others are all ones; 0 where none is held back */
 };
 
 /* A decoder beside its words. */
@@ -406,7 +409,7 @@ struct constriction_range_decoder_state_u16 {
     uint32_t lower; /* as in an encoder */
     uint32_t range;
     uint32_t point; /* the 2 words of the data that are looked at */
-    size_t pos;       /* how many words were read */
+    size_t pos;     /* how many words were read */
 };
 
 /* An encoder without symbols. Its words are empty: begin with a length of 0. */
