@@ -9,6 +9,8 @@ from collections.abc import Iterable
 from ctypes import addressof, byref, c_size_t, c_uint32
 from typing import Any, Union
 
+from .errors import IMPOSSIBLE_SYMBOL, ImpossibleSymbolError
+
 __all__ = ["Items", "Numbers", "WordStack", "floats", "new_symbols", "own_words", "shifted", "symbols_of", "weights_of", "words_of"]
 
 #: A list of symbols, words or parameters: a list, a tuple, an ``array.array``, a numpy array.
@@ -100,13 +102,17 @@ def own_words(words: List) -> Items:
 
 def symbols_of(symbols: List, first: int) -> Items:
     """Symbols as places in a table whose first symbol this is. Where that is 0, 64-bit buffers are handed on as they are."""
-    if first:
-        numpy: Any = sys.modules.get("numpy")
-        if numpy is not None and isinstance(symbols, numpy.ndarray):
-            symbols = numpy.subtract(symbols, first, dtype=numpy.int64)
-        else:
-            symbols = array(SYMBOL, map((-first).__add__, symbols))  # type: ignore[arg-type]
-    memory = _as_array(SYMBOL, symbols)
+    try:
+        if first:
+            numpy: Any = sys.modules.get("numpy")
+            if numpy is not None and isinstance(symbols, numpy.ndarray):
+                symbols = numpy.subtract(symbols, first, dtype=numpy.int64)
+            else:
+                symbols = array(SYMBOL, map((-first).__add__, symbols))  # type: ignore[arg-type]
+        memory = _as_array(SYMBOL, symbols)
+    except OverflowError:
+        # No table has a place past 64 bits.
+        raise ImpossibleSymbolError(IMPOSSIBLE_SYMBOL) from None
     return Items(memory, len(memory))
 
 
@@ -127,7 +133,7 @@ def new_symbols(count: int) -> Numbers:
 
 def shifted(places: Numbers, first: int) -> Numbers:
     """Places in a table as symbols."""
-    if not first:
+    if not first or not len(places):
         return places
     numpy: Any = sys.modules.get("numpy")
     if numpy is not None:

@@ -131,8 +131,10 @@ class Ans(unittest.TestCase):
         before = coder.pos(), coder.get_compressed()
         with self.assertRaisesRegex(errors.ImpossibleSymbolError, r"^Impossible symbol\.$"):
             coder.encode_reverse([0, 1, 3], SEVERAL)
-        with self.assertRaises(errors.ImpossibleSymbolError):
-            coder.encode_reverse(-1, SEVERAL)
+        for symbol in (-1, 3, 1 << 63, 1 << 64, -(1 << 70)):
+            for model in (SEVERAL, QuantizedGaussian(3, 5, 4.0, 1.0)):
+                if symbol != 3 or model is SEVERAL:
+                    self.assertRaises(errors.ImpossibleSymbolError, coder.encode_reverse, [symbol], model)
         with self.assertRaises(errors.ImpossibleSymbolError):
             coder.encode_reverse([51], QuantizedGaussian(-50, 50), [0.0], [1.0])
         with self.assertRaisesRegex(errors.WrongWeightsError, "^weights do not sum to 16777216$"):
