@@ -49,6 +49,12 @@ class Items:
         self.keeper: Any = (ctypes.c_char * 0).from_buffer(numbers) if count else _NOWHERE
         self.address: int = addressof(self.keeper)
 
+    def part(self, start: int, count: int) -> Items:
+        """So many of these symbols, from this one on."""
+        part = Items.__new__(Items)
+        part.keeper, part.count, part.address = self.keeper, count, self.address + 8 * start
+        return part
+
 
 def _viewed(numbers: Any) -> memoryview | None:
     """The numbers as their buffer shows them, where they have one, flat and without gaps."""

@@ -180,6 +180,29 @@ class Ans(unittest.TestCase):
         self.assertEqual(coder.decode(Uniform(500), 150000), list(range(500)) * 300)
         self.assertTrue(coder.is_empty())
 
+    def test_long_lists_are_refused_whole(self) -> None:
+        long = array("Q", [0, 1, 2, 2]) * 50000
+        for place in (0, 65536, 131071, 199999):
+            wrong = long[:]
+            wrong[place] = 3
+            coder, encoder = AnsCoder(), RangeEncoder()
+            coder.encode_reverse(TEN, SEVERAL), encoder.encode(TEN, SEVERAL)
+            before = coder.pos(), coder.get_compressed(), encoder.pos(), encoder.get_compressed()
+            self.assertRaises(errors.ImpossibleSymbolError, coder.encode_reverse, wrong, SEVERAL)
+            self.assertRaises(errors.ImpossibleSymbolError, encoder.encode, wrong, SEVERAL)
+            self.assertEqual((coder.pos(), coder.get_compressed(), encoder.pos(), encoder.get_compressed()), before)
+        coder.encode_reverse(long, SEVERAL), encoder.encode(long, SEVERAL)
+        parts = RangeEncoder()
+        for part in (TEN, long[:70001], long[70001:]):
+            parts.encode(part, SEVERAL)
+        self.assertEqual(encoder.get_compressed(), parts.get_compressed())
+        self.assertEqual(coder.decode(SEVERAL, 200010), long.tolist() + TEN)
+        self.assertEqual(encoder.get_decoder().decode(SEVERAL, 200010), TEN + long.tolist())
+        chain = ChainCoder(array("I", [5]) * 10000)
+        before = chain.get_remainders()
+        self.assertRaises(errors.OutOfDataError, chain.decode, HALVES, 200000)
+        self.assertEqual(chain.get_remainders(), before)
+
 
 class Range(unittest.TestCase):
     def test_worked_rows(self) -> None:

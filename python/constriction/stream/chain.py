@@ -70,7 +70,7 @@ class ChainCoder:
         lengths = len(self._compressed), len(self._remainders)
 
         def back() -> None:
-            # Decodes only write behind the remainders in use.
+            # Only words behind those in use can have changed.
             self._heads = heads
             self._compressed.length.value, self._remainders.length.value = lengths
 
@@ -82,7 +82,7 @@ class ChainCoder:
         Raises :class:`ImpossibleSymbolError`, :class:`WrongWeightsError`, and :class:`OutOfDataError` where the remainders end; the coder is as
         before then.
         """
-        encode(symbols, model, parameters, self._encode_fixed, self._encode_intervals)
+        encode(symbols, model, parameters, self._encode_fixed, self._encode_intervals, self._save, True)
 
     def _encode_fixed(self, weights: Items, symbols: Items) -> None:
         self._compressed.reserve(symbols.count)

@@ -40,7 +40,7 @@ class RangeEncoder:
         Where the model has no parameters of its own, a list of each follows. Raises :class:`ImpossibleSymbolError` and
         :class:`WrongWeightsError`; the encoder is as before then.
         """
-        encode(symbols, model, parameters, self._encode_fixed, self._encode_intervals)
+        encode(symbols, model, parameters, self._encode_fixed, self._encode_intervals, self._save, False)
 
     def _encode_fixed(self, weights: Items, symbols: Items) -> None:
         words = self._words
@@ -57,6 +57,15 @@ class RangeEncoder:
             "range_encode_intervals", byref(self._state), *words.parts(), lefts.address, lefts.count,
             ps.address, ps.count, byref(self._needed),
         )  # fmt: skip
+
+    def _save(self) -> Callable[[], None]:
+        state, length = RangeEncoderState.from_buffer_copy(self._state), len(self._words)
+
+        def back() -> None:
+            # Only words behind those in use can have changed.
+            self._state, self._words.length.value = state, length
+
+        return back
 
     def _seal(self) -> int:
         """Puts what belongs behind the words there, and answers how many that makes. They don't count as in use."""

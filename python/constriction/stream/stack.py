@@ -47,7 +47,7 @@ class AnsCoder:
         Where the model has no parameters of its own, a list of each follows. Raises :class:`ImpossibleSymbolError` and
         :class:`WrongWeightsError`; the coder is as before then.
         """
-        encode(symbols, model, parameters, self._encode_fixed, self._encode_intervals)
+        encode(symbols, model, parameters, self._encode_fixed, self._encode_intervals, self._save, True)
 
     def _encode_fixed(self, weights: Items, symbols: Items) -> None:
         words = self._words
@@ -87,7 +87,7 @@ class AnsCoder:
         head, length = self._head.value, len(self._words)
 
         def back() -> None:
-            # Decodes don't change words, only how many are in use.
+            # Only words behind those in use can have changed.
             self._head.value, self._words.length.value = head, length
 
         return back
