@@ -1,0 +1,14 @@
+"""Proved entropy coders, called through the C functions of this repository.
+
+- :mod:`constriction.stream`: coders that spend fractions of a bit on a symbol (ANS, range coding, chain coding) and their models.
+- :mod:`constriction.symbol`: codewords of whole bits (Huffman, Exp-Golomb).
+- :mod:`constriction.errors`: what is raised where a call is refused.
+
+The names are those of the Python twin of the Rust crate ``constriction``. The coders are proved; this package, which hands lists
+over to them, isn't, nor are the models that turn floats into weights.
+"""
+
+from . import errors, stream, symbol
+
+__version__ = "0.5.0"
+__all__ = ["errors", "stream", "symbol"]

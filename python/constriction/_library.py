@@ -1,0 +1,113 @@
+"""The shared object, and its functions with their types."""
+
+from __future__ import annotations
+
+import ctypes
+import os
+from ctypes import POINTER, Structure, c_size_t, c_uint32, c_uint64, c_void_p
+from pathlib import Path
+from typing import Any
+
+from .errors import refusal
+
+__all__ = ["ChainHeads", "RangeDecoderState", "RangeEncoderState", "call"]
+
+
+class RangeEncoderState(Structure):
+    """A range encoder beside its words."""
+
+    _fields_ = [("lower", c_uint64), ("range", c_uint64), ("held", c_size_t), ("first", c_uint32)]
+
+
+class RangeDecoderState(Structure):
+    """A range decoder beside its words."""
+
+    _fields_ = [("lower", c_uint64), ("range", c_uint64), ("point", c_uint64), ("pos", c_size_t)]
+
+
+class ChainHeads(Structure):
+    """The two heads of a chain coder."""
+
+    _fields_ = [("remainders", c_uint64), ("compressed", c_uint32)]
+
+
+def _path() -> Path:
+    """Where the shared object is: what CONSTRICTION_LIBRARY says, or in the repository's folder build/."""
+    said = os.environ.get("CONSTRICTION_LIBRARY")
+    return Path(said) if said else Path(__file__).resolve().parents[2] / "build" / "libconstriction.so"
+
+
+def _load() -> ctypes.CDLL:
+    path = _path()
+    if not path.exists():
+        raise ImportError(f"there is no {path}: build it by tools/library, or set CONSTRICTION_LIBRARY to where it is")
+    return ctypes.CDLL(str(path))
+
+
+_size, _list = c_size_t, c_void_p
+_length, _head, _needed = POINTER(c_size_t), POINTER(c_uint64), POINTER(c_size_t)
+_buffer = [_list, _size, _length]
+_table, _rows, _pairs = [_list, _size], [_list, _size, _size], [_list, _size, _list, _size]
+_items = [_list, _size]
+_encoder, _decoder, _heads = POINTER(RangeEncoderState), POINTER(RangeDecoderState), POINTER(ChainHeads)
+
+_PARAMETERS: dict[str, list[Any]] = {
+    "ans_encode_reverse": [_head, *_buffer, *_table, *_items, _needed],
+    "ans_encode_each_reverse": [_head, *_buffer, *_rows, *_items, _needed],
+    "ans_encode_intervals_reverse": [_head, *_buffer, *_pairs, _needed],
+    "ans_decode": [_head, *_buffer, *_table, *_items],
+    "ans_decode_each": [_head, *_buffer, *_rows, *_items],
+    "ans_from_compressed": [*_buffer, _head],
+    "ans_into_compressed": [c_uint64, *_buffer, _needed],
+    "ans_from_binary": [*_buffer, _head],
+    "ans_into_binary": [c_uint64, *_buffer, _needed],
+    "range_encoder": [_encoder],
+    "range_encode": [_encoder, *_buffer, *_table, *_items, _needed],
+    "range_encode_each": [_encoder, *_buffer, *_rows, *_items, _needed],
+    "range_encode_intervals": [_encoder, *_buffer, *_pairs, _needed],
+    "range_into_compressed": [_encoder, *_buffer, _needed],
+    "range_from_compressed": [*_items, _decoder],
+    "range_decode": [_decoder, *_items, *_table, *_items],
+    "range_decode_each": [_decoder, *_items, *_rows, *_items],
+    "range_seek": [_decoder, *_items, _size, c_uint64, c_uint64],
+    "range_maybe_exhausted": [_decoder, *_items, POINTER(c_uint32)],
+    "chain_from_compressed": [*_buffer, _heads],
+    "chain_from_binary": [*_buffer, _heads],
+    "chain_from_remainders": [*_buffer, _heads],
+    "chain_decode": [_heads, *_buffer, *_buffer, *_table, *_items, _needed],
+    "chain_decode_each": [_heads, *_buffer, *_buffer, *_rows, *_items, _needed],
+    "chain_encode_reverse": [_heads, *_buffer, *_buffer, *_table, *_items, _needed],
+    "chain_encode_each_reverse": [_heads, *_buffer, *_buffer, *_rows, *_items, _needed],
+    "chain_encode_intervals_reverse": [_heads, *_buffer, *_buffer, *_pairs, _needed],
+    "chain_into_compressed": [_heads, *_buffer, *_buffer, _needed],
+    "chain_into_binary": [_heads, *_buffer, *_buffer, _needed],
+    "chain_into_remainders": [_heads, *_buffer, _needed],
+    "huffman_encode_queue": [*_table, *_items, *_buffer, _needed],
+    "huffman_encode_stack": [*_table, *_items, *_buffer, _needed],
+    "huffman_decode_queue": [*_table, *_items, *_items],
+    "huffman_decode_stack": [*_table, *_items, *_items],
+    "exp_golomb_encode_queue": [*_items, *_buffer, _needed],
+    "exp_golomb_encode_stack": [*_items, *_buffer, _needed],
+    "exp_golomb_decode_queue": [*_items, *_items],
+    "exp_golomb_decode_stack": [*_items, *_items],
+}
+
+
+def _functions() -> dict[str, Any]:
+    library = _load()
+    functions = {}
+    for name, parameters in _PARAMETERS.items():
+        function = getattr(library, f"constriction_{name}_u32")
+        function.argtypes, function.restype = parameters, c_uint32
+        functions[name] = function
+    return functions
+
+
+_FUNCTIONS = _functions()
+
+
+def call(name: str, *arguments: Any, texts: dict[int, str] | None = None) -> None:
+    """Calls the C function of this name, and raises what its result means, with these texts in place of the usual ones."""
+    code = _FUNCTIONS[name](*arguments)
+    if code:
+        raise refusal(code, texts)

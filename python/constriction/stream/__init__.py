@@ -1,0 +1,11 @@
+"""Stream coders: they spend fractions of a bit on a symbol.
+
+- :mod:`~constriction.stream.stack`: ``AnsCoder``, last in first out.
+- :mod:`~constriction.stream.queue`: ``RangeEncoder`` and ``RangeDecoder``, first in first out.
+- :mod:`~constriction.stream.chain`: ``ChainCoder``, which reads each symbol from 24 bits of its own.
+- :mod:`~constriction.stream.model`: what symbols there are, and how likely each is.
+"""
+
+from . import chain, model, queue, stack
+
+__all__ = ["chain", "model", "queue", "stack"]

@@ -1,0 +1,564 @@
+/* Every C function at one size, which -DBITS=32 or -DBITS=16 chooses: buffers of every length, every refusal, memory that is refused,
+   and random lists there and back. */
+#include "check.h"
+
+#define GLUE(a, b, c) a##b##c
+#define NAME(name, bits) GLUE(constriction_, name, bits)
+#if BITS == 32
+typedef uint32_t word;
+typedef uint64_t state;
+#define PRECISION CONSTRICTION_PRECISION_U32
+#define C(name) NAME(name, _u32)
+#else
+typedef uint16_t word;
+typedef uint32_t state;
+#define PRECISION CONSTRICTION_PRECISION_U16
+#define C(name) NAME(name, _u16)
+#endif
+
+enum { KINDS = 7, COUNT = 40, GUARD = 4, ROOM = 3 * COUNT + 8, RESULTS = 9 };
+static const state WHOLE = (state)1 << PRECISION;
+
+/* ==== What a call changes: all of it in one place, so that what it must not change can be seen ==== */
+
+struct world {
+    state head;
+    struct C(range_encoder_state) encoder;
+    struct C(range_decoder_state) decoder;
+    struct C(chain_heads) heads;
+    size_t len, other_len, needed, capacity;
+    uint32_t maybe;
+    word before[GUARD], words[ROOM], behind[GUARD];
+    word other[ROOM], numbers[COUNT];
+    size_t symbols[COUNT];
+};
+
+/* What a call is given. */
+static struct {
+    size_t count;
+    word weights[KINDS], rows[COUNT * KINDS], lefts[COUNT], ps[COUNT], row_lefts[COUNT], row_ps[COUNT], numbers[COUNT];
+    uint32_t tree[KINDS];
+    size_t symbols[COUNT], kinds;
+    size_t weight_count, row_count, p_count;
+} in;
+
+/* Equal up to what pads the structs. */
+static int equal(const struct world *a, const struct world *b) {
+    return a->head == b->head
+        && a->encoder.lower == b->encoder.lower && a->encoder.range == b->encoder.range
+        && a->encoder.held == b->encoder.held && a->encoder.first == b->encoder.first
+        && a->decoder.lower == b->decoder.lower && a->decoder.range == b->decoder.range
+        && a->decoder.point == b->decoder.point && a->decoder.pos == b->decoder.pos
+        && a->heads.remainders == b->heads.remainders && a->heads.compressed == b->heads.compressed
+        && a->len == b->len && a->other_len == b->other_len && a->needed == b->needed && a->capacity == b->capacity
+        && a->maybe == b->maybe
+        && !memcmp(a->before, b->before, sizeof a->before) && !memcmp(a->words, b->words, sizeof a->words)
+        && !memcmp(a->behind, b->behind, sizeof a->behind) && !memcmp(a->other, b->other, sizeof a->other)
+        && !memcmp(a->numbers, b->numbers, sizeof a->numbers) && !memcmp(a->symbols, b->symbols, sizeof a->symbols);
+}
+
+/* A world of which every place has its own value. */
+static struct world fresh(void) {
+    struct world w;
+    memset(&w, 0, sizeof w);
+    for (size_t i = 0; i < GUARD; i++) w.before[i] = (word)(50000 + i), w.behind[i] = (word)(51000 + i);
+    for (size_t i = 0; i < ROOM; i++) w.words[i] = (word)(52000 + i), w.other[i] = (word)(53000 + i);
+    for (size_t i = 0; i < COUNT; i++) w.numbers[i] = (word)(54000 + i), w.symbols[i] = 55000 + i;
+    w.needed = 56000, w.maybe = 57000, w.capacity = ROOM;
+    C(range_encoder)(&w.encoder);
+    C(range_from_compressed)(w.words, 0, &w.decoder);
+    w.heads.remainders = (state)1 << (8 * sizeof(state) - BITS - PRECISION), w.heads.compressed = 1;
+    return w;
+}
+
+/* Weights that add up; each is 1 at least, but where a 0 is wanted at the front. */
+static void draw_weights(word *weights, int with_zero) {
+    state left = WHOLE - KINDS + with_zero;
+    for (size_t i = 0; i < KINDS; i++) {
+        state share = i + 1 == KINDS ? left : random_below(left / 2 + 1);
+        if (i == 0 && with_zero) { weights[i] = 0; continue; }
+        weights[i] = (word)(1 + share);
+        left -= share;
+    }
+}
+
+static word left_of(const word *weights, size_t symbol) {
+    word left = 0;
+    while (symbol) left = (word)(left + weights[--symbol]);
+    return left;
+}
+
+static void draw(size_t count) {
+    in.count = count, in.kinds = KINDS;
+    draw_weights(in.weights, 0);
+    for (size_t i = 0; i < KINDS; i++) in.tree[i] = (uint32_t)random_below(1000);
+    for (size_t i = 0; i < COUNT; i++) {
+        word *row = in.rows + i * KINDS;
+        draw_weights(row, random_below(2) == 0);
+        size_t symbol = 1 + random_below(KINDS - 1);
+        in.symbols[i] = symbol;
+        in.lefts[i] = left_of(in.weights, symbol), in.ps[i] = in.weights[symbol];
+        in.row_lefts[i] = left_of(row, symbol), in.row_ps[i] = row[symbol];
+        in.numbers[i] = (word)(random_below(4) ? random_below(100) : ~random_below(3));
+    }
+    in.weight_count = KINDS, in.row_count = count * KINDS, in.p_count = count;
+}
+
+/* ==== The calls, each on a world ==== */
+
+typedef uint32_t call(struct world *w);
+
+#define BUFFER w->words, w->capacity, &w->len
+#define TABLE in.weights, in.weight_count
+#define ROWS in.rows, in.row_count, KINDS
+#define PAIRS in.lefts, in.p_count, in.ps, in.count
+#define ROW_PAIRS in.row_lefts, in.p_count, in.row_ps, in.count
+#define GIVEN in.symbols, in.count
+#define TAKEN w->symbols, in.count
+#define TREE in.tree, in.kinds
+
+static uint32_t ans_encode(struct world *w) { return C(ans_encode_reverse)(&w->head, BUFFER, TABLE, GIVEN, &w->needed); }
+static uint32_t ans_encode_each(struct world *w) { return C(ans_encode_each_reverse)(&w->head, BUFFER, ROWS, GIVEN, &w->needed); }
+static uint32_t ans_encode_pairs(struct world *w) { return C(ans_encode_intervals_reverse)(&w->head, BUFFER, PAIRS, &w->needed); }
+static uint32_t ans_encode_row_pairs(struct world *w) { return C(ans_encode_intervals_reverse)(&w->head, BUFFER, ROW_PAIRS, &w->needed); }
+static uint32_t ans_decode(struct world *w) { return C(ans_decode)(&w->head, BUFFER, TABLE, TAKEN); }
+static uint32_t ans_decode_each(struct world *w) { return C(ans_decode_each)(&w->head, BUFFER, ROWS, TAKEN); }
+static uint32_t ans_export(struct world *w) { return C(ans_into_compressed)(w->head, BUFFER, &w->needed); }
+static uint32_t ans_import(struct world *w) { return C(ans_from_compressed)(w->words, w->len, &w->len, &w->head); }
+static uint32_t ans_export_binary(struct world *w) { return C(ans_into_binary)(w->head, BUFFER, &w->needed); }
+static uint32_t ans_import_binary(struct world *w) { return C(ans_from_binary)(w->words, w->len, &w->len, &w->head); }
+
+static uint32_t range_encode(struct world *w) { return C(range_encode)(&w->encoder, BUFFER, TABLE, GIVEN, &w->needed); }
+static uint32_t range_encode_each(struct world *w) { return C(range_encode_each)(&w->encoder, BUFFER, ROWS, GIVEN, &w->needed); }
+static uint32_t range_encode_pairs(struct world *w) { return C(range_encode_intervals)(&w->encoder, BUFFER, PAIRS, &w->needed); }
+static uint32_t range_encode_row_pairs(struct world *w) { return C(range_encode_intervals)(&w->encoder, BUFFER, ROW_PAIRS, &w->needed); }
+static uint32_t range_export(struct world *w) { return C(range_into_compressed)(&w->encoder, BUFFER, &w->needed); }
+static uint32_t range_import(struct world *w) { return C(range_from_compressed)(w->words, w->len, &w->decoder); }
+static uint32_t range_decode(struct world *w) { return C(range_decode)(&w->decoder, w->words, w->len, TABLE, TAKEN); }
+static uint32_t range_decode_each(struct world *w) { return C(range_decode_each)(&w->decoder, w->words, w->len, ROWS, TAKEN); }
+static uint32_t range_maybe(struct world *w) { return C(range_maybe_exhausted)(&w->decoder, w->words, w->len, &w->maybe); }
+
+#define OTHER w->other, (size_t)ROOM, &w->other_len
+static uint32_t chain_import(struct world *w) { return C(chain_from_compressed)(w->other, w->other_len, &w->other_len, &w->heads); }
+static uint32_t chain_import_binary(struct world *w) { return C(chain_from_binary)(w->other, w->other_len, &w->other_len, &w->heads); }
+static uint32_t chain_import_remainders(struct world *w) { return C(chain_from_remainders)(w->other, w->other_len, &w->other_len, &w->heads); }
+static uint32_t chain_decode(struct world *w) { return C(chain_decode)(&w->heads, OTHER, BUFFER, TABLE, TAKEN, &w->needed); }
+static uint32_t chain_decode_each(struct world *w) { return C(chain_decode_each)(&w->heads, OTHER, BUFFER, ROWS, TAKEN, &w->needed); }
+static uint32_t chain_encode(struct world *w) { return C(chain_encode_reverse)(&w->heads, BUFFER, OTHER, TABLE, GIVEN, &w->needed); }
+static uint32_t chain_encode_each(struct world *w) { return C(chain_encode_each_reverse)(&w->heads, BUFFER, OTHER, ROWS, GIVEN, &w->needed); }
+static uint32_t chain_encode_pairs(struct world *w) { return C(chain_encode_intervals_reverse)(&w->heads, BUFFER, OTHER, PAIRS, &w->needed); }
+static uint32_t chain_encode_row_pairs(struct world *w) { return C(chain_encode_intervals_reverse)(&w->heads, BUFFER, OTHER, ROW_PAIRS, &w->needed); }
+static uint32_t chain_export(struct world *w) { return C(chain_into_compressed)(&w->heads, BUFFER, OTHER, &w->needed); }
+static uint32_t chain_export_binary(struct world *w) { return C(chain_into_binary)(&w->heads, BUFFER, OTHER, &w->needed); }
+static uint32_t chain_export_remainders(struct world *w) { return C(chain_into_remainders)(&w->heads, BUFFER, &w->needed); }
+
+static uint32_t huffman_queue(struct world *w) { return C(huffman_encode_queue)(TREE, GIVEN, BUFFER, &w->needed); }
+static uint32_t huffman_stack(struct world *w) { return C(huffman_encode_stack)(TREE, GIVEN, BUFFER, &w->needed); }
+static uint32_t huffman_from_queue(struct world *w) { return C(huffman_decode_queue)(TREE, w->words, w->len, TAKEN); }
+static uint32_t huffman_from_stack(struct world *w) { return C(huffman_decode_stack)(TREE, w->words, w->len, TAKEN); }
+static uint32_t golomb_queue(struct world *w) { return C(exp_golomb_encode_queue)(in.numbers, in.count, BUFFER, &w->needed); }
+static uint32_t golomb_stack(struct world *w) { return C(exp_golomb_encode_stack)(in.numbers, in.count, BUFFER, &w->needed); }
+static uint32_t golomb_from_queue(struct world *w) { return C(exp_golomb_decode_queue)(w->words, w->len, w->numbers, in.count); }
+static uint32_t golomb_from_stack(struct world *w) { return C(exp_golomb_decode_stack)(w->words, w->len, w->numbers, in.count); }
+
+/* ==== What holds of each call ==== */
+
+static unsigned long seen[RESULTS];
+
+/* The call answers this, and unless it is done nothing changes. */
+static void refuses(const char *about, call *run, struct world *w, uint32_t wanted) {
+    struct world old = *w;
+    uint32_t result = run(w);
+    if (result < RESULTS) seen[result]++;
+    if (result != wanted) printf("%s: %u in place of %u\n", about, result, wanted);
+    CHECK(about, result == wanted);
+    if (wanted == CONSTRICTION_NO_SPACE) w->needed = old.needed;
+    CHECK(about, equal(w, &old));
+}
+
+/* The call is done, and leaves what stands around the buffer, and in front of what is added, as it is. */
+static void done(const char *about, call *run, struct world *w) {
+    struct world old = *w;
+    uint32_t result = run(w);
+    if (result) printf("%s: %u in place of DONE\n", about, result);
+    CHECK(about, result == CONSTRICTION_DONE);
+    CHECK(about, !memcmp(w->before, old.before, sizeof w->before) && !memcmp(w->behind, old.behind, sizeof w->behind));
+    CHECK(about, !memcmp(w->other, old.other, sizeof w->other));
+    CHECK(about, w->needed == old.needed && w->capacity == old.capacity);
+    size_t from = w->len < old.len ? old.len : w->len;
+    CHECK(about, from <= ROOM && !memcmp(w->words + from, old.words + from, (ROOM - from) * sizeof(word)));
+}
+
+/* With buffers of every length: too short for what is in use, too short for what is added, and long enough.
+   keeps: what is in use stays in front of what is added. */
+static void every_length(const char *about, call *run, const struct world *start, int keeps) {
+    struct world whole = *start;
+    done(about, run, &whole);
+    size_t used = keeps ? start->len : 0;
+    if (keeps) CHECK(about, whole.len >= used && !memcmp(whole.words, start->words, used * sizeof(word)));
+    for (size_t capacity = 0; capacity <= whole.len + 2; capacity++) {
+        struct world w = *start;
+        w.capacity = capacity;
+        if (capacity < used) {
+            refuses(about, run, &w, CONSTRICTION_WRONG_LENGTH);
+        } else if (capacity < whole.len) {
+            struct world old = w;
+            uint32_t result = run(&w);
+            seen[CONSTRICTION_NO_SPACE]++;
+            CHECK(about, result == CONSTRICTION_NO_SPACE && w.needed == whole.len);
+            w.needed = old.needed;
+            CHECK(about, equal(&w, &old));
+        } else {
+            done(about, run, &w);
+            w.capacity = whole.capacity;
+            CHECK(about, equal(&w, &whole));
+        }
+    }
+}
+
+/* With each request for memory refused in turn: want of memory, and nothing changed. */
+static void refused_memory(const char *about, call *run, const struct world *start) {
+    for (unsigned long n = 1; n < 1000; n++) {
+        struct world w = *start;
+        requests = 0, refused_request = n;
+        uint32_t result = run(&w);
+        refused_request = 0;
+        if (requests < n) {
+            CHECK(about, result == CONSTRICTION_DONE);
+            return;
+        }
+        seen[CONSTRICTION_NO_MEMORY]++;
+        CHECK(about, result == CONSTRICTION_NO_MEMORY);
+        CHECK(about, equal(&w, start));
+    }
+    CHECK(about, 0);
+}
+
+/* Two calls do the same. */
+static void same(const char *about, call *one, call *another, const struct world *start) {
+    struct world a = *start, b = *start;
+    done(about, one, &a), done(about, another, &b);
+    CHECK(about, equal(&a, &b));
+}
+
+static int same_symbols(const struct world *w) { return !memcmp(w->symbols, in.symbols, in.count * sizeof(size_t)); }
+
+/* What each call over models refuses. */
+static void refuses_models(const char *about, call *fixed, call *each, const struct world *start) {
+    struct world w = *start;
+    in.weights[0]++;
+    refuses(about, fixed, &w, CONSTRICTION_WRONG_WEIGHTS);
+    in.weights[0]--;
+    in.weight_count = 0;
+    refuses(about, fixed, &w, CONSTRICTION_WRONG_WEIGHTS);
+    in.weight_count = KINDS;
+    in.rows[KINDS * (in.count - 1)]++;
+    refuses(about, each, &w, CONSTRICTION_WRONG_WEIGHTS);
+    in.rows[KINDS * (in.count - 1)]--;
+    in.row_count--;
+    refuses(about, each, &w, CONSTRICTION_WRONG_LENGTH);
+    in.row_count++;
+    w.len = w.capacity + 1;
+    refuses(about, fixed, &w, CONSTRICTION_WRONG_LENGTH);
+    refuses(about, each, &w, CONSTRICTION_WRONG_LENGTH);
+}
+
+static void refuses_symbols(const char *about, call *fixed, call *each, call *pairs, const struct world *start) {
+    struct world w = *start;
+    refuses_models(about, fixed, each, start);
+    size_t kept = in.symbols[in.count / 2];
+    word *row = in.rows + in.count / 2 * KINDS, other = row[kept];
+    in.symbols[in.count / 2] = KINDS;
+    refuses(about, fixed, &w, CONSTRICTION_IMPOSSIBLE_SYMBOL);
+    refuses(about, each, &w, CONSTRICTION_IMPOSSIBLE_SYMBOL);
+    in.symbols[in.count / 2] = SIZE_MAX;
+    refuses(about, fixed, &w, CONSTRICTION_IMPOSSIBLE_SYMBOL);
+    in.symbols[in.count / 2] = kept;
+    row[kept] = 0, row[kept == 1 ? 2 : 1] = (word)(row[kept == 1 ? 2 : 1] + other);
+    refuses(about, each, &w, CONSTRICTION_IMPOSSIBLE_SYMBOL);
+    row[kept] = other, row[kept == 1 ? 2 : 1] = (word)(row[kept == 1 ? 2 : 1] - other);
+    word p = in.ps[0], left = in.lefts[0];
+    in.ps[0] = 0;
+    refuses(about, pairs, &w, CONSTRICTION_WRONG_INTERVAL);
+    in.ps[0] = (word)(WHOLE - left + 1);
+    refuses(about, pairs, &w, CONSTRICTION_WRONG_INTERVAL);
+    in.ps[0] = p, in.lefts[0] = (word)WHOLE;
+    refuses(about, pairs, &w, CONSTRICTION_WRONG_INTERVAL);
+    in.lefts[0] = left, in.p_count--;
+    refuses(about, pairs, &w, CONSTRICTION_WRONG_LENGTH);
+    in.p_count++;
+    w.len = w.capacity + 1;
+    refuses(about, pairs, &w, CONSTRICTION_WRONG_LENGTH);
+}
+
+/* ==== The coders ==== */
+
+static struct world ans_start(size_t count) {
+    struct world w = fresh();
+    draw(count);
+    w.len = 3, w.words[2] = 7;
+    done("ANS: an import", ans_import, &w);
+    return w;
+}
+
+static void ans(size_t count) {
+    struct world start = ans_start(count), w = start;
+    every_length("ANS: encode", ans_encode, &start, 1);
+    every_length("ANS: encode under rows", ans_encode_each, &start, 1);
+    every_length("ANS: encode by intervals", ans_encode_pairs, &start, 1);
+    every_length("ANS: export", ans_export, &start, 1);
+    refused_memory("ANS: encode, memory", ans_encode, &start);
+    refused_memory("ANS: encode under rows, memory", ans_encode_each, &start);
+    refused_memory("ANS: encode by intervals, memory", ans_encode_pairs, &start);
+    refused_memory("ANS: export, memory", ans_export, &start);
+    same("ANS: intervals", ans_encode, ans_encode_pairs, &start);
+    same("ANS: intervals of rows", ans_encode_each, ans_encode_row_pairs, &start);
+
+    done("ANS: encode", ans_encode, &w);
+    refused_memory("ANS: decode, memory", ans_decode, &w);
+    w.capacity = w.len;
+    done("ANS: decode", ans_decode, &w);
+    CHECK("ANS: there and back", same_symbols(&w) && w.head == start.head && w.len == start.len);
+
+    w = start;
+    done("ANS: encode under rows", ans_encode_each, &w);
+    done("ANS: export", ans_export, &w);
+    done("ANS: import", ans_import, &w);
+    refused_memory("ANS: decode under rows, memory", ans_decode_each, &w);
+    done("ANS: decode under rows", ans_decode_each, &w);
+    CHECK("ANS: rows there and back", same_symbols(&w) && w.head == start.head && w.len == start.len);
+
+    w = fresh(), w.len = ROOM / 2, w.words[w.len - 1] = 0;
+    struct world binary = w;
+    done("ANS: any words", ans_import_binary, &w);
+    done("ANS: decode any words", ans_decode, &w);
+    size_t symbols[COUNT];
+    memcpy(symbols, in.symbols, sizeof symbols), memcpy(in.symbols, w.symbols, sizeof symbols);
+    done("ANS: encode what they gave", ans_encode, &w);
+    memcpy(in.symbols, symbols, sizeof symbols);
+    every_length("ANS: export of any words", ans_export_binary, &w, 1);
+    done("ANS: export of any words", ans_export_binary, &w);
+    CHECK("ANS: any words come back", w.len == binary.len && !memcmp(w.words, binary.words, sizeof w.words));
+    refuses("ANS: a zero word", ans_import, &binary, CONSTRICTION_INVALID_DATA);
+    w.head = 0;
+    refuses("ANS: no binary form", ans_export_binary, &w, CONSTRICTION_INVALID_DATA);
+    w.head = 3;
+    refuses("ANS: no whole words", ans_export_binary, &w, CONSTRICTION_INVALID_DATA);
+
+    if (count) {
+        refuses_symbols("ANS: encode refuses", ans_encode, ans_encode_each, ans_encode_pairs, &start);
+        refuses_models("ANS: decode refuses", ans_decode, ans_decode_each, &start);
+    }
+}
+
+static void range(size_t count) {
+    struct world start = fresh(), w;
+    draw(count);
+    done("range: symbols before", range_encode, &start);
+    draw(count);
+    every_length("range: encode", range_encode, &start, 1);
+    every_length("range: encode under rows", range_encode_each, &start, 1);
+    every_length("range: encode by intervals", range_encode_pairs, &start, 1);
+    every_length("range: export", range_export, &start, 1);
+    refused_memory("range: encode, memory", range_encode, &start);
+    refused_memory("range: encode under rows, memory", range_encode_each, &start);
+    refused_memory("range: encode by intervals, memory", range_encode_pairs, &start);
+    refused_memory("range: export, memory", range_export, &start);
+    same("range: intervals", range_encode, range_encode_pairs, &start);
+    same("range: intervals of rows", range_encode_each, range_encode_row_pairs, &start);
+
+    w = fresh();
+    done("range: encode", range_encode, &w);
+    struct C(range_encoder_state) between = w.encoder;
+    size_t pos = w.len + between.held;
+    done("range: encode under rows", range_encode_each, &w);
+    done("range: export", range_export, &w);
+    done("range: import", range_import, &w);
+    if (w.len > 4) {
+        done("range: not exhausted", range_maybe, &w);
+        CHECK("range: not exhausted", w.maybe == 0);
+    }
+    refused_memory("range: decode, memory", range_decode, &w);
+    done("range: decode", range_decode, &w);
+    CHECK("range: there and back", same_symbols(&w));
+    refused_memory("range: decode under rows, memory", range_decode_each, &w);
+    done("range: decode under rows", range_decode_each, &w);
+    CHECK("range: rows there and back", same_symbols(&w));
+    done("range: exhausted", range_maybe, &w);
+    CHECK("range: exhausted", w.maybe == 1);
+    CHECK("range: seek", C(range_seek)(&w.decoder, w.words, w.len, pos, between.lower, between.range) == CONSTRICTION_DONE);
+    memset(w.symbols, 0, sizeof w.symbols);
+    done("range: decode after a seek", range_decode_each, &w);
+    CHECK("range: what was encoded after the position", same_symbols(&w));
+
+    struct world old = w;
+    CHECK("range: seek past the end",
+          C(range_seek)(&w.decoder, w.words, w.len, w.len + 1, between.lower, between.range) != CONSTRICTION_DONE && equal(&w, &old));
+    CHECK("range: seek to no interval",
+          C(range_seek)(&w.decoder, w.words, w.len, 0, 0, 1) == CONSTRICTION_INVALID_DATA && equal(&w, &old));
+
+    w = fresh(), w.len = 2, w.words[0] = w.words[1] = (word)-1;
+    done("range: import of no encoder's words", range_import, &w);
+    if (count) {
+        refuses("range: no encoder's words", range_decode, &w, CONSTRICTION_INVALID_DATA);
+        refuses("range: no encoder's words, under rows", range_decode_each, &w, CONSTRICTION_INVALID_DATA);
+    }
+    w.decoder.pos = w.len + 1;
+    refuses("range: a position past the end", range_maybe, &w, CONSTRICTION_WRONG_LENGTH);
+    refuses("range: decode past the end", range_decode, &w, CONSTRICTION_WRONG_LENGTH);
+    w.decoder.pos = 0, w.decoder.range = 1;
+    refuses("range: a decoder that is none", range_decode, &w, CONSTRICTION_INVALID_DATA);
+    w.encoder.range = 1;
+    refuses("range: an encoder that is none", range_encode, &w, CONSTRICTION_INVALID_DATA);
+    refuses("range: export of none", range_export, &w, CONSTRICTION_INVALID_DATA);
+    w.encoder.range = (state)-1, w.encoder.lower = 1;
+    refuses("range: an interval past the end", range_encode, &w, CONSTRICTION_INVALID_DATA);
+
+    if (count) {
+        refuses_symbols("range: encode refuses", range_encode, range_encode_each, range_encode_pairs, &start);
+        w = fresh();
+        in.weights[0]++;
+        refuses("range: decode refuses", range_decode, &w, CONSTRICTION_WRONG_WEIGHTS);
+        in.weights[0]--, in.row_count--;
+        refuses("range: decode refuses", range_decode_each, &w, CONSTRICTION_WRONG_LENGTH);
+        in.row_count++;
+    }
+}
+
+static void chain(size_t count) {
+    struct world start = fresh(), w;
+    draw(count);
+    for (size_t i = 0; i < ROOM; i++) start.other[i] = (word)random_below((uint64_t)1 << BITS);
+    start.other_len = ROOM, start.other[ROOM - 1] |= 1;
+    done("chain: import", chain_import, &start);
+    every_length("chain: decode", chain_decode, &start, 1);
+    every_length("chain: decode under rows", chain_decode_each, &start, 1);
+    refused_memory("chain: decode, memory", chain_decode, &start);
+    refused_memory("chain: decode under rows, memory", chain_decode_each, &start);
+    every_length("chain: export", chain_export, &start, 1);
+    refused_memory("chain: export, memory", chain_export, &start);
+
+    for (int each = 0; each < 2; each++) {
+        struct world kept = start;
+        kept.len = 2;
+        w = kept;
+        done("chain: decode", each ? chain_decode_each : chain_decode, &w);
+        every_length("chain: export of remainders", chain_export_remainders, &w, 1);
+        refused_memory("chain: export of remainders, memory", chain_export_remainders, &w);
+
+        /* The two sides change places, so that an encode writes behind what was left over. */
+        struct world back = w;
+        memcpy(back.words, w.other, sizeof back.words), memcpy(back.other, w.words, sizeof back.other);
+        back.len = w.other_len, back.other_len = w.len;
+        memcpy(in.symbols, w.symbols, sizeof in.symbols);
+        for (size_t i = 0; i < in.count; i++) {
+            in.lefts[i] = left_of(in.weights, in.symbols[i]), in.ps[i] = in.weights[in.symbols[i]];
+            in.row_lefts[i] = left_of(in.rows + i * KINDS, in.symbols[i]), in.row_ps[i] = in.rows[i * KINDS + in.symbols[i]];
+        }
+        call *encode = each ? chain_encode_each : chain_encode;
+        same("chain: intervals", encode, each ? chain_encode_row_pairs : chain_encode_pairs, &back);
+        every_length("chain: encode", encode, &back, 1);
+        every_length("chain: encode by intervals", each ? chain_encode_row_pairs : chain_encode_pairs, &back, 1);
+        refused_memory("chain: encode, memory", encode, &back);
+        if (count) refuses_symbols("chain: encode refuses", chain_encode, chain_encode_each, chain_encode_pairs, &back);
+        done("chain: encode", encode, &back);
+        CHECK("chain: there and back", back.len == start.other_len && back.other_len == 2
+              && back.heads.remainders == start.heads.remainders && back.heads.compressed == start.heads.compressed
+              && !memcmp(back.words, start.other, back.len * sizeof(word)));
+    }
+    if (count) refuses_models("chain: decode refuses", chain_decode, chain_decode_each, &start);
+
+    w = start, w.other_len = 0;
+    if (count > 2) {
+        refuses("chain: out of compressed data", chain_decode, &w, CONSTRICTION_OUT_OF_DATA);
+        refuses("chain: out of compressed data under rows", chain_decode_each, &w, CONSTRICTION_OUT_OF_DATA);
+    }
+    w.heads.remainders = (state)1 << (8 * sizeof(state) - BITS - PRECISION);
+    if (count) {
+        in.ps[count - 1] = (word)WHOLE, in.lefts[count - 1] = 0;
+        refuses("chain: out of remainders", chain_encode_pairs, &w, CONSTRICTION_OUT_OF_DATA);
+    }
+    refuses("chain: no words", chain_import, &w, CONSTRICTION_INVALID_DATA);
+    refuses("chain: no words, binary", chain_import_binary, &w, CONSTRICTION_INVALID_DATA);
+    refuses("chain: no words, remainders", chain_import_remainders, &w, CONSTRICTION_INVALID_DATA);
+    w.other_len = 2, w.other[1] = 0;
+    refuses("chain: a zero word", chain_import, &w, CONSTRICTION_INVALID_DATA);
+    refuses("chain: a zero word, remainders", chain_import_remainders, &w, CONSTRICTION_INVALID_DATA);
+    w.heads.remainders = 0;
+    refuses("chain: heads that are none", chain_decode, &w, CONSTRICTION_INVALID_DATA);
+    refuses("chain: encode by none", chain_encode, &w, CONSTRICTION_INVALID_DATA);
+    refuses("chain: export of none", chain_export_remainders, &w, CONSTRICTION_INVALID_DATA);
+    w = start, w.heads.compressed = 2;
+    refuses("chain: bits left over", chain_export, &w, CONSTRICTION_INVALID_DATA);
+    refuses("chain: bits left over, binary", chain_export_binary, &w, CONSTRICTION_INVALID_DATA);
+
+    /* Through exports and imports. */
+    w = start;
+    done("chain: decode", chain_decode, &w);
+    done("chain: export of remainders", chain_export_remainders, &w);
+    struct world back = fresh();
+    memcpy(back.other, w.words, sizeof back.other), back.other_len = w.len;
+    done("chain: import of remainders", chain_import_remainders, &back);
+    CHECK("chain: the same heads", back.heads.remainders == w.heads.remainders && back.heads.compressed == w.heads.compressed);
+    memcpy(in.symbols, w.symbols, sizeof in.symbols);
+    memcpy(back.words, w.other, sizeof back.words), back.len = w.other_len;
+    done("chain: encode", chain_encode, &back);
+    done("chain: export", chain_export, &back);
+    CHECK("chain: the words come back", back.len == ROOM && !memcmp(back.words, start.other, sizeof back.words));
+
+    w = start, w.other_len = ROOM, w.other[ROOM - 1] = 0;
+    done("chain: any words", chain_import_binary, &w);
+    memcpy(w.words, w.other, sizeof w.words), w.len = w.other_len, w.other_len = 0;
+    every_length("chain: export of any words", chain_export_binary, &w, 1);
+    done("chain: export of any words", chain_export_binary, &w);
+    CHECK("chain: any words come back", w.len == ROOM && !memcmp(w.words, w.other, sizeof w.words));
+}
+
+static void codewords(size_t count) {
+    struct world start = fresh(), w;
+    draw(count);
+    call *const encodes[] = {huffman_queue, huffman_stack, golomb_queue, golomb_stack};
+    call *const decodes[] = {huffman_from_queue, huffman_from_stack, golomb_from_queue, golomb_from_stack};
+    for (size_t i = 0; i < 4; i++) {
+        every_length("codewords: encode", encodes[i], &start, 0);
+        refused_memory("codewords: encode, memory", encodes[i], &start);
+        w = start;
+        done("codewords: encode", encodes[i], &w);
+        refused_memory("codewords: decode, memory", decodes[i], &w);
+        done("codewords: decode", decodes[i], &w);
+        CHECK("codewords: there and back", i < 2 ? same_symbols(&w) : !memcmp(w.numbers, in.numbers, count * sizeof(word)));
+        w.len = 0;
+        if (count) refuses("codewords: no words", decodes[i], &w, CONSTRICTION_OUT_OF_DATA);
+        w = start, w.len = 2, w.words[0] = 7, w.words[1] = 0;
+        if (i % 2) refuses("codewords: a stack without its last bit", decodes[i], &w, CONSTRICTION_INVALID_DATA);
+    }
+    w = start;
+    w.len = 4, w.words[0] = w.words[1] = w.words[2] = w.words[3] = 0;
+    if (count) refuses("codewords: zeros alone", golomb_from_queue, &w, CONSTRICTION_INVALID_DATA);
+    for (size_t i = 0; i < 2; i++) {
+        w = start;
+        in.kinds = 0;
+        refuses("codewords: no weights", encodes[i], &w, CONSTRICTION_WRONG_WEIGHTS);
+        refuses("codewords: no weights", decodes[i], &w, CONSTRICTION_WRONG_WEIGHTS);
+        in.kinds = KINDS;
+        uint32_t kept = in.tree[0];
+        in.tree[0] = UINT32_MAX, in.tree[1]++;
+        refuses("codewords: too large a sum", encodes[i], &w, CONSTRICTION_WRONG_WEIGHTS);
+        refuses("codewords: too large a sum", decodes[i], &w, CONSTRICTION_WRONG_WEIGHTS);
+        in.tree[0] = kept, in.tree[1]--;
+        if (!count) continue;
+        size_t symbol = in.symbols[count - 1];
+        in.symbols[count - 1] = KINDS;
+        refuses("codewords: an unknown symbol", encodes[i], &w, CONSTRICTION_IMPOSSIBLE_SYMBOL);
+        in.symbols[count - 1] = symbol;
+    }
+}
+
+int main(void) {
+    for (int round = 0; round < 20; round++) {
+        size_t count = round < 3 ? (size_t)round : 1 + random_below(COUNT);
+        ans(count), range(count), chain(count), codewords(count);
+    }
+    for (size_t i = 1; i < RESULTS; i++) CHECK("each result was seen", seen[i] > 0);
+    return finish();
+}

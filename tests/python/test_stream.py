@@ -1,0 +1,360 @@
+"""AnsCoder, RangeEncoder, RangeDecoder and ChainCoder."""
+
+from __future__ import annotations
+
+import doctest
+import random
+import unittest
+from array import array
+
+import definitions
+from constriction import errors
+from constriction.stream import chain, queue, stack
+from constriction.stream.chain import ChainCoder
+from constriction.stream.model import Categorical, QuantizedGaussian, Uniform, WeightTable
+from constriction.stream.queue import RangeDecoder, RangeEncoder
+from constriction.stream.stack import AnsCoder
+
+TWO = WeightTable([3, 2, 16777211])
+HALVES = WeightTable([8388608, 8388608])
+SEVERAL = WeightTable([1, 2, 16777213])
+TEN = [0, 1, 2, 0, 1, 2, 0, 0, 0, 1]
+MESSAGE = [6, 10, -4, 2, 5, 2, 1, 0, 2]
+MEANS = [3.2, 11.5, -2.25, 0.0, 5.5, 1.0, 1.0, -3.0, 2.0]
+STDS = [9.6, 3.0, 1.5, 0.25, 20.0, 0.01, 4.0, 2.0, 1e6]
+
+
+class TwinsExamples(unittest.TestCase):
+    """What stands at the front of the Rust crate's twin, with another import."""
+
+    def test_ans(self) -> None:
+        model = QuantizedGaussian(-50, 50, 3.2, 9.6)
+        coder = AnsCoder()
+        coder.encode_reverse(MESSAGE, model)
+        compressed = coder.get_compressed()
+        self.assertTrue(AnsCoder(compressed).decode(model, 9) == MESSAGE)
+
+    def test_range(self) -> None:
+        model = QuantizedGaussian(-50, 50, 3.2, 9.6)
+        encoder = RangeEncoder()
+        encoder.encode(MESSAGE, model)
+        self.assertTrue(RangeDecoder(encoder.get_compressed()).decode(model, 9) == MESSAGE)
+
+    def test_parameters_for_each_symbol(self) -> None:
+        family = QuantizedGaussian(-50, 50)
+        coder, encoder = AnsCoder(), RangeEncoder()
+        coder.encode_reverse(MESSAGE, family, MEANS, STDS)
+        encoder.encode(MESSAGE, family, MEANS, STDS)
+        self.assertEqual(coder.decode(family, MEANS, STDS), MESSAGE)
+        self.assertTrue(coder.is_empty())
+        self.assertEqual(encoder.get_decoder().decode(family, MEANS, STDS), MESSAGE)
+
+    def test_two_models_in_one_stack(self) -> None:
+        head, tail = QuantizedGaussian(-100, 100), Categorical([0.2, 0.4, 0.1, 0.3])
+        coder = AnsCoder()
+        coder.encode_reverse([1, 3, 0], tail)
+        coder.encode_reverse(array("q", MESSAGE), head, array("d", MEANS), array("d", STDS))
+        decoder = AnsCoder(coder.get_compressed())
+        self.assertEqual(decoder.decode(head, MEANS, STDS), MESSAGE)
+        self.assertEqual(decoder.decode(tail, 3), [1, 3, 0])
+
+    def test_docstrings(self) -> None:
+        for module in (stack, queue, chain):
+            found = doctest.testmod(module)
+            self.assertGreater(found.attempted, 0)
+            self.assertEqual(found.failed, 0)
+
+
+class Ans(unittest.TestCase):
+    def test_worked_rows(self) -> None:
+        coder = AnsCoder()
+        coder.encode_reverse(1, TWO)
+        self.assertEqual(coder.pos(), (0, 3))
+        coder.encode_reverse(1, TWO)
+        self.assertEqual(coder.get_compressed(), [16777220])
+        self.assertEqual(coder.decode(TWO, 2), [1, 1])
+        self.assertTrue(coder.is_empty())
+        coder.encode_reverse(TEN, SEVERAL)
+        self.assertEqual(coder.get_compressed(), [0, 16777218, 2307, 16777218, 0, 64])
+        self.assertEqual([coder.decode(SEVERAL) for _ in TEN], TEN)
+
+    def test_binary(self) -> None:
+        coder = AnsCoder([5, 0], seal=True)
+        self.assertEqual(coder.pos(), (1, 4294967296))
+        self.assertEqual((coder.num_words(), coder.num_bits(), coder.num_valid_bits()), (3, 96, 64))
+        self.assertEqual(coder.get_binary(), [5, 0])
+        self.assertEqual(coder.get_compressed(unseal=True), [5, 0])
+        self.assertEqual(AnsCoder([], seal=True).get_binary(), [])
+        with self.assertRaisesRegex(errors.InvalidDataError, "^the coder holds no whole number of words$"):
+            AnsCoder().get_binary()
+
+    def test_zero_last_word(self) -> None:
+        text = "^Tried to decode from compressed data that ends with a zero word, which is invalid for an ANS coder.$"
+        with self.assertRaisesRegex(errors.InvalidDataError, text):
+            AnsCoder([7, 0])
+        self.assertTrue(AnsCoder([]).is_empty())
+
+    def test_sizes(self) -> None:
+        coder = AnsCoder()
+        self.assertEqual((coder.num_words(), coder.num_bits(), coder.num_valid_bits()), (0, 0, 0))
+        coder.encode_reverse(TEN, SEVERAL)
+        self.assertEqual((coder.num_words(), coder.num_bits()), (6, 192))
+        self.assertEqual(coder.num_valid_bits(), 4 * 32 + 38)
+        coder.clear()
+        self.assertTrue(coder.is_empty())
+
+    def test_bits_back(self) -> None:
+        dice = random.Random(1)
+        words = [dice.randrange(1 << 32) for _ in range(1000)]
+        family = QuantizedGaussian(-20, 20)
+        means, stds = [dice.gauss(0, 5) for _ in range(700)], [dice.uniform(0.5, 9) for _ in range(700)]
+        coder = AnsCoder(words, seal=True)
+        symbols = coder.decode(family, means, stds)
+        coder.encode_reverse(symbols, family, means, stds)
+        self.assertEqual(coder.get_binary(), words)
+
+    def test_seek(self) -> None:
+        coder = AnsCoder()
+        coder.encode_reverse(TEN, SEVERAL)
+        position = coder.pos()
+        coder.encode_reverse(TEN[::-1], SEVERAL)
+        later = coder.clone()
+        coder.seek(*position)
+        self.assertEqual(coder.decode(SEVERAL, 10), TEN)
+        self.assertEqual(later.decode(SEVERAL, 20), TEN[::-1] + TEN)
+        with self.assertRaises(errors.WrongLengthError):
+            coder.seek(1000, 0)
+
+    def test_refusals(self) -> None:
+        coder = AnsCoder()
+        coder.encode_reverse(TEN, SEVERAL)
+        before = coder.pos(), coder.get_compressed()
+        with self.assertRaisesRegex(errors.ImpossibleSymbolError, r"^Impossible symbol\.$"):
+            coder.encode_reverse([0, 1, 3], SEVERAL)
+        for symbol in (-1, 3, 1 << 63, 1 << 64, -(1 << 70)):
+            for model in (SEVERAL, QuantizedGaussian(3, 5, 4.0, 1.0)):
+                if symbol != 3 or model is SEVERAL:
+                    self.assertRaises(errors.ImpossibleSymbolError, coder.encode_reverse, [symbol], model)
+        with self.assertRaises(errors.ImpossibleSymbolError):
+            coder.encode_reverse([51], QuantizedGaussian(-50, 50), [0.0], [1.0])
+        with self.assertRaisesRegex(errors.WrongWeightsError, "^weights do not sum to 16777216$"):
+            coder.encode_reverse(0, WeightTable([1, 2]))
+        with self.assertRaises(errors.WrongWeightsError):
+            coder.decode(WeightTable(), [[16777216, 0], [16777216, 1]])
+        with self.assertRaises(TypeError):
+            coder.encode_reverse([0.5], SEVERAL)
+        with self.assertRaises(TypeError):
+            coder.decode(QuantizedGaussian(-50, 50), 3)
+        with self.assertRaises(TypeError):
+            AnsCoder(b"words")
+        self.assertEqual((coder.pos(), coder.get_compressed()), before)
+
+    def test_lists_beside_the_definition(self) -> None:
+        dice = random.Random(2)
+        for count in (0, 1, 2, 3, 10, 100, 1000):
+            weights = definitions.random_weights(dice, 9)
+            symbols = [definitions.random_symbol(dice, weights) for _ in range(count)]
+            wanted = definitions.ans_words([weights] * count, symbols)
+            arrays = [array(code, symbols) for code in "qQiB"]
+            views = [memoryview(it) for it in arrays] + [memoryview(arrays[0].tobytes()).cast("q")]
+            for given in (symbols, tuple(symbols), *arrays, *views):
+                coder = AnsCoder()
+                coder.encode_reverse(given, WeightTable(weights))
+                self.assertEqual(coder.get_compressed(), wanted)
+            self.assertEqual(AnsCoder(array("I", wanted)).decode(WeightTable(array("I", weights)), count), symbols)
+
+    def test_rows_beside_the_definition(self) -> None:
+        dice = random.Random(3)
+        tables = [definitions.random_weights(dice, 5) for _ in range(300)]
+        symbols = [definitions.random_symbol(dice, it) for it in tables]
+        coder = AnsCoder()
+        coder.encode_reverse(symbols, WeightTable(), tables)
+        self.assertEqual(coder.get_compressed(), definitions.ans_words(tables, symbols))
+        self.assertEqual(coder.decode(WeightTable(), tables), symbols)
+
+    def test_long_lists(self) -> None:
+        symbols = array("Q", range(500)) * 100
+        coder = AnsCoder()
+        for _ in range(3):
+            coder.encode_reverse(symbols, Uniform(500))
+        self.assertEqual(coder.decode(Uniform(500), 150000), list(range(500)) * 300)
+        self.assertTrue(coder.is_empty())
+
+    def test_long_lists_are_refused_whole(self) -> None:
+        long = array("Q", [0, 1, 2, 2]) * 50000
+        for place in (0, 65536, 131071, 199999):
+            wrong = long[:]
+            wrong[place] = 3
+            coder, encoder = AnsCoder(), RangeEncoder()
+            coder.encode_reverse(TEN, SEVERAL), encoder.encode(TEN, SEVERAL)
+            before = coder.pos(), coder.get_compressed(), encoder.pos(), encoder.get_compressed()
+            self.assertRaises(errors.ImpossibleSymbolError, coder.encode_reverse, wrong, SEVERAL)
+            self.assertRaises(errors.ImpossibleSymbolError, encoder.encode, wrong, SEVERAL)
+            self.assertEqual((coder.pos(), coder.get_compressed(), encoder.pos(), encoder.get_compressed()), before)
+        coder.encode_reverse(long, SEVERAL), encoder.encode(long, SEVERAL)
+        parts = RangeEncoder()
+        for part in (TEN, long[:70001], long[70001:]):
+            parts.encode(part, SEVERAL)
+        self.assertEqual(encoder.get_compressed(), parts.get_compressed())
+        self.assertEqual(coder.decode(SEVERAL, 200010), long.tolist() + TEN)
+        self.assertEqual(encoder.get_decoder().decode(SEVERAL, 200010), TEN + long.tolist())
+        chain = ChainCoder(array("I", [5]) * 10000)
+        before = chain.get_remainders()
+        self.assertRaises(errors.OutOfDataError, chain.decode, HALVES, 200000)
+        self.assertEqual(chain.get_remainders(), before)
+
+
+class Range(unittest.TestCase):
+    def test_worked_rows(self) -> None:
+        encoder = RangeEncoder()
+        self.assertEqual((encoder.get_compressed(), encoder.num_words(), encoder.is_empty()), ([], 0, True))
+        self.assertTrue(encoder.get_decoder().maybe_exhausted())
+        encoder.encode(1, HALVES)
+        self.assertEqual((encoder.get_compressed(), encoder.num_bits(), encoder.is_empty()), ([2147483648], 32, False))
+        self.assertEqual(RangeDecoder([2147483648]).decode(HALVES), 1)
+        encoder.clear()
+        encoder.encode(TEN, SEVERAL)
+        self.assertEqual(encoder.get_compressed(), [0, 65535, 100661761, 4294837757, 0, 4])
+        self.assertEqual(encoder.get_decoder().decode(SEVERAL, 10), TEN)
+
+    def test_invalid_data(self) -> None:
+        decoder = RangeDecoder([4294967295, 4294967295])
+        text = "^Tried to decode from compressed data that is invalid for the employed entropy model.$"
+        for _ in range(2):
+            with self.assertRaisesRegex(errors.InvalidDataError, text):
+                decoder.decode(TWO, 1)
+
+    def test_positions(self) -> None:
+        dice = random.Random(4)
+        encoder, positions = RangeEncoder(), []
+        lists = [[definitions.random_symbol(dice, [1, 2, 16777213]) for _ in range(dice.randrange(30))] for _ in range(30)]
+        for it in lists:
+            positions.append(encoder.pos())
+            encoder.encode(it, SEVERAL)
+        decoder = encoder.get_decoder()
+        for position, it in reversed(list(zip(positions, lists))):
+            decoder.seek(*position)
+            other = decoder.clone()
+            self.assertEqual(decoder.decode(SEVERAL, len(it)), it)
+            self.assertEqual(other.decode(SEVERAL, len(it)), it)
+        with self.assertRaises(errors.Refusal):
+            decoder.seek(100000, (0, 1 << 63))
+        with self.assertRaises(errors.InvalidDataError):
+            decoder.seek(0, (0, 1))
+
+    def test_exhausted(self) -> None:
+        encoder = RangeEncoder()
+        encoder.encode(TEN * 10, TWO)
+        decoder = encoder.get_decoder()
+        self.assertFalse(decoder.maybe_exhausted())
+        decoder.decode(TWO, 100)
+        self.assertTrue(decoder.maybe_exhausted())
+
+    def test_goes_on_after_an_export(self) -> None:
+        encoder = RangeEncoder()
+        for symbol in TEN:
+            encoder.encode(symbol, SEVERAL)
+            copy = encoder.clone()
+            self.assertEqual(copy.get_compressed(), encoder.get_compressed())
+        self.assertEqual(encoder.get_compressed(), [0, 65535, 100661761, 4294837757, 0, 4])
+
+    def test_beside_the_definition(self) -> None:
+        dice = random.Random(5)
+        for count in (0, 1, 2, 3, 10, 100, 1000):
+            tables = [definitions.random_weights(dice, 5) for _ in range(count)]
+            symbols = [definitions.random_symbol(dice, it) for it in tables]
+            encoder = RangeEncoder()
+            encoder.encode(symbols, WeightTable(), tables)
+            self.assertEqual(encoder.get_compressed(), definitions.range_words(tables, symbols))
+            self.assertEqual(encoder.get_decoder().decode(WeightTable(), tables), symbols)
+
+    def test_carries(self) -> None:
+        # Symbols next to the upper end of their interval hold words back.
+        dice, weights = random.Random(6), [8388607, 1, 8388607, 1]
+        for _ in range(100):
+            symbols = [dice.choice((1, 1, 1, 3, 0, 2)) for _ in range(dice.randrange(30))]
+            encoder = RangeEncoder()
+            for i in range(0, len(symbols), 3):
+                encoder.encode(symbols[i : i + 3], WeightTable(weights))
+            self.assertEqual(encoder.get_compressed(), definitions.range_words([weights] * len(symbols), symbols))
+            self.assertEqual(encoder.get_decoder().decode(WeightTable(weights), len(symbols)), symbols)
+
+    def test_carries_over_many_words(self) -> None:
+        # Intervals that hold the point 1/2, then one behind it or in front of it.
+        for steps in range(6, 30):
+            for last in (-1, 1):
+                start, length, half, tables = 0, (1 << 64) - 1, 1 << 63, []
+                for i in range(steps + 1):
+                    unit = length >> 24
+                    left = (half - start) // unit + (last if i == steps else 0)
+                    tables.append([left, 1, (1 << 24) - left - 1])
+                    start, length = start + unit * left, unit
+                    if length < 1 << 32:
+                        start, length, half = start << 32, length << 32, half << 32
+                encoder = RangeEncoder()
+                encoder.encode([1] * steps, WeightTable(), tables[:-1])
+                self.assertEqual(len(encoder._words), 0)
+                encoder.encode([1], WeightTable(), tables[-1:])
+                self.assertEqual(encoder.get_compressed(), definitions.range_words(tables, [1] * (steps + 1)))
+                self.assertEqual(encoder.get_compressed()[0], (1 << 31) - (last < 0))
+                self.assertEqual(encoder.get_decoder().decode(WeightTable(), tables), [1] * (steps + 1))
+
+
+class Chain(unittest.TestCase):
+    def test_worked_rows(self) -> None:
+        coder = ChainCoder([0x11223344, 0x100])
+        self.assertEqual(coder.decode(WeightTable([0x223344, 1, 16777215 - 0x223344])), 1)
+        with self.assertRaisesRegex(errors.OutOfDataError, r"^Out of compressed data\.$"):
+            coder.decode(HALVES)
+        coder = ChainCoder([287454020, 256])
+        self.assertEqual(coder.decode(HALVES, 1), [0])
+        self.assertEqual(coder.get_remainders(), ([], [2149724996, 273]))
+        with self.assertRaises(errors.InvalidDataError):
+            coder.get_data()
+        for words, seal in (([], False), ([], True), ([7, 0], False)):
+            with self.assertRaisesRegex(errors.InvalidDataError, "^not enough words, or a zero word at the end$"):
+                ChainCoder(words, seal=seal)
+
+    def test_there_and_back(self) -> None:
+        dice = random.Random(7)
+        for seal in (False, True):
+            words = [*(dice.randrange(1 << 32) for _ in range(500)), 0 if seal else 1]
+            tables = [definitions.random_weights(dice, 5) for _ in range(400)]
+            coder = ChainCoder(words, seal=seal)
+            symbols = coder.decode(WeightTable(), tables)
+            if not seal:
+                self.assertEqual((list(symbols), *coder.get_remainders()), definitions.chain_split(tables, words))
+            left, remainders = coder.get_remainders()
+            coder.encode_reverse(symbols, WeightTable(), tables)
+            self.assertEqual(coder.get_data(unseal=seal), ([], words))
+            again = ChainCoder(left + remainders, is_remainders=True)
+            again.encode_reverse(symbols, WeightTable(), tables)
+            below, above = again.get_data(unseal=seal)
+            self.assertEqual(list(below + above), words)
+
+    def test_isolation(self) -> None:
+        dice = random.Random(8)
+        words = [dice.randrange(1, 1 << 32) for _ in range(50)]
+        one, other = ChainCoder(words), ChainCoder(words)
+        one.decode(TWO, 5), other.decode(Uniform(1000), 5)
+        self.assertEqual(one.decode(Uniform(7), 20), other.decode(Uniform(7), 20))
+
+    def test_refusals(self) -> None:
+        coder = ChainCoder([1, 2, 3, 4])
+        before = coder.get_remainders()
+        with self.assertRaises(errors.ImpossibleSymbolError):
+            coder.encode_reverse([2], HALVES)
+        with self.assertRaisesRegex(errors.OutOfDataError, r"^Out of remainders information from previous decoding\.$"):
+            coder.encode_reverse([0] * 100, Uniform(2))
+        with self.assertRaises(errors.OutOfDataError):
+            coder.decode(WeightTable(), [[8388608, 8388608]] * 100)
+        with self.assertRaises(ValueError):
+            ChainCoder([1, 2, 3], is_remainders=True, seal=True)
+        self.assertEqual(coder.get_remainders(), before)
+        copy = coder.clone()
+        copy.decode(HALVES)
+        self.assertEqual(coder.get_remainders(), before)
+
+
+if __name__ == "__main__":
+    unittest.main()
