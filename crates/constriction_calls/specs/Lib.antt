@@ -1,3 +1,4 @@
 pub mod Buffers
 pub mod Intervals
+pub mod SymbolCalls
 pub mod Weights
