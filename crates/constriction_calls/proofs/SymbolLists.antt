@@ -1,5 +1,6 @@
 -- Lists of symbols as codewords: where each has one, and as they are read one after the other.
-use Rattle.std.proofs.Common.{◌≡◌, ◌<◌, ℕ, Bool, List, [], ◌∷◌, ◌++◌, Option, Some, None, Result, Ok, Err, length, ap, sym, subst, refl, ◌∙◌, append-nil, append_assoc}
+use Rattle.std.proofs.Common.{◌≡◌, ◌<◌, ℕ, Bool, List, [], ◌∷◌, ◌++◌, Option, Some, None, Result, Ok, Err, length, map, reverse, ap, sym, subst, refl, ◌∙◌, append-nil, append_assoc}
+use Rattle.std.proofs.lemmas.List.{reverse-append, reverse-reverse}
 use Rattle.constriction_base.specs.declared.errors.CoderError.{CoderError}
 use Rattle.constriction_base.specs.declared.errors.CoderError.TheVariants.{Frontend, Backend}
 use Rattle.constriction_symbol.specs.Bits.{GivesBit}
@@ -8,7 +9,8 @@ use Rattle.constriction_symbol.specs.declared.codebooks.SymbolCodeError.{SymbolC
 use Rattle.constriction_symbol.specs.declared.codebooks.SymbolCodeError.TheVariants.{OutOfCompressedData, InvalidCodeword}
 use Rattle.constriction_symbol.proofs.ReadBack.{gives_front}
 use Rattle.constriction_laws.specs.symbol.Lists.{AreCodewords}
-use Rattle.constriction_calls.specs.SymbolCalls.{AfterFewer, BegunBy, HaveCodewords}
+use Rattle.constriction_calls.specs.declared.refusal.Refusal.{Refusal}
+use Rattle.constriction_calls.specs.SymbolCalls.{EndInZero, HaveCodewords, IsToldAs, ReadsNone}
 
 -- where every symbol has a codeword, those of a list have
 pub all_have : {S : Type 0} (codeword : S → Option (List Bool)) → ((s : S) → (bits : List Bool) × (codeword s ≡ Some bits)) → (symbols : List S) → HaveCodewords codeword symbols
@@ -39,17 +41,25 @@ module _ {I S V E : Type 0} (next : I → Option (Result Bool E) → I → Type 
         so_far.2 ∙ (ap (λ bs. so_far.0 ++ bs) here ∙ sym (append_assoc so_far.0 bits (unread new))),
       )
 
-  -- the bits ended
-  pub read_cut : (amt : ℕ) → length xs < amt → ReadsSymbol {E = E} next codeword reads_on is_invalid old (Err (Frontend OutOfCompressedData)) new → AfterFewer codeword amt reads_on begun
-  read_cut amt fewer (bits, on, (last, given, none)) =
+  -- no symbol was read
+  pub read_none : (amt : ℕ) → length xs < amt → (error : CoderError (SymbolCodeError V) E) (refusal : Refusal) → ReadsSymbol {E = E} next codeword reads_on is_invalid old (Err error) new → IsToldAs error refusal
+      → ReadsNone codeword reads_on (λ bits. (v : V) × is_invalid bits v) amt begun refusal
+  read_none amt fewer (Frontend OutOfCompressedData) refusal (bits, on, (last, given, none)) told =
       let here = gives_front next unread law old bits last given in
       let end = law last None new none in
       let all : unread old ≡ bits = here ∙ (ap (λ bs. bits ++ bs) end.0 ∙ append-nil bits) in
-      (xs, fewer, so_far.0, bits, so_far.1, so_far.2 ∙ ap (λ bs. so_far.0 ++ bs) all, on)
-
-  -- some were no codeword
-  pub read_wrong : (amt : ℕ) → length xs < amt → (e : V) → ReadsSymbol {E = E} next codeword reads_on is_invalid old (Err (Frontend (InvalidCodeword e))) new
-      → AfterFewer codeword amt (BegunBy (λ bits. (v : V) × is_invalid bits v)) begun
-  read_wrong amt fewer e (bits, wrong, given) =
+      subst (λ r. ReadsNone codeword reads_on (λ bs. (v : V) × is_invalid bs v) amt begun r) (sym told) (xs, fewer, so_far.0, bits, so_far.1, so_far.2 ∙ ap (λ bs. so_far.0 ++ bs) all, on)
+  read_none amt fewer (Frontend (InvalidCodeword e)) refusal (bits, no_codeword, given) told =
       let here = gives_front next unread law old bits new given in
-      (xs, fewer, so_far.0, unread old, so_far.1, so_far.2, (bits, unread new, here, (e, wrong)))
+      subst (λ r. ReadsNone codeword reads_on (λ bs. (v : V) × is_invalid bs v) amt begun r) (sym told) (xs, fewer, so_far.0, unread old, so_far.1, so_far.2, (bits, unread new, here, (e, no_codeword)))
+  read_none amt fewer (Backend e) refusal reads told = subst (λ r. ReadsNone codeword reads_on (λ bs. (v : V) × is_invalid bs v) amt begun r) (sym told) tt
+
+map_last : {A B : Type 0} (f : A → B) (xs : List A) (x : A) → map f (xs ++ x ∷ []) ≡ map f xs ++ f x ∷ []
+map_last f [] x = refl
+map_last f (y ∷ ys) x = ap (λ zs. f y ∷ zs) (map_last f ys x)
+
+-- words of which the last is zero
+pub end_in_zero : {W : Type 0} (number : W → ℕ) (words : List W) (word : W) (rest : List W) → reverse words ≡ word ∷ rest → number word ≡ 0 → EndInZero (map number words)
+end_in_zero number words word rest is zero =
+    let all : words ≡ reverse rest ++ word ∷ [] = sym (reverse-reverse words) ∙ (ap (λ ws. reverse ws) is ∙ reverse-append (word ∷ []) rest) in
+    (map number (reverse rest), ap (λ ws. map number ws) all ∙ (map_last number (reverse rest) word ∙ ap (λ n. map number (reverse rest) ++ n ∷ []) zero))

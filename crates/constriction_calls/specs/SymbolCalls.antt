@@ -1,6 +1,11 @@
 -- Lists of symbols as words of bits, and back.
 use Rattle.std.specs.Prelude.{◌≡◌, ℕ, ◌<◌, ◌⊎◌, Bool, List, [], ◌∷◌, ◌++◌, length, reverse, Option, None, ⊤}
+use Rattle.constriction_base.specs.declared.errors.CoderError.{CoderError}
+use Rattle.constriction_base.specs.declared.errors.CoderError.TheVariants.{Frontend, Backend}
+use Rattle.constriction_symbol.specs.declared.codebooks.SymbolCodeError.{SymbolCodeError}
+use Rattle.constriction_symbol.specs.declared.codebooks.SymbolCodeError.TheVariants.{OutOfCompressedData, InvalidCodeword}
 use Rattle.constriction_symbol.specs.Bits.{HasStackWords, IsQueueWords, IsStackWords, bits_of_words}
+use Rattle.constriction_symbol.specs.Merging.{FitTree}
 use Rattle.constriction_laws.specs.symbol.Lists.{AreCodewords}
 use Rattle.constriction_calls.specs.declared.refusal.Refusal.{Refusal}
 use Rattle.constriction_calls.specs.declared.refusal.Refusal.TheVariants.{ImpossibleSymbol, WrongWeights, WrongInterval, WrongLength, NoSpace, NoMemory, InvalidData, OutOfData}
@@ -61,6 +66,12 @@ ReadsNone codeword is_cut is_wrong amt bits WrongWeights = ⊥
 ReadsNone codeword is_cut is_wrong amt bits WrongInterval = ⊥
 ReadsNone codeword is_cut is_wrong amt bits WrongLength = ⊥
 
+-- what is answered where no symbol was read
+abbrev pub IsToldAs : {V E : Type 0} → CoderError (SymbolCodeError V) E → Refusal → Type 0
+IsToldAs (Frontend OutOfCompressedData) refusal = refusal ≡ OutOfData
+IsToldAs (Frontend (InvalidCodeword e)) refusal = refusal ≡ InvalidData
+IsToldAs (Backend e) refusal = refusal ≡ NoMemory
+
 -- the words end in a zero, as those of no stack of bits
 abbrev pub EndInZero : List ℕ → Type 0
 EndInZero words = (front : List ℕ) × (words ≡ front ++ 0 ∷ [])
@@ -76,6 +87,10 @@ ReadsNoStack w codeword is_cut is_wrong amt words e =
     ⊎ ((bits : List Bool) × HasStackWords w (reverse bits) words × ReadsNone codeword is_cut is_wrong amt bits e)
 
 -- ---- weights
+-- a tree can be made of weights of 32 bits: there are some, at most so many, and their sum has 32 bits
+abbrev pub MakeTree : ℕ → List ℕ → Type 0
+MakeTree most weights = FitTree (λ w. w) 32 most weights
+
 -- why symbols under a tree of some weights are refused: the weights make no tree, or else what is said of the symbols
 abbrev pub UnderTree : Type 0 → (Refusal → Type 0) → Refusal → Type 0
 UnderTree makes_tree why e = ((e ≡ WrongWeights) × (makes_tree → ⊥)) ⊎ (makes_tree × why e)

@@ -1,6 +1,6 @@
 //! Symbols of words, by any codebook.
 
-ghost use Rattle.constriction_calls.specs.SymbolCalls.{BeginBits, BeginStack, ReadsNoStack, ReadsNone};
+ghost use Rattle.constriction_calls.specs.SymbolCalls.{BeginBits, BeginStack, IsToldAs, ReadsNoStack, ReadsNone};
 ghost use Rattle.constriction_symbol.specs.Bits.{bits_of_words};
 ghost use Rattle.std.specs.Prelude.{IfErr, IfOk, length, map, ◌≡◌};
 
@@ -14,6 +14,19 @@ use constriction_symbol::queue::QueueDecoder;
 use constriction_symbol::reading::ReadBitStream;
 use constriction_words::BitArray;
 use std::alloc::Global;
+
+/// Why a symbol isn't read, as it is told to the caller.
+fn told_as<V: Drop, E: Drop>(error: CoderError<SymbolCodeError<V>, E>) -> Refusal
+    ensures { IsToldAs error result }
+{
+    match error {
+        CoderError::Frontend(cause) => match cause {
+            SymbolCodeError::OutOfCompressedData => Refusal::OutOfData,
+            SymbolCodeError::InvalidCodeword(_) => Refusal::InvalidData,
+        },
+        CoderError::Backend(_) => Refusal::NoMemory,
+    }
+}
 
 /// Reads so many symbols, one after the other.
 ///
@@ -41,9 +54,7 @@ where
     'read: for _ in 0..amt {
         let symbol = match stream.decode_symbol(codebook) {
             Ok(symbol) => symbol,
-            Err(CoderError::Frontend(SymbolCodeError::OutOfCompressedData)) => return Err(Refusal::OutOfData),
-            Err(CoderError::Frontend(SymbolCodeError::InvalidCodeword(_))) => return Err(Refusal::InvalidData),
-            Err(CoderError::Backend(_)) => return Err(Refusal::NoMemory),
+            Err(error) => return Err(told_as(error)),
         };
         let Ok(()) = symbols.push(symbol) else {
             return Err(Refusal::NoMemory);
@@ -94,10 +105,12 @@ where
     ensures err { IfErr result (λ e. ReadsNoStack Word.BITS (C.codeword codebook.now) (C.reads_on codebook.now) (λ bits. (e : C.InvalidCodeword) × C.is_invalid codebook.now bits e)
         amt (map Word.number words.now) e) }
 {
-    let Ok(mut decoder) = StackCoder::<Word, Cursor<Word, &[Word]>>::from_compressed(
+    let mut decoder = match StackCoder::<Word, Cursor<Word, &[Word]>>::from_compressed(
         Cursor::new_at_write_end(words),
-    ) else {
-        return Err(Refusal::InvalidData);
+    ) {
+        Ok(decoder) => decoder,
+        Err(CoderError::Frontend(_)) => return Err(Refusal::InvalidData),
+        Err(CoderError::Backend(_)) => return Err(Refusal::InvalidData),
     };
     read_symbols::<Stack, _, C>(alloc, &mut decoder, amt, codebook)
 }
