@@ -1,1 +1,3 @@
 mod SymbolLists
+pub mod SymbolSpace
+mod SymbolTrees

@@ -5,7 +5,6 @@ use Rattle.constriction_base.specs.declared.errors.CoderError.TheVariants.{Front
 use Rattle.constriction_symbol.specs.declared.codebooks.SymbolCodeError.{SymbolCodeError}
 use Rattle.constriction_symbol.specs.declared.codebooks.SymbolCodeError.TheVariants.{OutOfCompressedData, InvalidCodeword}
 use Rattle.constriction_symbol.specs.Bits.{HasStackWords, IsQueueWords, IsStackWords, bits_of_words}
-use Rattle.constriction_symbol.specs.Merging.{FitTree}
 use Rattle.constriction_laws.specs.symbol.Lists.{AreCodewords}
 use Rattle.constriction_calls.specs.declared.refusal.Refusal.{Refusal}
 use Rattle.constriction_calls.specs.declared.refusal.Refusal.TheVariants.{ImpossibleSymbol, WrongWeights, WrongInterval, WrongLength, NoSpace, NoMemory, InvalidData, OutOfData}
@@ -39,6 +38,10 @@ WritesNone codeword are_words symbols room WrongInterval = ⊥
 WritesNone codeword are_words symbols room WrongLength = ⊥
 WritesNone codeword are_words symbols room InvalidData = ⊥
 WritesNone codeword are_words symbols room OutOfData = ⊥
+
+-- why they could not be made: a symbol has no codeword, or memory is missing
+abbrev pub MakesNone : {S : Type 0} → (S → Option (List Bool)) → List S → Refusal → Type 0
+MakesNone codeword symbols e = ((e ≡ ImpossibleSymbol) × OneHasNone codeword symbols) ⊎ ((e ≡ NoMemory) × HaveCodewords codeword symbols)
 
 -- ---- bits as symbols
 -- the codewords of the symbols begin the bits, one behind another
@@ -80,17 +83,15 @@ EndInZero words = (front : List ℕ) × (words ≡ front ++ 0 ∷ [])
 abbrev pub BeginStack : {S : Type 0} → ℕ → (S → Option (List Bool)) → List S → List ℕ → Type 0
 BeginStack w codeword symbols words = (bits : List Bool) × HasStackWords w (reverse bits) words × BeginBits codeword symbols bits
 
--- why words don't give so many symbols as those of a stack: they are the words of none; or their bits don't give them
+-- why words don't give so many symbols as those of a stack: memory is missing; or they are the words of none; or their bits
+-- don't give them
 abbrev pub ReadsNoStack : {S : Type 0} → ℕ → (S → Option (List Bool)) → (List Bool → Type 0) → (List Bool → Type 0) → ℕ → List ℕ → Refusal → Type 0
 ReadsNoStack w codeword is_cut is_wrong amt words e =
-    ((e ≡ InvalidData) × EndInZero words)
+    (e ≡ NoMemory)
+    ⊎ ((e ≡ InvalidData) × EndInZero words)
     ⊎ ((bits : List Bool) × HasStackWords w (reverse bits) words × ReadsNone codeword is_cut is_wrong amt bits e)
 
 -- ---- weights
--- a tree can be made of weights of 32 bits: there are some, at most so many, and their sum has 32 bits
-abbrev pub MakeTree : ℕ → List ℕ → Type 0
-MakeTree most weights = FitTree (λ w. w) 32 most weights
-
 -- why symbols under a tree of some weights are refused: the weights make no tree, or else what is said of the symbols
 abbrev pub UnderTree : Type 0 → (Refusal → Type 0) → Refusal → Type 0
 UnderTree makes_tree why e = ((e ≡ WrongWeights) × (makes_tree → ⊥)) ⊎ (makes_tree × why e)

@@ -1,10 +1,11 @@
-//! Symbols as words of bits by a Huffman tree of weights of 32 bits, and back.
+//! Symbols as words of bits by a Huffman tree of weights, and back.
 
 ghost use Rattle.constriction_calls.specs.Buffers.{Appended};
-ghost use Rattle.constriction_calls.specs.SymbolCalls.{AreQueueWords, AreStackWords, BeginBits, BeginStack, MakeTree, ReadsNoStack, ReadsNone, UnderTree, WritesNone};
+ghost use Rattle.constriction_calls.specs.SymbolCalls.{AreQueueWords, AreStackWords, BeginBits, BeginStack, ReadsNoStack, ReadsNone, UnderTree, WritesNone};
 ghost use Rattle.constriction_symbol.specs.Bits.{bits_of_words};
 ghost use Rattle.constriction_symbol.specs.Codewords.{NoneBegins};
 ghost use Rattle.constriction_symbol.specs.Huffman.{huffman};
+ghost use Rattle.constriction_symbol.specs.Merging.{FitTree};
 ghost use Rattle.std.specs.Prelude.{IfErr, IfSome, List, OnErr, OnOk, OnSome, length, map, ◌-◌, ◌^◌, ◌≡◌};
 
 use crate::refusal::Refusal;
@@ -16,28 +17,32 @@ use std::alloc::Global;
 
 /// The words of a queue that holds the codewords of the symbols. `None` comes where the weights make no tree, a symbol has
 /// no weight, or for want of memory.
-fn words_of_queue<Word: BitArray>(
+fn words_of_queue<Word: BitArray, P: BitArray>(
     alloc: Global,
-    weights: &[u32],
+    weights: &[P],
     symbols: &[usize],
 ) -> Option<Vec<Word>>
-    ensures tree { OnSome result (MakeTree (2 ^ 62 - 1) weights.now) }
-    ensures words { IfSome result (λ words. AreQueueWords Word.BITS (huffman weights.now) symbols.now (map Word.number words.items)) }
+    ensures tree { OnSome result (FitTree P.number P.BITS (2 ^ 62 - 1) weights.now) }
+    ensures words { IfSome result (λ words. AreQueueWords Word.BITS (huffman (map P.number weights.now)) symbols.now (map Word.number words.items)) }
 {
-    let tree = encoder_tree(alloc, weights)?;
+    let Some(tree) = encoder_tree(alloc, weights) else {
+        return None;
+    };
     queue_words(alloc, symbols, &tree)
 }
 
 /// The words of a stack off which the codewords of the symbols come. `None` comes as for a queue.
-fn words_of_stack<Word: BitArray>(
+fn words_of_stack<Word: BitArray, P: BitArray>(
     alloc: Global,
-    weights: &[u32],
+    weights: &[P],
     symbols: &[usize],
 ) -> Option<Vec<Word>>
-    ensures tree { OnSome result (MakeTree (2 ^ 62 - 1) weights.now) }
-    ensures words { IfSome result (λ words. AreStackWords Word.BITS (huffman weights.now) symbols.now (map Word.number words.items)) }
+    ensures tree { OnSome result (FitTree P.number P.BITS (2 ^ 62 - 1) weights.now) }
+    ensures words { IfSome result (λ words. AreStackWords Word.BITS (huffman (map P.number weights.now)) symbols.now (map Word.number words.items)) }
 {
-    let tree = encoder_tree(alloc, weights)?;
+    let Some(tree) = encoder_tree(alloc, weights) else {
+        return None;
+    };
     stack_words(alloc, symbols, &tree)
 }
 
@@ -46,22 +51,22 @@ fn words_of_stack<Word: BitArray>(
 ///
 /// # Errors
 /// The buffer and `len` are as before then. Looked for in this order, but for want of memory:
-/// - `WrongWeights` where the weights make no tree: there are none, or their sum doesn't fit 32 bits.
+/// - `WrongWeights` where the weights make no tree: there are none, or their sum doesn't fit their type.
 /// - `ImpossibleSymbol` where a symbol has no weight.
 /// - `NoSpace` where `words` is shorter, with the number of the words.
 /// - `NoMemory` for want of memory.
-pub fn encode_queue<Word: BitArray>(
+pub fn encode_queue<Word: BitArray, P: BitArray>(
     alloc: Global,
-    weights: &[u32],
+    weights: &[P],
     symbols: &[usize],
     words: &mut [Word],
     len: &mut usize,
 ) -> Result<(), Refusal>
-    ensures tree { OnOk result (MakeTree (2 ^ 62 - 1) weights.now) }
-    ensures ok { OnOk result ((all : List Word) × AreQueueWords Word.BITS (huffman weights.now) symbols.now (map Word.number all)
+    ensures tree { OnOk result (FitTree P.number P.BITS (2 ^ 62 - 1) weights.now) }
+    ensures ok { OnOk result ((all : List Word) × AreQueueWords Word.BITS (huffman (map P.number weights.now)) symbols.now (map Word.number all)
         × Appended words.old 0 all words.new len.new) }
-    ensures err { IfErr result (λ e. UnderTree (MakeTree (2 ^ 62 - 1) weights.now)
-        (WritesNone (huffman weights.now) (AreQueueWords Word.BITS (huffman weights.now)) symbols.now (length words.old)) e) }
+    ensures err { IfErr result (λ e. UnderTree (FitTree P.number P.BITS (2 ^ 62 - 1) weights.now)
+        (WritesNone (huffman (map P.number weights.now)) (AreQueueWords Word.BITS (huffman (map P.number weights.now))) symbols.now (length words.old)) e) }
     ensures kept { OnErr result ((words.new ≡ words.old) × (len.new ≡ len.old)) }
 {
     let Some(all) = words_of_queue(alloc, weights, symbols) else {
@@ -75,18 +80,18 @@ pub fn encode_queue<Word: BitArray>(
 ///
 /// # Errors
 /// Those of [`encode_queue`].
-pub fn encode_stack<Word: BitArray>(
+pub fn encode_stack<Word: BitArray, P: BitArray>(
     alloc: Global,
-    weights: &[u32],
+    weights: &[P],
     symbols: &[usize],
     words: &mut [Word],
     len: &mut usize,
 ) -> Result<(), Refusal>
-    ensures tree { OnOk result (MakeTree (2 ^ 62 - 1) weights.now) }
-    ensures ok { OnOk result ((all : List Word) × AreStackWords Word.BITS (huffman weights.now) symbols.now (map Word.number all)
+    ensures tree { OnOk result (FitTree P.number P.BITS (2 ^ 62 - 1) weights.now) }
+    ensures ok { OnOk result ((all : List Word) × AreStackWords Word.BITS (huffman (map P.number weights.now)) symbols.now (map Word.number all)
         × Appended words.old 0 all words.new len.new) }
-    ensures err { IfErr result (λ e. UnderTree (MakeTree (2 ^ 62 - 1) weights.now)
-        (WritesNone (huffman weights.now) (AreStackWords Word.BITS (huffman weights.now)) symbols.now (length words.old)) e) }
+    ensures err { IfErr result (λ e. UnderTree (FitTree P.number P.BITS (2 ^ 62 - 1) weights.now)
+        (WritesNone (huffman (map P.number weights.now)) (AreStackWords Word.BITS (huffman (map P.number weights.now))) symbols.now (length words.old)) e) }
     ensures kept { OnErr result ((words.new ≡ words.old) × (len.new ≡ len.old)) }
 {
     let Some(all) = words_of_stack(alloc, weights, symbols) else {
@@ -99,26 +104,29 @@ pub fn encode_stack<Word: BitArray>(
 ///
 /// # Errors
 /// The symbols are as before then. Looked for in this order, but for want of memory:
-/// - `WrongWeights` where the weights make no tree: there are none, or their sum doesn't fit 32 bits.
+/// - `WrongWeights` where the weights make no tree: there are none, or their sum doesn't fit their type.
 /// - `OutOfData` where the words end before.
 /// - `NoMemory` for want of memory.
-pub fn decode_queue<Word: BitArray>(
+pub fn decode_queue<Word: BitArray, P: BitArray>(
     alloc: Global,
-    weights: &[u32],
+    weights: &[P],
     words: &[Word],
     symbols: &mut [usize],
 ) -> Result<(), Refusal>
     ensures count { length symbols.new ≡ length symbols.old }
-    ensures tree { OnOk result (MakeTree (2 ^ 63 - 1) weights.now) }
-    ensures ok { OnOk result (BeginBits (huffman weights.now) symbols.new (bits_of_words Word.BITS (map Word.number words.now))) }
-    ensures err { IfErr result (λ e. UnderTree (MakeTree (2 ^ 63 - 1) weights.now)
-        (ReadsNone (huffman weights.now) (NoneBegins (huffman weights.now)) (λ _. ⊥) (length symbols.old) (bits_of_words Word.BITS (map Word.number words.now))) e) }
+    ensures tree { OnOk result (FitTree P.number P.BITS (2 ^ 63 - 1) weights.now) }
+    ensures ok { OnOk result (BeginBits (huffman (map P.number weights.now)) symbols.new (bits_of_words Word.BITS (map Word.number words.now))) }
+    ensures err { IfErr result (λ e. UnderTree (FitTree P.number P.BITS (2 ^ 63 - 1) weights.now)
+        (ReadsNone (huffman (map P.number weights.now)) (NoneBegins (huffman (map P.number weights.now))) (λ _. ⊥) (length symbols.old) (bits_of_words Word.BITS (map Word.number words.now))) e) }
     ensures kept { OnErr result (symbols.new ≡ symbols.old) }
 {
     let Some(tree) = decoder_tree(alloc, weights) else {
         return Err(refused_weights(weights));
     };
-    let read = queue_symbols(alloc, words, symbols.len(), &tree)?;
+    let read = match queue_symbols(alloc, words, symbols.len(), &tree) {
+        Ok(read) => read,
+        Err(error) => return Err(error),
+    };
     symbols.copy_from_slice(&read);
     Ok(())
 }
@@ -127,23 +135,26 @@ pub fn decode_queue<Word: BitArray>(
 ///
 /// # Errors
 /// Those of [`decode_queue`], and `InvalidData` where the last word is zero.
-pub fn decode_stack<Word: BitArray>(
+pub fn decode_stack<Word: BitArray, P: BitArray>(
     alloc: Global,
-    weights: &[u32],
+    weights: &[P],
     words: &[Word],
     symbols: &mut [usize],
 ) -> Result<(), Refusal>
     ensures count { length symbols.new ≡ length symbols.old }
-    ensures tree { OnOk result (MakeTree (2 ^ 63 - 1) weights.now) }
-    ensures ok { OnOk result (BeginStack Word.BITS (huffman weights.now) symbols.new (map Word.number words.now)) }
-    ensures err { IfErr result (λ e. UnderTree (MakeTree (2 ^ 63 - 1) weights.now)
-        (ReadsNoStack Word.BITS (huffman weights.now) (NoneBegins (huffman weights.now)) (λ _. ⊥) (length symbols.old) (map Word.number words.now)) e) }
+    ensures tree { OnOk result (FitTree P.number P.BITS (2 ^ 63 - 1) weights.now) }
+    ensures ok { OnOk result (BeginStack Word.BITS (huffman (map P.number weights.now)) symbols.new (map Word.number words.now)) }
+    ensures err { IfErr result (λ e. UnderTree (FitTree P.number P.BITS (2 ^ 63 - 1) weights.now)
+        (ReadsNoStack Word.BITS (huffman (map P.number weights.now)) (NoneBegins (huffman (map P.number weights.now))) (λ _. ⊥) (length symbols.old) (map Word.number words.now)) e) }
     ensures kept { OnErr result (symbols.new ≡ symbols.old) }
 {
     let Some(tree) = decoder_tree(alloc, weights) else {
         return Err(refused_weights(weights));
     };
-    let read = stack_symbols(alloc, words, symbols.len(), &tree)?;
+    let read = match stack_symbols(alloc, words, symbols.len(), &tree) {
+        Ok(read) => read,
+        Err(error) => return Err(error),
+    };
     symbols.copy_from_slice(&read);
     Ok(())
 }

@@ -7,4 +7,4 @@ pub returns-clause-ok : goal.returns-clause-ok
 returns-clause-ok g c =
     let number = g.Word.BitArray.number in
     subst (λ xs. BeginStack g.Word.BitArray.BITS (λ s. Some (golomb (number s))) xs (map number c.args.words.now))
-        (sym (c.copy_from_slice.ensures.after ∙ c.deref.ensures.value)) c.in_ok-read.ensures.ok
+    (sym (c.copy_from_slice.ensures.after ∙ c.deref.ensures.value)) c.in_ok-read.ensures.ok

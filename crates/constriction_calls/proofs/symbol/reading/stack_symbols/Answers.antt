@@ -12,7 +12,7 @@ returns-in-Err-Frontend-clause-err g c =
     let rest = c.in-Err-Frontend.field-0-0 in
     let refused = c.from_compressed.ensures.frontend rest (let is = c.in-Err-Frontend.is in let outer = c.in-Err-Frontend.field-0-is in cc) in
     let all = ap (λ ws. reverse ws) (sym (take-length words)) ∙ (sym (ap (λ q. reverse (take q.pos q.buf.now)) c.new_at_write_end.ensures) ∙ refused.3 tt) in
-    inl (refl, end_in_zero g.Word.BitArray.number words refused.0 _ all refused.1)
+    inr (inl (refl, end_in_zero g.Word.BitArray.number words refused.0 _ all refused.1))
 
 pub returns-clause-ok : goal.returns-clause-ok
 returns-clause-ok g c =
@@ -36,4 +36,4 @@ returns-clause-err g c =
     let all = place ∙ ap (λ ws. map number ws) (reverse-reverse (take (length words) words) ∙ take-length words) in
     let opened = subst (λ ws. HasStackWords w bits ws) all (c.in-Ok.ensures.ok tt) in
     let turned = subst (λ bs. HasStackWords w bs (map number words)) (sym (reverse-reverse bits)) opened in
-    IfErr-weaker c.read_symbols.result _ _ (λ e why. inr (reverse bits, turned, why)) c.read_symbols.ensures.err
+    IfErr-weaker c.read_symbols.result _ _ (λ e why. inr (inr (reverse bits, turned, why))) c.read_symbols.ensures.err

@@ -1,7 +1,6 @@
-use Rattle.std.proofs.Common.{◌<◌, take}
-use Rattle.std.specs.Prelude.{All}
+use Rattle.std.proofs.Common.{◌<◌, All, take}
 use Rattle.constriction_calls.proofs.symbol.trees.all_below.Given as goal
 
 -- those so far are
 abbrev pub invariant-loop-symbol : goal.invariant-loop-symbol
-invariant-loop-symbol g l = All (λ s. s < l.bound) (take l.symbol-index l.symbols)
+invariant-loop-symbol l = All (λ s. s < l.bound) (take l.symbol-index l.symbols)
