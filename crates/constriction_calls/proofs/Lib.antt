@@ -1,3 +1,2 @@
 mod SymbolLists
-pub mod SymbolSpace
 mod SymbolTrees

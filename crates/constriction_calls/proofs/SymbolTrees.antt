@@ -1,8 +1,7 @@
 -- Symbols under a tree: which have codewords, and what reads by the tree tell by the weights.
-use Rattle.std.proofs.Common.{◌≡◌, ◌<◌, ◌⊎◌, ℕ, All, Bool, IfSome, List, [], ◌∷◌, ◌++◌, Option, None, Some, length, map, reverse, ap, inl, inr, refl, subst, sym, ◌∙◌}
+use Rattle.std.proofs.Common.{◌≡◌, ◌<◌, ℕ, All, Bool, IfSome, List, [], ◌∷◌, ◌++◌, Option, None, Some, length, inl, inr, refl, subst, sym, ◌∙◌}
 use Rattle.std.proofs.lemmas.Bool.{cases_lt}
 use Rattle.std.proofs.lemmas.List.Elements.{All-nil, All-cons, All-head, All-tail}
-use Rattle.constriction_symbol.specs.Bits.{HasStackWords}
 use Rattle.constriction_symbol.specs.Codewords.{NoneBegins}
 use Rattle.constriction_symbol.specs.Huffman.{ReadsOnIn, Tree, huffman, path}
 use Rattle.constriction_symbol.specs.HuffmanLaws.{inner_begins_none}

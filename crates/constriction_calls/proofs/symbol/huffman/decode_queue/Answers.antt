@@ -1,4 +1,4 @@
-use Rattle.std.proofs.Common.{◌∙◌, inl, inr, length, map, subst, sym}
+use Rattle.std.proofs.Common.{◌∙◌, inr, length, map, subst, sym}
 use Rattle.std.specs.declared.convert.Infallible.{Infallible}
 use Rattle.constriction_symbol.specs.Bits.{bits_of_words}
 use Rattle.constriction_symbol.specs.Huffman.{huffman}

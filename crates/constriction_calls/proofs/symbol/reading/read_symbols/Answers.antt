@@ -1,4 +1,4 @@
-use Rattle.std.proofs.Common.{◌≡◌, ◌<◌, ◌++◌, [], ◌∷◌, length, sym, subst, ap, arith}
+use Rattle.std.proofs.Common.{◌≡◌, ◌++◌, [], ◌∷◌, length, sym, subst, ap, arith}
 use Rattle.std.proofs.lemmas.List.{length-append}
 use Rattle.constriction_calls.proofs.SymbolLists.{ReadSoFar, read_none, read_one}
 use Rattle.constriction_calls.proofs.symbol.reading.read_symbols.Goals as goal

@@ -1,4 +1,4 @@
-use Rattle.std.proofs.Common.{◌≡◌, ◌<◌, ◌+◌, All, arith, refl, subst, take}
+use Rattle.std.proofs.Common.{◌≡◌, ◌<◌, All, arith, refl, subst, take}
 use Rattle.std.proofs.lemmas.List.{take_all}
 use Rattle.std.proofs.lemmas.List.Elements.{All-more}
 use Rattle.constriction_calls.proofs.symbol.trees.all_below.Goals as goal

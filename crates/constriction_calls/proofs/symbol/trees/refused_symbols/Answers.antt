@@ -1,4 +1,4 @@
-use Rattle.std.proofs.Common.{◌<◌, All, inl, inr, length, map, refl, subst, sym}
+use Rattle.std.proofs.Common.{◌<◌, All, inl, inr, map, refl, subst, sym}
 use Rattle.std.proofs.lemmas.List.{length-map}
 use Rattle.constriction_calls.proofs.SymbolTrees.{have_below, one_past}
 use Rattle.constriction_calls.proofs.symbol.trees.refused_symbols.Goals as goal
