@@ -1,2 +1,7 @@
+pub mod IntervalRows
+pub mod RowItems
+pub mod RowTables
+pub mod RowWeights
+pub mod Stacked
 mod SymbolLists
 mod SymbolTrees

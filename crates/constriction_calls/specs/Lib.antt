@@ -1,4 +1,5 @@
 pub mod Buffers
 pub mod Intervals
+pub mod Rows
 pub mod SymbolCalls
 pub mod Weights

@@ -2,8 +2,18 @@
 //! state itself, as words in a buffer with their number, and heads. `constriction_c` gives each call a C function.
 //!
 //! - [`refusal`]: why a call was refused.
+//! - [`rows`]: rows of weights as models.
+//! - [`tables`]: weights as a table for all symbols.
+//! - [`known`]: whether models know symbols.
+//! - [`intervals`]: intervals without a table.
+//! - [`buffers`]: words put behind others in a buffer.
 //! - [`symbol`]: lists of symbols as words of bits, and back.
 #![tactic(auto)]
 
+pub mod buffers;
+pub mod intervals;
+pub mod known;
 pub mod refusal;
+pub mod rows;
 pub mod symbol;
+pub mod tables;
