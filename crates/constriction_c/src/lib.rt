@@ -16,3 +16,4 @@
 
 pub mod ans;
 pub mod codes;
+pub mod symbol;

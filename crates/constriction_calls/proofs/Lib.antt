@@ -5,3 +5,5 @@ pub mod RowItems
 pub mod RowTables
 pub mod RowWeights
 pub mod Stacked
+mod SymbolLists
+mod SymbolTrees

@@ -2,4 +2,5 @@ pub mod AnsCalls
 pub mod Buffers
 pub mod Intervals
 pub mod Rows
+pub mod SymbolCalls
 pub mod Weights

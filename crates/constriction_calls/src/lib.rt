@@ -8,6 +8,7 @@
 //! - [`intervals`]: intervals without a table.
 //! - [`buffers`]: words put behind others in a buffer.
 //! - [`ans`]: the stack coder.
+//! - [`symbol`]: lists of symbols as words of bits, and back.
 #![tactic(auto)]
 
 pub mod ans;
@@ -16,4 +17,5 @@ pub mod intervals;
 pub mod known;
 pub mod refusal;
 pub mod rows;
+pub mod symbol;
 pub mod tables;
