@@ -7,7 +7,4 @@
 //! - [`buffers`]: words put behind others in a buffer.
 #![tactic(auto)]
 
-pub mod buffers;
-pub mod intervals;
 pub mod refusal;
-pub mod rows;
