@@ -1,1 +1,2 @@
+pub mod RangeEnding
 pub mod RangeFrame

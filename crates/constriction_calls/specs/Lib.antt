@@ -1,3 +1,4 @@
 pub mod Buffers
 pub mod Intervals
+pub mod RangeCalls
 pub mod Weights

@@ -7,4 +7,8 @@
 //! - [`buffers`]: words put behind others in a buffer.
 #![tactic(auto)]
 
+pub mod buffers;
+pub mod intervals;
+pub mod range;
 pub mod refusal;
+pub mod rows;

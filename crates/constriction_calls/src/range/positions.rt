@@ -1,0 +1,1 @@
+//! Going to positions, and where words may end.
