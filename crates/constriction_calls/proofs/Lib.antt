@@ -1,2 +1,5 @@
 pub mod RangeEnding
 pub mod RangeFrame
+pub mod RowWeights
+pub mod RowItems
+pub mod RowTables
