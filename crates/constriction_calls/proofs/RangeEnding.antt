@@ -12,6 +12,8 @@ use Rattle.constriction_queue.specs.Encoder.{PartsFit, held_of, run_of}
 use Rattle.constriction_queue.proofs.Showing.{queue_is}
 use Rattle.constriction_queue.proofs.Seals.{words_of_numbers}
 use Rattle.constriction_calls.specs.Buffers.{Appended}
+use Rattle.constriction_calls.specs.RangeCalls.{kept_words, run_kept}
+use Rattle.constriction_calls.specs.declared.range.parts.EncoderParts.{EncoderParts}
 use Rattle.constriction_calls.specs.declared.refusal.Refusal.{Refusal}
 use Rattle.constriction_calls.specs.declared.refusal.Refusal.TheVariants as refusals
 use Rattle.constriction_calls.proofs.RangeFrame.{behind, run_behind, sealed_behind, held_inside}
@@ -84,3 +86,24 @@ no_space_of (Err e) n cap needed (inl one) full is =
     let count : needed ≡ n = count_of (sym (err_of is) ∙ one) in
     (omega (arith, full, count), count)
 no_space_of (Err e) n cap needed (inr other) full is = absurd (other_refusal (sym (err_of is) ∙ other.0))
+
+-- ---- an export
+module _ {Word State : Type 0} (number : Word → ℕ) (state : State → ℕ) (w s : ℕ) (e : EncoderParts Word State) (held : List ℕ) (lower range : ℕ)
+    (held_is : held ≡ kept_words w e.held (number e.first)) (lower_is : lower ≡ state e.lower) (range_is : range ≡ state e.range) where
+  pub run_is_kept : (written : List Word) → run_of w s (held ++ map number (reverse written)) lower range ≡ run_kept number state w s e written
+  run_is_kept written = rw (held_is, lower_is, range_is) refl
+
+  module _ (law : (x : Word) → number x < 2 ^ w) (old : List Word) (len : ℕ) (items added : List Word) (is : added ≡ items)
+      (ends : (below : List ℕ) → AreWords w below → sealed w s (run_of w s (held ++ below) lower range) ≡ reverse below ++ map number items) where
+    sealed_kept : sealed w s (run_kept number state w s e (take len old)) ≡ reverse (map number (reverse (take len old))) ++ map number added
+    sealed_kept =
+        ap (λ (r : Run). sealed w s r) (sym (run_is_kept (take len old)))
+        ∙ ends (map number (reverse (take len old))) (below_are_words number w law (take len old))
+        ∙ ap (λ (xs : List Word). reverse (map number (reverse (take len old))) ++ map number xs) (sym is)
+
+    pub exported : (new : List Word) (new_len : ℕ) → Appended old len added new new_len
+        → map number (take new_len new) ≡ sealed w s (run_kept number state w s e (take len old))
+    exported new new_len a = appended_words number old len added new new_len a ∙ sym sealed_kept
+
+    pub exported_count : len ≤ length old → length (sealed w s (run_kept number state w s e (take len old))) ≡ len + length added
+    exported_count within = ended_length number old len added (sealed w s (run_kept number state w s e (take len old))) within sealed_kept

@@ -122,9 +122,9 @@ number_below w (x ∷ ws) all =
     let more : suc (number_of (2 ^ w) ws) * 2 ^ w ≤ (2 ^ w) ^ length ws * 2 ^ w = mul-le-mul_right (2 ^ w) (number_below w ws all.1) in
     rw (pow-suc (2 ^ w) (length ws)) (omega (arith, more, all.0))
 
-pub held_inside : (w s count first lower range : ℕ) → 0 < count → first + 1 < 2 ^ w → lower < 2 ^ s → range < 2 ^ s
+pub held_inside : (w s count first lower range : ℕ) → first + 1 < 2 ^ w → lower < 2 ^ s → range < 2 ^ s
     → number_of (2 ^ w) (words_held (2 ^ w - 1) count first) * 2 ^ s + lower + range < 2 ^ s * (2 ^ w) ^ length (words_held (2 ^ w - 1) count first)
-held_inside w s count first lower range some less lower_fits range_fits =
+held_inside w s count first lower range less lower_fits range_fits =
     let b : ℕ = 2 ^ w in
     let ones : List ℕ = words_held (b - 1) count first in
     let zeros : List ℕ = words_held 0 count (first + 1) in

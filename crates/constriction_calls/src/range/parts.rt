@@ -102,10 +102,10 @@ pub fn decoder_parts<'a, Word: WordOf<State>, State: BitArray>(
     decoder: RangeDecoder<Word, State, Cursor<Word, &'a [Word]>>,
     count: usize,
 ) -> DecoderParts<State>
-    ensures lower { State.number result.lower ≡ decoder.lower }
-    ensures range { State.number result.range ≡ decoder.range }
-    ensures point { State.number result.point ≡ decoder.point }
-    ensures pos { result.pos ≡ count - length decoder.words }
+    ensures lower { State.number result.lower ≡ decoder.entry.lower }
+    ensures range { State.number result.range ≡ decoder.entry.range }
+    ensures point { State.number result.point ≡ decoder.entry.point }
+    ensures pos { result.pos ≡ count - length decoder.entry.words }
 {
     let (bulk, state, point) = decoder.into_raw_parts();
     let (buffer, pos) = bulk.into_buf_and_pos();
