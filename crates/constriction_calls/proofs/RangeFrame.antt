@@ -1,13 +1,16 @@
 -- A range encoder over the words of a caller does the same as one over no words: the words below are a multiple that a
 -- step carries along. Lists of words have the last word first.
-use Rattle.std.proofs.Common.{◌≡◌, ℕ, zero, suc, ◌+◌, ◌-◌, ◌*◌, ◌/◌, ◌%◌, ◌^◌, ◌<◌, ◌≤◌, ◌≢◌, ◌==◌, if◌then◌else◌, List, [], ◌∷◌, ◌++◌, length, refl, sym, ap, ◌∙◌, subst, inl, inr, arith, pow_pos, append_assoc, append-nil, length-append, eq-eqb, ne_eqb, div-lt_iff_lt-mul, mul-le-mul_right}
+use Rattle.std.proofs.Common.{map, ◌≡◌, ℕ, zero, suc, ◌+◌, ◌-◌, ◌*◌, ◌/◌, ◌%◌, ◌^◌, ◌<◌, ◌≤◌, ◌≢◌, ◌==◌, if◌then◌else◌, List, [], ◌∷◌, ◌++◌, length, refl, sym, ap, ◌∙◌, subst, inl, inr, arith, pow_pos, append_assoc, append-nil, length-append, eq-eqb, ne_eqb, div-lt_iff_lt-mul, mul-le-mul_right}
 use native.Mathlib.Nat.{pow-suc, pow-zero, add-mul-div_right, add-mul-mod_self_right}
 use Rattle.std.specs.Prelude.{reverse}
 use Rattle.std.proofs.lemmas.Bool.{cases_eq}
 use Rattle.constriction_base.specs.Steps.{Step, InTurn, AreWords, IsSizes}
 use Rattle.constriction_base.specs.Digits.{fixed_digits}
 use Rattle.constriction_queue.specs.Range.{Run, cut, grown, narrow, sealed, seal_number}
-use Rattle.constriction_queue.specs.Encoder.{number_of, run_of, words_held}
+use Rattle.constriction_queue.specs.Encoder.{Encoder, encoder_of, held_of, number_of, run_by, run_of, words_held}
+use Rattle.constriction_queue.specs.declared.situation.EncoderSituation.{EncoderSituation}
+use Rattle.constriction_base.specs.Models.{Item}
+use Rattle.constriction_laws.specs.queue.Symbols.{NarrowsAll}
 use Rattle.constriction_queue.proofs.Fits.{pow-split}
 use Rattle.constriction_queue.proofs.Runs.{same_run}
 use Rattle.constriction_queue.proofs.Seals.{digits_of_words, words_held_fit}
@@ -137,3 +140,39 @@ held_inside w s count first lower range less lower_fits range_fits =
     let room : number_of b ones + 2 ≤ b ^ length ones = omega (arith, carried, below, power) in
     let times : (number_of b ones + 2) * 2 ^ s ≤ b ^ length ones * 2 ^ s = mul-le-mul_right (2 ^ s) room in
     omega (arith, times, lower_fits, range_fits)
+
+-- ---- encodes behind words
+pub narrows_behind : {S : Type 0} (w s n k : ℕ) (items : List (Item S)) (old new : Run) → NarrowsAll w s items old new → NarrowsAll w s items (behind w s n k old) (behind w s n k new)
+narrows_behind w s n k [] old new all = ap (behind w s n k) all
+narrows_behind w s n k (item ∷ items) old new (between, (left, p, has, is), all) =
+    let e : Step = record { precision = item.model.precision; left = left; p = p } in
+    (behind w s n k between, (left, p, has, ap (behind w s n k) is ∙ sym (narrow_behind w s n k e old)), narrows_behind w s n k items between new all)
+
+-- the same by words: an encoder over no words, and what it holds and wrote then
+pub narrows_above : {S : Type 0} (w s : ℕ) (items : List (Item S)) (held kept written below : List ℕ) (lower range new_lower new_range : ℕ)
+    → NarrowsAll w s items (run_of w s held lower range) (run_of w s (kept ++ written) new_lower new_range)
+    → NarrowsAll w s items (run_of w s (held ++ below) lower range) (run_of w s (kept ++ (written ++ below)) new_lower new_range)
+narrows_above w s items held kept written below lower range new_lower new_range all =
+    let n : ℕ = number_of (2 ^ w) below in
+    let k : ℕ = length below in
+    let last : run_of w s (kept ++ (written ++ below)) new_lower new_range ≡ behind w s n k (run_of w s (kept ++ written) new_lower new_range) =
+        ap (λ ws. run_of w s ws new_lower new_range) (sym (append_assoc kept written below)) ∙ run_behind w s (kept ++ written) below new_lower new_range in
+    subst (λ (r : Run). NarrowsAll w s items r (run_of w s (kept ++ (written ++ below)) new_lower new_range)) (sym (run_behind w s held below lower range))
+    (subst (λ (r : Run). NarrowsAll w s items (behind w s n k (run_of w s held lower range)) r) (sym last)
+    (narrows_behind w s n k items (run_of w s held lower range) (run_of w s (kept ++ written) new_lower new_range) all))
+
+-- the same by the parts of an encoder, taken out of it
+pub put_above : {Word B S : Type 0} (number : Word → ℕ) (words_in : B → List Word) (w s : ℕ) (items : List (Item S)) (old new : Encoder B)
+    (lower range last_lower last_range new_lower new_range : ℕ) (bulk new_bulk : B) (situation last : EncoderSituation Word) (kept : List ℕ)
+    → old ≡ encoder_of number words_in w lower range bulk situation → words_in bulk ≡ []
+    → new ≡ encoder_of number words_in w last_lower last_range new_bulk last → kept ≡ held_of number w last → new_lower ≡ last_lower → new_range ≡ last_range
+    → NarrowsAll w s items (run_by w s old) (run_by w s new)
+    → (below : List ℕ) → NarrowsAll w s items (run_of w s (held_of number w situation ++ below) lower range) (run_of w s (kept ++ (map number (words_in new_bulk) ++ below)) new_lower new_range)
+put_above number words_in w s items old new lower range last_lower last_range new_lower new_range bulk new_bulk situation last kept old_is none new_is kept_is lower_is range_is all below =
+    let held : List ℕ = held_of number w situation in
+    let alone : held ++ map number (words_in bulk) ≡ held = ap (λ xs. held ++ map number xs) none ∙ append-nil held in
+    let first : run_by w s old ≡ run_of w s held lower range = ap (λ e. run_by w s e) old_is ∙ ap (λ ws. run_of w s ws lower range) alone in
+    let end : run_by w s new ≡ run_of w s (kept ++ map number (words_in new_bulk)) new_lower new_range = ap (λ e. run_by w s e) new_is ∙ rw (kept_is, lower_is, range_is) refl in
+    narrows_above w s items held kept (map number (words_in new_bulk)) below lower range new_lower new_range
+    (subst (λ (r : Run). NarrowsAll w s items r (run_of w s (kept ++ map number (words_in new_bulk)) new_lower new_range)) first
+    (subst (λ (r : Run). NarrowsAll w s items (run_by w s old) r) end all))

@@ -1,9 +1,13 @@
 //! The range coder over a caller's buffers.
 //!
+//! - [`encoding`]: encodes.
 //! - [`parts`]: an encoder and a decoder between two calls.
 //! - [`words`]: the words of an encoder, and a decoder of words.
+//! - `scratch`: encodes over a vector of their own.
 //! - [`positions`]: going to positions, and where words may end.
 
+pub mod encoding;
 pub mod parts;
 pub mod positions;
+mod scratch;
 pub mod words;
