@@ -49,7 +49,7 @@ ending_behind number w s situation lower range none items is sizes fit least low
 turned : {Word : Type 0} (number : Word → ℕ) (xs : List Word) → reverse (map number (reverse xs)) ≡ map number xs
 turned number xs = sym (queue_is number (reverse xs) (sym (reverse-reverse xs)) refl)
 
-map-both : {Word : Type 0} (number : Word → ℕ) (xs ys : List Word) → map number (xs ++ ys) ≡ map number xs ++ map number ys
+pub map-both : {Word : Type 0} (number : Word → ℕ) (xs ys : List Word) → map number (xs ++ ys) ≡ map number xs ++ map number ys
 map-both number [] ys = refl
 map-both number (x ∷ xs) ys = ap (λ ns. number x ∷ ns) (map-both number xs ys)
 
