@@ -1,7 +1,7 @@
 -- Symbols that words are read as: which symbol a decode takes, and that none is refused.
-use Rattle.std.proofs.Common.{◌≡◌, ℕ, zero, suc, ◌+◌, ◌-◌, ◌*◌, ◌/◌, ◌%◌, ◌<◌, ◌≤◌, ◌^◌, ◌⊎◌, ◌↔◌, ◌==◌, Bool, IsTrue, eq-eqb, eqb→eq, List, [], ◌∷◌, Result, Ok, Err, Option, inl, inr, length, map, drop, get_or, refl, sym, ap, ◌∙◌, subst, arith, pow_pos, mod-eq_of_lt, zero-add}
+use Rattle.std.proofs.Common.{◌≡◌, ℕ, zero, suc, ◌+◌, ◌-◌, ◌*◌, ◌/◌, ◌%◌, ◌<◌, ◌≤◌, ◌^◌, ◌⊎◌, ◌↔◌, ◌==◌, Bool, true, false, IsTrue, eq-eqb, ne_eqb, List, [], ◌∷◌, Result, Ok, Err, Option, inl, inr, length, map, drop, get_or, refl, sym, ap, ◌∙◌, subst, arith, pow_pos, mod-eq_of_lt, zero-add}
 use Rattle.std.proofs.Math.Seq.{drop-cons}
-use Rattle.std.proofs.lemmas.Bool.{cases_lt}
+use Rattle.std.proofs.lemmas.Bool.{cases_eq, cases_lt}
 use Rattle.std.proofs.lemmas.List.{length-drop, length-map}
 use Rattle.std.specs.List.{zip}
 use Rattle.constriction_base.specs.declared.errors.CoderError.{CoderError}
@@ -16,6 +16,7 @@ use Rattle.constriction_queue.specs.States.{IsPosition}
 use Rattle.constriction_queue.specs.Calls as calls
 use Rattle.constriction_queue.proofs.Sought.{sought_is_at}
 use Rattle.constriction_queue.proofs.WordsRead.{first_point}
+use Rattle.constriction_calls.specs.Weights.{row_tables}
 use Rattle.constriction_laws.specs.queue.Symbols.{Finds, FindsAll, MayEnd, StandsAt}
 use Rattle.constriction_laws.proofs.queue_coder.ComingBack.{decodes_unique}
 use Rattle.constriction_laws.proofs.queue_coder.ListCalls.{decodes_of, distance_is, ended_of}
@@ -103,6 +104,15 @@ past_all [] (suc n) is = refl
 past_all (x ∷ xs) zero is = absurd (omega arith)
 past_all (x ∷ xs) (suc n) is = past_all xs n (omega arith)
 
+false_true : ◌≡◌ {A = Bool} false true → ⊥
+false_true is = cc
+
+equal_of : (a b : ℕ) → IsTrue (a == b) → a ≡ b
+equal_of a b is = elim (cases_eq a b) [
+  | inl e ↦ e
+  | inr ne ↦ absurd (false_true (sym (ne_eqb a b ne) ∙ is))
+]
+
 pub may_end : {B : Type 0} (w s : ℕ) (words : List ℕ) (there : Run) (d : Decoder B) (place count : ℕ) (maybe : Bool) → 0 < 2 ^ s → StandsAt w s words there d
     → d.words ≡ drop place words → place ≤ length words → count ≡ length words
     → (IsTrue maybe ↔ (IsTrue (place == count) × ((d.range + 1 ≡ 2 ^ s) ⊎ (distance s d + 1 < 2 * 2 ^ (s - w)))))
@@ -112,11 +122,11 @@ may_end {B} w s words there d place count maybe some at left within all value =
       | inl whole ↦ inl (omega (arith, whole, at.range_is))
       | inr close ↦ inr (omega (arith, close, distance_is w s words there d some at))
     ] in (
-      λ is. (let both = value.0 is in (sym at.rest_is ∙ left ∙ past_all words place (eqb→eq place count both.0 ∙ all), near both.1)),
+      λ is. (let both = value.0 is in (sym at.rest_is ∙ left ∙ past_all words place (equal_of place count both.0 ∙ all), near both.1)),
       λ may. (
         let ended = ended_of w s words there d some at may in
         let none : length (drop place words) ≡ 0 = ap length (sym left ∙ ended.0) in
-        value.1 (rw (eq-eqb place count (omega (arith, none, length-drop place words, within, all))) tt, ended.1)
+        value.1 (eq-eqb place count (omega (arith, none, length-drop place words, within, all)), ended.1)
       ),
     )
 
@@ -130,3 +140,14 @@ pub stands_by : (w s : ℕ) (words rest : List ℕ) (r : Run) (lower range point
     → l ≡ lower → g ≡ range → p ≡ point → left ≡ rest → IsAt w s words r l g p left
 stands_by w s words rest r lower range point l g p left at l_is g_is p_is left_is =
     record { lower_is = l_is ∙ at.lower_is; range_is = g_is ∙ at.range_is; point_is = p_is ∙ at.point_is; rest_is = left_is ∙ at.rest_is }
+
+pub yes_no : {b : Bool} → b ≡ false → IsTrue b → ⊥
+yes_no off on = false_true (sym off ∙ on)
+
+-- there are as many rows as symbols
+pub rows_counted : {M : Type 0} (table : M → List (ℕ × ℕ × ℕ)) (width count : ℕ) (weights : List ℕ) (rows : List M) → map table rows ≡ row_tables width count weights → length rows ≡ count
+rows_counted table width zero weights rows is = sym (length-map rows table) ∙ ap length is
+rows_counted table width (suc count) weights [] is = absurd cc
+rows_counted table width (suc count) weights (row ∷ rows) is =
+    let rest : map table rows ≡ row_tables width count (drop width weights) = cc in
+    ap suc (rows_counted table width count (drop width weights) rows rest)
