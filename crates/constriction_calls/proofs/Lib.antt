@@ -1,5 +1,9 @@
+pub mod IntervalRows
+pub mod RangeEncoded
 pub mod RangeEnding
 pub mod RangeFrame
-pub mod RowWeights
+pub mod RangeTaking
 pub mod RowItems
 pub mod RowTables
+pub mod RowWeights
+pub mod Stacked

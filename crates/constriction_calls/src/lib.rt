@@ -3,12 +3,17 @@
 //!
 //! - [`refusal`]: why a call was refused.
 //! - [`rows`]: rows of weights as models.
+//! - [`tables`]: weights as a table for all symbols.
+//! - [`known`]: whether models know symbols.
 //! - [`intervals`]: intervals without a table.
 //! - [`buffers`]: words put behind others in a buffer.
+//! - [`range`]: the range coder.
 #![tactic(auto)]
 
 pub mod buffers;
 pub mod intervals;
+pub mod known;
 pub mod range;
 pub mod refusal;
 pub mod rows;
+pub mod tables;
