@@ -7,7 +7,7 @@ use Rattle.std.specs.List.{zip}
 use Rattle.constriction_base.specs.declared.errors.CoderError.{CoderError}
 use Rattle.constriction_base.specs.Steps.{Step, IsSizes, AreWords}
 use Rattle.constriction_base.specs.Tables.{AtEntry}
-use Rattle.constriction_base.specs.Models.{Model, Item, IsModel, item_of, items_of, pairs_of}
+use Rattle.constriction_base.specs.Models.{Model, Item, IsModel, AreKnown, item_of, items_of, pairs_of}
 use Rattle.constriction_base.proofs.Entering.{entry_is_step}
 use Rattle.constriction_stream.specs.Symbols.{ByBackend}
 use Rattle.constriction_queue.specs.Range.{Run, IsAt, number_of_first, number_read, offset, start}
@@ -16,8 +16,9 @@ use Rattle.constriction_queue.specs.States.{IsPosition}
 use Rattle.constriction_queue.specs.Calls as calls
 use Rattle.constriction_queue.proofs.Sought.{sought_is_at}
 use Rattle.constriction_queue.proofs.WordsRead.{first_point}
-use Rattle.constriction_calls.specs.Weights.{row_tables}
-use Rattle.constriction_laws.specs.queue.Symbols.{Finds, FindsAll, MayEnd, StandsAt}
+use Rattle.constriction_calls.specs.Weights.{row_items, row_tables}
+use Rattle.constriction_calls.proofs.RowItems.{rows_are_items}
+use Rattle.constriction_laws.specs.queue.Symbols.{Finds, FindsAll, MayEnd, NarrowsAll, StandsAt}
 use Rattle.constriction_laws.proofs.queue_coder.ComingBack.{decodes_unique}
 use Rattle.constriction_laws.proofs.queue_coder.ListCalls.{decodes_of, distance_is, ended_of}
 
@@ -151,3 +152,20 @@ rows_counted table width (suc count) weights [] is = absurd cc
 rows_counted table width (suc count) weights (row ∷ rows) is =
     let rest : map table rows ≡ row_tables width count (drop width weights) = cc in
     ap suc (rows_counted table width count (drop width weights) rows rest)
+
+pub pairs_are_rows : {M : Type 0} (precision width : ℕ) (table : M → List (ℕ × ℕ × ℕ)) (weights symbols : List ℕ) (lent rows : List M) → lent ≡ rows → map table rows ≡ row_tables width (length symbols) weights
+    → pairs_of precision table symbols lent ≡ row_items precision width weights symbols
+pairs_are_rows precision width table weights symbols lent rows same is =
+    ap (λ rs. pairs_of precision table symbols rs) same ∙ rows_are_items precision width table weights symbols rows is
+
+pub lent_counted : {M : Type 0} (table : M → List (ℕ × ℕ × ℕ)) (width count : ℕ) (weights : List ℕ) (lent rows : List M) → lent ≡ rows → map table rows ≡ row_tables width count weights → length lent ≡ count
+lent_counted table width count weights lent rows same is = ap length same ∙ rows_counted table width count weights rows is
+
+pub narrows_same : {S : Type 0} (w s : ℕ) (items others : List (Item S)) (old new : Run) → items ≡ others → NarrowsAll w s items old new → NarrowsAll w s others old new
+narrows_same {S} w s items others old new same all = subst (λ (is : List (Item S)). NarrowsAll w s is old new) same all
+
+pub finds_same : {S : Type 0} (w s : ℕ) (words : List ℕ) (items others : List (Item S)) (old new : Run) → items ≡ others → FindsAll w s words items old new → FindsAll w s words others old new
+finds_same {S} w s words items others old new same all = subst (λ (is : List (Item S)). FindsAll w s words is old new) same all
+
+pub known_same : {S : Type 0} (items others : List (Item S)) → items ≡ others → AreKnown others → AreKnown items
+known_same items others same all = subst AreKnown (sym same) all
