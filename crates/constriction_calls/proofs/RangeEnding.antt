@@ -39,7 +39,7 @@ ending_behind number w s situation lower range none items is sizes fit least low
     let held : List ℕ = held_of number w situation in
     let alone : held ++ map number (reverse none) ≡ held = ap (λ xs. held ++ map number (reverse xs)) is ∙ append-nil held in
     let own : map number items ≡ sealed w s (run_of w s held lower range) =
-        queue_is number (reverse items) (sym (reverse-reverse items)) made ∙ ap (λ ws. sealed w s (run_of w s ws lower range)) alone in
+    queue_is number (reverse items) (sym (reverse-reverse items)) made ∙ ap (λ ws. sealed w s (run_of w s ws lower range)) alone in
     let narrow : w ≤ s = omega (arith, sizes.two_words) in
     ap (λ (r : Run). sealed w s r) (run_behind w s held below lower range)
     ∙ sealed_behind w s below (run_of w s held lower range) narrow words least (situation_inside number w s situation lower range fit lower_fits range_fits)

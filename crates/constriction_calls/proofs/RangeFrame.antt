@@ -93,8 +93,8 @@ sealed_behind w s rest r wide words least inside =
     elim (cases_eq r.range (2 ^ s - 1)) [
       | inl e ↦
           let number : (n * b ^ m * 2 ^ s + r.low) / 2 ^ s ≡ n * b ^ m + r.low / 2 ^ s =
-              ap (λ y. y / 2 ^ s) (let turn : n * b ^ m * 2 ^ s + r.low ≡ r.low + n * b ^ m * 2 ^ s = omega arith in turn)
-              ∙ add-mul-div_right r.low (n * b ^ m) (pow_pos s) ∙ omega arith in
+          ap (λ y. y / 2 ^ s) (let turn : n * b ^ m * 2 ^ s + r.low ≡ r.low + n * b ^ m * 2 ^ s = omega arith in turn)
+          ∙ add-mul-div_right r.low (n * b ^ m) (pow_pos s) ∙ omega arith in
           let below : r.low / 2 ^ s < b ^ m = (div-lt_iff_lt-mul (pow_pos s)).1 (omega (arith, inside)) in
           rw (eq-eqb r.range (2 ^ s - 1) e, number) (digits_behind b m k n (r.low / 2 ^ s) base below ∙ ap (λ (ds : List ℕ). ds ++ fixed_digits b m (r.low / 2 ^ s)) digits)
       | inr ne ↦
@@ -103,9 +103,9 @@ sealed_behind w s rest r wide words least inside =
           let carried : (x : ℕ) → n * b ^ m * 2 ^ s + x ≡ x + n * b ^ suc m * q = λ x. (ap (λ y. n * b ^ m * y + x) (sym split) ∙ rw power (omega arith)) in
           let parts : (x : ℕ) → (n * b ^ m * 2 ^ s + x) / q ≡ n * b ^ suc m + x / q = λ x. (ap (λ y. y / q) (carried x) ∙ add-mul-div_right x (n * b ^ suc m) some ∙ omega arith) in
           let point : (n * b ^ m * 2 ^ s + r.low + (q - 1)) / q ≡ n * b ^ suc m + c =
-              ap (λ y. y / q) (let turn : n * b ^ m * 2 ^ s + r.low + (q - 1) ≡ n * b ^ m * 2 ^ s + (r.low + (q - 1)) = omega arith in turn) ∙ parts (r.low + (q - 1)) in
+          ap (λ y. y / q) (let turn : n * b ^ m * 2 ^ s + r.low + (q - 1) ≡ n * b ^ m * 2 ^ s + (r.low + (q - 1)) = omega arith in turn) ∙ parts (r.low + (q - 1)) in
           let end : (n * b ^ m * 2 ^ s + r.low + r.range) / q ≡ n * b ^ suc m + (r.low + r.range) / q =
-              ap (λ y. y / q) (let turn : n * b ^ m * 2 ^ s + r.low + r.range ≡ n * b ^ m * 2 ^ s + (r.low + r.range) = omega arith in turn) ∙ parts (r.low + r.range) in
+          ap (λ y. y / q) (let turn : n * b ^ m * 2 ^ s + r.low + r.range ≡ n * b ^ m * 2 ^ s + (r.low + r.range) = omega arith in turn) ∙ parts (r.low + r.range) in
           let room : 2 ^ s * b ^ m ≡ b ^ suc m * q = ap (λ y. y * b ^ m) (sym split) ∙ rw power (omega arith) in
           let below : c < b ^ suc m = (div-lt_iff_lt-mul some).1 (omega (arith, inside, least, room)) in
           let test = same_test (n * b ^ suc m) ((r.low + r.range) / q) c in
@@ -114,7 +114,7 @@ sealed_behind w s rest r wide words least inside =
           let whole : sealed w s (behind w s n k r) ≡ fixed_digits b (suc (m + k)) (n * b ^ suc m + c) ++ tail = rw (ne_eqb r.range (2 ^ s - 1) ne, point, end, test) refl in
           let own : sealed w s r ≡ fixed_digits b (suc m) c ++ tail = rw (ne_eqb r.range (2 ^ s - 1) ne) refl in
           let all : fixed_digits b (suc (m + k)) (n * b ^ suc m + c) ≡ reverse rest ++ fixed_digits b (suc m) c =
-              ap (λ j. fixed_digits b j (n * b ^ suc m + c)) count ∙ digits_behind b (suc m) k n c base below ∙ ap (λ (ds : List ℕ). ds ++ fixed_digits b (suc m) c) digits in
+          ap (λ j. fixed_digits b j (n * b ^ suc m + c)) count ∙ digits_behind b (suc m) k n c base below ∙ ap (λ (ds : List ℕ). ds ++ fixed_digits b (suc m) c) digits in
           whole ∙ ap (λ (ds : List ℕ). ds ++ tail) all ∙ append_assoc (reverse rest) (fixed_digits b (suc m) c) tail ∙ ap (λ (ds : List ℕ). reverse rest ++ ds) (sym own)
     ]
 
@@ -156,7 +156,7 @@ narrows_above w s items held kept written below lower range new_lower new_range 
     let n : ℕ = number_of (2 ^ w) below in
     let k : ℕ = length below in
     let last : run_of w s (kept ++ (written ++ below)) new_lower new_range ≡ behind w s n k (run_of w s (kept ++ written) new_lower new_range) =
-        ap (λ ws. run_of w s ws new_lower new_range) (sym (append_assoc kept written below)) ∙ run_behind w s (kept ++ written) below new_lower new_range in
+    ap (λ ws. run_of w s ws new_lower new_range) (sym (append_assoc kept written below)) ∙ run_behind w s (kept ++ written) below new_lower new_range in
     subst (λ (r : Run). NarrowsAll w s items r (run_of w s (kept ++ (written ++ below)) new_lower new_range)) (sym (run_behind w s held below lower range))
     (subst (λ (r : Run). NarrowsAll w s items (behind w s n k (run_of w s held lower range)) r) (sym last)
     (narrows_behind w s n k items (run_of w s held lower range) (run_of w s (kept ++ written) new_lower new_range) all))

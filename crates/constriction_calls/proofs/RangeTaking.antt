@@ -50,7 +50,7 @@ pub sought_kept : (w s : ℕ) (words part rest : List ℕ) (there : Run) (place 
 sought_kept w s words part rest there place lower range first_lower first_range point z are part_are position part_is at =
     let none : 0 + s / w ≡ s / w = zero-add (s / w) in
     let read : point ≡ number_of_first (2 ^ w) (s / w) part =
-        at.point_is ∙ mod-eq_of_lt (first_point w s part z part_are) ∙ ap (λ n. number_of_first (2 ^ w) n part) none in
+    at.point_is ∙ mod-eq_of_lt (first_point w s part z part_are) ∙ ap (λ n. number_of_first (2 ^ w) n part) none in
     sought_is_at w s words there place lower range point rest z are position
     (read ∙ ap (λ ws. number_of_first (2 ^ w) (s / w) ws) part_is)
     (at.rest_is ∙ ap (λ n. drop n part) none ∙ ap (λ ws. drop (s / w) ws) part_is)
@@ -89,7 +89,7 @@ items_next model (x ∷ symbols) (suc i) within =
 
 pub pairs_next : {S M : Type 0} (precision : ℕ) (table : M → List (S × ℕ × ℕ)) (symbols : List S) (ms : List M) (none : M) (i : ℕ) → i < length symbols → length symbols ≡ length ms
     → (y : S) × (pairs_of precision table (drop i symbols) (drop i ms)
-        ≡ item_of (record { precision = precision; table = table (get_or ms i none) }) y ∷ pairs_of precision table (drop (i + 1) symbols) (drop (i + 1) ms))
+    ≡ item_of (record { precision = precision; table = table (get_or ms i none) }) y ∷ pairs_of precision table (drop (i + 1) symbols) (drop (i + 1) ms))
 pairs_next precision table [] ms none i within same = absurd (omega arith)
 pairs_next precision table (x ∷ symbols) [] none i within same = absurd (omega arith)
 pairs_next precision table (x ∷ symbols) (m ∷ ms) none zero within same = (x, refl)
@@ -125,10 +125,10 @@ may_end {B} w s words there d place count maybe some at left within all value =
     ] in (
       λ is. (let both = value.0 is in (sym at.rest_is ∙ left ∙ past_all words place (equal_of place count both.0 ∙ all), near both.1)),
       λ may. (
-        let ended = ended_of w s words there d some at may in
-        let none : length (drop place words) ≡ 0 = ap length (sym left ∙ ended.0) in
-        value.1 (eq-eqb place count (omega (arith, none, length-drop place words, within, all)), ended.1)
-      ),
+          let ended = ended_of w s words there d some at may in
+          let none : length (drop place words) ≡ 0 = ap length (sym left ∙ ended.0) in
+          value.1 (eq-eqb place count (omega (arith, none, length-drop place words, within, all)), ended.1)
+          ),
     )
 
 pub map-drop : {A B : Type 0} (f : A → B) (n : ℕ) (xs : List A) → map f (drop n xs) ≡ drop n (map f xs)
@@ -169,3 +169,8 @@ finds_same {S} w s words items others old new same all = subst (λ (is : List (I
 
 pub known_same : {S : Type 0} (items others : List (Item S)) → items ≡ others → AreKnown others → AreKnown items
 known_same items others same all = subst AreKnown (sym same) all
+
+pub pairs_are_counted : {M : Type 0} (precision width count : ℕ) (table : M → List (ℕ × ℕ × ℕ)) (weights symbols : List ℕ) (lent rows : List M) → length symbols ≡ count → lent ≡ rows → map table rows ≡ row_tables width count weights
+    → pairs_of precision table symbols lent ≡ row_items precision width weights symbols
+pairs_are_counted precision width count table weights symbols lent rows many same is =
+    pairs_are_rows precision width table weights symbols lent rows same (is ∙ ap (λ n. row_tables width n weights) (sym many))

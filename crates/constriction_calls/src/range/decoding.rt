@@ -215,7 +215,9 @@ pub fn decode_each<Word: WordOf<State>, State: BitArray, P: WordOf<Word>, const 
         return Err(Refusal::NoMemory);
     };
     let Some(again) = decode_pairs(alloc, &mut decoder, &rows) else {
-        return Err(pairs_refusal::<Word, State, Row<'_, P, PRECISION>, PRECISION>(words, parts, &rows));
+        return Err(pairs_refusal::<Word, State, Row<'_, P, PRECISION>, PRECISION>(
+            words, parts, &rows,
+        ));
     };
     symbols.copy_from_slice(&again);
     Ok(decoder_parts(decoder, words.len()))

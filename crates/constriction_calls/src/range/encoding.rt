@@ -1,17 +1,18 @@
 //! Encodes behind the words of a caller's buffer.
 
-ghost use Rattle.std.specs.Prelude.{◌≡◌, ◌≢◌, ◌↔◌, ◌⊎◌, ◌*◌, ◌<◌, ◌≤◌, ◌++◌, ℕ, List, length, map, reverse, IfErr, IfOk, IfSome, IsErrOf, OnErr};
+ghost use Rattle.std.specs.Prelude.{◌≡◌, ◌≢◌, ◌↔◌, ◌⊎◌, ◌*◌, ◌<◌, ◌≤◌, ◌++◌, ℕ, List, length, map, reverse, IfErr, IfOk, IfSome, IsErrOf, OnErr, OnOk};
 ghost use Rattle.constriction_base.specs.Models.{AreKnown, items_of};
 ghost use Rattle.constriction_base.specs.Steps.{IsSizes};
 ghost use Rattle.constriction_queue.specs.Encoder.{PartsFit, held_of, run_of};
 ghost use Rattle.constriction_queue.specs.States.{lower_of, range_of};
 ghost use Rattle.constriction_laws.specs.queue.Symbols.{NarrowsAll};
-
+ghost use Rattle.constriction_calls.specs.Intervals.{AreIntervals, interval_items};
 ghost use Rattle.constriction_calls.specs.RangeCalls.{CanEncode, IsEncodedBy, IsEncoderKept, LacksRoom, kept_words};
 ghost use Rattle.constriction_calls.specs.Weights.{AreTotals, IsTotal, row_items, weights_model};
 ghost use Rattle.constriction_calls.specs.declared.refusal.Refusal.TheVariants as refusals;
 
 use crate::buffers::append;
+use crate::intervals::rows_by_intervals;
 use crate::known::{all_known, all_known_by};
 use crate::range::parts::EncoderParts;
 use crate::range::scratch::{encoder_for, put_list, put_pairs};
@@ -25,12 +26,7 @@ use std::alloc::Global;
 
 /// The words that encodes by these weights write, and the encoder then, whatever words stand below. `None` says that a
 /// symbol is impossible, or that memory is missing.
-fn put_by_weights<
-    Word: WordOf<State>,
-    State: BitArray,
-    P: WordOf<Word>,
-    const PRECISION: usize,
->(
+fn put_by_weights<Word: WordOf<State>, State: BitArray, P: WordOf<Word>, const PRECISION: usize>(
     alloc: Global,
     state: RangeCoderState<Word, State>,
     situation: EncoderSituation<Word>,
@@ -45,7 +41,7 @@ fn put_by_weights<
         (items_of (weights_model PRECISION (map P.number weights.now)) symbols.now)
         (run_of Word.BITS State.BITS (held_of Word.number Word.BITS situation ++ below) (lower_of state) (range_of state))
         (run_of Word.BITS State.BITS (kept_words Word.BITS made.1.held (Word.number made.1.first) ++ (map Word.number (reverse made.0.items) ++ below))
-            (State.number made.1.lower) (State.number made.1.range))) }
+        (State.number made.1.lower) (State.number made.1.range))) }
 {
     let Ok(table) = table_by::<P, PRECISION>(alloc, weights) else {
         return None;
@@ -132,7 +128,7 @@ fn put_by_rows<Word: WordOf<State>, State: BitArray, P: WordOf<Word>, const PREC
         (row_items PRECISION width (map P.number weights.now) symbols.now)
         (run_of Word.BITS State.BITS (held_of Word.number Word.BITS situation ++ below) (lower_of state) (range_of state))
         (run_of Word.BITS State.BITS (kept_words Word.BITS made.1.held (Word.number made.1.first) ++ (map Word.number (reverse made.0.items) ++ below))
-            (State.number made.1.lower) (State.number made.1.range))) }
+        (State.number made.1.lower) (State.number made.1.range))) }
     ensures impossible { IsErrOf result refusals.ImpossibleSymbol → AreKnown (row_items PRECISION width (map P.number weights.now) symbols.now) → ⊥ }
     ensures err { IfErr result (λ e. (e ≡ refusals.ImpossibleSymbol) ⊎ (e ≡ refusals.NoMemory)) }
 {
@@ -195,11 +191,53 @@ pub fn encode_each<Word: WordOf<State>, State: BitArray, P: WordOf<Word>, const 
     let Some((state, situation)) = encoder_for(parts, symbols.len()) else {
         return Err(Refusal::InvalidData);
     };
-    match put_by_rows::<Word, State, P, PRECISION>(alloc, state, situation, weights, width, symbols) {
+    match put_by_rows::<Word, State, P, PRECISION>(
+        alloc, state, situation, weights, width, symbols,
+    ) {
         Ok((words, now)) => match append(&words, buffer, len) {
             Ok(()) => Ok(now),
             Err(refusal) => Err(refusal),
         },
+        Err(refusal) => Err(refusal),
+    }
+}
+
+/// Puts intervals behind the others, given by where they begin and how long they are, without a table that they stand in.
+///
+/// # Errors
+///
+/// Nothing changed then:
+/// - `WrongLength` where the lists don't have one length, or `len` is past the buffer's end.
+/// - `WrongInterval` where an interval is empty, or ends past two to the precision.
+/// - `InvalidData` where the numbers are those of no encoder, or of one that can't count so many symbols more.
+/// - `NoSpace` only where the buffer ends before all words, and tells how many there would be.
+/// - `NoMemory` where memory is missing.
+pub fn encode_intervals<
+    Word: WordOf<State>,
+    State: BitArray,
+    P: WordOf<Word>,
+    const PRECISION: usize,
+>(
+    alloc: Global,
+    parts: EncoderParts<Word, State>,
+    buffer: &mut [Word],
+    len: &mut usize,
+    lefts: &[P],
+    ps: &[P],
+) -> Result<EncoderParts<Word, State>, Refusal>
+    requires sizes { IsSizes Word.BITS State.BITS }
+    requires precision { (1 ≤ PRECISION) × (PRECISION ≤ P.BITS) }
+    ensures ok { IfOk result (λ now. IsEncodedBy Word.number State.number Word.BITS State.BITS
+        (interval_items PRECISION (map P.number lefts.now) (map P.number ps.now)) parts buffer.old len.old now buffer.new len.new) }
+    ensures intervals { OnOk result ((length lefts.now ≡ length ps.now) × AreIntervals PRECISION (map P.number lefts.now) (map P.number ps.now)) }
+    ensures no_space { (needed : ℕ) → IsErrOf result (refusals.NoSpace needed) → LacksRoom Word.number State.number Word.BITS State.BITS
+        (interval_items PRECISION (map P.number lefts.now) (map P.number ps.now)) parts buffer.old len.old needed }
+    ensures kept { OnErr result ((buffer.new ≡ buffer.old) × (len.new ≡ len.old)) }
+{
+    match rows_by_intervals::<P, PRECISION>(alloc, lefts, ps) {
+        Ok((rows, symbols)) => encode_each::<Word, State, P, PRECISION>(
+            alloc, parts, buffer, len, &rows, 3, &symbols,
+        ),
         Err(refusal) => Err(refusal),
     }
 }

@@ -61,7 +61,7 @@ where
         (items_of record { precision = PRECISION; table = M.table model.now } symbols.now)
         (run_of Word.BITS State.BITS (held_of Word.number Word.BITS situation ++ below) (lower_of state) (range_of state))
         (run_of Word.BITS State.BITS (kept_words Word.BITS made.1.held (Word.number made.1.first) ++ (map Word.number (reverse made.0.items) ++ below))
-            (State.number made.1.lower) (State.number made.1.range))) }
+        (State.number made.1.lower) (State.number made.1.range))) }
 {
     let mut encoder = RangeEncoder::from_raw_parts(Vec::new(alloc), state, situation);
     let Some(()) = encode_list(&mut encoder, symbols, model) else {
@@ -94,7 +94,7 @@ where
         (pairs_of PRECISION M.table symbols.now models.now)
         (run_of Word.BITS State.BITS (held_of Word.number Word.BITS situation ++ below) (lower_of state) (range_of state))
         (run_of Word.BITS State.BITS (kept_words Word.BITS made.1.held (Word.number made.1.first) ++ (map Word.number (reverse made.0.items) ++ below))
-            (State.number made.1.lower) (State.number made.1.range))) }
+        (State.number made.1.lower) (State.number made.1.range))) }
 {
     let mut encoder = RangeEncoder::from_raw_parts(Vec::new(alloc), state, situation);
     let Some(()) = encode_pairs(&mut encoder, symbols, models) else {

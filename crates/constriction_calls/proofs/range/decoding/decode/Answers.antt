@@ -14,7 +14,7 @@ returns-clause-ok g c = λ old at.
     let words = map number c.args.words.now in
     let d = c.take_by_weights-taken.new.decoder in
     let stands = stands_by w s words _ old _ _ _ _ _ _ _ at c.in-Some-decoder_of.ensures.lower c.in-Some-decoder_of.ensures.range c.in-Some-decoder_of.ensures.point
-        (c.in-Some-decoder_of.ensures.words ∙ map-drop number c.args.parts.pos c.args.words.now) in
+    (c.in-Some-decoder_of.ensures.words ∙ map-drop number c.args.parts.pos c.args.words.now) in
     let got = c.in-Some-taken.ensures.decoded words old stands in (
       got.0,
       subst (λ (xs : List ℕ). FindsAll w s words (items_of (weights_model g.row.PRECISION (map g.P.BitArray.number c.args.weights.now)) xs) old got.0)

@@ -16,6 +16,6 @@ returns-clause-ok g c = λ there position.
     let moved = c.in-Ok.ensures.ok ∙ ap (λ k. record { buf = k.buf; pos = c.args.pos }) c.new_at_write_beginning-cursor.ensures in
     let at = subst (λ k. IsAt w s (map number (drop k.pos k.buf.now)) (start s) d.lower d.range d.point d.words) moved (c.in-Ok-with_backend.ensures.ok tt) in
     let kept = sought_kept w s words part d.words there c.args.pos _ _ d.lower d.range d.point c.requires
-        (words_of_numbers number w g.met.Word.BitArray.number_law c.args.words.now) (words_of_numbers number w g.met.Word.BitArray.number_law (drop c.args.pos c.args.words.now))
-        position (map-drop number c.args.pos c.args.words.now) at in
+    (words_of_numbers number w g.met.Word.BitArray.number_law c.args.words.now) (words_of_numbers number w g.met.Word.BitArray.number_law (drop c.args.pos c.args.words.now))
+    position (map-drop number c.args.pos c.args.words.now) at in
     stands_of w s words d.words there _ _ d.point _ _ _ (length c.args.words.now) _ kept refl refl c.decoder_parts-begun.ensures.point (sym (length-map c.args.words.now number)) c.decoder_parts-begun.ensures.pos

@@ -18,7 +18,7 @@ returns-in-Err g c = λ words symbols old last at all count.
     let next = pairs_next g.row.PRECISION table symbols c.args.models.now m i (omega (arith, c.loop-i-test.true, count)) count in
     let rest = pairs_of g.row.PRECISION table (drop (i + 1) symbols) (drop (i + 1) c.args.models.now) in
     let more = subst (λ (n : g.row.M.Denot). FindsAll w s words (item_of (record { precision = g.row.PRECISION; table = table n }) next.0 ∷ rest) here.0 last) (sym c.index-models-i.is)
-        (subst (λ (items : List (Item ℕ)). FindsAll w s words items here.0 last) next.1 here.2) in
+    (subst (λ (items : List (Item ℕ)). FindsAll w s words items here.0 last) next.1 here.2) in
     absurd (never_refused _ g.Word.BitArray.number _ _ _ w s words tt model next.0 rest here.0 last c.loop-i.decoder c.decode_symbol.new.self c.in-Err.field-0 _ (λ e. elim e [ ]) lawful here.1 more (λ h. h.1) c.in-Err.ensures.step)
 
 pub loop-i-preserved : goal.loop-i-preserved
@@ -35,5 +35,5 @@ loop-i-preserved g c = λ words symbols old last at all count.
     let next = pairs_next g.row.PRECISION table symbols c.args.models.now m i (omega (arith, c.loop-i-test.true, count)) count in
     let rest = pairs_of g.row.PRECISION table (drop (i + 1) symbols) (drop (i + 1) c.args.models.now) in
     let more = subst (λ (n : g.row.M.Denot). FindsAll w s words (item_of (record { precision = g.row.PRECISION; table = table n }) next.0 ∷ rest) here.0 last) (sym c.index-models-i.is)
-        (subst (λ (items : List (Item ℕ)). FindsAll w s words items here.0 last) next.1 here.2) in
+    (subst (λ (items : List (Item ℕ)). FindsAll w s words items here.0 last) next.1 here.2) in
     next_found _ g.Word.BitArray.number _ _ _ w s words tt model next.0 c.in-Ok._symbol rest here.0 last c.loop-i.decoder c.decode_symbol.new.self lawful here.1 more c.in-Ok.ensures.step
