@@ -1,6 +1,6 @@
 -- What encodes over a scratch vector mean for the caller's whole encoder.
 use Rattle.std.proofs.Common.{◌≡◌, ℕ, ◌+◌, ◌<◌, ◌≤◌, ◌^◌, ◌⊎◌, List, [], ◌∷◌, ◌++◌, length, map, take, refl, sym, ap, ◌∙◌, subst, inl, inr, arith, Result, Ok, Err}
-use Rattle.std.specs.Prelude.{reverse, IfErr, IfOk, OnErr, IsErrOf}
+use Rattle.std.specs.Prelude.{reverse, IfOk, IsErrOf}
 use Rattle.std.proofs.lemmas.List.{length-append, length-take, reverse-append}
 use Rattle.constriction_base.specs.Models.{Item, AreKnown}
 use Rattle.constriction_queue.specs.Range.{Run}

@@ -1,8 +1,8 @@
 -- What a call puts behind the words of an encoder.
-use Rattle.std.proofs.Common.{◌≡◌, ℕ, zero, suc, ◌+◌, ◌-◌, ◌*◌, ◌^◌, ◌<◌, ◌≤◌, ◌⊎◌, List, [], ◌∷◌, ◌++◌, length, map, take, refl, sym, ap, ◌∙◌, subst, inl, inr, arith, append-nil, Result, Ok, Err}
+use Rattle.std.proofs.Common.{◌≡◌, ℕ, ◌+◌, ◌-◌, ◌*◌, ◌^◌, ◌<◌, ◌≤◌, ◌⊎◌, List, [], ◌∷◌, ◌++◌, length, map, take, refl, sym, ap, ◌∙◌, inl, inr, arith, append-nil, Result, Ok, Err}
 use native.Mathlib.Nat.{pow-zero}
-use Rattle.std.specs.Prelude.{reverse, OnOk, OnErr, IfErr, IsErrOf}
-use Rattle.std.proofs.lemmas.List.{length-append, length-map, length-reverse, length-take, reverse-reverse}
+use Rattle.std.specs.Prelude.{reverse, OnErr, IfErr, IsErrOf}
+use Rattle.std.proofs.lemmas.List.{length-append, length-map, length-take, reverse-reverse}
 use Rattle.std.specs.Int.NonZero.{non_zero_usize_get}
 use Rattle.constriction_base.specs.Steps.{AreWords, IsSizes}
 use Rattle.constriction_queue.specs.declared.situation.EncoderSituation.{EncoderSituation}
@@ -16,7 +16,7 @@ use Rattle.constriction_calls.specs.RangeCalls.{kept_words, run_kept}
 use Rattle.constriction_calls.specs.declared.range.parts.EncoderParts.{EncoderParts}
 use Rattle.constriction_calls.specs.declared.refusal.Refusal.{Refusal}
 use Rattle.constriction_calls.specs.declared.refusal.Refusal.TheVariants as refusals
-use Rattle.constriction_calls.proofs.RangeFrame.{behind, run_behind, sealed_behind, held_inside}
+use Rattle.constriction_calls.proofs.RangeFrame.{run_behind, sealed_behind, held_inside}
 
 -- what is held leaves room for the interval
 situation_inside : {Word : Type 0} (number : Word → ℕ) (w s : ℕ) (situation : EncoderSituation Word) (lower range : ℕ)

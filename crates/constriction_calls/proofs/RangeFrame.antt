@@ -1,10 +1,10 @@
 -- A range encoder over the words of a caller does the same as one over no words: the words below are a multiple that a
 -- step carries along. Lists of words have the last word first.
-use Rattle.std.proofs.Common.{map, ◌≡◌, ℕ, zero, suc, ◌+◌, ◌-◌, ◌*◌, ◌/◌, ◌%◌, ◌^◌, ◌<◌, ◌≤◌, ◌≢◌, ◌==◌, if◌then◌else◌, List, [], ◌∷◌, ◌++◌, length, refl, sym, ap, ◌∙◌, subst, inl, inr, arith, pow_pos, append_assoc, append-nil, length-append, eq-eqb, ne_eqb, div-lt_iff_lt-mul, mul-le-mul_right}
+use Rattle.std.proofs.Common.{map, ◌≡◌, ℕ, zero, suc, ◌+◌, ◌-◌, ◌*◌, ◌/◌, ◌%◌, ◌^◌, ◌<◌, ◌≤◌, ◌==◌, if◌then◌else◌, List, [], ◌∷◌, ◌++◌, length, refl, sym, ap, ◌∙◌, subst, inl, inr, arith, pow_pos, append_assoc, append-nil, length-append, eq-eqb, ne_eqb, div-lt_iff_lt-mul, mul-le-mul_right}
 use native.Mathlib.Nat.{pow-suc, pow-zero, add-mul-div_right, add-mul-mod_self_right}
 use Rattle.std.specs.Prelude.{reverse}
 use Rattle.std.proofs.lemmas.Bool.{cases_eq}
-use Rattle.constriction_base.specs.Steps.{Step, InTurn, AreWords, IsSizes}
+use Rattle.constriction_base.specs.Steps.{Step, AreWords}
 use Rattle.constriction_base.specs.Digits.{fixed_digits}
 use Rattle.constriction_queue.specs.Range.{Run, cut, grown, narrow, sealed, seal_number}
 use Rattle.constriction_queue.specs.Encoder.{Encoder, encoder_of, held_of, number_of, run_by, run_of, words_held}

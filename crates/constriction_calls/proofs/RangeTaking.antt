@@ -1,16 +1,14 @@
 -- Symbols that words are read as: which symbol a decode takes, and that none is refused.
-use Rattle.std.proofs.Common.{◌≡◌, ℕ, zero, suc, ◌+◌, ◌-◌, ◌*◌, ◌/◌, ◌%◌, ◌<◌, ◌≤◌, ◌^◌, ◌⊎◌, ◌↔◌, ◌==◌, Bool, true, false, IsTrue, eq-eqb, ne_eqb, List, [], ◌∷◌, Result, Ok, Err, Option, inl, inr, length, map, drop, get_or, refl, sym, ap, ◌∙◌, subst, arith, pow_pos, mod-eq_of_lt, zero-add}
-use Rattle.std.proofs.Math.Seq.{drop-cons}
+use Rattle.std.proofs.Common.{◌≡◌, ℕ, zero, suc, ◌+◌, ◌-◌, ◌*◌, ◌/◌, ◌<◌, ◌≤◌, ◌^◌, ◌⊎◌, ◌↔◌, ◌==◌, Bool, true, false, IsTrue, eq-eqb, ne_eqb, List, [], ◌∷◌, Result, Ok, Err, Option, inl, inr, length, map, drop, get_or, refl, sym, ap, ◌∙◌, subst, arith, pow_pos, mod-eq_of_lt, zero-add}
 use Rattle.std.proofs.lemmas.Bool.{cases_eq, cases_lt}
 use Rattle.std.proofs.lemmas.List.{length-drop, length-map}
-use Rattle.std.specs.List.{zip}
 use Rattle.constriction_base.specs.declared.errors.CoderError.{CoderError}
-use Rattle.constriction_base.specs.Steps.{Step, IsSizes, AreWords}
+use Rattle.constriction_base.specs.Steps.{IsSizes, AreWords}
 use Rattle.constriction_base.specs.Tables.{AtEntry}
 use Rattle.constriction_base.specs.Models.{Model, Item, IsModel, AreKnown, item_of, items_of, pairs_of}
 use Rattle.constriction_base.proofs.Entering.{entry_is_step}
 use Rattle.constriction_stream.specs.Symbols.{ByBackend}
-use Rattle.constriction_queue.specs.Range.{Run, IsAt, number_of_first, number_read, offset, start}
+use Rattle.constriction_queue.specs.Range.{Run, IsAt, number_of_first, offset, start}
 use Rattle.constriction_queue.specs.Decoder.{Decoder, distance, quantile_read}
 use Rattle.constriction_queue.specs.States.{IsPosition}
 use Rattle.constriction_queue.specs.Calls as calls
@@ -18,7 +16,7 @@ use Rattle.constriction_queue.proofs.Sought.{sought_is_at}
 use Rattle.constriction_queue.proofs.WordsRead.{first_point}
 use Rattle.constriction_calls.specs.Weights.{row_items, row_tables}
 use Rattle.constriction_calls.proofs.RowItems.{rows_are_items}
-use Rattle.constriction_laws.specs.queue.Symbols.{Finds, FindsAll, MayEnd, NarrowsAll, StandsAt}
+use Rattle.constriction_laws.specs.queue.Symbols.{FindsAll, MayEnd, NarrowsAll, StandsAt}
 use Rattle.constriction_laws.proofs.queue_coder.ComingBack.{decodes_unique}
 use Rattle.constriction_laws.proofs.queue_coder.ListCalls.{decodes_of, distance_is, ended_of}
 

@@ -134,6 +134,7 @@ pub fn decode<Word: WordOf<State>, State: BitArray, P: WordOf<Word>, const PRECI
         (others : List ℕ) (old last : Run) → StandsKept Word.number State.number Word.BITS State.BITS words.now old parts →
         FindsAll Word.BITS State.BITS (map Word.number words.now) (items_of (weights_model PRECISION (map P.number weights.now)) others) old last →
         length others ≡ length symbols.old → ⊥ }
+    ensures no_space { (needed : ℕ) → IsErrOf result (refusals.NoSpace needed) → ⊥ }
     ensures kept { OnErr result (symbols.new ≡ symbols.old) }
 {
     if parts.pos > words.len() {
@@ -197,6 +198,7 @@ pub fn decode_each<Word: WordOf<State>, State: BitArray, P: WordOf<Word>, const 
         (others : List ℕ) (old last : Run) → StandsKept Word.number State.number Word.BITS State.BITS words.now old parts →
         FindsAll Word.BITS State.BITS (map Word.number words.now) (row_items PRECISION width (map P.number weights.now) others) old last →
         length others ≡ length symbols.old → ⊥ }
+    ensures no_space { (needed : ℕ) → IsErrOf result (refusals.NoSpace needed) → ⊥ }
     ensures kept { OnErr result (symbols.new ≡ symbols.old) }
 {
     if parts.pos > words.len() {

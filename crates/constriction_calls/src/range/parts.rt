@@ -14,6 +14,7 @@ use std::num::NonZeroUsize;
 /// A range encoder between two calls: its interval, and how many words it holds back, of which the first is `first`
 /// and all others are all ones. Where it holds none, `first` is 0. The words that it wrote are in its caller's buffer.
 #[derive(Debug, Drop, Clone, Copy)]
+#[repr(C)]
 pub struct EncoderParts<Word, State> {
     pub lower: State,
     pub range: State,
@@ -24,6 +25,7 @@ pub struct EncoderParts<Word, State> {
 /// A range decoder between two calls: its interval, the number of the words that it read last, as many as a state has,
 /// and how many words of its caller's buffer it read in all.
 #[derive(Debug, Drop, Clone, Copy)]
+#[repr(C)]
 pub struct DecoderParts<State> {
     pub lower: State,
     pub range: State,

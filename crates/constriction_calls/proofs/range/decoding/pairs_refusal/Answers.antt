@@ -1,4 +1,4 @@
-use Rattle.std.proofs.Common.{◌≡◌, ◌∙◌, Bool, true, false, sym, map}
+use Rattle.std.proofs.Common.{◌∙◌, map}
 use Rattle.constriction_calls.proofs.RangeTaking.{map-drop, stands_by, yes_no}
 use Rattle.constriction_calls.proofs.range.decoding.pairs_refusal.Goals as goal
 

@@ -1,4 +1,4 @@
-use Rattle.std.proofs.Common.{[], length}
+use Rattle.std.proofs.Common.{[]}
 use Rattle.constriction_queue.specs.Encoder.{held_of}
 use Rattle.constriction_queue.specs.States.{lower_of, range_of}
 use Rattle.constriction_calls.proofs.RangeEncoded.{encoded_by, known_of, lacks_room, no_space_is, not_impossible, ok_no_err}

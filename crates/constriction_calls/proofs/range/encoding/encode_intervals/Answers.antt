@@ -1,5 +1,4 @@
-use Rattle.std.proofs.Common.{◌∙◌, map}
-use Rattle.std.proofs.lemmas.Result.{on_ok_weaker}
+use Rattle.std.proofs.Common.{◌∙◌}
 use Rattle.constriction_calls.proofs.RangeEncoded.{encoded_same, lacks_same, same_rows}
 use Rattle.constriction_calls.proofs.range.encoding.encode_intervals.Goals as goal
 

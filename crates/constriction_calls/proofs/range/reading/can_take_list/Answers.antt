@@ -1,4 +1,4 @@
-use Rattle.std.proofs.Common.{◌≡◌, ◌<◌, ◌+◌, ℕ, List, length, drop, subst, sym, arith}
+use Rattle.std.proofs.Common.{◌+◌, ℕ, List, drop, subst, arith}
 use Rattle.constriction_base.specs.Models.{Item, Model, IsModel, items_of}
 use Rattle.constriction_laws.specs.queue.Symbols.{FindsAll}
 use Rattle.constriction_calls.proofs.RangeTaking.{items_next, never_refused, next_found}

@@ -1,4 +1,4 @@
-use Rattle.std.proofs.Common.{◌∙◌, ap, map}
+use Rattle.std.proofs.Common.{◌∙◌, ap}
 use Rattle.constriction_queue.specs.Encoder.{sealed_by}
 use Rattle.constriction_calls.proofs.RangeEnding.{ending_behind}
 use Rattle.constriction_calls.proofs.range.words.ending.Goals as goal

@@ -1,9 +1,7 @@
-use Rattle.std.proofs.Common.{◌≡◌, ◌∙◌, ◌+◌, ap, sym, length, map, take}
+use Rattle.std.proofs.Common.{◌∙◌, sym}
 use Rattle.std.proofs.lemmas.Result.{on_ok_weaker}
 use Rattle.constriction_queue.specs.Encoder.{held_of}
-use Rattle.constriction_queue.specs.Range.{sealed}
 use Rattle.constriction_queue.specs.States.{lower_of, range_of}
-use Rattle.constriction_calls.specs.RangeCalls.{run_kept}
 use Rattle.constriction_calls.proofs.RangeEnding.{exported, exported_count, no_space_of}
 use Rattle.constriction_calls.proofs.range.words.into_compressed.Goals as goal
 
