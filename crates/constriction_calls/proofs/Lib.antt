@@ -1,6 +1,10 @@
 mod AnsRows
 mod AnsFrame
 pub mod IntervalRows
+pub mod RangeEncoded
+pub mod RangeEnding
+pub mod RangeFrame
+pub mod RangeTaking
 pub mod RowItems
 pub mod RowTables
 pub mod RowWeights

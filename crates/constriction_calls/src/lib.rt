@@ -9,12 +9,14 @@
 //! - [`buffers`]: words put behind others in a buffer.
 //! - [`ans`]: the stack coder.
 //! - [`symbol`]: lists of symbols as words of bits, and back.
+//! - [`range`]: the range coder.
 #![tactic(auto)]
 
 pub mod ans;
 pub mod buffers;
 pub mod intervals;
 pub mod known;
+pub mod range;
 pub mod refusal;
 pub mod rows;
 pub mod symbol;

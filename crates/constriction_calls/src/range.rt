@@ -1,0 +1,17 @@
+//! The range coder over a caller's buffers.
+//!
+//! - [`encoding`]: encodes.
+//! - [`decoding`]: decodes.
+//! - [`parts`]: an encoder and a decoder between two calls.
+//! - [`words`]: the words of an encoder, and a decoder of words.
+//! - `reading`: decoders over borrowed words.
+//! - `scratch`: encodes over a vector of their own.
+//! - [`positions`]: going to positions, and where words may end.
+
+pub mod decoding;
+pub mod encoding;
+pub mod parts;
+pub mod positions;
+mod reading;
+mod scratch;
+pub mod words;
