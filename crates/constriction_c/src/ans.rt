@@ -1,0 +1,4 @@
+//! The stack coder: `constriction_ans_..`.
+
+mod large;
+mod small;
