@@ -1,4 +1,4 @@
-//! The stack coder: a state is a head, and the first words of a buffer, the last of them on top.
+//! The stack coder: `constriction_ans_..`.
 
-pub mod large;
-pub mod small;
+mod large;
+mod small;
