@@ -16,4 +16,5 @@
 
 pub mod ans;
 pub mod codes;
+pub mod range;
 pub mod symbol;
