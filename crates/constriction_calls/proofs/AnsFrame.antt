@@ -1,13 +1,13 @@
 -- A coder without words below its head does the same as one over any words: the words below stay.
-use Rattle.std.proofs.Common.{◌≡◌, ℕ, ◌≤◌, ◌<◌, ◌+◌, ◌⊎◌, Result, Ok, Err, List, [], ◌∷◌, ◌++◌, length, map, refl, sym, ap, ◌∙◌, subst, inl, inr, arith}
+use Rattle.std.proofs.Common.{◌≡◌, ℕ, ◌≤◌, ◌<◌, ◌+◌, ◌⊎◌, Result, Ok, Err, List, [], ◌∷◌, ◌++◌, length, map, sym, ap, ◌∙◌, subst, inl, inr, arith}
 use Rattle.std.specs.Prelude.{reverse, take, OnOk, OnErr, IfErr}
 use Rattle.std.proofs.lemmas.List.{reverse-append, reverse-reverse, map-append, length-append, length-map, length-reverse, length-take-le}
 use Rattle.constriction_base.specs.Steps.{Step, IsStep, IsSizes}
-use Rattle.constriction_base.specs.Models.{Model, Item, IsModel, Knows, AreModels, AreKnown, item_of, items_of}
+use Rattle.constriction_base.specs.Models.{Model, Item, Knows, AreModels, AreKnown, item_of, items_of}
 use Rattle.constriction_base.proofs.Entering.{entry_is_step}
 use Rattle.constriction_stack.specs.Ans.{AnsState, IsValid, IsPush}
 use Rattle.constriction_stack.specs.Symbols.{EncodesAll}
-use Rattle.constriction_stack.proofs.Pushing.{only_push, push_written, push_kept, written, kept}
+use Rattle.constriction_stack.proofs.Pushing.{only_push, push_written, push_kept}
 use Rattle.constriction_calls.specs.Buffers.{Appended, stack_in}
 use Rattle.constriction_calls.specs.AnsCalls.{state_in, PutOn, NeedsRoom, PutOnRefused}
 use Rattle.constriction_calls.specs.declared.refusal.Refusal.{Refusal}

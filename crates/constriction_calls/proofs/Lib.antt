@@ -4,6 +4,7 @@ pub mod IntervalRows
 pub mod RangeEncoded
 pub mod RangeEnding
 pub mod RangeFrame
+pub mod RangeIntervals
 pub mod RangeTaking
 pub mod RowItems
 pub mod RowTables

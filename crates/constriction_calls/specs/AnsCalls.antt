@@ -1,6 +1,6 @@
 -- A stack coder's state in a caller's hands: a head, and the first words of a buffer, the last of them on top.
 use Rattle.std.specs.Prelude.{◌≡◌, ℕ, ◌<◌, List, length}
-use Rattle.constriction_base.specs.Models.{Item, AreKnown}
+use Rattle.constriction_base.specs.Models.{Item}
 use Rattle.constriction_stack.specs.Ans.{AnsState, IsValid}
 use Rattle.constriction_stack.specs.Symbols.{EncodesAll}
 use Rattle.constriction_calls.specs.Buffers.{Appended, stack_in}

@@ -5,6 +5,8 @@ use Rattle.constriction_queue.specs.Range.{Run, IsAt}
 use Rattle.constriction_queue.specs.Encoder.{run_of, words_held}
 use Rattle.constriction_laws.specs.queue.Symbols.{NarrowsAll}
 use Rattle.constriction_calls.specs.Buffers.{Appended}
+use Rattle.constriction_calls.specs.declared.refusal.Refusal.{Refusal}
+use Rattle.constriction_calls.specs.declared.refusal.Refusal.TheVariants.{ImpossibleSymbol, WrongWeights, WrongInterval, OutOfData}
 use Rattle.constriction_calls.specs.declared.range.parts.EncoderParts.{EncoderParts}
 use Rattle.constriction_calls.specs.declared.range.parts.DecoderParts.{DecoderParts}
 
@@ -56,6 +58,19 @@ pub record LacksRoom {Word State S : Type 0} (number : Word → ℕ) (state : St
   pub narrowed : NarrowsAll w s items (run_kept number state w s old (take len buffer)) (run_kept number state w s new words)
   pub is : IsEncoderKept number state w s new
   pub count : needed ≡ length words
+
+-- a refusal of an encode by weights
+abbrev pub OfWeights : Refusal → Type 0
+OfWeights WrongInterval = ⊥
+OfWeights OutOfData = ⊥
+OfWeights other = Unit {0}
+
+-- a refusal of an encode of intervals
+abbrev pub OfIntervals : Refusal → Type 0
+OfIntervals WrongWeights = ⊥
+OfIntervals ImpossibleSymbol = ⊥
+OfIntervals OutOfData = ⊥
+OfIntervals other = Unit {0}
 
 -- ---- decoders
 -- the numbers are those of a decoder: the interval is long enough, and the point lies in it

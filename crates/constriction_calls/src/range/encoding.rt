@@ -7,7 +7,7 @@ ghost use Rattle.constriction_queue.specs.Encoder.{PartsFit, held_of, run_of};
 ghost use Rattle.constriction_queue.specs.States.{lower_of, range_of};
 ghost use Rattle.constriction_laws.specs.queue.Symbols.{NarrowsAll};
 ghost use Rattle.constriction_calls.specs.Intervals.{AreIntervals, interval_items};
-ghost use Rattle.constriction_calls.specs.RangeCalls.{CanEncode, IsEncodedBy, IsEncoderKept, LacksRoom, kept_words};
+ghost use Rattle.constriction_calls.specs.RangeCalls.{CanEncode, IsEncodedBy, IsEncoderKept, LacksRoom, OfIntervals, OfWeights, kept_words};
 ghost use Rattle.constriction_calls.specs.Weights.{AreTotals, IsTotal, row_items, weights_model};
 ghost use Rattle.constriction_calls.specs.declared.refusal.Refusal.TheVariants as refusals;
 
@@ -80,6 +80,8 @@ pub fn encode<Word: WordOf<State>, State: BitArray, P: WordOf<Word>, const PRECI
     ensures impossible { IsErrOf result refusals.ImpossibleSymbol ↔ ((len.old ≤ length buffer.old) × IsTotal PRECISION (map P.number weights.now)
         × CanEncode Word.number State.number Word.BITS State.BITS parts (length symbols.now)
         × (AreKnown (items_of (weights_model PRECISION (map P.number weights.now)) symbols.now) → ⊥)) }
+    ensures valid { OnOk result (CanEncode Word.number State.number Word.BITS State.BITS parts (length symbols.now)) }
+    ensures err { IfErr result OfWeights }
     ensures no_space { (needed : ℕ) → IsErrOf result (refusals.NoSpace needed) → LacksRoom Word.number State.number Word.BITS State.BITS
         (items_of (weights_model PRECISION (map P.number weights.now)) symbols.now) parts buffer.old len.old needed }
     ensures kept { OnErr result ((buffer.new ≡ buffer.old) × (len.new ≡ len.old)) }
@@ -175,6 +177,8 @@ pub fn encode_each<Word: WordOf<State>, State: BitArray, P: WordOf<Word>, const 
         × AreTotals PRECISION width (length symbols.now) (map P.number weights.now)
         × (CanEncode Word.number State.number Word.BITS State.BITS parts (length symbols.now) → ⊥)) }
     ensures impossible { IsErrOf result refusals.ImpossibleSymbol → AreKnown (row_items PRECISION width (map P.number weights.now) symbols.now) → ⊥ }
+    ensures valid { OnOk result (CanEncode Word.number State.number Word.BITS State.BITS parts (length symbols.now)) }
+    ensures err { IfErr result OfWeights }
     ensures no_space { (needed : ℕ) → IsErrOf result (refusals.NoSpace needed) → LacksRoom Word.number State.number Word.BITS State.BITS
         (row_items PRECISION width (map P.number weights.now) symbols.now) parts buffer.old len.old needed }
     ensures kept { OnErr result ((buffer.new ≡ buffer.old) × (len.new ≡ len.old)) }
@@ -206,9 +210,9 @@ pub fn encode_each<Word: WordOf<State>, State: BitArray, P: WordOf<Word>, const 
 ///
 /// # Errors
 ///
-/// Nothing changed then:
-/// - `WrongLength` where the lists don't have one length, or `len` is past the buffer's end.
-/// - `WrongInterval` where an interval is empty, or ends past two to the precision.
+/// In this order, and nothing changed:
+/// - `WrongLength` exactly where `len` is past the buffer's end, or the lists don't have one length.
+/// - `WrongInterval` exactly where an interval is empty, or ends past two to the precision.
 /// - `InvalidData` where the numbers are those of no encoder, or of one that can't count so many symbols more.
 /// - `NoSpace` only where the buffer ends before all words, and tells how many there would be.
 /// - `NoMemory` where memory is missing.
@@ -229,11 +233,19 @@ pub fn encode_intervals<
     requires precision { (1 ≤ PRECISION) × (PRECISION ≤ P.BITS) }
     ensures ok { IfOk result (λ now. IsEncodedBy Word.number State.number Word.BITS State.BITS
         (interval_items PRECISION (map P.number lefts.now) (map P.number ps.now)) parts buffer.old len.old now buffer.new len.new) }
-    ensures intervals { OnOk result ((length lefts.now ≡ length ps.now) × AreIntervals PRECISION (map P.number lefts.now) (map P.number ps.now)) }
+    ensures wrong_length { IsErrOf result refusals.WrongLength ↔ ((length buffer.old < len.old) ⊎ (length lefts.now ≢ length ps.now)) }
+    ensures wrong_interval { IsErrOf result refusals.WrongInterval ↔ ((len.old ≤ length buffer.old) × (length lefts.now ≡ length ps.now)
+        × (AreIntervals PRECISION (map P.number lefts.now) (map P.number ps.now) → ⊥)) }
+    ensures invalid_data { IsErrOf result refusals.InvalidData → (CanEncode Word.number State.number Word.BITS State.BITS parts (length lefts.now) → ⊥) }
+    ensures valid { OnOk result (CanEncode Word.number State.number Word.BITS State.BITS parts (length lefts.now)) }
+    ensures err { IfErr result OfIntervals }
     ensures no_space { (needed : ℕ) → IsErrOf result (refusals.NoSpace needed) → LacksRoom Word.number State.number Word.BITS State.BITS
         (interval_items PRECISION (map P.number lefts.now) (map P.number ps.now)) parts buffer.old len.old needed }
     ensures kept { OnErr result ((buffer.new ≡ buffer.old) × (len.new ≡ len.old)) }
 {
+    if *len > buffer.len() {
+        return Err(Refusal::WrongLength);
+    }
     match rows_by_intervals::<P, PRECISION>(alloc, lefts, ps) {
         Ok((rows, symbols)) => encode_each::<Word, State, P, PRECISION>(
             alloc, parts, buffer, len, &rows, 3, &symbols,

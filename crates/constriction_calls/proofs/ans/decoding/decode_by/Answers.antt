@@ -1,6 +1,6 @@
-use Rattle.std.proofs.Common.{◌≡◌, ◌<◌, ◌∙◌, arith, take, length}
+use Rattle.std.proofs.Common.{◌<◌, ◌∙◌, arith, take, length}
 use Rattle.std.proofs.lemmas.List.{take_more_set, length-set}
-use Rattle.constriction_base.specs.Models.{Model, item_of}
+use Rattle.constriction_base.specs.Models.{Model}
 use Rattle.constriction_base.proofs.InTurn.{InTurn-symbol}
 use Rattle.constriction_stack.specs.Symbols.{Decodes}
 use Rattle.constriction_calls.proofs.ans.decoding.decode_by.Goals as goal

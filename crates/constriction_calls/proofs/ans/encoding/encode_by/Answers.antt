@@ -1,8 +1,7 @@
-use Rattle.std.proofs.Common.{◌≡◌, ap, arith, map, List, subst, []}
+use Rattle.std.proofs.Common.{ap, arith}
 use Rattle.std.specs.Prelude.{reverse}
 use Rattle.std.proofs.lemmas.Result.{on_ok_weaker}
 use Rattle.constriction_base.specs.Models.{Model, IsModel, items_of}
-use Rattle.constriction_stack.specs.Symbols.{EncodesAll}
 use Rattle.constriction_laws.proofs.stack_coder.SameModel.{are_models}
 use Rattle.constriction_calls.proofs.AnsFrame.{put_on, refused, encodes_know, known_items, on_ok_always}
 use Rattle.constriction_calls.proofs.ans.encoding.encode_by.Goals as goal

@@ -1,4 +1,4 @@
-use Rattle.std.proofs.Common.{◌≡◌, ap, arith, map, List, []}
+use Rattle.std.proofs.Common.{ap, arith}
 use Rattle.std.specs.Prelude.{reverse}
 use Rattle.std.proofs.lemmas.Result.{on_ok_weaker}
 use Rattle.constriction_base.specs.Models.{IsModel, AreModels, pairs_of}
