@@ -1,12 +1,12 @@
 //! The range coder at words of 32 bits, states of 64 and a precision of 24.
 
-ghost use Rattle.std.specs.Prelude.{◌≡◌, ◌≢◌, ◌↔◌, ◌⊎◌, ◌*◌, ◌<◌, ◌≤◌, ◌-◌, ◌^◌, [], ℕ, List, length, map, take, IsErrOf, OnErr, OnOk};
+ghost use Rattle.std.specs.Prelude.{◌≡◌, ◌≢◌, ◌↔◌, ◌⊎◌, ◌*◌, ◌<◌, ◌≤◌, ◌-◌, ◌^◌, [], ℕ, List, length, map, take, IfErr, IsErrOf, OnErr, OnOk};
 ghost use Rattle.constriction_base.specs.Models.{AreKnown, items_of};
 ghost use Rattle.constriction_c.specs.Codes.{answer_of, needed_by};
 ghost use Rattle.constriction_c.specs.Ranges.{large_decoder, large_encoder};
-ghost use Rattle.constriction_calls.specs.Buffers.{Appended};
+ghost use Rattle.constriction_calls.specs.Buffers.{Appended, NeedsSpace};
 ghost use Rattle.constriction_calls.specs.Intervals.{AreIntervals, interval_items};
-ghost use Rattle.constriction_calls.specs.RangeCalls.{CanEncode, IsDecoderKept, IsEncodedBy, IsEncoderKept, LacksRoom, StandsKept, run_kept};
+ghost use Rattle.constriction_calls.specs.RangeCalls.{CanEncode, IsDecoderKept, IsEncodedBy, IsEncoderKept, LacksRoom, OfIntervals, OfWeights, StandsKept, run_kept};
 ghost use Rattle.constriction_calls.specs.Weights.{AreTotals, IsTotal, row_items, weights_model};
 ghost use Rattle.constriction_calls.specs.declared.refusal.Refusal.TheVariants as refusals;
 ghost use Rattle.constriction_laws.specs.queue.Symbols.{FindsAll, MayEnd};
@@ -132,7 +132,9 @@ pub extern "C" fn constriction_range_encode_u32(
     ensures wrong_weights { IsErrOf (answer_of result needed.new) refusals.WrongWeights ↔ ((len.old ≤ length words.old) × (IsTotal 24 (map ⟦<u32 as BitArray>⟧.number weights.now) → ⊥)) }
     ensures invalid_data { IsErrOf (answer_of result needed.new) refusals.InvalidData ↔ ((len.old ≤ length words.old) × IsTotal 24 (map ⟦<u32 as BitArray>⟧.number weights.now) × (CanEncode ⟦<u32 as BitArray>⟧.number ⟦<u64 as BitArray>⟧.number 32 64 (large_encoder encoder.old) (length symbols.now) → ⊥)) }
     ensures impossible { IsErrOf (answer_of result needed.new) refusals.ImpossibleSymbol ↔ ((len.old ≤ length words.old) × IsTotal 24 (map ⟦<u32 as BitArray>⟧.number weights.now) × CanEncode ⟦<u32 as BitArray>⟧.number ⟦<u64 as BitArray>⟧.number 32 64 (large_encoder encoder.old) (length symbols.now) × (AreKnown (items_of (weights_model 24 (map ⟦<u32 as BitArray>⟧.number weights.now)) symbols.now) → ⊥)) }
-    ensures no_space { (count : ℕ) → IsErrOf (answer_of result needed.new) (refusals.NoSpace count) → LacksRoom ⟦<u32 as BitArray>⟧.number ⟦<u64 as BitArray>⟧.number 32 64 (items_of (weights_model 24 (map ⟦<u32 as BitArray>⟧.number weights.now)) symbols.now) (large_encoder encoder.old) words.old len.old count }
+    ensures valid { OnOk (answer_of result needed.new) (CanEncode ⟦<u32 as BitArray>⟧.number ⟦<u64 as BitArray>⟧.number 32 64 (large_encoder encoder.old) (length symbols.now)) }
+    ensures err { IfErr (answer_of result needed.new) OfWeights }
+    ensures no_space { NeedsSpace (answer_of result needed.new) (LacksRoom ⟦<u32 as BitArray>⟧.number ⟦<u64 as BitArray>⟧.number 32 64 (items_of (weights_model 24 (map ⟦<u32 as BitArray>⟧.number weights.now)) symbols.now) (large_encoder encoder.old) words.old len.old) }
     ensures kept { OnErr (answer_of result needed.new) ((encoder.new ≡ encoder.old) × (words.new ≡ words.old) × (len.new ≡ len.old)) }
     ensures needed { needed.new ≡ needed_by (answer_of result needed.new) needed.old }
 {
@@ -162,7 +164,9 @@ pub extern "C" fn constriction_range_encode_each_u32(
     ensures wrong_weights { IsErrOf (answer_of result needed.new) refusals.WrongWeights ↔ ((len.old ≤ length words.old) × (length weights.now ≡ width * length symbols.now) × (AreTotals 24 width (length symbols.now) (map ⟦<u32 as BitArray>⟧.number weights.now) → ⊥)) }
     ensures invalid_data { IsErrOf (answer_of result needed.new) refusals.InvalidData ↔ ((len.old ≤ length words.old) × (length weights.now ≡ width * length symbols.now) × AreTotals 24 width (length symbols.now) (map ⟦<u32 as BitArray>⟧.number weights.now) × (CanEncode ⟦<u32 as BitArray>⟧.number ⟦<u64 as BitArray>⟧.number 32 64 (large_encoder encoder.old) (length symbols.now) → ⊥)) }
     ensures impossible { IsErrOf (answer_of result needed.new) refusals.ImpossibleSymbol → AreKnown (row_items 24 width (map ⟦<u32 as BitArray>⟧.number weights.now) symbols.now) → ⊥ }
-    ensures no_space { (count : ℕ) → IsErrOf (answer_of result needed.new) (refusals.NoSpace count) → LacksRoom ⟦<u32 as BitArray>⟧.number ⟦<u64 as BitArray>⟧.number 32 64 (row_items 24 width (map ⟦<u32 as BitArray>⟧.number weights.now) symbols.now) (large_encoder encoder.old) words.old len.old count }
+    ensures valid { OnOk (answer_of result needed.new) (CanEncode ⟦<u32 as BitArray>⟧.number ⟦<u64 as BitArray>⟧.number 32 64 (large_encoder encoder.old) (length symbols.now)) }
+    ensures err { IfErr (answer_of result needed.new) OfWeights }
+    ensures no_space { NeedsSpace (answer_of result needed.new) (LacksRoom ⟦<u32 as BitArray>⟧.number ⟦<u64 as BitArray>⟧.number 32 64 (row_items 24 width (map ⟦<u32 as BitArray>⟧.number weights.now) symbols.now) (large_encoder encoder.old) words.old len.old) }
     ensures kept { OnErr (answer_of result needed.new) ((encoder.new ≡ encoder.old) × (words.new ≡ words.old) × (len.new ≡ len.old)) }
     ensures needed { needed.new ≡ needed_by (answer_of result needed.new) needed.old }
 {
@@ -195,8 +199,13 @@ pub extern "C" fn constriction_range_encode_intervals_u32(
     needed: &mut usize,
 ) -> u32
     ensures ok { OnOk (answer_of result needed.new) (IsEncodedBy ⟦<u32 as BitArray>⟧.number ⟦<u64 as BitArray>⟧.number 32 64 (interval_items 24 (map ⟦<u32 as BitArray>⟧.number lefts.now) (map ⟦<u32 as BitArray>⟧.number ps.now)) (large_encoder encoder.old) words.old len.old (large_encoder encoder.new) words.new len.new) }
-    ensures intervals { OnOk (answer_of result needed.new) ((length lefts.now ≡ length ps.now) × AreIntervals 24 (map ⟦<u32 as BitArray>⟧.number lefts.now) (map ⟦<u32 as BitArray>⟧.number ps.now)) }
-    ensures no_space { (count : ℕ) → IsErrOf (answer_of result needed.new) (refusals.NoSpace count) → LacksRoom ⟦<u32 as BitArray>⟧.number ⟦<u64 as BitArray>⟧.number 32 64 (interval_items 24 (map ⟦<u32 as BitArray>⟧.number lefts.now) (map ⟦<u32 as BitArray>⟧.number ps.now)) (large_encoder encoder.old) words.old len.old count }
+    ensures wrong_length { IsErrOf (answer_of result needed.new) refusals.WrongLength ↔ ((length words.old < len.old) ⊎ (length lefts.now ≢ length ps.now)) }
+    ensures wrong_interval { IsErrOf (answer_of result needed.new) refusals.WrongInterval ↔ ((len.old ≤ length words.old) × (length lefts.now ≡ length ps.now)
+        × (AreIntervals 24 (map ⟦<u32 as BitArray>⟧.number lefts.now) (map ⟦<u32 as BitArray>⟧.number ps.now) → ⊥)) }
+    ensures invalid_data { IsErrOf (answer_of result needed.new) refusals.InvalidData → (CanEncode ⟦<u32 as BitArray>⟧.number ⟦<u64 as BitArray>⟧.number 32 64 (large_encoder encoder.old) (length lefts.now) → ⊥) }
+    ensures valid { OnOk (answer_of result needed.new) (CanEncode ⟦<u32 as BitArray>⟧.number ⟦<u64 as BitArray>⟧.number 32 64 (large_encoder encoder.old) (length lefts.now)) }
+    ensures err { IfErr (answer_of result needed.new) OfIntervals }
+    ensures no_space { NeedsSpace (answer_of result needed.new) (LacksRoom ⟦<u32 as BitArray>⟧.number ⟦<u64 as BitArray>⟧.number 32 64 (interval_items 24 (map ⟦<u32 as BitArray>⟧.number lefts.now) (map ⟦<u32 as BitArray>⟧.number ps.now)) (large_encoder encoder.old) words.old len.old) }
     ensures kept { OnErr (answer_of result needed.new) ((encoder.new ≡ encoder.old) × (words.new ≡ words.old) × (len.new ≡ len.old)) }
     ensures needed { needed.new ≡ needed_by (answer_of result needed.new) needed.old }
 {

@@ -7,6 +7,7 @@ ghost use Rattle.constriction_queue.specs.Encoder.{PartsFit, held_of, run_of};
 ghost use Rattle.constriction_queue.specs.States.{lower_of, range_of};
 ghost use Rattle.constriction_laws.specs.queue.Symbols.{NarrowsAll};
 ghost use Rattle.constriction_calls.specs.Intervals.{AreIntervals, interval_items};
+ghost use Rattle.constriction_calls.specs.Buffers.{NeedsSpace};
 ghost use Rattle.constriction_calls.specs.RangeCalls.{CanEncode, IsEncodedBy, IsEncoderKept, LacksRoom, OfIntervals, OfWeights, kept_words};
 ghost use Rattle.constriction_calls.specs.Weights.{AreTotals, IsTotal, row_items, weights_model};
 ghost use Rattle.constriction_calls.specs.declared.refusal.Refusal.TheVariants as refusals;
@@ -82,8 +83,8 @@ pub fn encode<Word: WordOf<State>, State: BitArray, P: WordOf<Word>, const PRECI
         × (AreKnown (items_of (weights_model PRECISION (map P.number weights.now)) symbols.now) → ⊥)) }
     ensures valid { OnOk result (CanEncode Word.number State.number Word.BITS State.BITS parts (length symbols.now)) }
     ensures err { IfErr result OfWeights }
-    ensures no_space { (needed : ℕ) → IsErrOf result (refusals.NoSpace needed) → LacksRoom Word.number State.number Word.BITS State.BITS
-        (items_of (weights_model PRECISION (map P.number weights.now)) symbols.now) parts buffer.old len.old needed }
+    ensures no_space { NeedsSpace result (LacksRoom Word.number State.number Word.BITS State.BITS
+        (items_of (weights_model PRECISION (map P.number weights.now)) symbols.now) parts buffer.old len.old) }
     ensures kept { OnErr result ((buffer.new ≡ buffer.old) × (len.new ≡ len.old)) }
 {
     if *len > buffer.len() {
@@ -179,8 +180,8 @@ pub fn encode_each<Word: WordOf<State>, State: BitArray, P: WordOf<Word>, const 
     ensures impossible { IsErrOf result refusals.ImpossibleSymbol → AreKnown (row_items PRECISION width (map P.number weights.now) symbols.now) → ⊥ }
     ensures valid { OnOk result (CanEncode Word.number State.number Word.BITS State.BITS parts (length symbols.now)) }
     ensures err { IfErr result OfWeights }
-    ensures no_space { (needed : ℕ) → IsErrOf result (refusals.NoSpace needed) → LacksRoom Word.number State.number Word.BITS State.BITS
-        (row_items PRECISION width (map P.number weights.now) symbols.now) parts buffer.old len.old needed }
+    ensures no_space { NeedsSpace result (LacksRoom Word.number State.number Word.BITS State.BITS
+        (row_items PRECISION width (map P.number weights.now) symbols.now) parts buffer.old len.old) }
     ensures kept { OnErr result ((buffer.new ≡ buffer.old) × (len.new ≡ len.old)) }
 {
     if *len > buffer.len() {
@@ -239,8 +240,8 @@ pub fn encode_intervals<
     ensures invalid_data { IsErrOf result refusals.InvalidData → (CanEncode Word.number State.number Word.BITS State.BITS parts (length lefts.now) → ⊥) }
     ensures valid { OnOk result (CanEncode Word.number State.number Word.BITS State.BITS parts (length lefts.now)) }
     ensures err { IfErr result OfIntervals }
-    ensures no_space { (needed : ℕ) → IsErrOf result (refusals.NoSpace needed) → LacksRoom Word.number State.number Word.BITS State.BITS
-        (interval_items PRECISION (map P.number lefts.now) (map P.number ps.now)) parts buffer.old len.old needed }
+    ensures no_space { NeedsSpace result (LacksRoom Word.number State.number Word.BITS State.BITS
+        (interval_items PRECISION (map P.number lefts.now) (map P.number ps.now)) parts buffer.old len.old) }
     ensures kept { OnErr result ((buffer.new ≡ buffer.old) × (len.new ≡ len.old)) }
 {
     if *len > buffer.len() {

@@ -1,6 +1,7 @@
-use Rattle.std.proofs.Common.{[]}
+use Rattle.std.proofs.Common.{ℕ, Err, []}
 use Rattle.constriction_queue.specs.Encoder.{held_of}
 use Rattle.constriction_queue.specs.States.{lower_of, range_of}
+use Rattle.constriction_calls.proofs.RangeIntervals.{needs_space}
 use Rattle.constriction_calls.proofs.RangeEncoded.{encoded_by, known_of, lacks_room, no_space_is, not_impossible, ok_no_err}
 use Rattle.constriction_calls.proofs.range.encoding.encode.Goals as goal
 
@@ -25,7 +26,7 @@ returns-clause-impossible g c =
     (λ is. absurd (not_impossible c.in-Err.refusal _ c.in-Err.ensures.err is), λ none. absurd (none.3 known))
 
 pub returns-clause-no_space : goal.returns-clause-no_space
-returns-clause-no_space g c = λ needed is.
+returns-clause-no_space g c = needs_space {T = ℕ} (Err c.in-Err.refusal) _ (λ needed is.
     let number = g.Word.BitArray.number in
     let w = g.Word.BitArray.BITS in
     let made = c.in-Some-put_by_weights in
@@ -33,4 +34,4 @@ returns-clause-no_space g c = λ needed is.
     lacks_room number g.State.BitArray.number w g.State.BitArray.BITS _ c.args.parts (held_of number w c.in-Some-encoder_for.situation) (lower_of c.in-Some-encoder_for.state) (range_of c.in-Some-encoder_for.state)
     c.in-Some-encoder_for.ensures.held c.in-Some-encoder_for.ensures.lower c.in-Some-encoder_for.ensures.range
     made.now made.ensures.coder made.words.items c.deref.result.now c.deref.ensures.value made.ensures.narrowed
-    c.args.buffer.now c.args.len.now needed c.if-len-buffer.false short.0 short.1
+    c.args.buffer.now c.args.len.now needed c.if-len-buffer.false short.0 short.1)

@@ -3,7 +3,7 @@ use Rattle.constriction_base.specs.Models.{Item, AreKnown}
 use Rattle.constriction_calls.specs.Weights.{AreTotals, row_items}
 use Rattle.constriction_calls.specs.Intervals.{interval_items}
 use Rattle.constriction_calls.proofs.AnsRows.{intervals_known}
-use Rattle.constriction_calls.proofs.RangeIntervals.{of_intervals}
+use Rattle.constriction_calls.proofs.RangeIntervals.{of_intervals, needs_space, of_space}
 use Rattle.constriction_calls.proofs.RangeEncoded.{encoded_same, lacks_same, same_rows}
 use Rattle.constriction_calls.proofs.range.encoding.encode_intervals.Goals as goal
 
@@ -14,10 +14,10 @@ returns-in-Ok-clause-ok g c =
     c.encode_each.ensures.ok
 
 pub returns-in-Ok-clause-no_space : goal.returns-in-Ok-clause-no_space
-returns-in-Ok-clause-no_space g c = λ needed is.
+returns-in-Ok-clause-no_space g c = needs_space c.encode_each.result _ (λ needed is.
     lacks_same g.Word.BitArray.number g.State.BitArray.number g.Word.BitArray.BITS g.State.BitArray.BITS _ _ c.args.parts c.args.buffer.now c.args.len.now needed
     (same_rows g.P.BitArray.number g.row.PRECISION c.deref.result.now c.in-Ok.rows.items c.deref-in-Ok.result.now c.in-Ok.symbols.items c.deref.ensures.value c.deref-in-Ok.ensures.value ∙ c.in-Ok.ensures.ok)
-    (c.encode_each.ensures.no_space needed is)
+    (of_space c.encode_each.result _ c.encode_each.ensures.no_space needed is))
 
 pub returns-in-Ok-clause-err : goal.returns-in-Ok-clause-err
 returns-in-Ok-clause-err g c =
