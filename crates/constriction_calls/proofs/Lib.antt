@@ -1,1 +1,3 @@
+pub mod ChainFrame
+pub mod ChainSteps
 pub mod RowWeights

@@ -1,4 +1,6 @@
 pub mod Buffers
+pub mod ChainCalls
+pub mod ChainFits
 pub mod Intervals
 pub mod Rows
 pub mod Weights

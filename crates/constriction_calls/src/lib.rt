@@ -5,9 +5,11 @@
 //! - [`rows`]: rows of weights as models.
 //! - [`intervals`]: intervals without a table.
 //! - [`buffers`]: words put behind others in a buffer.
+//! - [`chain`]: the chain coder.
 #![tactic(auto)]
 
 pub mod buffers;
+pub mod chain;
 pub mod intervals;
 pub mod refusal;
 pub mod rows;

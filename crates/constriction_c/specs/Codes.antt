@@ -1,0 +1,21 @@
+-- The codes of a C function, and the answers of calls that they stand for.
+use Rattle.std.specs.Prelude.{ℕ, zero, suc, Result, Ok, Err}
+use Rattle.constriction_calls.specs.declared.refusal.Refusal.{Refusal}
+use Rattle.constriction_calls.specs.declared.refusal.Refusal.TheVariants.{ImpossibleSymbol, WrongWeights, WrongInterval, WrongLength, NoSpace, NoMemory, InvalidData, OutOfData}
+
+-- the answer that a code stands for, with the number of words that are needed where there is no space for them
+abbrev pub answer_of : ℕ → ℕ → Result (Unit {0}) Refusal
+answer_of zero needed = Ok tt
+answer_of (suc zero) needed = Err ImpossibleSymbol
+answer_of (suc (suc zero)) needed = Err WrongWeights
+answer_of (suc (suc (suc zero))) needed = Err WrongInterval
+answer_of (suc (suc (suc (suc zero)))) needed = Err WrongLength
+answer_of (suc (suc (suc (suc (suc zero))))) needed = Err (NoSpace needed)
+answer_of (suc (suc (suc (suc (suc (suc zero)))))) needed = Err NoMemory
+answer_of (suc (suc (suc (suc (suc (suc (suc zero))))))) needed = Err InvalidData
+answer_of (suc (suc (suc (suc (suc (suc (suc (suc code)))))))) needed = Err OutOfData
+
+-- the number of words that are needed: where that is not why a call was refused, as it was before
+abbrev pub needed_by : Result (Unit {0}) Refusal → ℕ → ℕ
+needed_by (Err (NoSpace count)) old = count
+needed_by answer old = old
