@@ -4,7 +4,7 @@ use Rattle.constriction_calls.proofs.ChainFrame.{ends_in, needs_space_in, refuse
 use Rattle.constriction_calls.proofs.chain.decoding.decode_by.Goals as goal
 
 pub begin_taking-requires : goal.begin_taking-requires
-begin_taking-requires g c = (c.requires.fits, record { sized = c.requires.sized; within = c.requires.compressed_within })
+begin_taking-requires g c = (c.requires.fits, (c.requires.sized, c.requires.compressed_within))
 
 pub take_symbols-requires : goal.take_symbols-requires
 take_symbols-requires g c = c.requires.fits
