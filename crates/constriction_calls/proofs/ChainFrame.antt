@@ -1,5 +1,5 @@
 -- Words that lie below those that a chain coder's steps read and write stay there.
-use Rattle.std.proofs.Common.{◌≡◌, ◌⊎◌, ℕ, ◌+◌, ◌*◌, ◌-◌, ◌<◌, ◌≤◌, List, [], ◌∷◌, ◌++◌, length, map, take, drop, refl, sym, ap, ap₂, ◌∙◌, subst, arith, inl, inr, append_assoc}
+use Rattle.std.proofs.Common.{◌≡◌, ◌⊎◌, ℕ, ◌+◌, ◌*◌, ◌-◌, ◌^◌, ◌<◌, ◌≤◌, List, [], ◌∷◌, ◌++◌, length, map, take, drop, refl, sym, ap, ap₂, ◌∙◌, subst, arith, inl, inr, append_assoc}
 use Rattle.std.specs.Prelude.{reverse}
 use Rattle.std.specs.List.{AllByRecursion}
 use Rattle.std.proofs.lemmas.List.{drop-map, length-append, length-map, length-reverse, length-take-le, map-append, reverse-append, take-append-drop, take-append-le}
@@ -10,7 +10,7 @@ use Rattle.constriction_base.proofs.Turns.{drop_turned}
 use Rattle.constriction_chain.specs.Chain.{ChainState, IsBroughtBelow, IsChain, IsDecode, IsEncode, least}
 use Rattle.constriction_chain.specs.Symbols.{PutsBack, PutsBackAll, TakesOffAll}
 use Rattle.constriction_chain.proofs.Below.{decodes_part}
-use Rattle.constriction_chain.proofs.Chains.{decode_from, state, state_same}
+use Rattle.constriction_chain.proofs.Chains.{decode_from, state, state_same, words_fit}
 use Rattle.constriction_chain.proofs.Walks.{quantile_over}
 use Rattle.constriction_calls.specs.Buffers.{Appended, stack_in}
 use Rattle.constriction_calls.specs.ChainCalls.{EndsEarly, LacksRemainders, NeedsRoom, NeedsSpace, Refused, chain_in}
@@ -171,7 +171,69 @@ needs_space_in {W} number w s items count h r compressed len remainders rlen n s
       past = past;
     }
 
+-- ---- encodes over a caller's buffers
+
+-- encodes over lent words, with the compressed words behind a caller's, are encodes of the caller's state
+pub put_in : {W : Type 0} (number : W → ℕ) (w s : ℕ) → ((x : W) → number x < 2 ^ w) → (items : List (Item ℕ)) (h r h' r' : ℕ) (remainders : List W) (rlen rlen' : ℕ) (compressed added compressed' : List W) (len len' : ℕ) (x y : ChainState)
+    → AreWithin w items → rlen ≤ length remainders → x ≡ state h r [] (stack_in number remainders rlen) → PutsBackAll w s items x y
+    → h' ≡ y.h → r' ≡ y.r → rlen' ≡ length y.remainders → map number (reverse added) ≡ y.compressed → Appended compressed len added compressed' len'
+    → (rlen' ≤ rlen) × PutsBackAll w s items (chain_in number h r compressed len remainders rlen) (chain_in number h' r' compressed' len' remainders rlen')
+put_in {W} number w s law items h r h' r' remainders rlen rlen' compressed added compressed' len len' x y fine within is all eh er el ea appended =
+    let from : ChainState = state h r [] (stack_in number remainders rlen) in
+    let all' : PutsBackAll w s items from y = subst (λ (z : ChainState). PutsBackAll w s items z y) is all in
+    let part = put_takes w s items from y all' in
+    let rest = rest_in number remainders rlen part.0 y.remainders within part.1 in
+    let below : List ℕ = stack_in number compressed len in
+    let over = put_over w s items from y below fine (words_fit w number law (reverse (take len compressed))) all' in
+    let end : chain_in number h' r' compressed' len' remainders rlen' ≡ state y.h y.r (y.compressed ++ below) y.remainders =
+    state_same _ _ eh er (appended_in number compressed len added compressed' len' appended ∙ ap (λ (ys : List ℕ). ys ++ below) ea) (ap (λ (n : ℕ). stack_in number remainders n) el ∙ sym rest.1) in
+    (omega (arith, rest.0, el), subst (λ (z : ChainState). PutsBackAll w s items (state h r below (stack_in number remainders rlen)) z) (sym end) over)
+
+within_first : (w : ℕ) (first others : List (Item ℕ)) → AreWithin w (first ++ others) → AreWithin w first
+within_first w [] others fine = tt
+within_first w (item ∷ items) others fine = (fine.0, within_first w items others fine.1)
+
+-- so are those that lack remainders
+pub lacks_in : {W : Type 0} (number : W → ℕ) (w s : ℕ) → ((x : W) → number x < 2 ^ w) → (items : List (Item ℕ)) (h r : ℕ) (remainders : List W) (rlen : ℕ) (compressed : List W) (len : ℕ) (x : ChainState)
+    → AreWithin w items → x ≡ state h r [] (stack_in number remainders rlen) → LacksRemainders w s items x → LacksRemainders w s items (chain_in number h r compressed len remainders rlen)
+lacks_in {W} number w s law items h r remainders rlen compressed len x fine is e =
+    let from : ChainState = state h r [] (stack_in number remainders rlen) in
+    let below : List ℕ = stack_in number compressed len in
+    let all : PutsBackAll w s e.first from e.last = subst (λ (z : ChainState). PutsBackAll w s e.first z e.last) is e.put in
+    record {
+      first = e.first;
+      item = e.item;
+      others = e.others;
+      last = state e.last.h e.last.r (e.last.compressed ++ below) e.last.remainders;
+      parts = e.parts;
+      put = put_over w s e.first from e.last below (within_first w e.first (e.item ∷ e.others) (subst (λ (ys : List (Item ℕ)). AreWithin w ys) e.parts fine)) (words_fit w number law (reverse (take len compressed))) all;
+      needs = e.needs;
+      ended = e.ended;
+    }
+
+-- and those whose compressed words find no space
+pub needs_room_in : {W : Type 0} (number : W → ℕ) (w s : ℕ) → ((x : W) → number x < 2 ^ w) → (items : List (Item ℕ)) (h r : ℕ) (remainders : List W) (rlen : ℕ) (compressed : List W) (len n : ℕ) (x y : ChainState)
+    → AreWithin w items → len ≤ length compressed → x ≡ state h r [] (stack_in number remainders rlen) → PutsBackAll w s items x y
+    → n ≡ len + length y.compressed → length compressed < n
+    → NeedsRoom w s items (chain_in number h r compressed len remainders rlen) (length compressed) n
+needs_room_in {W} number w s law items h r remainders rlen compressed len n x y fine within is all en past =
+    let below : List ℕ = stack_in number compressed len in
+    let from : ChainState = state h r [] (stack_in number remainders rlen) in
+    let all' : PutsBackAll w s items from y = subst (λ (z : ChainState). PutsBackAll w s items z y) is all in
+    record {
+      new = state y.h y.r (y.compressed ++ below) y.remainders;
+      put = put_over w s items from y below fine (words_fit w number law (reverse (take len compressed))) all';
+      is = omega (arith, en, length-append y.compressed below, length_in number compressed len within);
+      past = past;
+    }
+
 -- ---- refusals
+pub refused_put : (heads known lacks : Type 0) (full : ℕ → Type 0) (e : Refusal) → heads → known → (e ≡ refusals.NoMemory) ⊎ ((e ≡ refusals.ImpossibleSymbol) × (known → ⊥)) ⊎ ((e ≡ refusals.OutOfData) × lacks)
+    → Refused (Unit {0}) (Unit {0}) heads (known → ⊥) (known × lacks) full e
+refused_put heads known lacks full e ok is_known (inl is) = rw is tt
+refused_put heads known lacks full e ok is_known (inr (inl (is, never))) = absurd (never is_known)
+refused_put heads known lacks full e ok is_known (inr (inr (is, early))) = rw is (tt, tt, ok, (is_known, early))
+
 pub refused_list : (heads unknown ends : Type 0) (full : ℕ → Type 0) (e : Refusal) → heads → (e ≡ refusals.NoMemory) ⊎ ((e ≡ refusals.OutOfData) × ends) → Refused (Unit {0}) (Unit {0}) heads unknown ends full e
 refused_list heads unknown ends full e ok (inl is) = rw is tt
 refused_list heads unknown ends full e ok (inr (is, early)) = rw is (tt, tt, ok, early)
