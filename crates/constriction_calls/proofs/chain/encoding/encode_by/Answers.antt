@@ -1,4 +1,4 @@
-use Rattle.std.proofs.Common.{refl, ◌≡◌, ◌∙◌, ◌+◌, ℕ, List, length, inl, inr}
+use Rattle.std.proofs.Common.{refl, ◌+◌, ℕ, List, length, inl, inr}
 use Rattle.std.specs.Prelude.{reverse}
 use Rattle.constriction_base.specs.Models.{Item, Model, items_of}
 use Rattle.constriction_calls.proofs.ChainFrame.{lacks_in, needs_room_in, put_in, refused_put, refused_space, within_of}

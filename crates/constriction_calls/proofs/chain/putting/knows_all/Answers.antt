@@ -1,4 +1,4 @@
-use Rattle.std.proofs.Common.{arith, refl, ap, ◌≡◌, ◌-◌, ◌∷◌, subst, sym, List, ℕ, get_or, drop}
+use Rattle.std.proofs.Common.{arith, ◌-◌, subst, sym, List, ℕ}
 use Rattle.constriction_base.specs.Models.{AreKnown, Model, items_of}
 use Rattle.constriction_calls.proofs.ChainSteps.{dropped, unknown_at}
 use Rattle.constriction_calls.proofs.chain.putting.knows_all.Goals as goal

@@ -1,4 +1,4 @@
-use Rattle.std.proofs.Common.{arith, refl, inl, inr, ap, ◌∙◌, ◌≡◌, ◌-◌, map, subst, sym, Err, List, ℕ, get_or, drop, take}
+use Rattle.std.proofs.Common.{arith, refl, inl, inr, ap, ◌∙◌, ◌-◌, map, subst, sym, Err, List, ℕ, get_or, drop, take}
 use Rattle.std.specs.Prelude.{reverse}
 use Rattle.constriction_base.specs.declared.errors.CoderError.TheVariants.{Frontend}
 use Rattle.constriction_base.specs.Models.{Model, item_of, items_of}

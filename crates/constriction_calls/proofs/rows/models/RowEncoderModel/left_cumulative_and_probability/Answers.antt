@@ -1,4 +1,3 @@
-use Rattle.std.proofs.Common.{arith, ◌≡◌, ◌<◌, sym, ◌∙◌}
 use Rattle.constriction_calls.proofs.RowWeights.{weight_found, none_past, none_of_nothing, first_fits}
 use Rattle.constriction_calls.proofs.rows.models.RowEncoderModel.left_cumulative_and_probability.Goals as goal
 
