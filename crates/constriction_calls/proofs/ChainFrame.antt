@@ -1,6 +1,6 @@
 -- Words that lie below those that a chain coder's steps read and write stay there.
 use Rattle.std.proofs.Common.{◌≡◌, ◌⊎◌, ℕ, ◌+◌, ◌*◌, ◌-◌, ◌^◌, ◌<◌, ◌≤◌, List, [], ◌∷◌, ◌++◌, length, map, take, drop, refl, sym, ap, ap₂, ◌∙◌, subst, arith, inl, inr, append_assoc}
-use Rattle.std.specs.Prelude.{reverse}
+use Rattle.std.specs.Prelude.{Err, IfErr, Ok, Result, reverse}
 use Rattle.std.specs.List.{AllByRecursion}
 use Rattle.std.proofs.lemmas.List.{drop-map, length-append, length-map, length-reverse, length-take-le, map-append, reverse-append, take-append-drop, take-append-le}
 use Rattle.std.proofs.Math.Seq.{drop-append_seam}
@@ -254,3 +254,8 @@ refused_later lengths weights heads unknown ends full refusals.ImpossibleSymbol 
 refused_later lengths weights heads unknown ends full refusals.OutOfData l t r = (l, t, r.2, r.3)
 refused_later lengths weights heads unknown ends full (refusals.NoSpace n) l t r = (l, t, r.2, r.3)
 refused_later lengths weights heads unknown ends full refusals.NoMemory l t r = tt
+
+pub err_later : (lengths weights heads unknown ends : Type 0) (full : ℕ → Type 0) (r : Result (Unit {0}) Refusal) → lengths → weights → IfErr r (Refused (Unit {0}) (Unit {0}) heads unknown ends full)
+    → IfErr r (Refused lengths weights heads unknown ends full)
+err_later lengths weights heads unknown ends full (Ok x) l t h = tt
+err_later lengths weights heads unknown ends full (Err e) l t h = refused_later lengths weights heads unknown ends full e l t h
