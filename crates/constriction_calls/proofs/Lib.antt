@@ -1,3 +1,7 @@
 pub mod ChainFrame
 pub mod ChainSteps
+pub mod IntervalRows
+pub mod RowItems
+pub mod RowTables
 pub mod RowWeights
+pub mod Stacked

@@ -1,5 +1,5 @@
 -- Intervals of the numbers below two to the precision, without a table that they stand in.
-use Rattle.std.specs.Prelude.{◌≡◌, ℕ, ◌+◌, ◌-◌, ◌<◌, ◌≤◌, ◌^◌, List, [], ◌∷◌, map}
+use Rattle.std.specs.Prelude.{ℕ, ◌+◌, ◌-◌, ◌<◌, ◌≤◌, ◌^◌, List, [], ◌∷◌, map}
 use Rattle.std.specs.List.{AllByRecursion, zip}
 use Rattle.constriction_base.specs.Models.{Item, item_of}
 use Rattle.constriction_calls.specs.Weights.{weights_model}
@@ -21,3 +21,9 @@ interval_items precision lefts ps =
 -- each of them is one
 abbrev pub AreIntervals : ℕ → List ℕ → List ℕ → Type 0
 AreIntervals precision lefts ps = AllByRecursion (λ (pair : ℕ × ℕ). IsInterval precision pair.0 pair.1) (zip lefts ps)
+
+-- their weights, one row behind another
+abbrev pub rows_between : ℕ → List ℕ → List ℕ → List ℕ
+rows_between precision [] ps = []
+rows_between precision (left ∷ lefts) [] = []
+rows_between precision (left ∷ lefts) (p ∷ ps) = left ∷ p ∷ (2 ^ precision - (left + p)) ∷ rows_between precision lefts ps

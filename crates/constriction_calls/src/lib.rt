@@ -3,6 +3,8 @@
 //!
 //! - [`refusal`]: why a call was refused.
 //! - [`rows`]: rows of weights as models.
+//! - [`tables`]: weights as a table for all symbols.
+//! - [`known`]: whether models know symbols.
 //! - [`intervals`]: intervals without a table.
 //! - [`buffers`]: words put behind others in a buffer.
 //! - [`chain`]: the chain coder.
@@ -11,5 +13,7 @@
 pub mod buffers;
 pub mod chain;
 pub mod intervals;
+pub mod known;
 pub mod refusal;
 pub mod rows;
+pub mod tables;

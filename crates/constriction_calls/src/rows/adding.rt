@@ -1,12 +1,12 @@
 //! Sums of weights: whether they are two to the precision, and those of the weights before a symbol.
 
-ghost use Rattle.std.specs.Prelude.{◌≡◌, ◌↔◌, ◌+◌, ◌^◌, ◌<◌, ◌≤◌, length, map, sum_by, take, IsTrue};
-ghost use Rattle.constriction_calls.specs.Weights.{IsTotal};
+ghost use Rattle.std.specs.Prelude.{◌≡◌, ◌↔◌, ◌+◌, ◌*◌, ◌^◌, ◌<◌, ◌≤◌, length, map, sum_by, take, IsTrue};
+ghost use Rattle.constriction_calls.specs.Weights.{IsTotal, AreTotals};
 
 use constriction_words::BitArray;
 
 /// The number of ones below a place.
-fn ones<P: BitArray>(count: usize) -> P
+pub fn ones<P: BitArray>(count: usize) -> P
     requires { (1 ≤ count) × (count ≤ P.BITS) }
     ensures { P.number result + 1 ≡ 2 ^ count }
 {
@@ -48,4 +48,35 @@ pub fn sum_before<P: BitArray>(weights: &[P], symbol: usize) -> P
         sum = sum.plus(weights[i]);
     }
     sum
+}
+
+/// Whether a number is the product of two others.
+pub fn is_product(number: usize, first: usize, second: usize) -> bool
+    ensures { IsTrue result ↔ (number ≡ first * second) }
+{
+    match first.checked_mul(second) {
+        Some(product) => product == number,
+        None => false,
+    }
+}
+
+/// Whether each of `count` rows of `width` weights adds up to two to the precision.
+pub fn are_totals<P: BitArray, const PRECISION: usize>(
+    weights: &[P],
+    width: usize,
+    count: usize,
+) -> bool
+    requires sizes { (1 ≤ PRECISION) × (PRECISION ≤ P.BITS) }
+    requires counted { length weights.now ≡ width * count }
+    ensures { IsTrue result ↔ AreTotals PRECISION width count (map P.number weights.now) }
+{
+    let mut start = 0;
+    for _done in 0..count {
+        let end = start + width;
+        if !is_total::<P, PRECISION>(&weights[start..end]) {
+            return false;
+        }
+        start = end;
+    }
+    true
 }
