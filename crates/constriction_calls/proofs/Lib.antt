@@ -1,4 +1,5 @@
 pub mod ChainFrame
+pub mod ChainRows
 pub mod ChainSteps
 pub mod IntervalRows
 pub mod RowItems

@@ -13,8 +13,8 @@ mod putting;
 mod taking;
 
 use constriction_words::BitArray;
-pub use decoding::decode;
-pub use encoding::encode_reverse;
+pub use decoding::{decode, decode_each};
+pub use encoding::{encode_each_reverse, encode_intervals_reverse, encode_reverse};
 
 /// The two heads of a chain coder.
 #[derive(Debug, Clone, Copy, PartialEq, Eq)]

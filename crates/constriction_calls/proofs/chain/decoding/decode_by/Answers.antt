@@ -1,4 +1,4 @@
-use Rattle.std.proofs.Common.{refl, ◌≡◌, ◌∙◌, ◌+◌, ℕ, length, inl, inr}
+use Rattle.std.proofs.Common.{refl, ap, ◌≡◌, ◌∙◌, ◌+◌, ℕ, length, inl, inr}
 use Rattle.constriction_base.specs.Models.{Model, items_of}
 use Rattle.constriction_calls.proofs.ChainFrame.{ends_in, needs_space_in, refused_list, refused_space, taken_in}
 use Rattle.constriction_calls.proofs.chain.decoding.decode_by.Goals as goal
@@ -39,6 +39,11 @@ returns-clause-ok g c =
     rw again ((taken_in number w s (items_of model c.in-Ok.again.items) _ _ _ _ c.args.compressed.now c.args.compressed_len.now c.end_taking.new.compressed_len c.args.remainders.now e.remainders.0 c.end_taking.new.remainders
     c.args.remainders_len.now c.end_taking.new.remainders_len c.in-Some.coder.state c.take_symbols.new.coder.state
     c.requires.compressed_within c.in-Some.ensures.some c.in-Ok.ensures.ok e.heads.0 e.heads.1 e.compressed e.remainders.1 e.remainders.2).1)
+
+pub returns-clause-count : goal.returns-clause-count
+returns-clause-count g c =
+    let again : c.copy_from_slice.new.self ≡ c.in-Ok.again.items = c.copy_from_slice.ensures.after ∙ c.as_slice.ensures.value in
+    ap length again ∙ (c.in-Ok.ensures.count)
 
 pub returns-clause-fewer : goal.returns-clause-fewer
 returns-clause-fewer g c =
