@@ -1,4 +1,4 @@
-use Rattle.std.proofs.Common.{◌≡◌, ◌≤◌, ◌∙◌, ℕ, arith, refl, ap, sym, map, length, subst, List, inl, inr, Err}
+use Rattle.std.proofs.Common.{◌≤◌, ◌∙◌, ℕ, arith, ap, sym, map, length, subst, List, inl, inr, Err}
 use Rattle.std.proofs.lemmas.Result.{on_ok_weaker}
 use Rattle.constriction_base.specs.Models.{Item}
 use Rattle.constriction_base.specs.Tables.{table_of}

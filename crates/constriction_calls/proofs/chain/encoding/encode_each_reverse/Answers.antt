@@ -1,4 +1,4 @@
-use Rattle.std.proofs.Common.{◌≡◌, ◌≤◌, ◌∙◌, ℕ, arith, ap, sym, map, length, subst, List, inl, inr, Err}
+use Rattle.std.proofs.Common.{◌≤◌, ◌∙◌, ℕ, arith, ap, sym, map, length, subst, List, inl, inr, Err}
 use Rattle.std.specs.Prelude.{IfErr, OnOk, reverse}
 use Rattle.std.proofs.lemmas.Result.{on_ok_weaker}
 use Rattle.constriction_base.specs.Models.{AreKnown, Item}

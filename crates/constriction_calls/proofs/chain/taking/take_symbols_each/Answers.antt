@@ -1,6 +1,6 @@
 use Rattle.std.proofs.Common.{arith, refl, inr, ap, ◌∙◌, map, subst, sym, ◌∷◌, [], length, ◌++◌, List, ℕ, Err, ◌≡◌}
 use Rattle.std.proofs.lemmas.List.{length-append}
-use Rattle.constriction_base.specs.Models.{Item, Model, item_of, pairs_of}
+use Rattle.constriction_base.specs.Models.{Item, item_of, pairs_of}
 use Rattle.constriction_base.proofs.InTurn.{InTurn-more}
 use Rattle.constriction_chain.specs.Symbols.{TakesOff, TakesOffAll}
 use Rattle.constriction_calls.proofs.ChainRows.{pairs_next}
