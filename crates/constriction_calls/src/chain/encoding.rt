@@ -13,9 +13,9 @@ ghost use Rattle.constriction_calls.specs.Weights.{AreTotals, IsTotal, row_items
 
 use crate::chain::ChainHeads;
 use crate::chain::lending::{begin_putting, end_putting};
-use crate::chain::putting::{knows_all, put_symbols, put_symbols_each};
+use crate::chain::putting::{put_symbols, put_symbols_each};
 use crate::intervals::rows_by_intervals;
-use crate::known::all_known_by;
+use crate::known::{all_known, all_known_by};
 use crate::refusal::Refusal;
 use crate::rows::{Row, rows_of};
 use constriction_base::model::{EncoderModel, EntropyModel};
@@ -288,7 +288,7 @@ where
     match put_symbols(&mut coder, model, symbols) {
         Ok(()) => {}
         Err(refusal) => {
-            if !knows_all::<M, PRECISION>(model, symbols) {
+            if !all_known::<PRECISION, M>(model, symbols) {
                 return Err(Refusal::ImpossibleSymbol);
             }
             return Err(refusal);

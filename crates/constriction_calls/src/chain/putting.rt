@@ -1,6 +1,6 @@
 //! Symbols that are put back into the compressed words.
 
-ghost use Rattle.std.specs.Prelude.{◌≡◌, ◌⊎◌, ◌↔◌, IfErr, IsTrue, OnOk, reverse};
+ghost use Rattle.std.specs.Prelude.{◌≡◌, ◌⊎◌, IfErr, OnOk, reverse};
 ghost use Rattle.constriction_base.specs.Models.{AreKnown, items_of, pairs_of};
 ghost use Rattle.constriction_chain.specs.Symbols.{PutsBackAll};
 ghost use Rattle.constriction_calls.specs.ChainCalls.{LacksRemainders};
@@ -111,21 +111,4 @@ where
         left -= 1;
     }
     Ok(())
-}
-
-/// Whether the model knows each of these symbols.
-pub fn knows_all<
-    M: EncoderModel<PRECISION> + EntropyModel<PRECISION, Symbol = usize>,
-    const PRECISION: usize,
->(model: &M, symbols: &[usize]) -> bool
-    ensures { IsTrue result ↔ AreKnown (items_of record { precision = PRECISION; table = M.table model.now } symbols.now) }
-{
-    let mut left = symbols.len();
-    'symbols: while left > 0 {
-        let Some(_) = model.left_cumulative_and_probability(&symbols[left - 1]) else {
-            return false;
-        };
-        left -= 1;
-    }
-    true
 }

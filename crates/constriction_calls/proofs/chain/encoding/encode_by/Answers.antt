@@ -19,7 +19,7 @@ returns-in-Err-clause-err g c =
     let model : Model ℕ = record { precision = g.row.PRECISION; table = g.M.EntropyModel.table c.args.model.now } in
     let items : List (Item ℕ) = items_of model (reverse c.args.symbols.now) in
     let fine = within_of g.Word.BitArray.BITS model (reverse c.args.symbols.now) c.requires.sized.within_word in
-    refused_put _ _ _ _ c.in-Err.refusal (c.in-Some.ensures.variant.0 refl) (c.knows_all.ensures.0 c.if-not-knows_all.false) (elim c.in-Err.ensures.err [
+    refused_put _ _ _ _ c.in-Err.refusal (c.in-Some.ensures.variant.0 refl) (c.all_known.ensures.0 c.if-not-all_known.false) (elim c.in-Err.ensures.err [
       | inl memory ↦ inl memory
       | inr others ↦ inr (elim others [
         | inl never ↦ inl never
