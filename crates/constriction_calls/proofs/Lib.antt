@@ -1,3 +1,4 @@
 pub mod ChainFrame
 pub mod ChainSteps
+pub mod ChainWords
 pub mod RowWeights
