@@ -5,7 +5,7 @@ use Rattle.std.specs.Int.Digits.{digits_of, number_from_digits, number_from_digi
 use Rattle.std.proofs.Math.Seq.{take-length}
 use Rattle.std.proofs.lemmas.Bool.{cases_lt}
 use Rattle.std.proofs.lemmas.Int.Digits.{first_digits_of, number_after_append, number_after_ge, number_digits_of}
-use Rattle.std.proofs.lemmas.List.{length-append, length-map, length-reverse, length-take-le, map-append}
+use Rattle.std.proofs.lemmas.List.{length-append, length-map, length-reverse, length-take-le}
 use Rattle.constriction_base.specs.Digits.{fixed_digits}
 use Rattle.constriction_base.specs.declared.errors.CoderError.{CoderError}
 use Rattle.constriction_base.specs.declared.errors.CoderError.TheVariants.{Backend, Frontend}
@@ -13,11 +13,11 @@ use Rattle.constriction_chain.specs.Chain.{ChainState, IsChain}
 use Rattle.constriction_chain.specs.Imports.{FromBinary, FromCompressed, FromRemainders, IsWhole}
 use Rattle.constriction_chain.specs.Words.{IsOneAbove, NoHeads, NoStart, TooFew, remainder_words}
 use Rattle.constriction_chain.proofs.Chains.{state, state_same}
-use Rattle.constriction_calls.specs.Buffers.{Appended, stack_in}
+use Rattle.constriction_calls.specs.Buffers.{stack_in}
 use Rattle.constriction_calls.specs.ChainWords.{ExportRefused, NoRoomFor, over_compressed, over_remainders}
 use Rattle.constriction_calls.specs.declared.refusal.Refusal.{Refusal}
 use Rattle.constriction_calls.specs.declared.refusal.Refusal.TheVariants as refusals
-use Rattle.constriction_calls.proofs.ChainFrame.{appended_in, length_in, rest_in}
+use Rattle.constriction_calls.proofs.ChainFrame.{length_in, rest_in}
 
 -- ---- words that begin no coder
 
@@ -73,7 +73,7 @@ binary_over w m r cs i =
 module _ {W E B : Type 0} (number : W → ℕ) (held : B → List W) (is_list : Type 0) (reads : B → Result (Option W) E → B → Type 0) (w bound : ℕ) (list : is_list) (never : E → ⊥) where
   pub no_start : (old : B) (e : CoderError B E) → 2 ≤ 2 ^ w → NoStart number held is_list reads w bound old e
       → (r : ℕ) (cs : List ℕ) → 0 < r → bound ≤ r → map number (held old) ≡ digits_of (2 ^ w) r ++ cs → ⊥
-  no_start old (Backend e) two no r cs pos le is = never e
+  no_start old (Backend e) two stop r cs pos le is = never e
   no_start old (Frontend rest) two (inl (word, none, read)) r cs pos le is =
       let top : held old ≡ word ∷ held rest = read.1 list in
       high_first (digits_of (2 ^ w) r) cs (map number (held rest)) (first_digits_of (2 ^ w) r two pos)
@@ -86,7 +86,7 @@ module _ {W E B : Type 0} (number : W → ℕ) (held : B → List W) (is_list : 
 
   pub too_few : (old : B) (e : CoderError B E) → TooFew number held is_list reads w bound 1 old e
       → (m r : ℕ) (cs : List ℕ) → IsOneAbove w m r → bound ≤ r → map number (held old) ≡ fixed_digits (2 ^ w) m r ++ cs → ⊥
-  too_few old (Backend e) no m r cs i le is = never e
+  too_few old (Backend e) stop m r cs i le is = never e
   too_few old (Frontend rest) (x, last, moves, small, read) m r cs i le is =
       let none : held last ≡ [] = (read.1 list).0 in
       let all : map number (held old) ≡ map number moves.words = ap (λ (ws : List W). map number ws) (moves.taken list ∙ (ap (λ (ws : List W). moves.words ++ ws) none ∙ append-nil moves.words)) in
@@ -95,7 +95,7 @@ module _ {W E B : Type 0} (number : W → ℕ) (held : B → List W) (is_list : 
 
   pub no_heads : (old : B) (e : CoderError B E) → 2 ≤ 2 ^ w → NoHeads number held is_list reads w bound old e
       → (h r : ℕ) (cs : List ℕ) → 0 < h → 0 < r → bound ≤ r → map number (held old) ≡ h ∷ (digits_of (2 ^ w) r ++ cs) → ⊥
-  no_heads old (Backend e) two no h r cs some pos le is = never e
+  no_heads old (Backend e) two stop h r cs some pos le is = never e
   no_heads old (Frontend rest) two (inl read) h r cs some pos le is =
       let none : held old ≡ [] = (read.1 list).0 in
       let empty : [] ≡ h ∷ (digits_of (2 ^ w) r ++ cs) = sym (ap (λ (ws : List W). map number ws) none) ∙ is in
@@ -105,9 +105,9 @@ module _ {W E B : Type 0} (number : W → ℕ) (held : B → List W) (is_list : 
       let top : number word ∷ map number (held rest) ≡ h ∷ (digits_of (2 ^ w) r ++ cs) = sym (ap (λ (ws : List W). map number ws) (read.1 list)) ∙ is in
       let first : number word ≡ h = ap (λ (ds : List ℕ). get_or ds 0 0) top in
       omega (arith, first, none, some)
-  no_heads old (Frontend rest) two (inr (inr (word, between, high, read, no))) h r cs some pos le is =
+  no_heads old (Frontend rest) two (inr (inr (word, between, high, read, stop))) h r cs some pos le is =
       let top : number word ∷ map number (held between) ≡ h ∷ (digits_of (2 ^ w) r ++ cs) = sym (ap (λ (ws : List W). map number ws) (read.1 list)) ∙ is in
-      no_start between (Frontend rest) two no r cs pos le (ap (λ (ds : List ℕ). drop 1 ds) top)
+      no_start between (Frontend rest) two stop r cs pos le (ap (λ (ds : List ℕ). drop 1 ds) top)
 
 -- ---- coders of a caller's words
 
@@ -119,7 +119,7 @@ left_in {W} number words buf pos t cs are within is =
     let count : length cs ≡ pos = ap length are ∙ (length-map (reverse (take pos buf)) number ∙ (length-reverse (take pos buf) ∙ length-take-le pos buf within)) in
     (omega (arith, rest.0, count), rest.1 ∙ ap (λ (n : ℕ). stack_in number words n) count)
 
-all_taken : {W : Type 0} (number : W → ℕ) (words : List W) → map number (reverse (take (length words) words)) ≡ map number (reverse words)
+pub all_taken : {W : Type 0} (number : W → ℕ) (words : List W) → map number (reverse (take (length words) words)) ≡ map number (reverse words)
 all_taken {W} number words = ap (λ (ws : List W). map number (reverse ws)) (take-length words)
 
 pub of_compressed : {W : Type 0} (number : W → ℕ) (w s P : ℕ) (words buf others : List W) (h r pos : ℕ) (x : ChainState)
@@ -140,7 +140,7 @@ of_binary {W} number w s P words buf others h r pos x is within chain one none (
     let found = left_in number words buf pos (fixed_digits (2 ^ w) m x.r) x.compressed (ap (λ (z : ChainState). z.compressed) is) within are in
     let same : x ≡ over_compressed number h r words pos = state_same x _ (ap (λ (z : ChainState). z.h) is) (ap (λ (z : ChainState). z.r) is) found.1 none in
     let whole : IsWhole w s P x = record { chain = chain; h = one; remainders = none } in
-    (found.0, subst (λ (z : ChainState). FromBinary w s P (map number (reverse words)) z) same (whole, m, above, sym (all_taken number words) ∙ are))
+    (found.0, subst (λ (z : ChainState). FromBinary w s P (map number (reverse words)) z) same (whole, (m, above, sym (all_taken number words) ∙ are)))
 
 pub of_remainders : {W : Type 0} (number : W → ℕ) (w s P : ℕ) (words buf others : List W) (h r pos : ℕ) (x : ChainState)
     → x ≡ state h r (map number (reverse others)) (map number (reverse (take pos buf))) → pos ≤ length buf → IsChain w s P x → (x.compressed ≡ [])
@@ -154,12 +154,7 @@ of_remainders {W} number w s P words buf others h r pos x is within chain none a
 
 -- ---- words behind a caller's
 
-pub put_behind : {W : Type 0} (number : W → ℕ) (old : List W) (len : ℕ) (added new : List W) (new_len : ℕ) (all : List ℕ) → map number (reverse added) ≡ all → Appended old len added new new_len
-    → stack_in number new new_len ≡ all ++ stack_in number old len
-put_behind number old len added new new_len all are is =
-    appended_in number old len added new new_len is ∙ ap (λ (ds : List ℕ). ds ++ stack_in number old len) are
-
--- why they were not put there
+-- why words were not put behind a caller's
 pub no_room : {W : Type 0} (number : W → ℕ) (old : List W) (len : ℕ) (added : List W) (all : List ℕ) (heads : Type 0) (holds : List ℕ → Type 0)
     → len ≤ length old → heads → map number (reverse added) ≡ all → holds (all ++ stack_in number old len)
     → (r : Result (Unit {0}) Refusal) → OnErr r (length old < len + length added) → (past : Type 0)
@@ -172,8 +167,3 @@ no_room {W} number old len added all heads holds within h are is (Err refusal) f
     let above : length all ≡ length added = ap length (sym are) ∙ (length-map (reverse added) number ∙ length-reverse added) in
     omega (arith, above, length-append all (stack_in number old len), length_in number old len within)) in
     rw e (within, h, record { past = full; words = all ++ stack_in number old len; are = is; count = count })
-
--- the heads were none
-pub no_heads_refused : (lengths heads : Type 0) (full : ℕ → Type 0) (e : Refusal) → lengths → (e ≡ refusals.NoMemory) ⊎ ((e ≡ refusals.InvalidData) × (heads → ⊥)) → ExportRefused lengths heads full e
-no_heads_refused lengths heads full e within (inl is) = rw is tt
-no_heads_refused lengths heads full e within (inr (is, never)) = rw is (within, never)
