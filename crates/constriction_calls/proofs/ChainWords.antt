@@ -1,6 +1,6 @@
 -- Words that stand for a chain coder, and words of heads behind a caller's.
-use Rattle.std.proofs.Common.{◌≡◌, ◌⊎◌, ℕ, zero, suc, ◌+◌, ◌*◌, ◌/◌, ◌%◌, ◌^◌, ◌<◌, ◌≤◌, List, [], ◌∷◌, ◌++◌, Result, Ok, Err, length, map, take, drop, get_or, Option, refl, sym, ap, ◌∙◌, subst, arith, inl, inr, pow-add, div-add-mod', mul-le-mul_right, mod-lt, pow_pos, append-nil}
-use Rattle.std.specs.Prelude.{IfErr, OnErr, None, Some, reverse}
+use Rattle.std.proofs.Common.{◌≡◌, ◌⊎◌, ℕ, zero, suc, ◌+◌, ◌*◌, ◌/◌, ◌%◌, ◌^◌, ◌<◌, ◌≤◌, List, [], ◌∷◌, ◌++◌, Result, Ok, Err, length, map, take, drop, get_or, Option, sym, ap, ◌∙◌, subst, arith, inl, inr, pow-add, div-add-mod', mul-le-mul_right, mod-lt, pow_pos, append-nil}
+use Rattle.std.specs.Prelude.{IfErr, OnErr, reverse}
 use Rattle.std.specs.Int.Digits.{digits_of, number_from_digits, number_from_digits_after}
 use Rattle.std.proofs.Math.Seq.{take-length}
 use Rattle.std.proofs.lemmas.Bool.{cases_lt}
@@ -77,7 +77,7 @@ module _ {W E B : Type 0} (number : W → ℕ) (held : B → List W) (is_list : 
   no_start old (Frontend rest) two (inl (word, none, read)) r cs pos le is =
       let top : held old ≡ word ∷ held rest = read.1 list in
       high_first (digits_of (2 ^ w) r) cs (map number (held rest)) (first_digits_of (2 ^ w) r two pos)
-          (sym is ∙ (ap (λ (ws : List W). map number ws) top ∙ ap (λ (n : ℕ). n ∷ map number (held rest)) none))
+      (sym is ∙ (ap (λ (ws : List W). map number ws) top ∙ ap (λ (n : ℕ). n ∷ map number (held rest)) none))
   no_start old (Frontend rest) two (inr (x, last, begins, small, read)) r cs pos le is =
       let none : held last ≡ [] = (read.1 list).0 in
       let all : map number (held old) ≡ map number begins.words = ap (λ (ws : List W). map number ws) (begins.taken list ∙ (ap (λ (ws : List W). begins.words ++ ws) none ∙ append-nil begins.words)) in

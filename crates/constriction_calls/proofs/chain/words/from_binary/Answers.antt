@@ -1,4 +1,4 @@
-use Rattle.std.proofs.Common.{◌≡◌, ◌<◌, ◌≤◌, ◌-◌, ◌∙◌, ℕ, arith, refl, pow_pos, ap, length, map, reverse, take}
+use Rattle.std.proofs.Common.{◌≡◌, ◌∙◌, refl, ap, map, reverse, take}
 use Rattle.std.specs.declared.convert.Infallible.{Infallible}
 use Rattle.constriction_calls.proofs.ChainWords.{all_taken, of_binary, too_few}
 use Rattle.constriction_calls.proofs.chain.words.from_binary.Goals as goal

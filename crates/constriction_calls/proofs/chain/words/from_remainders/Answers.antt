@@ -1,4 +1,4 @@
-use Rattle.std.proofs.Common.{◌≡◌, ◌<◌, ◌≤◌, ◌-◌, ◌∙◌, ℕ, arith, refl, pow_pos, ap, length, map, reverse, take}
+use Rattle.std.proofs.Common.{◌≡◌, ◌<◌, ◌-◌, ◌∙◌, arith, refl, pow_pos, ap, map, reverse, take}
 use Rattle.std.specs.declared.convert.Infallible.{Infallible}
 use Rattle.constriction_base.specs.Backends.{Reads}
 use Rattle.constriction_base.proofs.Exporting.{base_two}
@@ -40,5 +40,5 @@ returns-in-Err-clause-variant g c = (
       let words : map n (reverse (take c.new_at_write_end-cursor.result.pos c.new_at_write_end-cursor.result.buf.now)) ≡ map n (reverse c.args.words.now) = rw c.new_at_write_end-cursor.ensures (all_taken n c.args.words.now) in
       let some : 0 < from.0.r = omega (arith, from.1.chain.window.from, pow_pos (g.State.BitArray.BITS - g.Word.BitArray.BITS - g.row.PRECISION)) in
       absurd (no_heads {E = Infallible} n (λ cursor. reverse (take cursor.pos cursor.buf.now)) (Unit {0})
-          (λ old answer new. Reads (reverse (take old.pos old.buf.now)) answer (reverse (take new.pos new.buf.now)) × (new.buf ≡ old.buf)) _ _ tt (λ never. elim never [ ]) c.new_at_write_end-cursor.result _ (base_two g.Word.BitArray.BITS c.requires.sized.sizes.some_bits) c.in-Err.ensures.err from.0.h from.0.r from.0.remainders from.1.chain.some some from.1.chain.window.from (words ∙ from.1.are)),
+      (λ old answer new. Reads (reverse (take old.pos old.buf.now)) answer (reverse (take new.pos new.buf.now)) × (new.buf ≡ old.buf)) _ _ tt (λ never. elim never [ ]) c.new_at_write_end-cursor.result _ (base_two g.Word.BitArray.BITS c.requires.sized.sizes.some_bits) c.in-Err.ensures.err from.0.h from.0.r from.0.remainders from.1.chain.some some from.1.chain.window.from (words ∙ from.1.are)),
 )

@@ -1,4 +1,4 @@
-use Rattle.std.proofs.Common.{◌≡◌, ◌≤◌, arith, length, refl}
+use Rattle.std.proofs.Common.{◌≤◌, arith, length, refl}
 use Rattle.constriction_calls.proofs.ChainWords.{no_room}
 use Rattle.constriction_calls.proofs.chain.words.into_binary.Goals as goal
 
