@@ -14,4 +14,5 @@
 //! ```
 #![tactic(auto)]
 
+pub mod chain;
 pub mod codes;
