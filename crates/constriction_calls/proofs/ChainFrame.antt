@@ -1,5 +1,5 @@
 -- Words that lie below those that a chain coder's steps read and write stay there.
-use Rattle.std.proofs.Common.{◌≡◌, ◌⊎◌, ℕ, ◌+◌, ◌-◌, ◌^◌, ◌<◌, ◌≤◌, List, [], ◌∷◌, ◌++◌, length, map, take, drop, refl, sym, ap, ◌∙◌, subst, arith, inl, inr, append_assoc}
+use Rattle.std.proofs.Common.{◌≡◌, ◌⊎◌, ℕ, ◌+◌, ◌*◌, ◌-◌, ◌^◌, ◌<◌, ◌≤◌, List, [], ◌∷◌, ◌++◌, length, map, take, drop, refl, sym, ap, ap₂, ◌∙◌, subst, arith, inl, inr, append_assoc}
 use Rattle.std.specs.Prelude.{Err, IfErr, Ok, Result, reverse}
 use Rattle.std.specs.List.{AllByRecursion}
 use Rattle.std.proofs.lemmas.List.{drop-map, length-append, length-map, length-reverse, length-take-le, map-append, reverse-append, take-append-drop, take-append-le}
@@ -7,8 +7,8 @@ use Rattle.std.proofs.Math.Seq.{drop-append_seam}
 use Rattle.constriction_base.specs.Models.{Item, Model, items_of}
 use Rattle.constriction_base.specs.Steps.{AreWords, Step}
 use Rattle.constriction_base.proofs.Turns.{drop_turned}
-use Rattle.constriction_chain.specs.Chain.{ChainState, IsChain, IsDecode, IsEncode}
-use Rattle.constriction_chain.specs.Symbols.{PutsBackAll, TakesOffAll}
+use Rattle.constriction_chain.specs.Chain.{ChainState, IsBroughtBelow, IsChain, IsDecode, IsEncode, least}
+use Rattle.constriction_chain.specs.Symbols.{PutsBack, PutsBackAll, TakesOffAll}
 use Rattle.constriction_chain.proofs.Below.{decodes_part}
 use Rattle.constriction_chain.proofs.Chains.{decode_from, state, state_same, words_fit}
 use Rattle.constriction_chain.proofs.Walks.{quantile_over}

@@ -1,9 +1,10 @@
 -- Steps of a chain coder over lent words, and what stops them.
-use Rattle.std.proofs.Common.{◌≡◌, ℕ, zero, suc, ◌+◌, ◌-◌, ◌*◌, ◌<◌, ◌≤◌, List, [], ◌∷◌, ◌++◌, Option, Result, Ok, Err, None, inl, inr, map, drop, take, length, get_or, ap, subst, arith, append_assoc, ◌∙◌}
+use Rattle.std.proofs.Common.{◌≡◌, ◌⊎◌, ℕ, zero, suc, ◌+◌, ◌-◌, ◌*◌, ◌<◌, ◌≤◌, List, [], ◌∷◌, ◌++◌, Option, Result, Ok, Err, None, inl, inr, map, drop, take, length, get_or, ap, sym, subst, arith, append_assoc, ◌∙◌}
 use Rattle.std.specs.Prelude.{reverse}
-use Rattle.std.proofs.lemmas.List.{drop_more, map-append, reverse-append, reverse-reverse}
+use Rattle.std.specs.List.{AllByRecursion}
+use Rattle.std.proofs.lemmas.List.{drop_more, length-reverse, map-append, reverse-append, reverse-reverse}
 use Rattle.constriction_base.specs.declared.errors.CoderError.{CoderError}
-use Rattle.constriction_base.specs.declared.errors.CoderError.TheVariants.{Frontend}
+use Rattle.constriction_base.specs.declared.errors.CoderError.TheVariants.{Frontend, Backend}
 use Rattle.constriction_base.specs.Models.{AreKnown, Item, Knows, Model, item_of, items_of}
 use Rattle.constriction_base.specs.Tables.{AtEntry, Impossible}
 use Rattle.constriction_base.proofs.Turns.{reverse_at}

@@ -1,6 +1,6 @@
 -- The table of weights, by the weights as words.
 use Rattle.std.specs.Prelude.{sum}
-use Rattle.std.proofs.Common.{◌≡◌, ℕ, ◌-◌, ◌^◌, ◌<◌, ◌≤◌, List, length, get_or, map, take, arith, sym, ap, ◌∙◌}
+use Rattle.std.proofs.Common.{◌≡◌, ℕ, ◌+◌, ◌-◌, ◌^◌, ◌<◌, ◌≤◌, List, length, get_or, map, take, arith, sym, ap, ◌∙◌}
 use Rattle.std.specs.List.{sum_by}
 use Rattle.std.proofs.Math.Pow.{pow_mono}
 use Rattle.std.proofs.lemmas.List.{length-map, take-map, get_or-map}

@@ -1,6 +1,6 @@
 -- What a row of weights is as a model: laws that its impls cite.
 use Rattle.std.proofs.Common.{◌≡◌, ℕ, ◌<◌, ◌≤◌, ◌^◌, ◌-◌, List, [], ◌∷◌, zero, suc, length, get_or, map, arith, pow_pos, ap}
-use Rattle.constriction_base.specs.Tables.{table_of}
+use Rattle.constriction_base.specs.Tables.{Has, table_of}
 use Rattle.constriction_base.specs.laws.Weights.{at_least_two, has_only, weights_make_table}
 use Rattle.constriction_calls.specs.Weights.{IsTotal}
 

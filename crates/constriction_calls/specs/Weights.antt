@@ -1,5 +1,5 @@
 -- Tables by weights: one for all symbols, or a row of weights for each.
-use Rattle.std.specs.Prelude.{◌≡◌, ℕ, zero, suc, ◌^◌, List, [], ◌∷◌, ⊤, sum, take, drop}
+use Rattle.std.specs.Prelude.{◌≡◌, ℕ, zero, suc, ◌*◌, ◌^◌, List, [], ◌∷◌, ⊤, sum, take, drop, length}
 use Rattle.constriction_base.specs.Tables.{table_of}
 use Rattle.constriction_base.specs.Models.{Model, Item, item_of}
 

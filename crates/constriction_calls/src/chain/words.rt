@@ -66,8 +66,8 @@ pub fn from_compressed<Word: WordOf<State>, State: BitArray, const PRECISION: us
     ensures variant { IsOk result ↔ ((x : ChainState) × FromCompressed Word.BITS State.BITS PRECISION (map Word.number (reverse words.now)) x) }
     ensures err { IfErr result (λ e. e ≡ refusals.InvalidData) }
 {
-    let cursor = Cursor::new_at_write_end(words);
-    match Compressed::<'_, Word, State, PRECISION>::from_compressed(alloc, cursor) {
+    let compressed = Cursor::new_at_write_end(words);
+    match Compressed::<'_, Word, State, PRECISION>::from_compressed(alloc, compressed) {
         Ok(coder) => {
             let (rest, _, both) = coder.into_raw_parts();
             let (_, len) = rest.into_buf_and_pos();
@@ -100,8 +100,8 @@ pub fn from_binary<Word: WordOf<State>, State: BitArray, const PRECISION: usize>
     ensures variant { IsOk result ↔ ((x : ChainState) × FromBinary Word.BITS State.BITS PRECISION (map Word.number (reverse words.now)) x) }
     ensures err { IfErr result (λ e. e ≡ refusals.InvalidData) }
 {
-    let cursor = Cursor::new_at_write_end(words);
-    match Compressed::<'_, Word, State, PRECISION>::from_binary(alloc, cursor) {
+    let binary = Cursor::new_at_write_end(words);
+    match Compressed::<'_, Word, State, PRECISION>::from_binary(alloc, binary) {
         Ok(coder) => {
             let (rest, _, both) = coder.into_raw_parts();
             let (_, len) = rest.into_buf_and_pos();
@@ -134,8 +134,8 @@ pub fn from_remainders<Word: WordOf<State>, State: BitArray, const PRECISION: us
     ensures variant { IsOk result ↔ ((x : ChainState) × FromRemainders Word.BITS State.BITS PRECISION (map Word.number (reverse words.now)) x) }
     ensures err { IfErr result (λ e. e ≡ refusals.InvalidData) }
 {
-    let cursor = Cursor::new_at_write_end(words);
-    match Remainders::<'_, Word, State, PRECISION>::from_remainders(alloc, cursor) {
+    let remainders = Cursor::new_at_write_end(words);
+    match Remainders::<'_, Word, State, PRECISION>::from_remainders(alloc, remainders) {
         Ok(coder) => {
             let (_, rest, both) = coder.into_raw_parts();
             let (_, len) = rest.into_buf_and_pos();

@@ -1,6 +1,7 @@
-use Rattle.std.proofs.Common.{arith, refl, inr, ap, ◌∙◌, map, subst, sym, ◌∷◌, [], length, ◌++◌, List, ℕ, Err, ◌≡◌}
+use Rattle.std.proofs.Common.{rules, arith, refl, inl, inr, ap, ◌∙◌, map, subst, sym, ◌∷◌, [], length, ◌++◌, List, ℕ, Err, ◌≡◌}
 use Rattle.std.proofs.lemmas.List.{length-append}
 use Rattle.constriction_base.specs.Models.{Model, items_of}
+use Rattle.constriction_base.specs.Backends.{Place}
 use Rattle.constriction_base.proofs.InTurn.{InTurn-symbol}
 use Rattle.constriction_chain.specs.Symbols.{TakesOff, TakesOffAll}
 use Rattle.constriction_calls.proofs.ChainSteps.{ends_at}

@@ -1,3 +1,4 @@
+use Rattle.std.proofs.Common.{◌≡◌}
 use Rattle.constriction_calls.proofs.RowWeights.{weight_found}
 use Rattle.constriction_calls.proofs.rows.models.RowDecoderModel.quantile_function.Goals as goal
 
