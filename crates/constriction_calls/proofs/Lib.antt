@@ -1,5 +1,8 @@
 mod AnsRows
 mod AnsFrame
+pub mod ChainFrame
+pub mod ChainRows
+pub mod ChainSteps
 pub mod IntervalRows
 pub mod RangeEncoded
 pub mod RangeEnding
