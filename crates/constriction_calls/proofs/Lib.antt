@@ -11,6 +11,7 @@ pub mod RangeIntervals
 pub mod RangeTaking
 pub mod RowItems
 pub mod RowTables
+pub mod ChainWords
 pub mod RowWeights
 pub mod Stacked
 mod SymbolLists

@@ -3,6 +3,7 @@ pub mod Buffers
 pub mod ChainCalls
 pub mod ChainFits
 pub mod ChainIntervals
+pub mod ChainWords
 pub mod Intervals
 pub mod RangeCalls
 pub mod Rows

@@ -10,6 +10,7 @@ ghost use Rattle.constriction_calls.specs.Intervals.{AreIntervals, interval_item
 ghost use Rattle.constriction_calls.specs.Weights.{AreTotals, IsTotal, row_items, weights_model};
 ghost use Rattle.constriction_chain.specs.Symbols.{PutsBackAll, TakesOffAll};
 
+use crate::chain::ChainHeadsU16;
 use crate::codes::code_of;
 use constriction_calls::chain::{
     ChainHeads, decode, decode_each, encode_each_reverse, encode_intervals_reverse, encode_reverse,
@@ -17,21 +18,11 @@ use constriction_calls::chain::{
 use constriction_words::BitArray;
 use std::alloc::Global;
 
-/// The two heads of a chain coder.
-#[derive(Clone, Copy)]
-#[repr(C)]
-pub struct Heads {
-    /// The number of the remainders.
-    pub remainders: u32,
-    /// A 1, and the bits left over of the compressed words.
-    pub compressed: u16,
-}
-
 /// `decode`: symbols decoded by the weights of one table, one after the other.
 #[unsafe(no_mangle)]
 pub extern "C" fn constriction_chain_decode_u16(
     alloc: Global,
-    heads: &mut Heads,
+    heads: &mut ChainHeadsU16,
     compressed: &[u16],
     compressed_len: &mut usize,
     remainders: &mut [u16],
@@ -76,7 +67,7 @@ pub extern "C" fn constriction_chain_decode_u16(
         weights,
         symbols,
     );
-    *heads = Heads {
+    *heads = ChainHeadsU16 {
         remainders: both.remainders,
         compressed: both.compressed,
     };
@@ -87,7 +78,7 @@ pub extern "C" fn constriction_chain_decode_u16(
 #[unsafe(no_mangle)]
 pub extern "C" fn constriction_chain_decode_each_u16(
     alloc: Global,
-    heads: &mut Heads,
+    heads: &mut ChainHeadsU16,
     compressed: &[u16],
     compressed_len: &mut usize,
     remainders: &mut [u16],
@@ -134,7 +125,7 @@ pub extern "C" fn constriction_chain_decode_each_u16(
         width,
         symbols,
     );
-    *heads = Heads {
+    *heads = ChainHeadsU16 {
         remainders: both.remainders,
         compressed: both.compressed,
     };
@@ -145,7 +136,7 @@ pub extern "C" fn constriction_chain_decode_each_u16(
 #[unsafe(no_mangle)]
 pub extern "C" fn constriction_chain_encode_reverse_u16(
     alloc: Global,
-    heads: &mut Heads,
+    heads: &mut ChainHeadsU16,
     compressed: &mut [u16],
     compressed_len: &mut usize,
     remainders: &[u16],
@@ -189,7 +180,7 @@ pub extern "C" fn constriction_chain_encode_reverse_u16(
         weights,
         symbols,
     );
-    *heads = Heads {
+    *heads = ChainHeadsU16 {
         remainders: both.remainders,
         compressed: both.compressed,
     };
@@ -200,7 +191,7 @@ pub extern "C" fn constriction_chain_encode_reverse_u16(
 #[unsafe(no_mangle)]
 pub extern "C" fn constriction_chain_encode_each_reverse_u16(
     alloc: Global,
-    heads: &mut Heads,
+    heads: &mut ChainHeadsU16,
     compressed: &mut [u16],
     compressed_len: &mut usize,
     remainders: &[u16],
@@ -247,7 +238,7 @@ pub extern "C" fn constriction_chain_encode_each_reverse_u16(
         width,
         symbols,
     );
-    *heads = Heads {
+    *heads = ChainHeadsU16 {
         remainders: both.remainders,
         compressed: both.compressed,
     };
@@ -258,7 +249,7 @@ pub extern "C" fn constriction_chain_encode_each_reverse_u16(
 #[unsafe(no_mangle)]
 pub extern "C" fn constriction_chain_encode_intervals_reverse_u16(
     alloc: Global,
-    heads: &mut Heads,
+    heads: &mut ChainHeadsU16,
     compressed: &mut [u16],
     compressed_len: &mut usize,
     remainders: &[u16],
@@ -301,7 +292,7 @@ pub extern "C" fn constriction_chain_encode_intervals_reverse_u16(
         lefts,
         ps,
     );
-    *heads = Heads {
+    *heads = ChainHeadsU16 {
         remainders: both.remainders,
         compressed: both.compressed,
     };
