@@ -1,4 +1,4 @@
-/* Proved entropy coders as C functions: a stack coder (ANS), a range coder, Huffman and Exp-Golomb codewords.
+/* Proved entropy coders as C functions: a stack coder (ANS), a range coder, a chain coder, Huffman and Exp-Golomb codewords.
 
    For C99 and later, and for C++. Link with the static library build/libconstriction.a, or with the shared object
    build/libconstriction.so, both of which tools/library makes. docs/C_AND_PYTHON.md is a page on what is proved of these
@@ -213,6 +213,89 @@ uint32_t constriction_range_seek_u32(struct constriction_range_decoder_state_u32
 uint32_t constriction_range_maybe_exhausted_u32(const struct constriction_range_decoder_state_u32 *decoder,
                                                 const uint32_t *words, size_t word_count, uint32_t *maybe);
 
+/* ---- The chain coder: a symbol is read from 24 bits of the words, whatever the models of the other symbols are ----
+
+   State: heads, compressed[0] .. compressed[*compressed_len - 1] and remainders[0] .. remainders[*remainders_len - 1], both with
+   the last word on top. A decode takes from compressed and puts on remainders, an encode the other way. */
+
+struct constriction_chain_heads_u32 {
+    uint64_t remainders; /* 2^8 at least, and below 2^40 */
+    uint32_t compressed; /* a 1 and then the bits left over; never 0 */
+};
+
+/* A coder over words, the last of which isn't 0: writes how many of them stay in compressed, and the heads. Remainders are empty.
+   Refusal: INVALID_DATA (too few words, or a zero word at the end). */
+uint32_t constriction_chain_from_compressed_u32(const uint32_t *words, size_t word_count, size_t *compressed_len,
+                                                struct constriction_chain_heads_u32 *heads);
+
+/* A coder over any words at all. Remainders are empty. Refusal: INVALID_DATA (too few words). */
+uint32_t constriction_chain_from_binary_u32(const uint32_t *words, size_t word_count, size_t *compressed_len,
+                                            struct constriction_chain_heads_u32 *heads);
+
+/* The coder that into_remainders gave these words: writes how many of them stay in remainders, and the heads. Compressed is empty.
+   Refusal: INVALID_DATA (too few words, or zero words at the end). */
+uint32_t constriction_chain_from_remainders_u32(const uint32_t *words, size_t word_count, size_t *remainders_len,
+                                                struct constriction_chain_heads_u32 *heads);
+
+/* Decodes symbol_count symbols.
+   Refusals: WRONG_LENGTH (*compressed_len > compressed_count or *remainders_len > capacity), WRONG_WEIGHTS, INVALID_DATA (no
+   coder has such heads), OUT_OF_DATA (compressed is too short), NO_SPACE (of remainders), NO_MEMORY. */
+uint32_t constriction_chain_decode_u32(struct constriction_chain_heads_u32 *heads,
+                                       const uint32_t *compressed, size_t compressed_count, size_t *compressed_len,
+                                       uint32_t *remainders, size_t capacity, size_t *remainders_len,
+                                       const uint32_t *weights, size_t weight_count,
+                                       size_t *symbols, size_t symbol_count, size_t *needed);
+
+/* The same with a row of `width` weights for each symbol. Also WRONG_LENGTH where weight_count isn't width * symbol_count. */
+uint32_t constriction_chain_decode_each_u32(struct constriction_chain_heads_u32 *heads,
+                                            const uint32_t *compressed, size_t compressed_count, size_t *compressed_len,
+                                            uint32_t *remainders, size_t capacity, size_t *remainders_len,
+                                            const uint32_t *weights, size_t weight_count, size_t width,
+                                            size_t *symbols, size_t symbol_count, size_t *needed);
+
+/* Encodes symbols, from the last one of the list to the first: the converse of decode.
+   Refusals: WRONG_LENGTH (*compressed_len > capacity or *remainders_len > remainders_count), WRONG_WEIGHTS, INVALID_DATA (no
+   coder has such heads), IMPOSSIBLE_SYMBOL, OUT_OF_DATA (remainders are too short), NO_SPACE (of compressed), NO_MEMORY. */
+uint32_t constriction_chain_encode_reverse_u32(struct constriction_chain_heads_u32 *heads,
+                                               uint32_t *compressed, size_t capacity, size_t *compressed_len,
+                                               const uint32_t *remainders, size_t remainders_count, size_t *remainders_len,
+                                               const uint32_t *weights, size_t weight_count,
+                                               const size_t *symbols, size_t symbol_count, size_t *needed);
+
+/* The same with a row of `width` weights for each symbol. Also WRONG_LENGTH where weight_count isn't width * symbol_count. */
+uint32_t constriction_chain_encode_each_reverse_u32(struct constriction_chain_heads_u32 *heads,
+                                                    uint32_t *compressed, size_t capacity, size_t *compressed_len,
+                                                    const uint32_t *remainders, size_t remainders_count,
+                                                    size_t *remainders_len,
+                                                    const uint32_t *weights, size_t weight_count, size_t width,
+                                                    const size_t *symbols, size_t symbol_count, size_t *needed);
+
+/* The same by intervals. Also WRONG_INTERVAL, and no WRONG_WEIGHTS or IMPOSSIBLE_SYMBOL. */
+uint32_t constriction_chain_encode_intervals_reverse_u32(struct constriction_chain_heads_u32 *heads,
+                                                         uint32_t *compressed, size_t capacity, size_t *compressed_len,
+                                                         const uint32_t *remainders, size_t remainders_count,
+                                                         size_t *remainders_len,
+                                                         const uint32_t *lefts, size_t left_count,
+                                                         const uint32_t *ps, size_t p_count, size_t *needed);
+
+/* Puts the words of heads->remainders behind compressed, lowest first and without leading zeros. What is left in remainders
+   belongs in front of compressed in one list of words.
+   Refusals: WRONG_LENGTH, INVALID_DATA (no coder has such heads, or bits are left over: heads->compressed isn't 1), NO_SPACE,
+   NO_MEMORY. */
+uint32_t constriction_chain_into_compressed_u32(const struct constriction_chain_heads_u32 *heads,
+                                                uint32_t *compressed, size_t capacity, size_t *compressed_len, size_t *needed);
+
+/* The converse of from_binary: the words of heads->remainders below its leading 1. INVALID_DATA also where its bit length less one
+   is no multiple of 32. */
+uint32_t constriction_chain_into_binary_u32(const struct constriction_chain_heads_u32 *heads,
+                                            uint32_t *compressed, size_t capacity, size_t *compressed_len, size_t *needed);
+
+/* Puts the words of heads->remainders, lowest first, and then heads->compressed behind remainders. What is left in compressed
+   belongs in front of remainders in one list of words.
+   Refusals: WRONG_LENGTH, INVALID_DATA (no coder has such heads), NO_SPACE, NO_MEMORY. */
+uint32_t constriction_chain_into_remainders_u32(const struct constriction_chain_heads_u32 *heads,
+                                                uint32_t *remainders, size_t capacity, size_t *remainders_len, size_t *needed);
+
 /* ---- Codewords, a whole list at a time ----
 
    Bits fill a word from its lowest one up. Queue: the codewords in the list's order, then zeros to a whole word. Stack: the last
@@ -382,6 +465,89 @@ uint32_t constriction_range_seek_u16(struct constriction_range_decoder_state_u16
    Refusals: WRONG_LENGTH (pos > word_count), INVALID_DATA (no decoder has such numbers). */
 uint32_t constriction_range_maybe_exhausted_u16(const struct constriction_range_decoder_state_u16 *decoder,
                                                 const uint16_t *words, size_t word_count, uint32_t *maybe);
+
+/* ---- The chain coder: a symbol is read from 12 bits of the words, whatever the models of the other symbols are ----
+
+   State: heads, compressed[0] .. compressed[*compressed_len - 1] and remainders[0] .. remainders[*remainders_len - 1], both with
+   the last word on top. A decode takes from compressed and puts on remainders, an encode the other way. */
+
+struct constriction_chain_heads_u16 {
+    uint32_t remainders; /* 2^4 at least, and below 2^20 */
+    uint16_t compressed; /* a 1 and then the bits left over; never 0 */
+};
+
+/* A coder over words, the last of which isn't 0: writes how many of them stay in compressed, and the heads. Remainders are empty.
+   Refusal: INVALID_DATA (too few words, or a zero word at the end). */
+uint32_t constriction_chain_from_compressed_u16(const uint16_t *words, size_t word_count, size_t *compressed_len,
+                                                struct constriction_chain_heads_u16 *heads);
+
+/* A coder over any words at all. Remainders are empty. Refusal: INVALID_DATA (too few words). */
+uint32_t constriction_chain_from_binary_u16(const uint16_t *words, size_t word_count, size_t *compressed_len,
+                                            struct constriction_chain_heads_u16 *heads);
+
+/* The coder that into_remainders gave these words: writes how many of them stay in remainders, and the heads. Compressed is empty.
+   Refusal: INVALID_DATA (too few words, or zero words at the end). */
+uint32_t constriction_chain_from_remainders_u16(const uint16_t *words, size_t word_count, size_t *remainders_len,
+                                                struct constriction_chain_heads_u16 *heads);
+
+/* Decodes symbol_count symbols.
+   Refusals: WRONG_LENGTH (*compressed_len > compressed_count or *remainders_len > capacity), WRONG_WEIGHTS, INVALID_DATA (no
+   coder has such heads), OUT_OF_DATA (compressed is too short), NO_SPACE (of remainders), NO_MEMORY. */
+uint32_t constriction_chain_decode_u16(struct constriction_chain_heads_u16 *heads,
+                                       const uint16_t *compressed, size_t compressed_count, size_t *compressed_len,
+                                       uint16_t *remainders, size_t capacity, size_t *remainders_len,
+                                       const uint16_t *weights, size_t weight_count,
+                                       size_t *symbols, size_t symbol_count, size_t *needed);
+
+/* The same with a row of `width` weights for each symbol. Also WRONG_LENGTH where weight_count isn't width * symbol_count. */
+uint32_t constriction_chain_decode_each_u16(struct constriction_chain_heads_u16 *heads,
+                                            const uint16_t *compressed, size_t compressed_count, size_t *compressed_len,
+                                            uint16_t *remainders, size_t capacity, size_t *remainders_len,
+                                            const uint16_t *weights, size_t weight_count, size_t width,
+                                            size_t *symbols, size_t symbol_count, size_t *needed);
+
+/* Encodes symbols, from the last one of the list to the first: the converse of decode.
+   Refusals: WRONG_LENGTH (*compressed_len > capacity or *remainders_len > remainders_count), WRONG_WEIGHTS, INVALID_DATA (no
+   coder has such heads), IMPOSSIBLE_SYMBOL, OUT_OF_DATA (remainders are too short), NO_SPACE (of compressed), NO_MEMORY. */
+uint32_t constriction_chain_encode_reverse_u16(struct constriction_chain_heads_u16 *heads,
+                                               uint16_t *compressed, size_t capacity, size_t *compressed_len,
+                                               const uint16_t *remainders, size_t remainders_count, size_t *remainders_len,
+                                               const uint16_t *weights, size_t weight_count,
+                                               const size_t *symbols, size_t symbol_count, size_t *needed);
+
+/* The same with a row of `width` weights for each symbol. Also WRONG_LENGTH where weight_count isn't width * symbol_count. */
+uint32_t constriction_chain_encode_each_reverse_u16(struct constriction_chain_heads_u16 *heads,
+                                                    uint16_t *compressed, size_t capacity, size_t *compressed_len,
+                                                    const uint16_t *remainders, size_t remainders_count,
+                                                    size_t *remainders_len,
+                                                    const uint16_t *weights, size_t weight_count, size_t width,
+                                                    const size_t *symbols, size_t symbol_count, size_t *needed);
+
+/* The same by intervals. Also WRONG_INTERVAL, and no WRONG_WEIGHTS or IMPOSSIBLE_SYMBOL. */
+uint32_t constriction_chain_encode_intervals_reverse_u16(struct constriction_chain_heads_u16 *heads,
+                                                         uint16_t *compressed, size_t capacity, size_t *compressed_len,
+                                                         const uint16_t *remainders, size_t remainders_count,
+                                                         size_t *remainders_len,
+                                                         const uint16_t *lefts, size_t left_count,
+                                                         const uint16_t *ps, size_t p_count, size_t *needed);
+
+/* Puts the words of heads->remainders behind compressed, lowest first and without leading zeros. What is left in remainders
+   belongs in front of compressed in one list of words.
+   Refusals: WRONG_LENGTH, INVALID_DATA (no coder has such heads, or bits are left over: heads->compressed isn't 1), NO_SPACE,
+   NO_MEMORY. */
+uint32_t constriction_chain_into_compressed_u16(const struct constriction_chain_heads_u16 *heads,
+                                                uint16_t *compressed, size_t capacity, size_t *compressed_len, size_t *needed);
+
+/* The converse of from_binary: the words of heads->remainders below its leading 1. INVALID_DATA also where its bit length less one
+   is no multiple of 16. */
+uint32_t constriction_chain_into_binary_u16(const struct constriction_chain_heads_u16 *heads,
+                                            uint16_t *compressed, size_t capacity, size_t *compressed_len, size_t *needed);
+
+/* Puts the words of heads->remainders, lowest first, and then heads->compressed behind remainders. What is left in compressed
+   belongs in front of remainders in one list of words.
+   Refusals: WRONG_LENGTH, INVALID_DATA (no coder has such heads), NO_SPACE, NO_MEMORY. */
+uint32_t constriction_chain_into_remainders_u16(const struct constriction_chain_heads_u16 *heads,
+                                                uint16_t *remainders, size_t capacity, size_t *remainders_len, size_t *needed);
 
 /* ---- Codewords, a whole list at a time ----
 

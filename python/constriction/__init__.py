@@ -1,6 +1,6 @@
 """Proved entropy coders, called through the C functions of this repository.
 
-- :mod:`constriction.stream`: coders that spend fractions of a bit on a symbol (ANS, range coding) and their models.
+- :mod:`constriction.stream`: coders that spend fractions of a bit on a symbol (ANS, range coding, chain coding) and their models.
 - :mod:`constriction.symbol`: codewords of whole bits (Huffman, Exp-Golomb).
 - :mod:`constriction.errors`: what is raised where a call is refused.
 

@@ -6,7 +6,7 @@ import ctypes
 import sys
 from array import array
 from collections.abc import Iterable
-from ctypes import addressof, byref, c_size_t, c_uint32
+from ctypes import addressof, byref, c_size_t
 from typing import Any, Union
 
 from .errors import IMPOSSIBLE_SYMBOL, ImpossibleSymbolError
@@ -158,26 +158,22 @@ class WordStack:
         """A copy of these words."""
         memory = _as_array(WORD, words)
         self.length = c_size_t(len(memory))
-        self.capacity = 0
-        self._move(memoryview(memory).cast("B"), max(len(memory), 4))
+        self._room = bytearray(memoryview(memory).cast("B"))
+        self._memory: Any = None
+        self._grow(max(len(memory), 4))
 
-    def _move(self, source: memoryview, capacity: int) -> None:
-        """Takes room for so many words, and copies those in use there, which stand in these bytes."""
-        used = 4 * self.length.value
-        if used == 4 * capacity:
-            room = bytearray(source[:used])
-        else:
-            room = bytearray(4 * capacity)
-            room[:used] = source[:used]
-        self._room = room
-        self._memory = (c_uint32 * capacity).from_buffer(room)
+    def _grow(self, capacity: int) -> None:
+        """Takes room for so many words."""
+        self._memory = None  # A bytearray can't grow while its memory is lent.
+        self._room.extend(bytes(4 * capacity - len(self._room)))
+        self._memory = (ctypes.c_char * 0).from_buffer(self._room)
         self.capacity = capacity
 
     def reserve(self, more: int) -> None:
-        """Makes room for so many more words."""
+        """Makes room for so many more words. What is there stays where it is, where the system can."""
         wanted = self.length.value + more
         if wanted > self.capacity:
-            self._move(memoryview(self._room), max(wanted, 2 * self.capacity))
+            self._grow(max(wanted, self.capacity + self.capacity // 8))
 
     def parts(self, length: c_size_t | None = None) -> tuple[Any, ...]:
         """The buffer as C functions take it: its address, its length, and the number of words in use."""

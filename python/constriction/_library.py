@@ -10,7 +10,7 @@ from typing import Any
 
 from .errors import refusal
 
-__all__ = ["RangeDecoderState", "RangeEncoderState", "call"]
+__all__ = ["ChainHeads", "RangeDecoderState", "RangeEncoderState", "call"]
 
 
 class RangeEncoderState(Structure):
@@ -23,6 +23,12 @@ class RangeDecoderState(Structure):
     """A range decoder beside its words."""
 
     _fields_ = [("lower", c_uint64), ("range", c_uint64), ("point", c_uint64), ("pos", c_size_t)]
+
+
+class ChainHeads(Structure):
+    """The two heads of a chain coder."""
+
+    _fields_ = [("remainders", c_uint64), ("compressed", c_uint32)]
 
 
 def _path() -> Path:
@@ -43,7 +49,7 @@ _length, _head, _needed = POINTER(c_size_t), POINTER(c_uint64), POINTER(c_size_t
 _buffer = [_list, _size, _length]
 _table, _rows, _pairs = [_list, _size], [_list, _size, _size], [_list, _size, _list, _size]
 _items = [_list, _size]
-_encoder, _decoder = POINTER(RangeEncoderState), POINTER(RangeDecoderState)
+_encoder, _decoder, _heads = POINTER(RangeEncoderState), POINTER(RangeDecoderState), POINTER(ChainHeads)
 
 _PARAMETERS: dict[str, list[Any]] = {
     "ans_encode_reverse": [_head, *_buffer, *_table, *_items, _needed],
@@ -65,6 +71,17 @@ _PARAMETERS: dict[str, list[Any]] = {
     "range_decode_each": [_decoder, *_items, *_rows, *_items],
     "range_seek": [_decoder, *_items, _size, c_uint64, c_uint64],
     "range_maybe_exhausted": [_decoder, *_items, POINTER(c_uint32)],
+    "chain_from_compressed": [*_buffer, _heads],
+    "chain_from_binary": [*_buffer, _heads],
+    "chain_from_remainders": [*_buffer, _heads],
+    "chain_decode": [_heads, *_buffer, *_buffer, *_table, *_items, _needed],
+    "chain_decode_each": [_heads, *_buffer, *_buffer, *_rows, *_items, _needed],
+    "chain_encode_reverse": [_heads, *_buffer, *_buffer, *_table, *_items, _needed],
+    "chain_encode_each_reverse": [_heads, *_buffer, *_buffer, *_rows, *_items, _needed],
+    "chain_encode_intervals_reverse": [_heads, *_buffer, *_buffer, *_pairs, _needed],
+    "chain_into_compressed": [_heads, *_buffer, _needed],
+    "chain_into_binary": [_heads, *_buffer, _needed],
+    "chain_into_remainders": [_heads, *_buffer, _needed],
     "huffman_encode_queue": [*_table, *_items, *_buffer, _needed],
     "huffman_encode_stack": [*_table, *_items, *_buffer, _needed],
     "huffman_decode_queue": [*_table, *_items, *_items],

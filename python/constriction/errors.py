@@ -57,6 +57,7 @@ ENDS_WITH_ZERO_WORD = (
 )
 NOT_ENOUGH_WORDS = "not enough words, or a zero word at the end"
 OUT_OF_COMPRESSED_DATA = "Out of compressed data."
+OUT_OF_REMAINDERS = "Out of remainders information from previous decoding."
 CODEWORD_ENDED = "The compressed data ended before the current codeword was complete."
 INVALID_CODEWORD = "Invalid codeword for this codebook: Invalid Exp-Golomb codeword."
 NO_WHOLE_WORDS = "the coder holds no whole number of words"

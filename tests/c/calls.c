@@ -25,10 +25,11 @@ struct world {
     state head;
     struct C(range_encoder_state) encoder;
     struct C(range_decoder_state) decoder;
-    size_t len, needed, capacity;
+    struct C(chain_heads) heads;
+    size_t len, other_len, needed, capacity;
     uint32_t maybe;
     word before[GUARD], words[ROOM], behind[GUARD];
-    word numbers[COUNT];
+    word other[ROOM], numbers[COUNT];
     size_t symbols[COUNT];
 };
 
@@ -48,10 +49,11 @@ static int equal(const struct world *a, const struct world *b) {
         && a->encoder.held == b->encoder.held && a->encoder.first == b->encoder.first
         && a->decoder.lower == b->decoder.lower && a->decoder.range == b->decoder.range
         && a->decoder.point == b->decoder.point && a->decoder.pos == b->decoder.pos
-        && a->len == b->len && a->needed == b->needed && a->capacity == b->capacity
+        && a->heads.remainders == b->heads.remainders && a->heads.compressed == b->heads.compressed
+        && a->len == b->len && a->other_len == b->other_len && a->needed == b->needed && a->capacity == b->capacity
         && a->maybe == b->maybe
         && !memcmp(a->before, b->before, sizeof a->before) && !memcmp(a->words, b->words, sizeof a->words)
-        && !memcmp(a->behind, b->behind, sizeof a->behind)
+        && !memcmp(a->behind, b->behind, sizeof a->behind) && !memcmp(a->other, b->other, sizeof a->other)
         && !memcmp(a->numbers, b->numbers, sizeof a->numbers) && !memcmp(a->symbols, b->symbols, sizeof a->symbols);
 }
 
@@ -60,11 +62,12 @@ static struct world fresh(void) {
     struct world w;
     memset(&w, 0, sizeof w);
     for (size_t i = 0; i < GUARD; i++) w.before[i] = (word)(50000 + i), w.behind[i] = (word)(51000 + i);
-    for (size_t i = 0; i < ROOM; i++) w.words[i] = (word)(52000 + i);
+    for (size_t i = 0; i < ROOM; i++) w.words[i] = (word)(52000 + i), w.other[i] = (word)(53000 + i);
     for (size_t i = 0; i < COUNT; i++) w.numbers[i] = (word)(54000 + i), w.symbols[i] = 55000 + i;
     w.needed = 56000, w.maybe = 57000, w.capacity = ROOM;
     C(range_encoder)(&w.encoder);
     C(range_from_compressed)(w.words, 0, &w.decoder);
+    w.heads.remainders = (state)1 << (8 * sizeof(state) - BITS - PRECISION), w.heads.compressed = 1;
     return w;
 }
 
@@ -135,6 +138,20 @@ static uint32_t range_decode(struct world *w) { return C(range_decode)(&w->decod
 static uint32_t range_decode_each(struct world *w) { return C(range_decode_each)(&w->decoder, w->words, w->len, ROWS, TAKEN); }
 static uint32_t range_maybe(struct world *w) { return C(range_maybe_exhausted)(&w->decoder, w->words, w->len, &w->maybe); }
 
+#define OTHER w->other, (size_t)ROOM, &w->other_len
+static uint32_t chain_import(struct world *w) { return C(chain_from_compressed)(w->other, w->other_len, &w->other_len, &w->heads); }
+static uint32_t chain_import_binary(struct world *w) { return C(chain_from_binary)(w->other, w->other_len, &w->other_len, &w->heads); }
+static uint32_t chain_import_remainders(struct world *w) { return C(chain_from_remainders)(w->other, w->other_len, &w->other_len, &w->heads); }
+static uint32_t chain_decode(struct world *w) { return C(chain_decode)(&w->heads, OTHER, BUFFER, TABLE, TAKEN, &w->needed); }
+static uint32_t chain_decode_each(struct world *w) { return C(chain_decode_each)(&w->heads, OTHER, BUFFER, ROWS, TAKEN, &w->needed); }
+static uint32_t chain_encode(struct world *w) { return C(chain_encode_reverse)(&w->heads, BUFFER, OTHER, TABLE, GIVEN, &w->needed); }
+static uint32_t chain_encode_each(struct world *w) { return C(chain_encode_each_reverse)(&w->heads, BUFFER, OTHER, ROWS, GIVEN, &w->needed); }
+static uint32_t chain_encode_pairs(struct world *w) { return C(chain_encode_intervals_reverse)(&w->heads, BUFFER, OTHER, PAIRS, &w->needed); }
+static uint32_t chain_encode_row_pairs(struct world *w) { return C(chain_encode_intervals_reverse)(&w->heads, BUFFER, OTHER, ROW_PAIRS, &w->needed); }
+static uint32_t chain_export(struct world *w) { return C(chain_into_compressed)(&w->heads, BUFFER, &w->needed); }
+static uint32_t chain_export_binary(struct world *w) { return C(chain_into_binary)(&w->heads, BUFFER, &w->needed); }
+static uint32_t chain_export_remainders(struct world *w) { return C(chain_into_remainders)(&w->heads, BUFFER, &w->needed); }
+
 static uint32_t huffman_queue(struct world *w) { return C(huffman_encode_queue)(TREE, GIVEN, BUFFER, &w->needed); }
 static uint32_t huffman_stack(struct world *w) { return C(huffman_encode_stack)(TREE, GIVEN, BUFFER, &w->needed); }
 static uint32_t huffman_from_queue(struct world *w) { return C(huffman_decode_queue)(TREE, w->words, w->len, TAKEN); }
@@ -166,6 +183,7 @@ static void done(const char *about, call *run, struct world *w) {
     if (result) printf("%s: %u in place of DONE\n", about, result);
     CHECK(about, result == CONSTRICTION_DONE);
     CHECK(about, !memcmp(w->before, old.before, sizeof w->before) && !memcmp(w->behind, old.behind, sizeof w->behind));
+    CHECK(about, !memcmp(w->other, old.other, sizeof w->other));
     CHECK(about, w->needed == old.needed && w->capacity == old.capacity);
     size_t from = w->len < old.len ? old.len : w->len;
     CHECK(about, from <= ROOM && !memcmp(w->words + from, old.words + from, (ROOM - from) * sizeof(word)));
@@ -407,6 +425,95 @@ static void range(size_t count) {
     }
 }
 
+static void chain(size_t count) {
+    struct world start = fresh(), w;
+    draw(count);
+    for (size_t i = 0; i < ROOM; i++) start.other[i] = (word)random_below((uint64_t)1 << BITS);
+    start.other_len = ROOM, start.other[ROOM - 1] |= 1;
+    done("chain: import", chain_import, &start);
+    every_length("chain: decode", chain_decode, &start, 1);
+    every_length("chain: decode under rows", chain_decode_each, &start, 1);
+    refused_memory("chain: decode, memory", chain_decode, &start);
+    refused_memory("chain: decode under rows, memory", chain_decode_each, &start);
+    every_length("chain: export", chain_export, &start, 1);
+    refused_memory("chain: export, memory", chain_export, &start);
+
+    for (int each = 0; each < 2; each++) {
+        struct world kept = start;
+        kept.len = 2;
+        w = kept;
+        done("chain: decode", each ? chain_decode_each : chain_decode, &w);
+        every_length("chain: export of remainders", chain_export_remainders, &w, 1);
+        refused_memory("chain: export of remainders, memory", chain_export_remainders, &w);
+
+        /* The two sides change places, so that an encode writes behind what was left over. */
+        struct world back = w;
+        memcpy(back.words, w.other, sizeof back.words), memcpy(back.other, w.words, sizeof back.other);
+        back.len = w.other_len, back.other_len = w.len;
+        memcpy(in.symbols, w.symbols, sizeof in.symbols);
+        for (size_t i = 0; i < in.count; i++) {
+            in.lefts[i] = left_of(in.weights, in.symbols[i]), in.ps[i] = in.weights[in.symbols[i]];
+            in.row_lefts[i] = left_of(in.rows + i * KINDS, in.symbols[i]), in.row_ps[i] = in.rows[i * KINDS + in.symbols[i]];
+        }
+        call *encode = each ? chain_encode_each : chain_encode;
+        same("chain: intervals", encode, each ? chain_encode_row_pairs : chain_encode_pairs, &back);
+        every_length("chain: encode", encode, &back, 1);
+        every_length("chain: encode by intervals", each ? chain_encode_row_pairs : chain_encode_pairs, &back, 1);
+        refused_memory("chain: encode, memory", encode, &back);
+        if (count) refuses_symbols("chain: encode refuses", chain_encode, chain_encode_each, chain_encode_pairs, &back);
+        done("chain: encode", encode, &back);
+        CHECK("chain: there and back", back.len == start.other_len && back.other_len == 2
+              && back.heads.remainders == start.heads.remainders && back.heads.compressed == start.heads.compressed
+              && !memcmp(back.words, start.other, back.len * sizeof(word)));
+    }
+    if (count) refuses_models("chain: decode refuses", chain_decode, chain_decode_each, &start);
+
+    w = start, w.other_len = 0;
+    if (count > 2) {
+        refuses("chain: out of compressed data", chain_decode, &w, CONSTRICTION_OUT_OF_DATA);
+        refuses("chain: out of compressed data under rows", chain_decode_each, &w, CONSTRICTION_OUT_OF_DATA);
+    }
+    w.heads.remainders = (state)1 << (8 * sizeof(state) - BITS - PRECISION);
+    if (count) {
+        in.ps[count - 1] = (word)WHOLE, in.lefts[count - 1] = 0;
+        refuses("chain: out of remainders", chain_encode_pairs, &w, CONSTRICTION_OUT_OF_DATA);
+    }
+    refuses("chain: no words", chain_import, &w, CONSTRICTION_INVALID_DATA);
+    refuses("chain: no words, binary", chain_import_binary, &w, CONSTRICTION_INVALID_DATA);
+    refuses("chain: no words, remainders", chain_import_remainders, &w, CONSTRICTION_INVALID_DATA);
+    w.other_len = 2, w.other[1] = 0;
+    refuses("chain: a zero word", chain_import, &w, CONSTRICTION_INVALID_DATA);
+    refuses("chain: a zero word, remainders", chain_import_remainders, &w, CONSTRICTION_INVALID_DATA);
+    w.heads.remainders = 0;
+    refuses("chain: heads that are none", chain_decode, &w, CONSTRICTION_INVALID_DATA);
+    refuses("chain: encode by none", chain_encode, &w, CONSTRICTION_INVALID_DATA);
+    refuses("chain: export of none", chain_export_remainders, &w, CONSTRICTION_INVALID_DATA);
+    w = start, w.heads.compressed = 2;
+    refuses("chain: bits left over", chain_export, &w, CONSTRICTION_INVALID_DATA);
+    refuses("chain: bits left over, binary", chain_export_binary, &w, CONSTRICTION_INVALID_DATA);
+
+    /* Through exports and imports. */
+    w = start;
+    done("chain: decode", chain_decode, &w);
+    done("chain: export of remainders", chain_export_remainders, &w);
+    struct world back = fresh();
+    memcpy(back.other, w.words, sizeof back.other), back.other_len = w.len;
+    done("chain: import of remainders", chain_import_remainders, &back);
+    CHECK("chain: the same heads", back.heads.remainders == w.heads.remainders && back.heads.compressed == w.heads.compressed);
+    memcpy(in.symbols, w.symbols, sizeof in.symbols);
+    memcpy(back.words, w.other, sizeof back.words), back.len = w.other_len;
+    done("chain: encode", chain_encode, &back);
+    done("chain: export", chain_export, &back);
+    CHECK("chain: the words come back", back.len == ROOM && !memcmp(back.words, start.other, sizeof back.words));
+
+    w = start, w.other_len = ROOM, w.other[ROOM - 1] = 0;
+    done("chain: any words", chain_import_binary, &w);
+    memcpy(w.words, w.other, sizeof w.words), w.len = w.other_len, w.other_len = 0;
+    every_length("chain: export of any words", chain_export_binary, &w, 1);
+    done("chain: export of any words", chain_export_binary, &w);
+    CHECK("chain: any words come back", w.len == ROOM && !memcmp(w.words, w.other, sizeof w.words));
+}
+
 static void codewords(size_t count) {
     struct world start = fresh(), w;
     draw(count);
@@ -450,7 +557,7 @@ static void codewords(size_t count) {
 int main(void) {
     for (int round = 0; round < 20; round++) {
         size_t count = round < 3 ? (size_t)round : 1 + random_below(COUNT);
-        ans(count), range(count), codewords(count);
+        ans(count), range(count), chain(count), codewords(count);
     }
     for (size_t i = 1; i < RESULTS; i++) CHECK("each result was seen", seen[i] > 0);
     return finish();

@@ -130,6 +130,39 @@ static void carries(size_t steps, int carry) {
     for (size_t i = 1; i < held; i++) CHECK("carries: the other words", words[i] == (carry ? 0 : (word)-1));
 }
 
+static void chain(void) {
+#if BITS == 32
+    const word data[] = {0x11223344, 0x100}, quantile = 0x223344, head = 0x111, left_over = 273;
+    const state remainders = 2149724996;
+#else
+    const word data[] = {0x1122, 0x10}, quantile = 0x122, head = 0x11, left_over = 17;
+    const state remainders = 33058;
+#endif
+    struct C(chain_heads) heads;
+    size_t compressed_len = 0, remainders_len = 0;
+    const word at_quantile[] = {quantile, 1, (word)(WHOLE - quantile - 1)};
+    CHECK("chain_default", !C(chain_from_compressed)(data, 2, &compressed_len, &heads) && compressed_len == 1
+          && heads.remainders == data[1] && heads.compressed == 1);
+    CHECK("chain_default: quantile", !C(chain_decode)(&heads, data, 2, &compressed_len, words, ROOM, &remainders_len,
+                                                     at_quantile, 3, symbols, 1, &needed)
+          && symbols[0] == 1 && heads.compressed == head && compressed_len == 0);
+    CHECK("chain_default: out of data", C(chain_decode)(&heads, data, 2, &compressed_len, words, ROOM, &remainders_len,
+                                                       at_quantile, 3, symbols, 1, &needed) == CONSTRICTION_OUT_OF_DATA);
+
+    CHECK("chain_split: import", !C(chain_from_compressed)(data, 2, &compressed_len, &heads));
+    remainders_len = 0;
+    CHECK("chain_split: decode", !C(chain_decode)(&heads, data, 2, &compressed_len, words, ROOM, &remainders_len,
+                                                 halves, 2, symbols, 1, &needed) && symbols[0] == 0 && compressed_len == 0);
+    len = remainders_len;
+    CHECK("chain_split: export", !C(chain_into_remainders)(&heads, words, ROOM, &len, &needed));
+    const word wanted[] = {(word)remainders, left_over};
+    CHECK("chain_split", are_words(wanted, 2));
+    const word zero[] = {7, 0};
+    CHECK("chain_too_short", C(chain_from_compressed)(data, 0, &len, &heads) == CONSTRICTION_INVALID_DATA);
+    CHECK("chain_too_short: binary", C(chain_from_binary)(data, 0, &len, &heads) == CONSTRICTION_INVALID_DATA);
+    CHECK("chain_too_short: zero", C(chain_from_compressed)(zero, 2, &len, &heads) == CONSTRICTION_INVALID_DATA);
+}
+
 /* Whether the words hold these bits, from the lowest up, and then zeros. Blanks part codewords. */
 static int are_bits(const char *bits) {
     size_t count = 0;
@@ -196,7 +229,7 @@ static void bits(void) {
 }
 
 int main(void) {
-    ans(), range(), bits();
+    ans(), range(), chain(), bits();
     for (size_t steps = 6; steps < 12; steps++) carries(steps, 0), carries(steps, 1);
     return finish();
 }

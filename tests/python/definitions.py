@@ -41,6 +41,30 @@ def range_words(tables: list[list[int]], symbols: list[int]) -> list[int]:
     return words + [0] * ((start + length) // LEAST == sealed)
 
 
+def chain_split(tables: list[list[int]], words: list[int]) -> tuple[list[int], list[int], list[int]]:
+    """The symbols that a chain coder decodes from words, the words left, and the remainders."""
+    words, bits, remainders, symbols = list(words), "", [], []
+    number = words.pop()
+    while number < STATE // WORD // PRECISION:
+        number = number * WORD + words.pop()
+    for weights in tables:
+        if len(bits) < 24:
+            taken = format(words.pop(), "032b")
+            bits, quantile = bits + taken[:8], int(taken[8:], 2)
+        else:
+            bits, quantile = bits[:-24], int(bits[-24:], 2)
+        symbol = max(i for i in range(len(weights)) if weights[i] and sum(weights[:i]) <= quantile)
+        number = number * weights[symbol] + quantile - sum(weights[:symbol])
+        if number >= STATE // PRECISION:
+            remainders.append(number % WORD)
+            number //= WORD
+        symbols.append(symbol)
+    while number:
+        remainders.append(number % WORD)
+        number //= WORD
+    return symbols, words, remainders + [int("1" + bits, 2)]
+
+
 def golomb_codeword(number: int) -> str:
     """The Exp-Golomb codeword of a number below 2^32."""
     bits = format(number + 1, "b")

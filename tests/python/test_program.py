@@ -9,6 +9,7 @@ import unittest
 from pathlib import Path
 
 import definitions
+from constriction.stream.chain import ChainCoder
 from constriction.stream.model import WeightTable
 from constriction.stream.queue import RangeDecoder, RangeEncoder
 from constriction.stream.stack import AnsCoder
@@ -44,6 +45,9 @@ class BesideTheProgram(unittest.TestCase):
             self.assertEqual([list(found)], answers("ans-decode", weights, [count, *words]))
             found = RangeDecoder(words).decode(model, count)
             self.assertEqual([list(found)], answers("range-decode", weights, [count, *words]))
+            chain = ChainCoder(words)
+            found = chain.decode(model, count)
+            self.assertEqual([list(it) for it in (found, *chain.get_remainders())], answers("chain-split", weights, [count, *words]))
 
     def test_codewords(self) -> None:
         dice = random.Random(11)

@@ -1,4 +1,4 @@
-"""AnsCoder, RangeEncoder and RangeDecoder."""
+"""AnsCoder, RangeEncoder, RangeDecoder and ChainCoder."""
 
 from __future__ import annotations
 
@@ -9,7 +9,8 @@ from array import array
 
 import definitions
 from constriction import errors
-from constriction.stream import queue, stack
+from constriction.stream import chain, queue, stack
+from constriction.stream.chain import ChainCoder
 from constriction.stream.model import Categorical, QuantizedGaussian, Uniform, WeightTable
 from constriction.stream.queue import RangeDecoder, RangeEncoder
 from constriction.stream.stack import AnsCoder
@@ -58,7 +59,7 @@ class TwinsExamples(unittest.TestCase):
         self.assertEqual(decoder.decode(tail, 3), [1, 3, 0])
 
     def test_docstrings(self) -> None:
-        for module in (stack, queue):
+        for module in (stack, queue, chain):
             found = doctest.testmod(module)
             self.assertGreater(found.attempted, 0)
             self.assertEqual(found.failed, 0)
@@ -197,6 +198,10 @@ class Ans(unittest.TestCase):
         self.assertEqual(encoder.get_compressed(), parts.get_compressed())
         self.assertEqual(coder.decode(SEVERAL, 200010), long.tolist() + TEN)
         self.assertEqual(encoder.get_decoder().decode(SEVERAL, 200010), TEN + long.tolist())
+        chain = ChainCoder(array("I", [5]) * 10000)
+        before = chain.get_remainders()
+        self.assertRaises(errors.OutOfDataError, chain.decode, HALVES, 200000)
+        self.assertEqual(chain.get_remainders(), before)
 
 
 class Range(unittest.TestCase):
@@ -211,16 +216,6 @@ class Range(unittest.TestCase):
         encoder.encode(TEN, SEVERAL)
         self.assertEqual(encoder.get_compressed(), [0, 65535, 100661761, 4294837757, 0, 4])
         self.assertEqual(encoder.get_decoder().decode(SEVERAL, 10), TEN)
-
-    def test_long_lists_are_refused_whole(self) -> None:
-        # The last point of the interval of so many zeros: no symbol's interval holds it.
-        encoder, zeros = RangeEncoder(), [0] * 70000
-        encoder.encode(zeros, Uniform(3))
-        count, (lower, length) = encoder.pos()
-        last = lower + length - 1
-        decoder = RangeDecoder([0] * count + [last >> 32, last % (1 << 32)])
-        self.assertRaises(errors.InvalidDataError, decoder.decode, Uniform(3), len(zeros) + 1)
-        self.assertEqual(decoder.decode(Uniform(3), len(zeros)), zeros)
 
     def test_invalid_data(self) -> None:
         decoder = RangeDecoder([4294967295, 4294967295])
@@ -303,6 +298,62 @@ class Range(unittest.TestCase):
                 self.assertEqual(encoder.get_compressed(), definitions.range_words(tables, [1] * (steps + 1)))
                 self.assertEqual(encoder.get_compressed()[0], (1 << 31) - (last < 0))
                 self.assertEqual(encoder.get_decoder().decode(WeightTable(), tables), [1] * (steps + 1))
+
+
+class Chain(unittest.TestCase):
+    def test_worked_rows(self) -> None:
+        coder = ChainCoder([0x11223344, 0x100])
+        self.assertEqual(coder.decode(WeightTable([0x223344, 1, 16777215 - 0x223344])), 1)
+        with self.assertRaisesRegex(errors.OutOfDataError, r"^Out of compressed data\.$"):
+            coder.decode(HALVES)
+        coder = ChainCoder([287454020, 256])
+        self.assertEqual(coder.decode(HALVES, 1), [0])
+        self.assertEqual(coder.get_remainders(), ([], [2149724996, 273]))
+        with self.assertRaises(errors.InvalidDataError):
+            coder.get_data()
+        for words, seal in (([], False), ([], True), ([7, 0], False)):
+            with self.assertRaisesRegex(errors.InvalidDataError, "^not enough words, or a zero word at the end$"):
+                ChainCoder(words, seal=seal)
+
+    def test_there_and_back(self) -> None:
+        dice = random.Random(7)
+        for seal in (False, True):
+            words = [*(dice.randrange(1 << 32) for _ in range(500)), 0 if seal else 1]
+            tables = [definitions.random_weights(dice, 5) for _ in range(400)]
+            coder = ChainCoder(words, seal=seal)
+            symbols = coder.decode(WeightTable(), tables)
+            if not seal:
+                self.assertEqual((list(symbols), *coder.get_remainders()), definitions.chain_split(tables, words))
+            left, remainders = coder.get_remainders()
+            coder.encode_reverse(symbols, WeightTable(), tables)
+            self.assertEqual(coder.get_data(unseal=seal), ([], words))
+            again = ChainCoder(left + remainders, is_remainders=True)
+            again.encode_reverse(symbols, WeightTable(), tables)
+            below, above = again.get_data(unseal=seal)
+            self.assertEqual(list(below + above), words)
+
+    def test_isolation(self) -> None:
+        dice = random.Random(8)
+        words = [dice.randrange(1, 1 << 32) for _ in range(50)]
+        one, other = ChainCoder(words), ChainCoder(words)
+        one.decode(TWO, 5), other.decode(Uniform(1000), 5)
+        self.assertEqual(one.decode(Uniform(7), 20), other.decode(Uniform(7), 20))
+
+    def test_refusals(self) -> None:
+        coder = ChainCoder([1, 2, 3, 4])
+        before = coder.get_remainders()
+        with self.assertRaises(errors.ImpossibleSymbolError):
+            coder.encode_reverse([2], HALVES)
+        with self.assertRaisesRegex(errors.OutOfDataError, r"^Out of remainders information from previous decoding\.$"):
+            coder.encode_reverse([0] * 100, Uniform(2))
+        with self.assertRaises(errors.OutOfDataError):
+            coder.decode(WeightTable(), [[8388608, 8388608]] * 100)
+        with self.assertRaises(ValueError):
+            ChainCoder([1, 2, 3], is_remainders=True, seal=True)
+        self.assertEqual(coder.get_remainders(), before)
+        copy = coder.clone()
+        copy.decode(HALVES)
+        self.assertEqual(coder.get_remainders(), before)
 
 
 if __name__ == "__main__":

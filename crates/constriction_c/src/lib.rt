@@ -15,6 +15,7 @@
 #![tactic(auto)]
 
 pub mod ans;
+pub mod chain;
 pub mod codes;
 pub mod range;
 pub mod symbol;

@@ -1,5 +1,8 @@
 mod AnsRows
 mod AnsFrame
+pub mod ChainFrame
+pub mod ChainRows
+pub mod ChainSteps
 pub mod IntervalRows
 pub mod RangeEncoded
 pub mod RangeEnding
@@ -8,6 +11,7 @@ pub mod RangeIntervals
 pub mod RangeTaking
 pub mod RowItems
 pub mod RowTables
+pub mod ChainWords
 pub mod RowWeights
 pub mod Stacked
 mod SymbolLists

@@ -1,5 +1,5 @@
 -- Symbols that words are read as: which symbol a decode takes, and that none is refused.
-use Rattle.std.proofs.Common.{◌≡◌, ℕ, zero, suc, ◌+◌, ◌-◌, ◌*◌, ◌/◌, ◌<◌, ◌≤◌, ◌^◌, ◌⊎◌, ◌↔◌, ◌==◌, Bool, true, false, IsTrue, eq-eqb, ne_eqb, List, [], ◌∷◌, Result, Ok, Err, Option, inl, inr, length, map, drop, get_or, refl, sym, ap, ◌∙◌, subst, arith, pow_pos, mod-eq_of_lt, zero-add}
+use Rattle.std.proofs.Common.{◌≡◌, ℕ, zero, suc, ◌+◌, ◌-◌, ◌*◌, ◌/◌, ◌<◌, ◌≤◌, ◌^◌, ◌⊎◌, ◌↔◌, ◌==◌, Bool, true, false, IsTrue, eq-eqb, ne_eqb, List, [], ◌∷◌, ◌++◌, Result, Ok, Err, Option, inl, inr, length, map, drop, get_or, refl, sym, ap, ◌∙◌, subst, arith, pow_pos, mod-eq_of_lt, zero-add}
 use Rattle.std.proofs.lemmas.Bool.{cases_eq, cases_lt}
 use Rattle.std.proofs.lemmas.List.{length-drop, length-map}
 use Rattle.constriction_base.specs.declared.errors.CoderError.{CoderError}
@@ -7,6 +7,7 @@ use Rattle.constriction_base.specs.Steps.{IsSizes, AreWords}
 use Rattle.constriction_base.specs.Tables.{AtEntry}
 use Rattle.constriction_base.specs.Models.{Model, Item, IsModel, AreKnown, item_of, items_of, pairs_of}
 use Rattle.constriction_base.proofs.Entering.{entry_is_step}
+use Rattle.constriction_base.proofs.InTurn.{InTurn-append}
 use Rattle.constriction_stream.specs.Symbols.{ByBackend}
 use Rattle.constriction_queue.specs.Range.{Run, IsAt, number_of_first, offset, start}
 use Rattle.constriction_queue.specs.Decoder.{Decoder, distance, quantile_read}
@@ -16,7 +17,7 @@ use Rattle.constriction_queue.proofs.Sought.{sought_is_at}
 use Rattle.constriction_queue.proofs.WordsRead.{first_point}
 use Rattle.constriction_calls.specs.Weights.{row_items, row_tables}
 use Rattle.constriction_calls.proofs.RowItems.{rows_are_items}
-use Rattle.constriction_laws.specs.queue.Symbols.{FindsAll, MayEnd, NarrowsAll, StandsAt}
+use Rattle.constriction_laws.specs.queue.Symbols.{Finds, FindsAll, MayEnd, NarrowsAll, StandsAt}
 use Rattle.constriction_laws.proofs.queue_coder.ComingBack.{decodes_unique}
 use Rattle.constriction_laws.proofs.queue_coder.ListCalls.{decodes_of, distance_is, ended_of}
 
@@ -74,6 +75,14 @@ module _ {S W B E : Type 0} (F : Type 0) (number : W → ℕ) (held : B → List
       omega (arith, high h, same, f.3.0.below, within.inside)
   never_refused model y rest r last d new e halted never m at all high (inr (x, (left, p, has, (Ok u, call, is)))) = absurd cc
   never_refused model y rest r last d new e halted never m at all high (inr (x, (left, p, has, (Err b, call, is)))) = never b
+
+  -- one symbol more, behind those taken
+  pub one_more : (items : List (Item S)) (model : Model S) (x : S) (old mid : Run) (d new : Decoder B) → FindsAll w s words items old mid → StandsAt w s words mid d
+      → AtEntry model.precision model.table x (λ step. ByBackend {F = F} (calls.DecodeCall number held is_list reads w s) d step (Ok tt) new)
+      → (last : Run) × FindsAll w s words (items ++ item_of model x ∷ []) old last × StandsAt w s words last new
+  one_more items model x old mid d new all at given =
+      let got = decodes_of F number held is_list reads w s words known (item_of model) (x ∷ []) mid d new at (new, given, refl) in
+      (got.0, InTurn-append (λ item. Finds w s words item.model item.symbol) items (item_of model x ∷ []) old mid got.0 all got.1, got.2)
 
 -- ---- lists
 pub items_next : {S : Type 0} (model : Model S) (symbols : List S) (i : ℕ) → i < length symbols

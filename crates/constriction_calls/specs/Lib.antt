@@ -1,5 +1,9 @@
 pub mod AnsCalls
 pub mod Buffers
+pub mod ChainCalls
+pub mod ChainFits
+pub mod ChainIntervals
+pub mod ChainWords
 pub mod Intervals
 pub mod RangeCalls
 pub mod Rows

@@ -6,7 +6,7 @@ use Rattle.constriction_queue.specs.Encoder.{run_of, words_held}
 use Rattle.constriction_laws.specs.queue.Symbols.{NarrowsAll}
 use Rattle.constriction_calls.specs.Buffers.{Appended}
 use Rattle.constriction_calls.specs.declared.refusal.Refusal.{Refusal}
-use Rattle.constriction_calls.specs.declared.refusal.Refusal.TheVariants.{ImpossibleSymbol, WrongWeights, WrongInterval, OutOfData}
+use Rattle.constriction_calls.specs.declared.refusal.Refusal.TheVariants.{ImpossibleSymbol, InvalidData, NoMemory, NoSpace, OutOfData, WrongInterval, WrongLength, WrongWeights}
 use Rattle.constriction_calls.specs.declared.range.parts.EncoderParts.{EncoderParts}
 use Rattle.constriction_calls.specs.declared.range.parts.DecoderParts.{DecoderParts}
 
@@ -72,11 +72,33 @@ OfIntervals ImpossibleSymbol = ⊥
 OfIntervals OutOfData = ⊥
 OfIntervals other = Unit {0}
 
+-- a refusal to put an encoder's words behind others
+abbrev pub OfWords : Refusal → Type 0
+OfWords WrongLength = Unit {0}
+OfWords InvalidData = Unit {0}
+OfWords (NoSpace needed) = Unit {0}
+OfWords NoMemory = Unit {0}
+OfWords other = ⊥
+
 -- ---- decoders
 -- the numbers are those of a decoder: the interval is long enough, and the point lies in it
 pub record IsDecoderKept {State : Type 0} (state : State → ℕ) (w s : ℕ) (d : DecoderParts State) : Type 0 where
   pub least : 2 ^ (s - w) ≤ state d.range
   pub inside : (state d.point + (2 ^ s - state d.lower)) % 2 ^ s < state d.range
+
+-- a refusal of a decode
+abbrev pub OfDecode : Refusal → Type 0
+OfDecode WrongLength = Unit {0}
+OfDecode WrongWeights = Unit {0}
+OfDecode InvalidData = Unit {0}
+OfDecode NoMemory = Unit {0}
+OfDecode other = ⊥
+
+-- a refusal of a position, or of a decoder's place
+abbrev pub OfPlace : Refusal → Type 0
+OfPlace WrongLength = Unit {0}
+OfPlace InvalidData = Unit {0}
+OfPlace other = ⊥
 
 -- such a decoder stands at this run of reading the words
 abbrev pub StandsKept : {Word State : Type 0} → (Word → ℕ) → (State → ℕ) → ℕ → ℕ → List Word → Run → DecoderParts State → Type 0

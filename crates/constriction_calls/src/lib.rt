@@ -10,10 +10,12 @@
 //! - [`ans`]: the stack coder.
 //! - [`symbol`]: lists of symbols as words of bits, and back.
 //! - [`range`]: the range coder.
+//! - [`chain`]: the chain coder.
 #![tactic(auto)]
 
 pub mod ans;
 pub mod buffers;
+pub mod chain;
 pub mod intervals;
 pub mod known;
 pub mod range;

@@ -6,6 +6,7 @@
 //! - [`words`]: the words of an encoder, and a decoder of words.
 //! - `reading`: decoders over borrowed words.
 //! - `scratch`: encodes over a vector of their own.
+//! - `taking`: symbols taken from borrowed words.
 //! - [`positions`]: going to positions, and where words may end.
 
 pub mod decoding;
@@ -14,4 +15,5 @@ pub mod parts;
 pub mod positions;
 mod reading;
 mod scratch;
+mod taking;
 pub mod words;

@@ -96,6 +96,45 @@ impl<
     {
         self.heads.is_whole()
     }
+
+    /// The coder of the words of two backends, with these heads above them.
+    #[inline]
+    pub fn from_raw_parts(
+        compressed: C,
+        remainders: R,
+        heads: ChainCoderHeads<Word, State, PRECISION>,
+    ) -> Self
+        ensures value { result ≡ value_of Word.number C.words R.words
+            (Word.number heads.0) (State.number heads.1) compressed remainders }
+        ensures coder { IsChainCoder Word.number C.words R.words Word.BITS State.BITS PRECISION result }
+    {
+        let (left_over, number) = heads.parts();
+        ChainCoder {
+            compressed,
+            remainders,
+            heads: ChainCoderHeads::of(left_over, number),
+        }
+    }
+
+    /// The backends, which hold the words below the heads, and the heads.
+    #[inline]
+    pub fn into_raw_parts(self) -> (C, R, ChainCoderHeads<Word, State, PRECISION>)
+        ensures value { self ≡ value_of Word.number C.words R.words
+            (Word.number result.2.0) (State.number result.2.1) result.0 result.1 }
+        ensures coder { IsChainCoder Word.number C.words R.words Word.BITS State.BITS PRECISION self }
+    {
+        let ChainCoder {
+            compressed,
+            remainders,
+            heads,
+        } = self;
+        let (left_over, number) = heads.parts();
+        (
+            compressed,
+            remainders,
+            ChainCoderHeads::of(left_over, number),
+        )
+    }
 }
 
 impl<

@@ -34,6 +34,8 @@ mod precisions;
 #[cfg(test)]
 mod put;
 #[cfg(test)]
+mod raw_parts;
+#[cfg(test)]
 mod readers;
 #[cfg(test)]
 mod refusals;

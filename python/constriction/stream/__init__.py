@@ -2,9 +2,10 @@
 
 - :mod:`~constriction.stream.stack`: ``AnsCoder``, last in first out.
 - :mod:`~constriction.stream.queue`: ``RangeEncoder`` and ``RangeDecoder``, first in first out.
+- :mod:`~constriction.stream.chain`: ``ChainCoder``, which reads each symbol from 24 bits of its own.
 - :mod:`~constriction.stream.model`: what symbols there are, and how likely each is.
 """
 
-from . import model, queue, stack
+from . import chain, model, queue, stack
 
-__all__ = ["model", "queue", "stack"]
+__all__ = ["chain", "model", "queue", "stack"]

@@ -6,7 +6,7 @@ ghost use Rattle.constriction_c.specs.Codes.{answer_of, needed_by};
 ghost use Rattle.constriction_c.specs.Ranges.{large_decoder, large_encoder};
 ghost use Rattle.constriction_calls.specs.Buffers.{Appended, NeedsSpace};
 ghost use Rattle.constriction_calls.specs.Intervals.{AreIntervals, interval_items};
-ghost use Rattle.constriction_calls.specs.RangeCalls.{CanEncode, IsDecoderKept, IsEncodedBy, IsEncoderKept, LacksRoom, OfIntervals, OfWeights, StandsKept, run_kept};
+ghost use Rattle.constriction_calls.specs.RangeCalls.{CanEncode, IsDecoderKept, IsEncodedBy, IsEncoderKept, LacksRoom, OfDecode, OfIntervals, OfPlace, OfWeights, OfWords, StandsKept, run_kept};
 ghost use Rattle.constriction_calls.specs.Weights.{AreTotals, IsTotal, row_items, weights_model};
 ghost use Rattle.constriction_calls.specs.declared.refusal.Refusal.TheVariants as refusals;
 ghost use Rattle.constriction_laws.specs.queue.Symbols.{FindsAll, MayEnd};
@@ -231,6 +231,7 @@ pub extern "C" fn constriction_range_into_compressed_u32(
     ensures ok { OnOk (answer_of result needed.new) ((added : List ℕ) × Appended words.old len.old added words.new len.new) }
     ensures wrong_length { IsErrOf (answer_of result needed.new) refusals.WrongLength ↔ (length words.old < len.old) }
     ensures invalid_data { IsErrOf (answer_of result needed.new) refusals.InvalidData ↔ ((len.old ≤ length words.old) × (IsEncoderKept ⟦<u32 as BitArray>⟧.number ⟦<u64 as BitArray>⟧.number 32 64 (large_encoder encoder.now) → ⊥)) }
+    ensures err { IfErr (answer_of result needed.new) OfWords }
     ensures no_space { (count : ℕ) → IsErrOf (answer_of result needed.new) (refusals.NoSpace count) → (length words.old < count) × (count ≡ length (sealed 32 64 (run_kept ⟦<u32 as BitArray>⟧.number ⟦<u64 as BitArray>⟧.number 32 64 (large_encoder encoder.now) (take len.old words.old)))) }
     ensures kept { OnErr (answer_of result needed.new) ((words.new ≡ words.old) × (len.new ≡ len.old)) }
     ensures needed { needed.new ≡ needed_by (answer_of result needed.new) needed.old }
@@ -268,6 +269,7 @@ pub extern "C" fn constriction_range_decode_u32(
     ensures wrong_weights { IsErrOf (answer_of result 0) refusals.WrongWeights ↔ ((decoder.old.pos ≤ length words.now) × (IsTotal 24 (map ⟦<u32 as BitArray>⟧.number weights.now) → ⊥)) }
     ensures no_decoder { (decoder.old.pos ≤ length words.now) × IsTotal 24 (map ⟦<u32 as BitArray>⟧.number weights.now) × (IsDecoderKept ⟦<u64 as BitArray>⟧.number 32 64 (large_decoder decoder.old) → ⊥) → IsErrOf (answer_of result 0) refusals.InvalidData }
     ensures invalid_data { IsErrOf (answer_of result 0) refusals.InvalidData → IsDecoderKept ⟦<u64 as BitArray>⟧.number 32 64 (large_decoder decoder.old) → (others : List ℕ) (old last : Run) → StandsKept ⟦<u32 as BitArray>⟧.number ⟦<u64 as BitArray>⟧.number 32 64 words.now old (large_decoder decoder.old) → FindsAll 32 64 (map ⟦<u32 as BitArray>⟧.number words.now) (items_of (weights_model 24 (map ⟦<u32 as BitArray>⟧.number weights.now)) others) old last → length others ≡ length symbols.old → ⊥ }
+    ensures err { IfErr (answer_of result 0) OfDecode }
     ensures kept { OnErr (answer_of result 0) ((decoder.new ≡ decoder.old) × (symbols.new ≡ symbols.old)) }
 {
     match decode::<u32, u64, u32, 24>(alloc, decoder.parts(), words, weights, symbols) {
@@ -294,6 +296,7 @@ pub extern "C" fn constriction_range_decode_each_u32(
     ensures wrong_weights { IsErrOf (answer_of result 0) refusals.WrongWeights ↔ ((decoder.old.pos ≤ length words.now) × (length weights.now ≡ width * length symbols.old) × (AreTotals 24 width (length symbols.old) (map ⟦<u32 as BitArray>⟧.number weights.now) → ⊥)) }
     ensures no_decoder { (decoder.old.pos ≤ length words.now) × (length weights.now ≡ width * length symbols.old) × AreTotals 24 width (length symbols.old) (map ⟦<u32 as BitArray>⟧.number weights.now) × (IsDecoderKept ⟦<u64 as BitArray>⟧.number 32 64 (large_decoder decoder.old) → ⊥) → IsErrOf (answer_of result 0) refusals.InvalidData }
     ensures invalid_data { IsErrOf (answer_of result 0) refusals.InvalidData → IsDecoderKept ⟦<u64 as BitArray>⟧.number 32 64 (large_decoder decoder.old) → (others : List ℕ) (old last : Run) → StandsKept ⟦<u32 as BitArray>⟧.number ⟦<u64 as BitArray>⟧.number 32 64 words.now old (large_decoder decoder.old) → FindsAll 32 64 (map ⟦<u32 as BitArray>⟧.number words.now) (row_items 24 width (map ⟦<u32 as BitArray>⟧.number weights.now) others) old last → length others ≡ length symbols.old → ⊥ }
+    ensures err { IfErr (answer_of result 0) OfDecode }
     ensures kept { OnErr (answer_of result 0) ((decoder.new ≡ decoder.old) × (symbols.new ≡ symbols.old)) }
 {
     match decode_each::<u32, u64, u32, 24>(alloc, decoder.parts(), words, weights, width, symbols) {
@@ -317,6 +320,7 @@ pub extern "C" fn constriction_range_seek_u32(
     ensures ok { OnOk (answer_of result 0) ((there : Run) → IsPosition 64 there pos (⟦<u64 as BitArray>⟧.number lower) (⟦<u64 as BitArray>⟧.number range) → StandsKept ⟦<u32 as BitArray>⟧.number ⟦<u64 as BitArray>⟧.number 32 64 words.now there (large_decoder decoder.new)) }
     ensures wrong_length { IsErrOf (answer_of result 0) refusals.WrongLength ↔ (length words.now < pos) }
     ensures invalid_data { IsErrOf (answer_of result 0) refusals.InvalidData ↔ ((pos ≤ length words.now) × (⟦<u64 as BitArray>⟧.number range < 2 ^ (64 - 32))) }
+    ensures err { IfErr (answer_of result 0) OfPlace }
     ensures kept { OnErr (answer_of result 0) (decoder.new ≡ decoder.old) }
 {
     match seek::<u32, u64>(words, pos, lower, range) {
@@ -339,6 +343,7 @@ pub extern "C" fn constriction_range_maybe_exhausted_u32(
     ensures one_or_none { OnOk (answer_of result 0) (maybe.new ≤ 1) }
     ensures wrong_length { IsErrOf (answer_of result 0) refusals.WrongLength ↔ (length words.now < decoder.now.pos) }
     ensures invalid_data { IsErrOf (answer_of result 0) refusals.InvalidData ↔ ((decoder.now.pos ≤ length words.now) × (IsDecoderKept ⟦<u64 as BitArray>⟧.number 32 64 (large_decoder decoder.now) → ⊥)) }
+    ensures err { IfErr (answer_of result 0) OfPlace }
     ensures kept { OnErr (answer_of result 0) (maybe.new ≡ maybe.old) }
 {
     match maybe_exhausted::<u32, u64>(words, decoder.parts()) {

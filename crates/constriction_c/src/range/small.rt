@@ -6,7 +6,7 @@ ghost use Rattle.constriction_c.specs.Codes.{answer_of, needed_by};
 ghost use Rattle.constriction_c.specs.Ranges.{small_decoder, small_encoder};
 ghost use Rattle.constriction_calls.specs.Buffers.{Appended, NeedsSpace};
 ghost use Rattle.constriction_calls.specs.Intervals.{AreIntervals, interval_items};
-ghost use Rattle.constriction_calls.specs.RangeCalls.{CanEncode, IsDecoderKept, IsEncodedBy, IsEncoderKept, LacksRoom, OfIntervals, OfWeights, StandsKept, run_kept};
+ghost use Rattle.constriction_calls.specs.RangeCalls.{CanEncode, IsDecoderKept, IsEncodedBy, IsEncoderKept, LacksRoom, OfDecode, OfIntervals, OfPlace, OfWeights, OfWords, StandsKept, run_kept};
 ghost use Rattle.constriction_calls.specs.Weights.{AreTotals, IsTotal, row_items, weights_model};
 ghost use Rattle.constriction_calls.specs.declared.refusal.Refusal.TheVariants as refusals;
 ghost use Rattle.constriction_laws.specs.queue.Symbols.{FindsAll, MayEnd};
@@ -231,6 +231,7 @@ pub extern "C" fn constriction_range_into_compressed_u16(
     ensures ok { OnOk (answer_of result needed.new) ((added : List ℕ) × Appended words.old len.old added words.new len.new) }
     ensures wrong_length { IsErrOf (answer_of result needed.new) refusals.WrongLength ↔ (length words.old < len.old) }
     ensures invalid_data { IsErrOf (answer_of result needed.new) refusals.InvalidData ↔ ((len.old ≤ length words.old) × (IsEncoderKept ⟦<u16 as BitArray>⟧.number ⟦<u32 as BitArray>⟧.number 16 32 (small_encoder encoder.now) → ⊥)) }
+    ensures err { IfErr (answer_of result needed.new) OfWords }
     ensures no_space { (count : ℕ) → IsErrOf (answer_of result needed.new) (refusals.NoSpace count) → (length words.old < count) × (count ≡ length (sealed 16 32 (run_kept ⟦<u16 as BitArray>⟧.number ⟦<u32 as BitArray>⟧.number 16 32 (small_encoder encoder.now) (take len.old words.old)))) }
     ensures kept { OnErr (answer_of result needed.new) ((words.new ≡ words.old) × (len.new ≡ len.old)) }
     ensures needed { needed.new ≡ needed_by (answer_of result needed.new) needed.old }
@@ -268,6 +269,7 @@ pub extern "C" fn constriction_range_decode_u16(
     ensures wrong_weights { IsErrOf (answer_of result 0) refusals.WrongWeights ↔ ((decoder.old.pos ≤ length words.now) × (IsTotal 12 (map ⟦<u16 as BitArray>⟧.number weights.now) → ⊥)) }
     ensures no_decoder { (decoder.old.pos ≤ length words.now) × IsTotal 12 (map ⟦<u16 as BitArray>⟧.number weights.now) × (IsDecoderKept ⟦<u32 as BitArray>⟧.number 16 32 (small_decoder decoder.old) → ⊥) → IsErrOf (answer_of result 0) refusals.InvalidData }
     ensures invalid_data { IsErrOf (answer_of result 0) refusals.InvalidData → IsDecoderKept ⟦<u32 as BitArray>⟧.number 16 32 (small_decoder decoder.old) → (others : List ℕ) (old last : Run) → StandsKept ⟦<u16 as BitArray>⟧.number ⟦<u32 as BitArray>⟧.number 16 32 words.now old (small_decoder decoder.old) → FindsAll 16 32 (map ⟦<u16 as BitArray>⟧.number words.now) (items_of (weights_model 12 (map ⟦<u16 as BitArray>⟧.number weights.now)) others) old last → length others ≡ length symbols.old → ⊥ }
+    ensures err { IfErr (answer_of result 0) OfDecode }
     ensures kept { OnErr (answer_of result 0) ((decoder.new ≡ decoder.old) × (symbols.new ≡ symbols.old)) }
 {
     match decode::<u16, u32, u16, 12>(alloc, decoder.parts(), words, weights, symbols) {
@@ -294,6 +296,7 @@ pub extern "C" fn constriction_range_decode_each_u16(
     ensures wrong_weights { IsErrOf (answer_of result 0) refusals.WrongWeights ↔ ((decoder.old.pos ≤ length words.now) × (length weights.now ≡ width * length symbols.old) × (AreTotals 12 width (length symbols.old) (map ⟦<u16 as BitArray>⟧.number weights.now) → ⊥)) }
     ensures no_decoder { (decoder.old.pos ≤ length words.now) × (length weights.now ≡ width * length symbols.old) × AreTotals 12 width (length symbols.old) (map ⟦<u16 as BitArray>⟧.number weights.now) × (IsDecoderKept ⟦<u32 as BitArray>⟧.number 16 32 (small_decoder decoder.old) → ⊥) → IsErrOf (answer_of result 0) refusals.InvalidData }
     ensures invalid_data { IsErrOf (answer_of result 0) refusals.InvalidData → IsDecoderKept ⟦<u32 as BitArray>⟧.number 16 32 (small_decoder decoder.old) → (others : List ℕ) (old last : Run) → StandsKept ⟦<u16 as BitArray>⟧.number ⟦<u32 as BitArray>⟧.number 16 32 words.now old (small_decoder decoder.old) → FindsAll 16 32 (map ⟦<u16 as BitArray>⟧.number words.now) (row_items 12 width (map ⟦<u16 as BitArray>⟧.number weights.now) others) old last → length others ≡ length symbols.old → ⊥ }
+    ensures err { IfErr (answer_of result 0) OfDecode }
     ensures kept { OnErr (answer_of result 0) ((decoder.new ≡ decoder.old) × (symbols.new ≡ symbols.old)) }
 {
     match decode_each::<u16, u32, u16, 12>(alloc, decoder.parts(), words, weights, width, symbols) {
@@ -317,6 +320,7 @@ pub extern "C" fn constriction_range_seek_u16(
     ensures ok { OnOk (answer_of result 0) ((there : Run) → IsPosition 32 there pos (⟦<u32 as BitArray>⟧.number lower) (⟦<u32 as BitArray>⟧.number range) → StandsKept ⟦<u16 as BitArray>⟧.number ⟦<u32 as BitArray>⟧.number 16 32 words.now there (small_decoder decoder.new)) }
     ensures wrong_length { IsErrOf (answer_of result 0) refusals.WrongLength ↔ (length words.now < pos) }
     ensures invalid_data { IsErrOf (answer_of result 0) refusals.InvalidData ↔ ((pos ≤ length words.now) × (⟦<u32 as BitArray>⟧.number range < 2 ^ (32 - 16))) }
+    ensures err { IfErr (answer_of result 0) OfPlace }
     ensures kept { OnErr (answer_of result 0) (decoder.new ≡ decoder.old) }
 {
     match seek::<u16, u32>(words, pos, lower, range) {
@@ -339,6 +343,7 @@ pub extern "C" fn constriction_range_maybe_exhausted_u16(
     ensures one_or_none { OnOk (answer_of result 0) (maybe.new ≤ 1) }
     ensures wrong_length { IsErrOf (answer_of result 0) refusals.WrongLength ↔ (length words.now < decoder.now.pos) }
     ensures invalid_data { IsErrOf (answer_of result 0) refusals.InvalidData ↔ ((decoder.now.pos ≤ length words.now) × (IsDecoderKept ⟦<u32 as BitArray>⟧.number 16 32 (small_decoder decoder.now) → ⊥)) }
+    ensures err { IfErr (answer_of result 0) OfPlace }
     ensures kept { OnErr (answer_of result 0) (maybe.new ≡ maybe.old) }
 {
     match maybe_exhausted::<u16, u32>(words, decoder.parts()) {

@@ -1,11 +1,11 @@
 //! Going to positions, and where words may end.
 
-ghost use Rattle.std.specs.Prelude.{◌≡◌, ◌↔◌, ◌<◌, ◌≤◌, ◌-◌, ◌^◌, ℕ, length, IfOk, IsErrOf, IsTrue, map};
+ghost use Rattle.std.specs.Prelude.{◌≡◌, ◌↔◌, ◌<◌, ◌≤◌, ◌-◌, ◌^◌, length, IfErr, IfOk, IsErrOf, IsTrue, map};
 ghost use Rattle.constriction_base.specs.Steps.{IsSizes};
 ghost use Rattle.constriction_queue.specs.Range.{Run};
 ghost use Rattle.constriction_queue.specs.States.{IsPosition};
 ghost use Rattle.constriction_laws.specs.queue.Symbols.{MayEnd};
-ghost use Rattle.constriction_calls.specs.RangeCalls.{IsDecoderKept, StandsKept};
+ghost use Rattle.constriction_calls.specs.RangeCalls.{IsDecoderKept, OfPlace, StandsKept};
 ghost use Rattle.constriction_calls.specs.declared.refusal.Refusal.TheVariants as refusals;
 
 use crate::range::parts::{DecoderParts, decoder_parts};
@@ -34,7 +34,7 @@ pub fn seek<Word: WordOf<State>, State: BitArray>(
     ensures ok { IfOk result (λ now. (there : Run) → IsPosition State.BITS there pos (State.number lower) (State.number range) →
         StandsKept Word.number State.number Word.BITS State.BITS words.now there now) }
     ensures wrong_length { IsErrOf result refusals.WrongLength ↔ (length words.now < pos) }
-    ensures no_space { (needed : ℕ) → IsErrOf result (refusals.NoSpace needed) → ⊥ }
+    ensures err { IfErr result OfPlace }
     ensures invalid_data { IsErrOf result refusals.InvalidData ↔ ((pos ≤ length words.now) × (State.number range < 2 ^ (State.BITS - Word.BITS))) }
 {
     let mut cursor = Cursor::new_at_write_beginning(words);
@@ -73,7 +73,7 @@ pub fn maybe_exhausted<Word: WordOf<State>, State: BitArray>(
     ensures ok { IfOk result (λ maybe. (there : Run) → StandsKept Word.number State.number Word.BITS State.BITS words.now there parts →
         IsTrue maybe ↔ MayEnd Word.BITS State.BITS (map Word.number words.now) there) }
     ensures wrong_length { IsErrOf result refusals.WrongLength ↔ (length words.now < parts.pos) }
-    ensures no_space { (needed : ℕ) → IsErrOf result (refusals.NoSpace needed) → ⊥ }
+    ensures err { IfErr result OfPlace }
     ensures invalid_data { IsErrOf result refusals.InvalidData ↔ ((parts.pos ≤ length words.now) × (IsDecoderKept State.number Word.BITS State.BITS parts → ⊥)) }
 {
     if parts.pos > words.len() {

@@ -1,18 +1,13 @@
 //! Decoders over the words of a caller's buffer.
 
-ghost use Rattle.std.specs.Prelude.{◌≡◌, ◌↔◌, ◌≤◌, ℕ, List, drop, length, map, IfSome, IsSome, IsTrue};
-ghost use Rattle.constriction_base.specs.Models.{items_of, pairs_of};
+ghost use Rattle.std.specs.Prelude.{◌≡◌, ◌↔◌, ◌≤◌, drop, length, map, IfSome, IsSome};
 ghost use Rattle.constriction_base.specs.Steps.{IsSizes};
-ghost use Rattle.constriction_queue.specs.Range.{Run};
-ghost use Rattle.constriction_laws.specs.queue.Symbols.{FindsAll, StandsAt};
 ghost use Rattle.constriction_calls.specs.RangeCalls.{IsDecoderKept};
 
 use crate::range::parts::DecoderParts;
 use constriction_base::backends::Seek;
 use constriction_base::cursor::Cursor;
-use constriction_base::model::{DecoderModel, EntropyModel};
 use constriction_queue::{RangeCoderState, RangeDecoder};
-use constriction_stream::decoding::Decode;
 use constriction_words::{BitArray, WordOf};
 
 /// The decoder of these numbers over the words from its place on, if they are those of a decoder.
@@ -41,54 +36,4 @@ pub fn decoder_of<'a, Word: WordOf<State>, State: BitArray>(
         Ok(decoder) => Some(decoder),
         Err(_) => None,
     }
-}
-
-/// Whether so many symbols can be taken by one model. They can, where the words are those of as many symbols from where
-/// the decoder stands.
-pub fn can_take_list<
-    'a,
-    Word: WordOf<State>,
-    State: BitArray,
-    M: DecoderModel<PRECISION, Symbol = usize>,
-    const PRECISION: usize,
->(decoder: RangeDecoder<Word, State, Cursor<Word, &'a [Word]>>, count: usize, model: &M) -> bool
-where
-    M::Probability: WordOf<Word>,
-    ensures { (words : List ℕ) (symbols : List ℕ) (old last : Run) → StandsAt Word.BITS State.BITS words old decoder.entry →
-        FindsAll Word.BITS State.BITS words (items_of record { precision = PRECISION; table = M.table model.now } symbols) old last →
-        length symbols ≡ count → IsTrue result }
-{
-    let mut decoder = decoder;
-    for _done in 0..count {
-        match Decode::<PRECISION>::decode_symbol(&mut decoder, model) {
-            Ok(_symbol) => {}
-            Err(_) => return false,
-        }
-    }
-    true
-}
-
-/// Whether a symbol can be taken by each of the models. They can, where the words are those of as many symbols from where
-/// the decoder stands.
-pub fn can_take_pairs<
-    'a,
-    Word: WordOf<State>,
-    State: BitArray,
-    M: DecoderModel<PRECISION, Symbol = usize>,
-    const PRECISION: usize,
->(decoder: RangeDecoder<Word, State, Cursor<Word, &'a [Word]>>, models: &[M]) -> bool
-where
-    M::Probability: WordOf<Word>,
-    ensures { (words : List ℕ) (symbols : List ℕ) (old last : Run) → StandsAt Word.BITS State.BITS words old decoder.entry →
-        FindsAll Word.BITS State.BITS words (pairs_of PRECISION M.table symbols models.now) old last →
-        length symbols ≡ length models.now → IsTrue result }
-{
-    let mut decoder = decoder;
-    for i in 0..models.len() {
-        match Decode::<PRECISION>::decode_symbol(&mut decoder, &models[i]) {
-            Ok(_symbol) => {}
-            Err(_) => return false,
-        }
-    }
-    true
 }

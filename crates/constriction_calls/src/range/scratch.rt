@@ -40,6 +40,7 @@ pub fn encoder_for<Word: WordOf<State>, State: BitArray>(
 /// The words that encodes by one model write, and the encoder then, whatever words stand below.
 ///
 /// `None` says that the model doesn't know a symbol, or that memory is missing.
+#[inline(never)]
 pub fn put_list<
     Word: WordOf<State>,
     State: BitArray,
@@ -72,6 +73,7 @@ where
 }
 
 /// The same with a model for each symbol.
+#[inline(never)]
 pub fn put_pairs<
     Word: WordOf<State>,
     State: BitArray,

@@ -1,12 +1,12 @@
 //! The words of an encoder, and a decoder of words.
 
-ghost use Rattle.std.specs.Prelude.{◌≡◌, ◌↔◌, ◌<◌, ◌≤◌, ◌++◌, ℕ, List, length, map, reverse, take, IfSome, IsErrOf, OnOk, OnErr};
+ghost use Rattle.std.specs.Prelude.{◌≡◌, ◌↔◌, ◌<◌, ◌≤◌, ◌++◌, ℕ, List, length, map, reverse, take, IfErr, IfSome, IsErrOf, OnOk, OnErr};
 ghost use Rattle.constriction_base.specs.Steps.{AreWords, IsSizes};
 ghost use Rattle.constriction_queue.specs.Encoder.{PartsFit, held_of, run_of};
 ghost use Rattle.constriction_queue.specs.Range.{sealed, start};
 ghost use Rattle.constriction_queue.specs.States.{lower_of, range_of};
 ghost use Rattle.constriction_calls.specs.Buffers.{Appended};
-ghost use Rattle.constriction_calls.specs.RangeCalls.{IsEncoderKept, StandsKept, run_kept};
+ghost use Rattle.constriction_calls.specs.RangeCalls.{IsEncoderKept, OfWords, StandsKept, run_kept};
 ghost use Rattle.constriction_calls.specs.declared.refusal.Refusal.TheVariants as refusals;
 
 use crate::buffers::append;
@@ -58,6 +58,7 @@ pub fn into_compressed<Word: WordOf<State>, State: BitArray>(
     ensures ok { OnOk result ((added : List Word) × Appended buffer.old len.old added buffer.new len.new) }
     ensures wrong_length { IsErrOf result refusals.WrongLength ↔ (length buffer.old < len.old) }
     ensures invalid_data { IsErrOf result refusals.InvalidData ↔ ((len.old ≤ length buffer.old) × (IsEncoderKept Word.number State.number Word.BITS State.BITS parts → ⊥)) }
+    ensures err { IfErr result OfWords }
     ensures no_space { (needed : ℕ) → IsErrOf result (refusals.NoSpace needed) →
         (length buffer.old < needed) × (needed ≡ length (sealed Word.BITS State.BITS (run_kept Word.number State.number Word.BITS State.BITS parts (take len.old buffer.old)))) }
     ensures kept { OnErr result ((buffer.new ≡ buffer.old) × (len.new ≡ len.old)) }

@@ -1,0 +1,127 @@
+-- Steps of a chain coder over lent words, and what stops them.
+use Rattle.std.proofs.Common.{◌≡◌, ℕ, zero, suc, ◌+◌, ◌-◌, ◌*◌, ◌<◌, ◌≤◌, List, [], ◌∷◌, ◌++◌, Option, Result, Ok, Err, None, inl, inr, map, drop, take, length, get_or, ap, subst, arith, append_assoc, ◌∙◌}
+use Rattle.std.specs.Prelude.{reverse}
+use Rattle.std.proofs.lemmas.List.{drop_more, map-append, reverse-append, reverse-reverse}
+use Rattle.constriction_base.specs.declared.errors.CoderError.{CoderError}
+use Rattle.constriction_base.specs.declared.errors.CoderError.TheVariants.{Frontend}
+use Rattle.constriction_base.specs.Models.{AreKnown, Item, Knows, Model, item_of, items_of}
+use Rattle.constriction_base.specs.Tables.{AtEntry, Impossible}
+use Rattle.constriction_base.proofs.Turns.{reverse_at}
+use Rattle.constriction_stream.specs.Symbols.{DecodesSymbol, EncodesSymbol}
+use Rattle.constriction_chain.specs.Chain.{ChainState, ChainValue, least}
+use Rattle.constriction_chain.specs.Steps.{DecodeCall, EncodeCall, Halted}
+use Rattle.constriction_chain.specs.Symbols.{PutsBack, PutsBackAll}
+use Rattle.constriction_chain.specs.Walk.{NeedsWord}
+use Rattle.constriction_chain.specs.declared.errors.BackendError.{BackendError}
+use Rattle.constriction_chain.specs.declared.errors.DecoderFrontendError.{DecoderFrontendError}
+use Rattle.constriction_chain.specs.declared.errors.EncoderFrontendError.{EncoderFrontendError}
+use Rattle.constriction_chain.specs.declared.errors.EncoderFrontendError.TheVariants.{ImpossibleSymbol, OutOfRemainders}
+
+-- a success is no error
+ok_no_err : {T E : Type 0} {x : T} {e : E} → ◌≡◌ {A = Result T E} (Ok x) (Err e) → ⊥
+ok_no_err is = cc
+
+-- a decode by the model was refused by the coder itself: a word is needed, and none is left
+pub ends_at : {W E C R F : Type 0} (number : W → ℕ) (is_list : Type 0) (held : C → List W) (held' : R → List W) (reads : C → Result (Option W) E → C → Type 0)
+    (write_fails : R → F → Type 0) (room : R → ℕ) (makes_room : Type 0) (prepare_fails : R → ℕ → F → Type 0) (w s P : ℕ) (table : List (ℕ × ℕ × ℕ)) (old new : ChainValue C R)
+    (answer : Result ℕ (CoderError DecoderFrontendError (BackendError E F))) (x : DecoderFrontendError)
+    → ((a b : C) → reads a (Ok None) b → map number (held a) ≡ []) → answer ≡ Err (Frontend x)
+    → DecodesSymbol (DecodeCall number is_list held held' reads write_fails room makes_room w s) (Halted number is_list held held' reads prepare_fails w s P) P table old answer new
+    → NeedsWord w P old.state.h × (old.state.compressed ≡ [])
+ends_at number is_list held held' reads write_fails room makes_room prepare_fails w s P table old new answer x none is step =
+    elim (rw is at step) [
+      | inl halted ↦ (halted.why.0, halted.before.compressed_are ∙ none old.compressed new.compressed halted.why.1)
+      | inr found ↦ absurd found.1.3.outcome
+    ]
+
+-- ---- encodes
+-- one refusal is not another
+other : {E F : Type 0} (e : EncoderFrontendError) → e ≡ ImpossibleSymbol → ◌≡◌ {A = Result (Unit {0}) (CoderError EncoderFrontendError (BackendError E F))} (Err (Frontend OutOfRemainders)) (Err (Frontend e)) → ⊥
+other OutOfRemainders is same = cc
+other ImpossibleSymbol is same = cc
+
+module _ {W C R E F : Type 0} (number : W → ℕ) (is_list : Type 0) (held : C → List W) (held' : R → List W) (reads : R → Result (Option W) F → R → Type 0)
+    (prepare_fails : C → ℕ → E → Type 0) (write_fails : C → E → Type 0) (room : C → ℕ) (makes_room : Type 0) (w s : ℕ) where
+  -- what the step call says of an answer
+  abbrev Encodes : Model ℕ → ℕ → ChainValue C R → Result (Unit {0}) (CoderError EncoderFrontendError (BackendError E F)) → ChainValue C R → Type 0
+  Encodes model symbol old answer new =
+      EncodesSymbol (EncodeCall number is_list held held' reads prepare_fails write_fails room makes_room w s) (λ error. error ≡ ImpossibleSymbol) model.precision model.table symbol old answer new
+
+  -- it went well
+  pub puts_at : (model : Model ℕ) (symbol : ℕ) (old new : ChainValue C R) (answer : Result (Unit {0}) (CoderError EncoderFrontendError (BackendError E F)))
+      → is_list → answer ≡ Ok tt → Encodes model symbol old answer new → PutsBack w s model symbol old.state new.state
+  puts_at model symbol old new answer list is step = elim (rw is at step) [
+    | inl found ↦ (found.0, found.1, found.2, found.3.outcome.encoded list)
+    | inr never ↦ absurd (ok_no_err never.3)
+  ]
+
+  -- the model doesn't know the symbol
+  pub impossible_at : (model : Model ℕ) (symbol : ℕ) (old new : ChainValue C R) (answer : Result (Unit {0}) (CoderError EncoderFrontendError (BackendError E F)))
+      → answer ≡ Err (Frontend ImpossibleSymbol) → Encodes model symbol old answer new → Impossible model.table symbol
+  impossible_at model symbol old new answer is step = elim (rw is at step) [
+    | inl found ↦ absurd found.3.outcome
+    | inr never ↦ never.0
+  ]
+
+  -- a word is needed, and none is left
+  pub lacks_at : (model : Model ℕ) (symbol : ℕ) (old new : ChainValue C R) (answer : Result (Unit {0}) (CoderError EncoderFrontendError (BackendError E F)))
+      → ((a b : R) → reads a (Ok None) b → map number (held' a) ≡ []) → answer ≡ Err (Frontend OutOfRemainders) → Encodes model symbol old answer new
+      → AtEntry model.precision model.table symbol (λ e. old.state.r < e.p * least w s e.precision) × (old.state.remainders ≡ [])
+  lacks_at model symbol old new answer none is step = elim (rw is at step) [
+    | inl found ↦ (
+      (found.0, found.1, found.2, found.3.outcome.0),
+      found.3.before.remainders_are ∙ none old.remainders new.remainders found.3.outcome.1,
+    )
+    | inr never ↦ absurd (other never.1 never.2 never.3)
+  ]
+
+-- ---- symbols from the last to the first
+
+-- one more of them
+pub dropped : (xs : List ℕ) (left : ℕ) → 0 < left → left ≤ length xs → drop (left - 1) xs ≡ get_or xs (left - 1) 0 ∷ drop left xs
+dropped xs left some within =
+    let e : left - 1 + 1 ≡ left = omega arith in
+    drop_more xs (left - 1) 0 (omega arith) ∙ ap (λ (n : ℕ). get_or xs (left - 1) 0 ∷ drop n xs) e
+
+pub turned : (xs : List ℕ) (left : ℕ) → 0 < left → left ≤ length xs → reverse (drop (left - 1) xs) ≡ reverse (drop left xs) ++ get_or xs (left - 1) 0 ∷ []
+turned xs left some within =
+    ap (λ (ys : List ℕ). reverse ys) (dropped xs left some within) ∙ reverse-append (get_or xs (left - 1) 0 ∷ []) (drop left xs)
+
+-- all of them
+pub parted : (model : Model ℕ) (xs : List ℕ) (left : ℕ) → 0 < left → left ≤ length xs
+    → items_of model (reverse xs) ≡ items_of model (reverse (drop left xs)) ++ item_of model (get_or xs (left - 1) 0) ∷ items_of model (reverse (take (left - 1) xs))
+parted model xs left some within =
+    let x : ℕ = get_or xs (left - 1) 0 in
+    let behind : List ℕ = reverse (drop left xs) in
+    let before : List ℕ = reverse (take (left - 1) xs) in
+    let whole : reverse xs ≡ (behind ++ x ∷ []) ++ before = reverse_at (left - 1) xs ∙ ap (λ (ys : List ℕ). ys ++ before) (turned xs left some within) in
+    ap (λ (ys : List ℕ). items_of model ys) (whole ∙ append_assoc behind (x ∷ []) before) ∙ map-append (item_of model) behind (x ∷ before)
+
+-- a known one
+pub known_at : (model : Model ℕ) (xs : List ℕ) (k : ℕ) → k < length xs → AreKnown (items_of model xs) → Knows model (get_or xs k 0)
+known_at model [] k within all = absurd (omega arith)
+known_at model (x ∷ xs) zero within all = all.0
+known_at model (x ∷ xs) (suc k) within all = known_at model xs k (omega arith) all.1
+
+-- one symbol that isn't known
+pub unknown_at : (model : Model ℕ) (xs : List ℕ) (k : ℕ) → k < length xs → Impossible model.table (get_or xs k 0) → AreKnown (items_of model xs) → ⊥
+unknown_at model xs k within never all = (let known = known_at model xs k within all in never known.0 known.1 known.2)
+
+-- encodes of symbols were of known ones
+pub known_of : (w s : ℕ) (items : List (Item ℕ)) (old new : ChainState) → PutsBackAll w s items old new → AreKnown items
+known_of w s [] old new all = tt
+known_of w s (item ∷ items) old new (next, (left, p, has, i), all) = ((left, p, has), known_of w s items next new all)
+
+known_append : (xs ys : List (Item ℕ)) → AreKnown xs → AreKnown ys → AreKnown (xs ++ ys)
+known_append [] ys h k = k
+known_append (x ∷ xs) ys h k = (h.0, known_append xs ys h.1 k)
+
+known_reverse : (model : Model ℕ) (xs : List ℕ) → AreKnown (items_of model xs) → AreKnown (items_of model (reverse xs))
+known_reverse model [] known = tt
+known_reverse model (x ∷ xs) known =
+    let same : items_of model (reverse (x ∷ xs)) ≡ items_of model (reverse xs) ++ item_of model x ∷ [] =
+    ap (λ (ys : List ℕ). items_of model ys) (reverse-append (x ∷ []) xs) ∙ map-append (item_of model) (reverse xs) (x ∷ []) in
+    rw same (known_append (items_of model (reverse xs)) (item_of model x ∷ []) (known_reverse model xs known.1) (known.0, tt))
+
+pub known_turned : (model : Model ℕ) (xs : List ℕ) → AreKnown (items_of model (reverse xs)) → AreKnown (items_of model xs)
+known_turned model xs known = subst (λ (ys : List ℕ). AreKnown (items_of model ys)) (reverse-reverse xs) (known_reverse model (reverse xs) known)

@@ -1,0 +1,20 @@
+use Rattle.std.proofs.Common.{◌≡◌, ℕ, List, drop, length, vec_capacity}
+use Rattle.constriction_base.specs.Models.{pairs_of}
+use Rattle.constriction_queue.specs.Range.{Run}
+use Rattle.constriction_laws.specs.queue.Symbols.{FindsAll, StandsAt}
+use Rattle.constriction_calls.proofs.range.taking.take_pairs.Given as goal
+
+abbrev pub invariant-loop-i : goal.invariant-loop-i
+invariant-loop-i g l =
+    let w = g.Word.BitArray.BITS in
+    let s = g.State.BitArray.BITS in
+    let items = pairs_of g.row.PRECISION g.M.EntropyModel.table in
+    record {
+      counted : length l.again.items ≡ l.i;
+      capacity : vec_capacity l.again ≡ length l.fn.models;
+      taken : (words : List ℕ) (old : Run) → StandsAt w s words old l.fn.decoder
+          → (mid : Run) × FindsAll w s words (items l.again.items l.fn.models) old mid × StandsAt w s words mid l.decoder;
+      left : (words symbols : List ℕ) (old last : Run) → StandsAt w s words old l.fn.decoder → FindsAll w s words (items symbols l.fn.models) old last
+          → length symbols ≡ length l.fn.models
+          → (mid : Run) × StandsAt w s words mid l.decoder × FindsAll w s words (items (drop l.i symbols) (drop l.i l.fn.models)) mid last;
+    }
