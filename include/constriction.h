@@ -233,7 +233,7 @@ uint32_t constriction_chain_from_binary_u32(const uint32_t *words, size_t word_c
                                             struct constriction_chain_heads_u32 *heads);
 
 /* The coder that into_remainders gave these words: writes how many of them stay in remainders, and the heads. Compressed is empty.
-   Refusal: INVALID_DATA (too few words, or zero words at the end). */
+   Refusal: INVALID_DATA (too few words, or a zero among the last two). */
 uint32_t constriction_chain_from_remainders_u32(const uint32_t *words, size_t word_count, size_t *remainders_len,
                                                 struct constriction_chain_heads_u32 *heads);
 
@@ -486,7 +486,7 @@ uint32_t constriction_chain_from_binary_u16(const uint16_t *words, size_t word_c
                                             struct constriction_chain_heads_u16 *heads);
 
 /* The coder that into_remainders gave these words: writes how many of them stay in remainders, and the heads. Compressed is empty.
-   Refusal: INVALID_DATA (too few words, or zero words at the end). */
+   Refusal: INVALID_DATA (too few words, or a zero among the last two). */
 uint32_t constriction_chain_from_remainders_u16(const uint16_t *words, size_t word_count, size_t *remainders_len,
                                                 struct constriction_chain_heads_u16 *heads);
 

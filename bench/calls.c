@@ -1,0 +1,121 @@
+/* Nanoseconds a symbol of the C functions: lines `name ns_per_symbol`, each the least of so many runs.
+
+   gcc -O2 -Iinclude bench/calls.c build/libconstriction.a -o bench/out/calls && bench/out/calls [SYMBOLS_A_CALL]
+
+   The million symbols and their weights are those of bench/driver. Symbols are handed over so many at a time, 65536 unless
+   said otherwise. What is decoded is compared with what was encoded. */
+
+#define _POSIX_C_SOURCE 199309L
+#include <stdio.h>
+#include <stdlib.h>
+#include <string.h>
+#include <time.h>
+#include "constriction.h"
+
+enum { COUNT = 1000000, RUNS = 11, KINDS = 256, DATA = COUNT * 3 / 4 + 101 };
+
+static uint32_t weights[KINDS], words[COUNT + 2], data[DATA], remainders[COUNT], back[COUNT];
+static size_t symbols[COUNT], decoded[COUNT], part = 65536;
+
+static uint64_t random_number(uint64_t *x) {
+    *x ^= *x << 13, *x ^= *x >> 7, *x ^= *x << 17;
+    return *x;
+}
+
+static void draw(void) {
+    uint64_t shares[KINDS], sum = 0, total = 0, x = 0x123456789ABCDEF1u;
+    for (uint64_t i = 0; i < KINDS; i++) sum += shares[i] = 1000000000 / ((i + 4) * (i + 16));
+    for (size_t i = 0; i < KINDS; i++) total += weights[i] = (uint32_t)(1 + shares[i] * ((1 << 24) - KINDS) / sum);
+    weights[0] += (uint32_t)((1 << 24) - total);
+    for (size_t i = 0; i < COUNT; i++) {
+        uint64_t quantile = random_number(&x) >> 40;
+        for (symbols[i] = 0; quantile >= weights[symbols[i]]; symbols[i]++) quantile -= weights[symbols[i]];
+    }
+    x = 7;
+    for (size_t i = 0; i < DATA - 1; i++) data[i] = (uint32_t)(random_number(&x) >> 32);
+    data[DATA - 1] = 1;
+}
+
+static void must(int holds, const char *what) {
+    if (holds) return;
+    fprintf(stderr, "calls: %s\n", what);
+    exit(1);
+}
+
+/* How many symbols the part from this one on has. */
+static size_t length_at(size_t start) { return COUNT - start < part ? COUNT - start : part; }
+
+/* ---- one pass over all symbols each */
+static uint64_t head;
+static size_t len, left, needed, kept;
+static struct constriction_range_encoder_state_u32 encoder;
+static struct constriction_range_decoder_state_u32 decoder;
+static struct constriction_chain_heads_u32 heads;
+
+static void ans_encode(void) {
+    head = 0, len = 0;
+    for (size_t i = (COUNT - 1) / part + 1; i-- > 0;)
+        must(!constriction_ans_encode_reverse_u32(&head, words, COUNT + 2, &len, weights, KINDS, symbols + i * part,
+                                                  length_at(i * part), &needed), "ans_encode");
+}
+
+static void ans_decode(void) {
+    for (size_t i = 0; i < COUNT; i += part)
+        must(!constriction_ans_decode_u32(&head, words, COUNT + 2, &len, weights, KINDS, decoded + i, length_at(i)), "ans_decode");
+}
+
+static void range_encode(void) {
+    constriction_range_encoder_u32(&encoder), len = 0;
+    for (size_t i = 0; i < COUNT; i += part)
+        must(!constriction_range_encode_u32(&encoder, words, COUNT + 2, &len, weights, KINDS, symbols + i, length_at(i), &needed),
+             "range_encode");
+    must(!constriction_range_into_compressed_u32(&encoder, words, COUNT + 2, &len, &needed), "range_encode");
+}
+
+static void range_decode(void) {
+    constriction_range_from_compressed_u32(words, len, &decoder);
+    for (size_t i = 0; i < COUNT; i += part)
+        must(!constriction_range_decode_u32(&decoder, words, len, weights, KINDS, decoded + i, length_at(i)), "range_decode");
+}
+
+static void chain_decode(void) {
+    must(!constriction_chain_from_compressed_u32(data, DATA, &left, &heads), "chain_decode"), kept = 0;
+    for (size_t i = 0; i < COUNT; i += part)
+        must(!constriction_chain_decode_u32(&heads, data, DATA, &left, remainders, COUNT, &kept, weights, KINDS, decoded + i,
+                                            length_at(i), &needed), "chain_decode");
+}
+
+static void chain_encode(void) {
+    for (size_t i = (COUNT - 1) / part + 1; i-- > 0;)
+        must(!constriction_chain_encode_reverse_u32(&heads, back, COUNT, &left, remainders, COUNT, &kept, weights, KINDS,
+                                                    decoded + i * part, length_at(i * part), &needed), "chain_encode");
+}
+
+/* ---- their times */
+static double timed(void (*pass)(void), double least) {
+    struct timespec from, to;
+    clock_gettime(CLOCK_MONOTONIC, &from);
+    pass();
+    clock_gettime(CLOCK_MONOTONIC, &to);
+    double taken = ((double)(to.tv_sec - from.tv_sec) * 1e9 + (double)(to.tv_nsec - from.tv_nsec)) / COUNT;
+    return taken < least ? taken : least;
+}
+
+int main(int count, char **arguments) {
+    if (count > 1) part = strtoul(arguments[1], NULL, 10);
+    must(part > 0, "usage: calls [SYMBOLS_A_CALL]");
+    draw();
+    double least[6] = {1e9, 1e9, 1e9, 1e9, 1e9, 1e9};
+    for (int run = 0; run < RUNS; run++) {
+        least[0] = timed(ans_encode, least[0]), least[1] = timed(ans_decode, least[1]);
+        must(!memcmp(decoded, symbols, sizeof symbols), "ans: other symbols came back");
+        least[2] = timed(range_encode, least[2]), least[3] = timed(range_decode, least[3]);
+        must(!memcmp(decoded, symbols, sizeof symbols), "range: other symbols came back");
+        least[4] = timed(chain_decode, least[4]);
+        memcpy(back, data, left * sizeof *data);
+        least[5] = timed(chain_encode, least[5]);
+        must(!memcmp(back, data, left * sizeof *data), "chain: other words came back");
+    }
+    const char *const names[] = {"ans_encode", "ans_decode", "range_encode", "range_decode", "chain_decode", "chain_encode"};
+    for (int i = 0; i < 6; i++) printf("c_%s_u32u64p24_table %.3f\n", names[i], least[i]);
+}
