@@ -9,8 +9,8 @@ import shutil
 ROOT = os.path.dirname(os.path.dirname(os.path.abspath(__file__)))
 STAMPS = f"{ROOT}/edits/STAMPS"
 
-# What the trial of a crate's edits rests on: the sum of what is its own, and the sum of the crates below it.
-Stamp = collections.namedtuple("Stamp", "own below")
+# What the trial of a crate's edits rests on: the sum of what is its own, the sum of the crates below it, and the kit that tried them.
+Stamp = collections.namedtuple("Stamp", "own below kit")
 
 
 def read(path):
@@ -40,9 +40,10 @@ class Crates:
         return sorted(self.said, key=lambda name: (len(self.below(name)), name))
 
     def stamp(self, name, version):
-        """Returns a crate's stamp: a sum over all that is its own and what `rt version` says, and one over the crates below it, of which
-        the outcome of its edits depends on the sources and specs alone."""
-        return Stamp(self.sum(name, ("src", "specs", "proofs"), version), self.sum_below(name))
+        """Returns a crate's stamp: a sum over all that is its own and the logic that `rt version` names, one over the crates below it, of
+        which the outcome of its edits depends on the sources and specs alone, and the kit that `rt version` names."""
+        kit, logic = kit_and_logic(version)
+        return Stamp(self.sum(name, ("src", "specs", "proofs"), logic), self.sum_below(name), kit)
 
     def sum(self, name, parts, said):
         """Returns a sum over some folders of a crate, its edits, its line of crates.txt without regard to order, and a text."""
@@ -61,6 +62,14 @@ class Crates:
 
     def sums(self, files):
         return sorted(f"{os.path.relpath(path, self.root)} {sum_of(path)}" for path in files)
+
+
+def kit_and_logic(version):
+    """Returns the kit's name, which changes with each release, and the sum of its logic, of what `rt version` says: KIT logic SUM."""
+    found = re.fullmatch(r"(\S+) (logic [0-9a-f]+)", version.strip())
+    if not found:
+        raise ValueError(f"rt version says '{version.strip()}', and not a kit and the sum of its logic")
+    return found.groups()
 
 
 def files_below(folder):
@@ -111,25 +120,33 @@ class Stamps:
 
     def __init__(self):
         text = read(STAMPS) if os.path.exists(STAMPS) else ""
-        if not re.fullmatch(r"(\w+ [0-9a-f]{64} [0-9a-f]{64}\n)*", text):
-            raise ValueError("edits/STAMPS has a line that is no stamp, as a merge leaves it: take out what is not a crate and its two sums")
-        self.kept = {name: Stamp(own, below) for name, own, below in map(str.split, text.splitlines())}
+        if not re.fullmatch(r"(\w+ [0-9a-f]{64} [0-9a-f]{64} \S+\n)*", text):
+            raise ValueError("edits/STAMPS has a line that is no stamp, as a merge leaves it: take out what is not a crate, its two sums and a kit")
+        self.kept = {name: Stamp(*stamp) for name, *stamp in map(str.split, text.splitlines())}
 
     def fault(self, name, stamp):
         """Returns what is wrong with a crate's stamp, or '' where it holds."""
         if name not in self.kept:
             return "is missing"
-        return "" if self.kept[name].own == stamp.own else "is stale: the crate, its edits or rt changed"
+        return "" if self.kept[name].own == stamp.own else "is stale: the crate, its edits or the toolchain's logic changed"
 
     def is_older(self, name, stamp):
         """Returns whether a stamp holds, but a crate below has changed since."""
         return not self.fault(name, stamp) and self.kept[name].below != stamp.below
 
+    def other_kit(self, name, stamp):
+        """Returns the kit by which the edits of a stamp that holds were tried, where that is another than this one, or ''."""
+        return "" if self.fault(name, stamp) or self.kept[name].kit == stamp.kit else self.kept[name].kit
+
+    def is_due(self, name, stamp):
+        """Returns whether the edits are to be tried once more."""
+        return bool(self.fault(name, stamp) or self.is_older(name, stamp) or self.other_kit(name, stamp))
+
 
 def put_stamp(name, stamp):
     """Writes a crate's stamp, or takes it out where it is None. The other lines are left as they stand now."""
     stamps = {**Stamps().kept, name: stamp}
-    text = "".join(f"{it} {stamps[it].own} {stamps[it].below}\n" for it in sorted(stamps) if stamps[it])
+    text = "".join(f"{it} {' '.join(stamps[it])}\n" for it in sorted(stamps) if stamps[it])
     with open(STAMPS + ".new", "w", encoding="utf-8") as out:
         out.write(text)
     os.replace(STAMPS + ".new", STAMPS)

@@ -7,7 +7,7 @@ import sys
 from array import array
 from collections.abc import Iterable
 from ctypes import addressof, byref, c_size_t
-from typing import Any, Union
+from typing import TYPE_CHECKING, Any, Union
 
 from .errors import IMPOSSIBLE_SYMBOL, ImpossibleSymbolError
 
@@ -21,7 +21,13 @@ WORD, SYMBOL, NUMBER = "I", "q", "d"
 _NOWHERE = (ctypes.c_uint64 * 1)()
 
 
-class Numbers(array):
+if TYPE_CHECKING:
+    Array = array[Any]
+else:
+    Array = array
+
+
+class Numbers(Array):
     """An ``array.array`` that also equals lists and tuples of the same numbers.
 
     ``numpy.asarray`` reads it without a copy.
@@ -114,7 +120,7 @@ def symbols_of(symbols: List, first: int) -> Items:
             if numpy is not None and isinstance(symbols, numpy.ndarray):
                 symbols = numpy.subtract(symbols, first, dtype=numpy.int64)
             else:
-                symbols = array(SYMBOL, map((-first).__add__, symbols))  # type: ignore[arg-type]
+                symbols = array(SYMBOL, map((-first).__add__, symbols))
         memory = _as_array(SYMBOL, symbols)
     except OverflowError:
         # No table has a place past 64 bits.

@@ -60,7 +60,7 @@ def encode(
     ``save`` answers a function that brings back the state as it is now. ``backwards``: the last symbol is encoded first.
     """
     if not parameters:
-        listed = [int(symbols)] if _is_one(symbols) else symbols  # type: ignore[arg-type, list-item]
+        listed: List = [int(symbols)] if _is_one(symbols) else symbols  # type: ignore[arg-type, assignment]
         _whole(model.table(), symbols_of(listed, model.first), fixed, save, backwards)
     elif _is_one(symbols):
         each(*model.intervals([int(symbols)], [[it] for it in parameters]))  # type: ignore[arg-type]

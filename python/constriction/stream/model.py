@@ -207,7 +207,7 @@ class Bernoulli(Model):
         p = parameters[0] if parameters else self._p
         if not 0 <= p <= 1:
             raise ValueError("a probability lies between 0 and 1")
-        return 2, _spread(2, lambda _: 1 - p)
+        return 2, _spread(2, lambda _: float(1 - p))
 
 
 class Uniform(Model):

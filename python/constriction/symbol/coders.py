@@ -66,7 +66,8 @@ class QueueEncoder:
 
     def get_compressed(self) -> Numbers:
         """The words of the codewords, one behind another, filled up with zero bits."""
-        return self._codebook.encoded(self._symbols, False) if self._symbols else Numbers("I")
+        words: Numbers = self._codebook.encoded(self._symbols, False) if self._symbols else Numbers("I")
+        return words
 
     def get_decoder(self) -> QueueDecoder:
         """A decoder of the symbols up to now."""
@@ -130,4 +131,5 @@ class StackCoder:
         """The words of the codewords, closed by a bit 1 and filled up with zero bits."""
         if self._reader is not None:
             raise ValueError("a stack over given words only decodes")
-        return self._codebook.encoded(self._symbols, True) if self._symbols else Numbers("I", (1,))
+        words: Numbers = self._codebook.encoded(self._symbols, True) if self._symbols else Numbers("I", (1,))
+        return words
