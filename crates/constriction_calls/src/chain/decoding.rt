@@ -176,14 +176,13 @@ where
     requires fits { CoderFits Word.row State.row }
     requires compressed_within { compressed_len.now ≤ length compressed.now }
     requires remainders_within { remainders_len.now ≤ length remainders.now }
-    ensures ok { OnOk result (TakesOffAll Word.BITS State.BITS
-        (items_of record { precision = PRECISION; table = M.table model.now } symbols.new)
+    ensures ok { OnOk result (((added : List Word) × Appended remainders.old remainders_len.old added remainders.new remainders_len.new)
+        × TakesOffAll Word.BITS State.BITS (items_of record { precision = PRECISION; table = M.table model.now } symbols.new)
         (chain_in Word.number (Word.number heads.old.compressed) (State.number heads.old.remainders) compressed.now compressed_len.old remainders.old remainders_len.old)
-        (chain_in Word.number (Word.number heads.new.compressed) (State.number heads.new.remainders) compressed.now compressed_len.new remainders.new remainders_len.new)) }
-    ensures valid { OnOk result (AreHeads Word.BITS State.BITS PRECISION (Word.number heads.old.compressed) (State.number heads.old.remainders)) }
-    ensures count { OnOk result (length symbols.new ≡ length symbols.old) }
-    ensures fewer { OnOk result (compressed_len.new ≤ compressed_len.old) }
-    ensures appended { OnOk result ((added : List Word) × Appended remainders.old remainders_len.old added remainders.new remainders_len.new) }
+        (chain_in Word.number (Word.number heads.new.compressed) (State.number heads.new.remainders) compressed.now compressed_len.new remainders.new remainders_len.new)
+        × AreHeads Word.BITS State.BITS PRECISION (Word.number heads.old.compressed) (State.number heads.old.remainders)
+        × (length symbols.new ≡ length symbols.old)
+        × (compressed_len.new ≤ compressed_len.old)) }
     ensures err { IfErr result (Refused (Unit {0}) (Unit {0})
         (AreHeads Word.BITS State.BITS PRECISION (Word.number heads.old.compressed) (State.number heads.old.remainders)) ⊥
         (EndsEarly Word.BITS State.BITS PRECISION (items_of record { precision = PRECISION; table = M.table model.now }) (length symbols.old)
@@ -241,14 +240,13 @@ where
     requires compressed_within { compressed_len.now ≤ length compressed.now }
     requires remainders_within { remainders_len.now ≤ length remainders.now }
     requires pairs { length symbols.now ≡ length models.now }
-    ensures ok { OnOk result (TakesOffAll Word.BITS State.BITS
-        (pairs_of PRECISION M.table symbols.new models.now)
+    ensures ok { OnOk result (((added : List Word) × Appended remainders.old remainders_len.old added remainders.new remainders_len.new)
+        × TakesOffAll Word.BITS State.BITS (pairs_of PRECISION M.table symbols.new models.now)
         (chain_in Word.number (Word.number heads.old.compressed) (State.number heads.old.remainders) compressed.now compressed_len.old remainders.old remainders_len.old)
-        (chain_in Word.number (Word.number heads.new.compressed) (State.number heads.new.remainders) compressed.now compressed_len.new remainders.new remainders_len.new)) }
-    ensures valid { OnOk result (AreHeads Word.BITS State.BITS PRECISION (Word.number heads.old.compressed) (State.number heads.old.remainders)) }
-    ensures count { OnOk result (length symbols.new ≡ length symbols.old) }
-    ensures fewer { OnOk result (compressed_len.new ≤ compressed_len.old) }
-    ensures appended { OnOk result ((added : List Word) × Appended remainders.old remainders_len.old added remainders.new remainders_len.new) }
+        (chain_in Word.number (Word.number heads.new.compressed) (State.number heads.new.remainders) compressed.now compressed_len.new remainders.new remainders_len.new)
+        × AreHeads Word.BITS State.BITS PRECISION (Word.number heads.old.compressed) (State.number heads.old.remainders)
+        × (length symbols.new ≡ length symbols.old)
+        × (compressed_len.new ≤ compressed_len.old)) }
     ensures err { IfErr result (Refused (Unit {0}) (Unit {0})
         (AreHeads Word.BITS State.BITS PRECISION (Word.number heads.old.compressed) (State.number heads.old.remainders)) ⊥
         (EndsEarly Word.BITS State.BITS PRECISION (λ symbols. pairs_of PRECISION M.table symbols models.now) (length symbols.old)

@@ -260,13 +260,13 @@ where
     requires fits { CoderFits Word.row State.row }
     requires compressed_within { compressed_len.now ≤ length compressed.now }
     requires remainders_within { remainders_len.now ≤ length remainders.now }
-    ensures ok { OnOk result (PutsBackAll Word.BITS State.BITS (items_of record { precision = PRECISION; table = M.table model.now } (reverse symbols.now))
+    ensures ok { OnOk result (((added : List Word) × Appended compressed.old compressed_len.old added compressed.new compressed_len.new)
+        × PutsBackAll Word.BITS State.BITS (items_of record { precision = PRECISION; table = M.table model.now } (reverse symbols.now))
         (chain_in Word.number (Word.number heads.old.compressed) (State.number heads.old.remainders) compressed.old compressed_len.old remainders.now remainders_len.old)
-        (chain_in Word.number (Word.number heads.new.compressed) (State.number heads.new.remainders) compressed.new compressed_len.new remainders.now remainders_len.new)) }
-    ensures valid { OnOk result (AreHeads Word.BITS State.BITS PRECISION (Word.number heads.old.compressed) (State.number heads.old.remainders)) }
-    ensures known { OnOk result (AreKnown (items_of record { precision = PRECISION; table = M.table model.now } symbols.now)) }
-    ensures fewer { OnOk result (remainders_len.new ≤ remainders_len.old) }
-    ensures appended { OnOk result ((added : List Word) × Appended compressed.old compressed_len.old added compressed.new compressed_len.new) }
+        (chain_in Word.number (Word.number heads.new.compressed) (State.number heads.new.remainders) compressed.new compressed_len.new remainders.now remainders_len.new)
+        × AreHeads Word.BITS State.BITS PRECISION (Word.number heads.old.compressed) (State.number heads.old.remainders)
+        × AreKnown (items_of record { precision = PRECISION; table = M.table model.now } symbols.now)
+        × (remainders_len.new ≤ remainders_len.old)) }
     ensures err { IfErr result (Refused (Unit {0}) (Unit {0})
         (AreHeads Word.BITS State.BITS PRECISION (Word.number heads.old.compressed) (State.number heads.old.remainders))
         (AreKnown (items_of record { precision = PRECISION; table = M.table model.now } symbols.now) → ⊥)
@@ -328,13 +328,13 @@ where
     requires compressed_within { compressed_len.now ≤ length compressed.now }
     requires remainders_within { remainders_len.now ≤ length remainders.now }
     requires pairs { length symbols.now ≡ length models.now }
-    ensures ok { OnOk result (PutsBackAll Word.BITS State.BITS (reverse (pairs_of PRECISION M.table symbols.now models.now))
+    ensures ok { OnOk result (((added : List Word) × Appended compressed.old compressed_len.old added compressed.new compressed_len.new)
+        × PutsBackAll Word.BITS State.BITS (reverse (pairs_of PRECISION M.table symbols.now models.now))
         (chain_in Word.number (Word.number heads.old.compressed) (State.number heads.old.remainders) compressed.old compressed_len.old remainders.now remainders_len.old)
-        (chain_in Word.number (Word.number heads.new.compressed) (State.number heads.new.remainders) compressed.new compressed_len.new remainders.now remainders_len.new)) }
-    ensures valid { OnOk result (AreHeads Word.BITS State.BITS PRECISION (Word.number heads.old.compressed) (State.number heads.old.remainders)) }
-    ensures known { OnOk result (AreKnown (pairs_of PRECISION M.table symbols.now models.now)) }
-    ensures fewer { OnOk result (remainders_len.new ≤ remainders_len.old) }
-    ensures appended { OnOk result ((added : List Word) × Appended compressed.old compressed_len.old added compressed.new compressed_len.new) }
+        (chain_in Word.number (Word.number heads.new.compressed) (State.number heads.new.remainders) compressed.new compressed_len.new remainders.now remainders_len.new)
+        × AreHeads Word.BITS State.BITS PRECISION (Word.number heads.old.compressed) (State.number heads.old.remainders)
+        × AreKnown (pairs_of PRECISION M.table symbols.now models.now)
+        × (remainders_len.new ≤ remainders_len.old)) }
     ensures err { IfErr result (Refused (Unit {0}) (Unit {0})
         (AreHeads Word.BITS State.BITS PRECISION (Word.number heads.old.compressed) (State.number heads.old.remainders))
         (AreKnown (pairs_of PRECISION M.table symbols.now models.now) → ⊥)

@@ -36,22 +36,12 @@ returns-clause-ok g c =
     let model : Model ℕ = record { precision = g.row.PRECISION; table = g.M.EntropyModel.table c.args.model.now } in
     let e = c.in-Ok-end_taking.ensures in
     let again : c.copy_from_slice.new.self ≡ c.in-Ok.again.items = c.copy_from_slice.ensures.after ∙ c.as_slice.ensures.value in
-    rw again ((taken_in number w s (items_of model c.in-Ok.again.items) _ _ _ _ c.args.compressed.now c.args.compressed_len.now c.end_taking.new.compressed_len c.args.remainders.now e.remainders.0 c.end_taking.new.remainders
+    let taken = taken_in number w s (items_of model c.in-Ok.again.items) _ _ _ _ c.args.compressed.now c.args.compressed_len.now c.end_taking.new.compressed_len c.args.remainders.now e.remainders.0 c.end_taking.new.remainders
     c.args.remainders_len.now c.end_taking.new.remainders_len c.in-Some.coder.state c.take_symbols.new.coder.state
-    c.requires.compressed_within c.in-Some.ensures.some c.in-Ok.ensures.ok e.heads.0 e.heads.1 e.compressed e.remainders.1 e.remainders.2).1)
-
-pub returns-clause-count : goal.returns-clause-count
-returns-clause-count g c =
-    let again : c.copy_from_slice.new.self ≡ c.in-Ok.again.items = c.copy_from_slice.ensures.after ∙ c.as_slice.ensures.value in
-    ap length again ∙ (c.in-Ok.ensures.count)
-
-pub returns-clause-fewer : goal.returns-clause-fewer
-returns-clause-fewer g c =
-    let number = g.Word.BitArray.number in
-    let w = g.Word.BitArray.BITS in
-    let s = g.State.BitArray.BITS in
-    let model : Model ℕ = record { precision = g.row.PRECISION; table = g.M.EntropyModel.table c.args.model.now } in
-    let e = c.in-Ok-end_taking.ensures in
-    (taken_in number w s (items_of model c.in-Ok.again.items) _ _ _ _ c.args.compressed.now c.args.compressed_len.now c.end_taking.new.compressed_len c.args.remainders.now e.remainders.0 c.end_taking.new.remainders
-    c.args.remainders_len.now c.end_taking.new.remainders_len c.in-Some.coder.state c.take_symbols.new.coder.state
-    c.requires.compressed_within c.in-Some.ensures.some c.in-Ok.ensures.ok e.heads.0 e.heads.1 e.compressed e.remainders.1 e.remainders.2).0
+    c.requires.compressed_within c.in-Some.ensures.some c.in-Ok.ensures.ok e.heads.0 e.heads.1 e.compressed e.remainders.1 e.remainders.2 in (
+      (e.remainders.0, e.remainders.2),
+      rw again taken.1,
+      c.in-Some.ensures.variant.0 refl,
+      ap length again ∙ c.in-Ok.ensures.count,
+      taken.0,
+    )

@@ -21,12 +21,12 @@ returns-clause-ok g c =
     ok_as call.result _ _ (length call.new.symbols) count (λ few. subst (λ (items : List (Item ℕ)). TakesOffAll g.Word.BitArray.BITS g.State.BitArray.BITS items
     (chain_in number (number c.args.heads.now.compressed) (g.State.BitArray.number c.args.heads.now.remainders) c.args.compressed.now c.args.compressed_len.now c.args.remainders.now c.args.remainders_len.now)
     (chain_in number (number call.new.heads.compressed) (g.State.BitArray.number call.new.heads.remainders) c.args.compressed.now call.new.compressed_len call.new.remainders call.new.remainders_len))
-    (same call.new.symbols few)) call.ensures.count call.ensures.ok
+    (same call.new.symbols few)) (on_ok_weaker call.result (λ all. all.3) call.ensures.ok) (on_ok_weaker call.result (λ all. all.1) call.ensures.ok)
 
 pub returns-clause-valid : goal.returns-clause-valid
 returns-clause-valid g c =
     let lengths : (c.args.compressed_len.now ≤ length c.args.compressed.now) × (c.args.remainders_len.now ≤ length c.args.remainders.now) = (omega (arith, c.if-compressed_len-compressed.false), omega (arith, c.if-remainders_len-remainders.false)) in
-    on_ok_weaker c.decode_by_each.result (λ heads. (lengths.0, lengths.1, c.in-Ok.ensures.totals.0, c.in-Ok.ensures.totals.1, heads)) c.decode_by_each.ensures.valid
+    on_ok_weaker c.decode_by_each.result (λ all. (lengths.0, lengths.1, c.in-Ok.ensures.totals.0, c.in-Ok.ensures.totals.1, all.2)) c.decode_by_each.ensures.ok
 
 pub returns-clause-err : goal.returns-clause-err
 returns-clause-err g c =
@@ -47,3 +47,12 @@ returns-in-Err-clause-err g c =
       | inr (inl is) ↦ (let both = c.in-Err.ensures.wrong_weights.0 (ap Err is) in rw is ((lengths.0, lengths.1, both.0), both.1))
       | inr (inr is) ↦ rw is tt
     ]
+
+pub returns-clause-fewer : goal.returns-clause-fewer
+returns-clause-fewer g c = on_ok_weaker c.decode_by_each.result (λ all. all.4) c.decode_by_each.ensures.ok
+
+pub returns-clause-appended : goal.returns-clause-appended
+returns-clause-appended g c = on_ok_weaker c.decode_by_each.result (λ all. all.0) c.decode_by_each.ensures.ok
+
+pub returns-clause-count : goal.returns-clause-count
+returns-clause-count g c = on_ok_weaker c.decode_by_each.result (λ all. all.3) c.decode_by_each.ensures.ok

@@ -47,21 +47,12 @@ returns-in-Ok-end_putting-clause-ok g c =
     let items : List (Item ℕ) = items_of model (reverse c.args.symbols.now) in
     let fine = within_of g.Word.BitArray.BITS model (reverse c.args.symbols.now) c.requires.sized.within_word in
     let e = c.in-Ok-end_putting.ensures in
-    (put_in g.Word.BitArray.number g.Word.BitArray.BITS g.State.BitArray.BITS g.met.Word.BitArray.number_law items _ _ _ _ c.args.remainders.now c.args.remainders_len.now c.end_putting.new.remainders_len
+    let put = put_in g.Word.BitArray.number g.Word.BitArray.BITS g.State.BitArray.BITS g.met.Word.BitArray.number_law items _ _ _ _ c.args.remainders.now c.args.remainders_len.now c.end_putting.new.remainders_len
     c.args.compressed.now e.compressed.0 c.end_putting.new.compressed c.args.compressed_len.now c.end_putting.new.compressed_len c.in-Some.coder.state c.put_symbols.new.coder.state
-    fine c.requires.remainders_within c.in-Some.ensures.some c.in-Ok.ensures.ok e.heads.0 e.heads.1 e.remainders e.compressed.1 e.compressed.2).1
-
-pub returns-in-Ok-end_putting-clause-fewer : goal.returns-in-Ok-end_putting-clause-fewer
-returns-in-Ok-end_putting-clause-fewer g c =
-    let model : Model ℕ = record { precision = g.row.PRECISION; table = g.M.EntropyModel.table c.args.model.now } in
-    let items : List (Item ℕ) = items_of model (reverse c.args.symbols.now) in
-    let fine = within_of g.Word.BitArray.BITS model (reverse c.args.symbols.now) c.requires.sized.within_word in
-    let e = c.in-Ok-end_putting.ensures in
-    (put_in g.Word.BitArray.number g.Word.BitArray.BITS g.State.BitArray.BITS g.met.Word.BitArray.number_law items _ _ _ _ c.args.remainders.now c.args.remainders_len.now c.end_putting.new.remainders_len
-    c.args.compressed.now e.compressed.0 c.end_putting.new.compressed c.args.compressed_len.now c.end_putting.new.compressed_len c.in-Some.coder.state c.put_symbols.new.coder.state
-    fine c.requires.remainders_within c.in-Some.ensures.some c.in-Ok.ensures.ok e.heads.0 e.heads.1 e.remainders e.compressed.1 e.compressed.2).0
-
-pub returns-in-Ok-end_putting-clause-known : goal.returns-in-Ok-end_putting-clause-known
-returns-in-Ok-end_putting-clause-known g c =
-    let model : Model ℕ = record { precision = g.row.PRECISION; table = g.M.EntropyModel.table c.args.model.now } in
-    known_turned model c.args.symbols.now (known_of g.Word.BitArray.BITS g.State.BitArray.BITS _ _ _ c.in-Ok.ensures.ok)
+    fine c.requires.remainders_within c.in-Some.ensures.some c.in-Ok.ensures.ok e.heads.0 e.heads.1 e.remainders e.compressed.1 e.compressed.2 in (
+      (e.compressed.0, e.compressed.2),
+      put.1,
+      c.in-Some.ensures.variant.0 refl,
+      known_turned model c.args.symbols.now (known_of g.Word.BitArray.BITS g.State.BitArray.BITS _ _ _ c.in-Ok.ensures.ok),
+      put.0,
+    )

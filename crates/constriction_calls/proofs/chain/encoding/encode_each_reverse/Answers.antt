@@ -22,18 +22,18 @@ returns-clause-ok g c =
     (rw c.as_slice.ensures.value c.in-Ok.ensures.ok) in
     subst (λ (xs : List (Item ℕ)). OnOk call.result (PutsBackAll g.Word.BitArray.BITS g.State.BitArray.BITS (reverse xs)
     (chain_in number (number c.args.heads.now.compressed) (g.State.BitArray.number c.args.heads.now.remainders) c.args.compressed.now c.args.compressed_len.now c.args.remainders.now c.args.remainders_len.now)
-    (chain_in number (number call.new.heads.compressed) (g.State.BitArray.number call.new.heads.remainders) call.new.compressed call.new.compressed_len c.args.remainders.now call.new.remainders_len))) items call.ensures.ok
+    (chain_in number (number call.new.heads.compressed) (g.State.BitArray.number call.new.heads.remainders) call.new.compressed call.new.compressed_len c.args.remainders.now call.new.remainders_len))) items (on_ok_weaker call.result (λ all. all.1) call.ensures.ok)
 
 pub returns-clause-valid : goal.returns-clause-valid
 returns-clause-valid g c =
     let lengths : (c.args.compressed_len.now ≤ length c.args.compressed.now) × (c.args.remainders_len.now ≤ length c.args.remainders.now) = (omega (arith, c.if-compressed_len-compressed.false), omega (arith, c.if-remainders_len-remainders.false)) in
-    on_ok_weaker c.encode_by_each.result (λ heads. (lengths.0, lengths.1, c.in-Ok.ensures.totals.0, c.in-Ok.ensures.totals.1, heads)) c.encode_by_each.ensures.valid
+    on_ok_weaker c.encode_by_each.result (λ all. (lengths.0, lengths.1, c.in-Ok.ensures.totals.0, c.in-Ok.ensures.totals.1, all.2)) c.encode_by_each.ensures.ok
 
 pub returns-clause-known : goal.returns-clause-known
 returns-clause-known g c =
     let items = rows_are_items g.row.PRECISION c.args.width (λ row. table_of (map g.P.BitArray.number row.weights.now)) (map g.P.BitArray.number c.args.weights.now) c.args.symbols.now c.as_slice.result.now
     (rw c.as_slice.ensures.value c.in-Ok.ensures.ok) in
-    subst (λ (xs : List (Item ℕ)). OnOk c.encode_by_each.result (AreKnown xs)) items c.encode_by_each.ensures.known
+    subst (λ (xs : List (Item ℕ)). OnOk c.encode_by_each.result (AreKnown xs)) items (on_ok_weaker c.encode_by_each.result (λ all. all.3) c.encode_by_each.ensures.ok)
 
 pub returns-clause-err : goal.returns-clause-err
 returns-clause-err g c =
@@ -61,3 +61,9 @@ returns-in-Err-clause-err g c =
       | inr (inl is) ↦ (let both = c.in-Err.ensures.wrong_weights.0 (ap Err is) in rw is ((lengths.0, lengths.1, both.0), both.1))
       | inr (inr is) ↦ rw is tt
     ]
+
+pub returns-clause-fewer : goal.returns-clause-fewer
+returns-clause-fewer g c = on_ok_weaker c.encode_by_each.result (λ all. all.4) c.encode_by_each.ensures.ok
+
+pub returns-clause-appended : goal.returns-clause-appended
+returns-clause-appended g c = on_ok_weaker c.encode_by_each.result (λ all. all.0) c.encode_by_each.ensures.ok
