@@ -3,15 +3,6 @@ use Rattle.constriction_base.specs.Models.{Model, items_of}
 use Rattle.constriction_calls.proofs.ChainFrame.{ends_in, needs_space_in, refused_list, refused_space, taken_in}
 use Rattle.constriction_calls.proofs.chain.decoding.decode_by.Goals as goal
 
-pub begin_taking-requires : goal.begin_taking-requires
-begin_taking-requires g c = (c.requires.fits, (c.requires.sized, c.requires.compressed_within))
-
-pub take_symbols-requires : goal.take_symbols-requires
-take_symbols-requires g c = c.requires.fits
-
-pub end_taking-requires : goal.end_taking-requires
-end_taking-requires g c = (c.requires.fits, c.requires.remainders_within)
-
 pub returns-in-Err-clause-err : goal.returns-in-Err-clause-err
 returns-in-Err-clause-err g c =
     let number = g.Word.BitArray.number in

@@ -4,15 +4,6 @@ use Rattle.constriction_calls.proofs.ChainFrame.{ends_in, needs_space_in, refuse
 use Rattle.constriction_calls.proofs.ChainRows.{ends_counted}
 use Rattle.constriction_calls.proofs.chain.decoding.decode_by_each.Goals as goal
 
-pub begin_taking-requires : goal.begin_taking-requires
-begin_taking-requires g c = (c.requires.fits, (c.requires.sized, c.requires.compressed_within))
-
-pub take_symbols_each-requires : goal.take_symbols_each-requires
-take_symbols_each-requires g c = c.requires.fits
-
-pub end_taking-requires : goal.end_taking-requires
-end_taking-requires g c = (c.requires.fits, c.requires.remainders_within)
-
 pub returns-in-Err-clause-err : goal.returns-in-Err-clause-err
 returns-in-Err-clause-err g c =
     let number = g.Word.BitArray.number in

@@ -5,15 +5,6 @@ use Rattle.constriction_calls.proofs.ChainFrame.{lacks_in, needs_room_in, put_in
 use Rattle.constriction_calls.proofs.ChainSteps.{known_of, known_turned}
 use Rattle.constriction_calls.proofs.chain.encoding.encode_by.Goals as goal
 
-pub begin_putting-requires : goal.begin_putting-requires
-begin_putting-requires g c = (c.requires.fits, (c.requires.sized, c.requires.remainders_within))
-
-pub put_symbols-requires : goal.put_symbols-requires
-put_symbols-requires g c = c.requires.fits
-
-pub end_putting-requires : goal.end_putting-requires
-end_putting-requires g c = (c.requires.fits, c.requires.compressed_within)
-
 pub returns-in-Err-clause-err : goal.returns-in-Err-clause-err
 returns-in-Err-clause-err g c =
     let model : Model ℕ = record { precision = g.row.PRECISION; table = g.M.EntropyModel.table c.args.model.now } in

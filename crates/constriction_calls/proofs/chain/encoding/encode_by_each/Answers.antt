@@ -7,15 +7,6 @@ use Rattle.constriction_calls.proofs.ChainSteps.{known_of}
 use Rattle.constriction_calls.proofs.RowItems.{known_of_reversed}
 use Rattle.constriction_calls.proofs.chain.encoding.encode_by_each.Goals as goal
 
-pub begin_putting-requires : goal.begin_putting-requires
-begin_putting-requires g c = (c.requires.fits, (c.requires.sized, c.requires.remainders_within))
-
-pub put_symbols_each-requires : goal.put_symbols_each-requires
-put_symbols_each-requires g c = c.requires.fits
-
-pub end_putting-requires : goal.end_putting-requires
-end_putting-requires g c = (c.requires.fits, c.requires.compressed_within)
-
 pub returns-in-Err-clause-err : goal.returns-in-Err-clause-err
 returns-in-Err-clause-err g c =
     let table = g.M.EntropyModel.table in
