@@ -118,8 +118,8 @@ def copy_or_link(file, to):
 class Stamps:
     """The stamps that the file edits/STAMPS has, a line for each crate."""
 
-    def __init__(self):
-        text = read(STAMPS) if os.path.exists(STAMPS) else ""
+    def __init__(self, path=STAMPS):
+        text = read(path) if os.path.exists(path) else ""
         if not re.fullmatch(r"(\w+ [0-9a-f]{64} [0-9a-f]{64} \S+\n)*", text):
             raise ValueError("edits/STAMPS has a line that is no stamp, as a merge leaves it: take out what is not a crate, its two sums and a kit")
         self.kept = {name: Stamp(*stamp) for name, *stamp in map(str.split, text.splitlines())}

@@ -4,7 +4,7 @@
    build/libconstriction.so, both of which tools/library makes. docs/C_AND_PYTHON.md is a page on what is proved of these
    functions; of this file's text nothing is.
 
-   SIZES. Each function comes twice. All that differs is the last part of its name:
+   SIZES. Each function but constriction_version comes twice. All that differs is the last part of its name:
 
                     words      states     weights    which add up to
      .._u32         uint32_t   uint64_t   uint32_t   2^24
@@ -29,8 +29,22 @@
 
    SYMBOLS are size_t: 0, 1, ..; those of Exp-Golomb codewords are words. `symbols` of a decode is written in the order decoded.
 
-   POINTERS. None may be null, not even that of an empty list, and each is aligned for its type. What one argument writes must
-   not overlap what another argument reads or writes. What is only read must not change during the call.
+   ROOM. CONSTRICTION_NO_SPACE doesn't come where a buffer has room for the words in use, a word for each symbol, and two for an
+   export. The words that a range encoder holds back count as words in use. constriction_chain_into_remainders puts three words at
+   most. Codewords have no such bound: that of a number has 2 * 32 + 1 (2 * 16 + 1) bits at most, that of a symbol
+   weight_count - 1.
+
+   ONE SYMBOL AT A TIME. A call looks at all the weights that it gets: a decode of one symbol under 256 weights takes about 2
+   microseconds. A caller who can search the sums of the weights itself takes the quantile from the state, finds the symbol, and
+   hands in three weights: of all that lies below it, its own, and of all above it. Then symbol 1 is decoded. The quantile is
+     - of the stack coder head % 2^24 (2^12);
+     - of the range coder (point - lower) / (range >> 24) (range >> 12), in the state's type, where a difference wraps. If that is
+       2^24 (2^12) or more, no encoder wrote the words, and each decode is refused with INVALID_DATA.
+   To encode one symbol, hand in its interval.
+
+   POINTERS. A pointer to a list may be null where its length is 0. No other pointer may be null, and each is aligned for its type.
+   What one argument writes must not overlap what another argument reads or writes. What is only read must not change during the
+   call.
 
    REFUSALS. Each function returns one of enum constriction_result. If that is not CONSTRICTION_DONE, nothing changed: neither
    the state, nor a buffer, nor the symbols; only with CONSTRICTION_NO_SPACE *needed is written, and nothing else is. Where
@@ -52,6 +66,8 @@
 #define CONSTRICTION_VERSION_MAJOR 0
 #define CONSTRICTION_VERSION_MINOR 5
 #define CONSTRICTION_VERSION_PATCH 0
+#define CONSTRICTION_VERSION_NUMBER \
+    (10000 * CONSTRICTION_VERSION_MAJOR + 100 * CONSTRICTION_VERSION_MINOR + CONSTRICTION_VERSION_PATCH)
 
 /* What weights add up to two to the power of, in bits. */
 #define CONSTRICTION_PRECISION_U32 24
@@ -82,6 +98,26 @@ enum constriction_result {
     /* The words end before all symbols are coded. */
     CONSTRICTION_OUT_OF_DATA = 8
 };
+
+/* What a function's result says, in a few words. Of what is no result: "unknown result". */
+static inline const char *constriction_result_text(uint32_t result) {
+    switch (result) {
+    case CONSTRICTION_DONE: return "done";
+    case CONSTRICTION_IMPOSSIBLE_SYMBOL: return "impossible symbol";
+    case CONSTRICTION_WRONG_WEIGHTS: return "wrong weights";
+    case CONSTRICTION_WRONG_INTERVAL: return "wrong interval";
+    case CONSTRICTION_WRONG_LENGTH: return "wrong length";
+    case CONSTRICTION_NO_SPACE: return "no space";
+    case CONSTRICTION_NO_MEMORY: return "out of memory";
+    case CONSTRICTION_INVALID_DATA: return "invalid data";
+    case CONSTRICTION_OUT_OF_DATA: return "out of data";
+    default: return "unknown result";
+    }
+}
+
+/* The version of the library that a program runs with, as a number. Where it is that of this header, it is
+   CONSTRICTION_VERSION_NUMBER. */
+uint32_t constriction_version(void);
 
 /* ==== Words of 32 bits, states of 64, weights that add up to 2^24 ==================================================== */
 
@@ -183,6 +219,13 @@ uint32_t constriction_range_encode_intervals_u32(struct constriction_range_encod
    Refusals: WRONG_LENGTH (*len > capacity), INVALID_DATA (no encoder has such numbers), NO_SPACE, NO_MEMORY. */
 uint32_t constriction_range_into_compressed_u32(const struct constriction_range_encoder_state_u32 *encoder,
                                                 uint32_t *words, size_t capacity, size_t *len, size_t *needed);
+
+/* The same with a seal that holds whatever words follow: other words can be put behind these in the same buffer, and a decoder that
+   begins at their first word, with all of them to read, still gives the symbols. It ends with the least number of zero words that
+   is enough for that. Where a state is two words, as here, the words are those of into_compressed.
+   Refusals: as of into_compressed. */
+uint32_t constriction_range_into_self_delimited_u32(const struct constriction_range_encoder_state_u32 *encoder,
+                                                    uint32_t *words, size_t capacity, size_t *len, size_t *needed);
 
 /* A decoder at the beginning of these words, which may be any: it is a decode that refuses what no encoder wrote. */
 uint32_t constriction_range_from_compressed_u32(const uint32_t *words, size_t word_count,
@@ -436,6 +479,13 @@ uint32_t constriction_range_encode_intervals_u16(struct constriction_range_encod
    Refusals: WRONG_LENGTH (*len > capacity), INVALID_DATA (no encoder has such numbers), NO_SPACE, NO_MEMORY. */
 uint32_t constriction_range_into_compressed_u16(const struct constriction_range_encoder_state_u16 *encoder,
                                                 uint16_t *words, size_t capacity, size_t *len, size_t *needed);
+
+/* The same with a seal that holds whatever words follow: other words can be put behind these in the same buffer, and a decoder that
+   begins at their first word, with all of them to read, still gives the symbols. It ends with the least number of zero words that
+   is enough for that. Where a state is two words, as here, the words are those of into_compressed.
+   Refusals: as of into_compressed. */
+uint32_t constriction_range_into_self_delimited_u16(const struct constriction_range_encoder_state_u16 *encoder,
+                                                    uint16_t *words, size_t capacity, size_t *len, size_t *needed);
 
 /* A decoder at the beginning of these words, which may be any: it is a decode that refuses what no encoder wrote. */
 uint32_t constriction_range_from_compressed_u16(const uint16_t *words, size_t word_count,

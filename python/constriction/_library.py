@@ -10,7 +10,7 @@ from typing import Any
 
 from .errors import refusal
 
-__all__ = ["ChainHeads", "RangeDecoderState", "RangeEncoderState", "call"]
+__all__ = ["PATH", "ChainHeads", "RangeDecoderState", "RangeEncoderState", "call"]
 
 
 class RangeEncoderState(Structure):
@@ -32,16 +32,25 @@ class ChainHeads(Structure):
 
 
 def _path() -> Path:
-    """Where the shared object is: what CONSTRICTION_LIBRARY says, or in the repository's folder build/."""
+    """Where the shared object is: what CONSTRICTION_LIBRARY says, from the current folder on; or in this package, where it was
+    installed; or in the repository's folder build/."""
     said = os.environ.get("CONSTRICTION_LIBRARY")
-    return Path(said) if said else Path(__file__).resolve().parents[2] / "build" / "libconstriction.so"
+    if said:
+        return Path(said).absolute()
+    here = Path(__file__).resolve().parent
+    own = here / "libconstriction.so"
+    return own if own.exists() else here.parents[1] / "build" / "libconstriction.so"
+
+
+#: Where the shared object is.
+PATH = _path()
 
 
 def _load() -> ctypes.CDLL:
-    path = _path()
-    if not path.exists():
-        raise ImportError(f"there is no {path}: build it by tools/library, or set CONSTRICTION_LIBRARY to where it is")
-    return ctypes.CDLL(str(path))
+    """The shared object by its whole path, so that it is never one of the system's. Calls let go of the interpreter's lock."""
+    if not PATH.is_file():
+        raise ImportError(f"there is no {PATH}: build it by tools/library, or set CONSTRICTION_LIBRARY to where it is")
+    return ctypes.CDLL(str(PATH))
 
 
 _size, _list = c_size_t, c_void_p
@@ -66,6 +75,7 @@ _PARAMETERS: dict[str, list[Any]] = {
     "range_encode_each": [_encoder, *_buffer, *_rows, *_items, _needed],
     "range_encode_intervals": [_encoder, *_buffer, *_pairs, _needed],
     "range_into_compressed": [_encoder, *_buffer, _needed],
+    "range_into_self_delimited": [_encoder, *_buffer, _needed],
     "range_from_compressed": [*_items, _decoder],
     "range_decode": [_decoder, *_items, *_table, *_items],
     "range_decode_each": [_decoder, *_items, *_rows, *_items],
@@ -97,7 +107,9 @@ def _functions() -> dict[str, Any]:
     library = _load()
     functions = {}
     for name, parameters in _PARAMETERS.items():
-        function = getattr(library, f"constriction_{name}_u32")
+        function = getattr(library, f"constriction_{name}_u32", None)
+        if function is None:
+            continue  # The library is of another version; a call says so.
         function.argtypes, function.restype = parameters, c_uint32
         functions[name] = function
     return functions
@@ -108,6 +120,9 @@ _FUNCTIONS = _functions()
 
 def call(name: str, *arguments: Any, texts: dict[int, str] | None = None) -> None:
     """Calls the C function of this name, and raises what its result means, with these texts in place of the usual ones."""
-    code = _FUNCTIONS[name](*arguments)
+    function = _FUNCTIONS.get(name)
+    if function is None:
+        raise NotImplementedError(f"{PATH} is the library of another version: it has no constriction_{name}_u32")
+    code = function(*arguments)
     if code:
         raise refusal(code, texts)

@@ -21,8 +21,11 @@ class Refusal(ValueError):
     """A call was refused, and nothing changed. Each reason is a class below this one."""
 
 
-class ImpossibleSymbolError(Refusal):
-    """A model doesn't know its symbol."""
+class ImpossibleSymbolError(Refusal, KeyError):
+    """A model doesn't know its symbol. It is also a :class:`KeyError`, as in the Rust crate's package."""
+
+    def __str__(self) -> str:
+        return Exception.__str__(self)  # That of KeyError would put the text in quotes.
 
 
 class WrongWeightsError(Refusal):

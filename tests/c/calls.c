@@ -133,6 +133,7 @@ static uint32_t range_encode_each(struct world *w) { return C(range_encode_each)
 static uint32_t range_encode_pairs(struct world *w) { return C(range_encode_intervals)(&w->encoder, BUFFER, PAIRS, &w->needed); }
 static uint32_t range_encode_row_pairs(struct world *w) { return C(range_encode_intervals)(&w->encoder, BUFFER, ROW_PAIRS, &w->needed); }
 static uint32_t range_export(struct world *w) { return C(range_into_compressed)(&w->encoder, BUFFER, &w->needed); }
+static uint32_t range_followed(struct world *w) { return C(range_into_self_delimited)(&w->encoder, BUFFER, &w->needed); }
 static uint32_t range_import(struct world *w) { return C(range_from_compressed)(w->words, w->len, &w->decoder); }
 static uint32_t range_decode(struct world *w) { return C(range_decode)(&w->decoder, w->words, w->len, TABLE, TAKEN); }
 static uint32_t range_decode_each(struct world *w) { return C(range_decode_each)(&w->decoder, w->words, w->len, ROWS, TAKEN); }
@@ -364,6 +365,9 @@ static void range(size_t count) {
     refused_memory("range: encode under rows, memory", range_encode_each, &start);
     refused_memory("range: encode by intervals, memory", range_encode_pairs, &start);
     refused_memory("range: export, memory", range_export, &start);
+    every_length("range: export that holds whatever follows", range_followed, &start, 1);
+    refused_memory("range: export that holds whatever follows, memory", range_followed, &start);
+    same("range: both exports", range_export, range_followed, &start);
     same("range: intervals", range_encode, range_encode_pairs, &start);
     same("range: intervals of rows", range_encode_each, range_encode_row_pairs, &start);
 
@@ -423,6 +427,66 @@ static void range(size_t count) {
         refuses("range: decode refuses", range_decode_each, &w, CONSTRICTION_WRONG_LENGTH);
         in.row_count++;
     }
+}
+
+/* A state from outside may hold any number of words back: room is looked at before memory is asked for. */
+static void great_held(void) {
+    call *const exports[] = {range_export, range_followed};
+    for (size_t i = 0; i < 2; i++) {
+        struct world w = fresh();
+        w.encoder.lower = (state)-1, w.encoder.range = (state)1 << (8 * sizeof(state) - BITS);
+        w.encoder.held = (size_t)1 << 28, w.encoder.first = 0;
+        requests = 0;
+        refuses("range: many words held", exports[i], &w, CONSTRICTION_NO_SPACE);
+        uint32_t result = exports[i](&w);
+        CHECK("range: many words held, needed", result == CONSTRICTION_NO_SPACE && w.needed == w.encoder.held + 2);
+        CHECK("range: many words held, memory", requests == 0);
+    }
+}
+
+/* A pointer to a list of no items may be null. */
+static void nulls(void) {
+    state head = 0;
+    size_t len = 0, other_len = 0, needed = 0;
+    uint32_t maybe;
+    struct C(range_encoder_state) encoder;
+    struct C(range_decoder_state) decoder;
+    struct world w = fresh();
+    draw(1);
+    CHECK("null: ANS", !C(ans_encode_reverse)(&head, NULL, 0, &len, TABLE, NULL, 0, &needed));
+    CHECK("null: ANS", !C(ans_encode_each_reverse)(&head, NULL, 0, &len, NULL, 0, KINDS, NULL, 0, &needed));
+    CHECK("null: ANS", !C(ans_encode_intervals_reverse)(&head, NULL, 0, &len, NULL, 0, NULL, 0, &needed));
+    CHECK("null: ANS", !C(ans_decode)(&head, NULL, 0, &len, TABLE, NULL, 0) && !C(ans_decode)(&head, NULL, 0, &len, TABLE, w.symbols, 1));
+    CHECK("null: ANS", !C(ans_decode_each)(&head, NULL, 0, &len, NULL, 0, KINDS, NULL, 0));
+    CHECK("null: ANS", !C(ans_from_compressed)(NULL, 0, &len, &head) && !C(ans_into_compressed)(head, NULL, 0, &len, &needed));
+    CHECK("null: ANS", !C(ans_from_binary)(NULL, 0, &len, &head) && !C(ans_into_binary)(head, NULL, 0, &len, &needed));
+    CHECK("null: ANS, no weights", C(ans_decode)(&head, NULL, 0, &len, NULL, 0, NULL, 0) == CONSTRICTION_WRONG_WEIGHTS);
+
+    CHECK("null: range", !C(range_encoder)(&encoder) && !C(range_encode)(&encoder, NULL, 0, &len, TABLE, NULL, 0, &needed));
+    CHECK("null: range", !C(range_encode_each)(&encoder, NULL, 0, &len, NULL, 0, KINDS, NULL, 0, &needed));
+    CHECK("null: range", !C(range_encode_intervals)(&encoder, NULL, 0, &len, NULL, 0, NULL, 0, &needed));
+    CHECK("null: range", !C(range_into_compressed)(&encoder, NULL, 0, &len, &needed));
+    CHECK("null: range", !C(range_into_self_delimited)(&encoder, NULL, 0, &len, &needed));
+    CHECK("null: range", !C(range_from_compressed)(NULL, 0, &decoder) && !C(range_decode)(&decoder, NULL, 0, TABLE, NULL, 0));
+    CHECK("null: range", !C(range_decode_each)(&decoder, NULL, 0, NULL, 0, KINDS, NULL, 0));
+    CHECK("null: range", !C(range_maybe_exhausted)(&decoder, NULL, 0, &maybe) && !C(range_seek)(&decoder, NULL, 0, 0, 0, (state)-1));
+
+    CHECK("null: chain", !C(chain_decode)(&w.heads, NULL, 0, &len, NULL, 0, &other_len, TABLE, NULL, 0, &needed));
+    CHECK("null: chain", !C(chain_decode_each)(&w.heads, NULL, 0, &len, NULL, 0, &other_len, NULL, 0, KINDS, NULL, 0, &needed));
+    CHECK("null: chain", !C(chain_encode_reverse)(&w.heads, NULL, 0, &len, NULL, 0, &other_len, TABLE, NULL, 0, &needed));
+    CHECK("null: chain", !C(chain_encode_each_reverse)(&w.heads, NULL, 0, &len, NULL, 0, &other_len, NULL, 0, KINDS, NULL, 0, &needed));
+    CHECK("null: chain", C(chain_from_compressed)(NULL, 0, &len, &w.heads) == CONSTRICTION_INVALID_DATA);
+    CHECK("null: codewords", !C(exp_golomb_encode_queue)(NULL, 0, NULL, 0, &len, &needed) && len == 0);
+    CHECK("null: codewords", !C(exp_golomb_decode_queue)(NULL, 0, NULL, 0));
+    CHECK("null: codewords", !C(huffman_encode_queue)(TREE, NULL, 0, NULL, 0, &len, &needed) && !C(huffman_decode_queue)(TREE, NULL, 0, NULL, 0));
+    CHECK("null: codewords, no weights", C(huffman_decode_queue)(NULL, 0, NULL, 0, NULL, 0) == CONSTRICTION_WRONG_WEIGHTS);
+}
+
+static void texts(void) {
+    for (uint32_t i = 0; i < RESULTS; i++)
+        for (uint32_t j = 0; j <= RESULTS; j++)
+            CHECK("a text for each result", !strcmp(constriction_result_text(i), constriction_result_text(j)) == (i == j));
+    CHECK("the version", constriction_version() == CONSTRICTION_VERSION_NUMBER && CONSTRICTION_VERSION_NUMBER == 500);
 }
 
 static void chain(size_t count) {
@@ -559,6 +623,7 @@ int main(void) {
         size_t count = round < 3 ? (size_t)round : 1 + random_below(COUNT);
         ans(count), range(count), chain(count), codewords(count);
     }
+    great_held(), nulls(), texts();
     for (size_t i = 1; i < RESULTS; i++) CHECK("each result was seen", seen[i] > 0);
     return finish();
 }

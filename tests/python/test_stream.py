@@ -8,7 +8,7 @@ import unittest
 from array import array
 
 import definitions
-from constriction import errors
+from constriction import _library, errors
 from constriction.stream import chain, queue, stack
 from constriction.stream.chain import ChainCoder
 from constriction.stream.model import Categorical, QuantizedGaussian, Uniform, WeightTable
@@ -250,6 +250,19 @@ class Range(unittest.TestCase):
         decoder.decode(TWO, 100)
         self.assertTrue(decoder.maybe_exhausted())
 
+    @unittest.skipUnless("range_into_self_delimited" in _library._FUNCTIONS, "the library has no self-delimiting seal")
+    def test_self_delimiting(self) -> None:
+        dice = random.Random(14)
+        for count in (0, 1, 2, 5, 40):
+            symbols = [dice.randrange(3) for _ in range(count)]
+            encoder = RangeEncoder()
+            encoder.encode(symbols, SEVERAL)
+            words = encoder.get_compressed(self_delimiting=True)
+            self.assertEqual(encoder.get_compressed(self_delimiting=True), words)
+            for behind in ([], [0] * 5, [(1 << 32) - 1] * 5, [dice.randrange(1 << 32)]):
+                self.assertEqual(RangeDecoder([*words, *behind]).decode(SEVERAL, count), symbols)
+        self.assertEqual(RangeEncoder().get_compressed(self_delimiting=True), [])
+
     def test_goes_on_after_an_export(self) -> None:
         encoder = RangeEncoder()
         for symbol in TEN:
@@ -293,7 +306,7 @@ class Range(unittest.TestCase):
                         start, length, half = start << 32, length << 32, half << 32
                 encoder = RangeEncoder()
                 encoder.encode([1] * steps, WeightTable(), tables[:-1])
-                self.assertEqual(len(encoder._words), 0)
+                self.assertEqual(encoder._state.words.length, 0)
                 encoder.encode([1], WeightTable(), tables[-1:])
                 self.assertEqual(encoder.get_compressed(), definitions.range_words(tables, [1] * (steps + 1)))
                 self.assertEqual(encoder.get_compressed()[0], (1 << 31) - (last < 0))

@@ -4,6 +4,7 @@ from __future__ import annotations
 
 import doctest
 import random
+import time
 import unittest
 from array import array
 
@@ -20,11 +21,11 @@ class Codewords(unittest.TestCase):
     def test_golomb_rows(self) -> None:
         encoder = QueueEncoder()
         encoder.encode([0, 5, 7], ExpGolomb())
-        self.assertEqual(encoder.get_compressed(), [537])
+        self.assertEqual(encoder.get_compressed(), ([537], 13))
         for number, words in (((1 << 32) - 1, [0, 1, 0]), ((1 << 32) - 2, [1 << 31, (1 << 31) - 1])):
             encoder = QueueEncoder()
             encoder.encode_symbol(number, ExpGolomb())
-            self.assertEqual(encoder.get_compressed(), words)
+            self.assertEqual(encoder.get_compressed()[0], words)
             self.assertEqual(encoder.get_decoder().decode_symbol(ExpGolomb()), number)
         self.assertEqual(QueueDecoder([4294967295]).decode(ExpGolomb(), 32), [0] * 32)
         text = r"^The compressed data ended before the current codeword was complete\.$"
@@ -44,7 +45,8 @@ class Codewords(unittest.TestCase):
         for weights, codewords in rows:
             encoder = QueueEncoder()
             encoder.encode(range(len(weights)), EncoderHuffmanTree(weights))
-            self.assertEqual(encoder.get_compressed(), definitions.queue_words(codewords.replace(" ", "")))
+            bits = codewords.replace(" ", "")
+            self.assertEqual(encoder.get_compressed(), (definitions.queue_words(bits), len(bits)))
         with self.assertRaisesRegex(errors.WrongWeightsError, "^no weights$"):
             EncoderHuffmanTree([])
         with self.assertRaisesRegex(errors.WrongWeightsError, "^sum of weights too large$"):
@@ -58,7 +60,7 @@ class Codewords(unittest.TestCase):
         for symbols, words in (([1], [3]), ([1] * 32, [4294967295, 1]), ([], [1])):
             coder = StackCoder()
             coder.encode_reverse(symbols, equal)
-            self.assertEqual(coder.get_compressed(), words)
+            self.assertEqual(coder.get_compressed(), (words, len(symbols)))
         self.assertEqual(StackCoder([12]).decode(DecoderHuffmanTree([1, 1]), 3), [1, 0, 0])
         with self.assertRaises(errors.InvalidDataError):
             StackCoder([7, 0]).decode(DecoderHuffmanTree([1, 1]))
@@ -77,20 +79,79 @@ class Codewords(unittest.TestCase):
                 queue, stack = QueueEncoder(), StackCoder()
                 queue.encode(array("q", given), encoder_book)
                 stack.encode_reverse(given, encoder_book)
-                self.assertEqual(queue.get_compressed(), definitions.queue_words("".join(bits)))
+                whole = "".join(bits)
+                self.assertEqual(queue.get_compressed(), (definitions.queue_words(whole), len(whole)))
                 turned = "".join(it[::-1] for it in reversed(bits))
-                self.assertEqual(stack.get_compressed(), definitions.stack_words(turned))
-                for decoder in (queue.get_decoder(), StackCoder(stack.get_compressed())):
+                self.assertEqual(stack.get_compressed(), (definitions.stack_words(turned), len(whole)))
+                for decoder in (queue.get_decoder(), StackCoder(stack.get_compressed()[0])):
                     self.assertEqual(decoder.decode(decoder_book, count // 2), given[: count // 2])
                     self.assertEqual(decoder.decode(decoder_book, count - count // 2), given[count // 2 :])
 
-    def test_one_codebook_for_a_list(self) -> None:
-        encoder, tree = QueueEncoder(), EncoderHuffmanTree([1, 1])
-        encoder.encode_symbol(0, tree)
-        with self.assertRaises(ValueError):
-            encoder.encode_symbol(0, ExpGolomb())
-        encoder.encode_symbol(1, tree)
-        self.assertEqual(encoder.get_compressed(), [2])
+    def test_codebooks_that_change(self) -> None:
+        dice = random.Random(12)
+        trees = [EncoderHuffmanTree([1]), EncoderHuffmanTree([2, 2, 4, 1, 1]), EncoderHuffmanTree([3, 2])]
+        queue, stack, kept, bits = QueueEncoder(), StackCoder(), [], ""
+        for _ in range(2000):
+            book = dice.choice([*trees, ExpGolomb()])
+            number = dice.randrange(1000) if isinstance(book, ExpGolomb) else dice.randrange(book.num_symbols())
+            queue.encode_symbol(number, book)
+            stack.encode_symbol(number, book)
+            kept.append((number, book))
+            codewords = [definitions.golomb_codeword(number)] if isinstance(book, ExpGolomb) else None
+            bits += codewords[0] if codewords else definitions.huffman_codewords(list(book._weights))[number]
+        words, count = queue.get_compressed()
+        self.assertEqual((words, count), (definitions.queue_words(bits), len(bits)))
+        decoder = QueueDecoder(words)
+        for number, book in kept:
+            self.assertEqual(decoder.decode_symbol(book), number)
+        for number, book in reversed(kept):
+            self.assertEqual(stack.decode_symbol(book), number)
+        self.assertTrue(stack.is_empty())
+
+    def test_bits_back_on_a_stack(self) -> None:
+        posterior, prior, likelihood = (EncoderHuffmanTree(it) for it in ([1, 1], [3, 1], [1, 2, 4]))
+        stack = StackCoder()
+        stack.encode_reverse([1, 0, 1, 1, 0, 1], ExpGolomb())
+        before = stack.get_compressed()
+        latent = stack.decode(posterior)
+        stack.encode_reverse(2, likelihood)
+        stack.encode_reverse(latent, prior)
+        receiver = StackCoder(stack.get_compressed()[0])
+        latent = receiver.decode(prior)
+        self.assertEqual(receiver.decode(likelihood), 2)
+        receiver.encode_reverse(latent, posterior)
+        self.assertEqual(receiver.get_compressed(), before)
+
+    def test_long_lists_that_end_too_early(self) -> None:
+        tree = DecoderHuffmanTree([1, 1])
+        encoder = QueueEncoder()
+        encoder.encode([0] * 100, tree)
+        words, bits = encoder.get_compressed()
+        decoder = QueueDecoder(words)
+        decoder.decode_symbol(tree)
+        with self.assertRaises(errors.OutOfDataError):
+            decoder.decode(tree, 128)
+        self.assertEqual(decoder.decode(tree, 127), [0] * 127)
+        self.assertEqual(bits, 100)
+        with self.assertRaises(errors.OutOfDataError):
+            StackCoder([1 << 31, 1]).decode(tree, 65)
+        for symbols in ([0] * 70 + [2], [2]):
+            with self.assertRaises(errors.ImpossibleSymbolError):
+                encoder.encode(symbols, tree)
+        self.assertEqual(encoder.get_compressed(), (words, bits))
+
+    def test_a_symbol_at_a_time_is_linear(self) -> None:
+        def seconds(count: int) -> float:
+            encoder = QueueEncoder()
+            encoder.encode([5] * count, ExpGolomb())
+            decoder = encoder.get_decoder()
+            begin = time.perf_counter()
+            for _ in range(count):
+                decoder.decode_symbol(ExpGolomb())
+            return time.perf_counter() - begin
+
+        few = min(seconds(2000) for _ in range(3))
+        self.assertLess(seconds(32000), 16 * few * 4)  # Quadratic would be 16 times more.
 
 
 if __name__ == "__main__":

@@ -1,2 +1,4 @@
+pub mod ChainRefusals
 pub mod InTurn
 pub mod Outcomes
+pub mod Refusals

@@ -3,6 +3,7 @@ pub mod Decoder
 pub mod Encoder
 pub mod Guarded
 pub mod Range
+pub mod SelfDelimiting
 pub mod States
 pub mod Symbols
 pub mod Writing

@@ -1,5 +1,6 @@
 pub mod Bits
 pub mod Codewords
+pub mod Cost
 pub mod Golomb
 pub mod Guarded
 pub mod Guards

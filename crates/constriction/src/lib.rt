@@ -171,8 +171,8 @@ pub mod stream {
     pub mod queue {
         pub use constriction_queue::{
             DecoderFrontendError, DefaultRangeDecoder, DefaultRangeEncoder, EncoderGuard,
-            EncoderSituation, RangeCoderState, RangeCompressedIter, RangeDecoder, RangeEncoder,
-            SmallRangeDecoder, SmallRangeEncoder,
+            EncoderSituation, RangeCoderState, RangeCompressedIter, RangeDecoder,
+            RangeEncoder, SmallRangeDecoder, SmallRangeEncoder,
         };
     }
 
@@ -226,7 +226,8 @@ pub mod laws {
 
     pub mod bounds {
         pub use constriction_laws::bounds::{
-            range_bound, stack_bound, stack_bound_at_one_precision, stack_net_bound,
+            range_bound, self_delimiting_bound, stack_bound, stack_bound_at_one_precision,
+            stack_net_bound,
         };
 
         pub mod following {
@@ -254,7 +255,7 @@ pub mod laws {
         pub mod round_trips {
             pub mod coding {
                 pub use constriction_laws::chain::round_trips::coding::{
-                    decode_list, decode_pairs, encode_list_reverse,
+                    decode_list, decode_pairs, encode_list_reverse, encode_pairs_reverse,
                 };
             }
 
@@ -283,6 +284,13 @@ pub mod laws {
     pub mod queue {
         pub mod guards {
             pub use constriction_laws::queue::guards::{shown_words_are_exported, shown_words_go};
+        }
+
+        pub mod following {
+            pub use constriction_laws::queue::following::{
+                fewer_zero_words_hold_less, list_whatever_follows, self_delimiting_words,
+                self_delimiting_words_are_read, symbols_come_back_whatever_follows,
+            };
         }
 
         pub mod lists {
@@ -468,7 +476,8 @@ pub mod laws {
 
         pub mod huffman {
             pub use constriction_laws::symbol::huffman::{
-                huffman_is_prefix_free, huffman_knows_its_symbols, one_tree,
+                huffman_has_codewords, huffman_is_prefix_free, huffman_knows_its_symbols,
+                least_cost, one_tree,
             };
         }
 

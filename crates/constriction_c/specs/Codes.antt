@@ -1,5 +1,5 @@
 -- The codes of a C function, and the answers of calls that they stand for.
-use Rattle.std.specs.Prelude.{ℕ, zero, suc, Result, Ok, Err}
+use Rattle.std.specs.Prelude.{ℕ, zero, suc, ◌+◌, ◌*◌, Result, Ok, Err}
 use Rattle.constriction_calls.specs.declared.refusal.Refusal.{Refusal}
 use Rattle.constriction_calls.specs.declared.refusal.Refusal.TheVariants.{ImpossibleSymbol, WrongWeights, WrongInterval, WrongLength, NoSpace, NoMemory, InvalidData, OutOfData}
 
@@ -19,3 +19,7 @@ answer_of (suc (suc (suc (suc (suc (suc (suc (suc code)))))))) needed = Err OutO
 abbrev pub needed_by : Result (Unit {0}) Refusal → ℕ → ℕ
 needed_by (Err (NoSpace count)) old = count
 needed_by answer old = old
+
+-- a version as a number
+abbrev pub version_number : ℕ → ℕ → ℕ → ℕ
+version_number major minor patch = 10000 * major + 100 * minor + patch

@@ -19,3 +19,4 @@ pub mod chain;
 pub mod codes;
 pub mod range;
 pub mod symbol;
+pub mod version;

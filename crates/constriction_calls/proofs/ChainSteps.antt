@@ -26,11 +26,11 @@ pub ends_at : {W E C R F : Type 0} (number : W → ℕ) (is_list : Type 0) (held
     (write_fails : R → F → Type 0) (room : R → ℕ) (makes_room : Type 0) (prepare_fails : R → ℕ → F → Type 0) (w s P : ℕ) (table : List (ℕ × ℕ × ℕ)) (old new : ChainValue C R)
     (answer : Result ℕ (CoderError DecoderFrontendError (BackendError E F))) (x : DecoderFrontendError)
     → ((a b : C) → reads a (Ok None) b → map number (held a) ≡ []) → answer ≡ Err (Frontend x)
-    → DecodesSymbol (DecodeCall number is_list held held' reads write_fails room makes_room w s) (Halted number is_list held held' reads prepare_fails w s P) P table old answer new
+    → DecodesSymbol (DecodeCall number is_list held held' reads write_fails room makes_room w s) (Halted number is_list held held' reads prepare_fails room makes_room w s P) P table old answer new
     → NeedsWord w P old.state.h × (old.state.compressed ≡ [])
 ends_at number is_list held held' reads write_fails room makes_room prepare_fails w s P table old new answer x none is step =
     elim (rw is at step) [
-      | inl halted ↦ (halted.why.0, halted.before.compressed_are ∙ none old.compressed new.compressed halted.why.1)
+      | inl halted ↦ (halted.why.0, halted.before.compressed_are ∙ none old.compressed new.compressed halted.why.1.0)
       | inr found ↦ absurd found.1.3.outcome
     ]
 
@@ -69,8 +69,8 @@ module _ {W C R E F : Type 0} (number : W → ℕ) (is_list : Type 0) (held : C 
       → AtEntry model.precision model.table symbol (λ e. old.state.r < e.p * least w s e.precision) × (old.state.remainders ≡ [])
   lacks_at model symbol old new answer none is step = elim (rw is at step) [
     | inl found ↦ (
-      (found.0, found.1, found.2, found.3.outcome.0),
-      found.3.before.remainders_are ∙ none old.remainders new.remainders found.3.outcome.1,
+      (found.0, found.1, found.2, found.3.outcome.short),
+      found.3.before.remainders_are ∙ none old.remainders new.remainders found.3.outcome.answered.0,
     )
     | inr never ↦ absurd (other never.1 never.2 never.3)
   ]

@@ -6,6 +6,7 @@ pub mod ChainSteps
 pub mod IntervalRows
 pub mod RangeEncoded
 pub mod RangeEnding
+pub mod RangeFollowed
 pub mod RangeFrame
 pub mod RangeIntervals
 pub mod RangeTaking

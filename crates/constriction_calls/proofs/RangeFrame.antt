@@ -76,6 +76,57 @@ same_test a u v = elim (cases_eq u v) [
 ]
 
 -- ---- a seal behind words
+-- a number above the words below is parted as it is alone
+parts_behind : (w s n : ℕ) (r : Run) (x : ℕ) → w ≤ s → (n * (2 ^ w) ^ r.moves * 2 ^ s + x) / 2 ^ (s - w) ≡ n * (2 ^ w) ^ suc r.moves + x / 2 ^ (s - w)
+parts_behind w s n r x wide =
+    let b : ℕ = 2 ^ w in
+    let q : ℕ = 2 ^ (s - w) in
+    let m : ℕ = r.moves in
+    let split : q * b ≡ 2 ^ s = pow-split s w wide in
+    let power : b ^ suc m ≡ b ^ m * b = pow-suc b m in
+    let carried : n * b ^ m * 2 ^ s + x ≡ x + n * b ^ suc m * q = ap (λ y. n * b ^ m * y + x) (sym split) ∙ rw power (omega arith) in
+    ap (λ y. y / q) carried ∙ add-mul-div_right x (n * b ^ suc m) (pow_pos (s - w)) ∙ omega arith
+
+pub seal_number_behind : (w s n k : ℕ) (r : Run) → w ≤ s → seal_number w s (behind w s n k r) ≡ n * (2 ^ w) ^ suc r.moves + seal_number w s r
+seal_number_behind w s n k r wide =
+    let q : ℕ = 2 ^ (s - w) in
+    let turn : n * (2 ^ w) ^ r.moves * 2 ^ s + r.low + (q - 1) ≡ n * (2 ^ w) ^ r.moves * 2 ^ s + (r.low + (q - 1)) = omega arith in
+    ap (λ y. y / q) turn ∙ parts_behind w s n r (r.low + (q - 1)) wide
+
+-- the digits of a run without symbols
+pub start_digits_behind : (w s : ℕ) (rest : List ℕ) (r : Run) → AreWords w rest → r.low < 2 ^ s * (2 ^ w) ^ r.moves
+    → fixed_digits (2 ^ w) (r.moves + length rest) ((number_of (2 ^ w) rest * (2 ^ w) ^ r.moves * 2 ^ s + r.low) / 2 ^ s) ≡ reverse rest ++ fixed_digits (2 ^ w) r.moves (r.low / 2 ^ s)
+start_digits_behind w s rest r words inside =
+    let b : ℕ = 2 ^ w in
+    let n : ℕ = number_of b rest in
+    let m : ℕ = r.moves in
+    let digits : fixed_digits b (length rest) n ≡ reverse rest = digits_of_words w rest words in
+    let number : (n * b ^ m * 2 ^ s + r.low) / 2 ^ s ≡ n * b ^ m + r.low / 2 ^ s =
+    ap (λ y. y / 2 ^ s) (let turn : n * b ^ m * 2 ^ s + r.low ≡ r.low + n * b ^ m * 2 ^ s = omega arith in turn)
+    ∙ add-mul-div_right r.low (n * b ^ m) (pow_pos s) ∙ omega arith in
+    let below : r.low / 2 ^ s < b ^ m = (div-lt_iff_lt-mul (pow_pos s)).1 (omega (arith, inside)) in
+    rw number (digits_behind b m (length rest) n (r.low / 2 ^ s) (pow_pos w) below ∙ ap (λ (ds : List ℕ). ds ++ fixed_digits b m (r.low / 2 ^ s)) digits)
+
+-- those of a seal's number
+pub seal_digits_behind : (w s : ℕ) (rest : List ℕ) (r : Run) → w ≤ s → AreWords w rest → 2 ^ (s - w) ≤ r.range → r.low + r.range < 2 ^ s * (2 ^ w) ^ r.moves
+    → fixed_digits (2 ^ w) (suc (r.moves + length rest)) (number_of (2 ^ w) rest * (2 ^ w) ^ suc r.moves + seal_number w s r) ≡ reverse rest ++ fixed_digits (2 ^ w) (suc r.moves) (seal_number w s r)
+seal_digits_behind w s rest r wide words least inside =
+    let b : ℕ = 2 ^ w in
+    let q : ℕ = 2 ^ (s - w) in
+    let n : ℕ = number_of b rest in
+    let k : ℕ = length rest in
+    let m : ℕ = r.moves in
+    let c : ℕ = seal_number w s r in
+    let split : q * b ≡ 2 ^ s = pow-split s w wide in
+    let digits : fixed_digits b k n ≡ reverse rest = digits_of_words w rest words in
+    let power : b ^ suc m ≡ b ^ m * b = pow-suc b m in
+    let room : 2 ^ s * b ^ m ≡ b ^ suc m * q = ap (λ y. y * b ^ m) (sym split) ∙ rw power (omega arith) in
+    let some : 0 < q = pow_pos (s - w) in
+    let below : c < b ^ suc m = (div-lt_iff_lt-mul some).1 (omega (arith, inside, least, room)) in
+    let count : suc (m + k) ≡ suc m + k = omega arith in
+    ap (λ j. fixed_digits b j (n * b ^ suc m + c)) count ∙ digits_behind b (suc m) k n c (pow_pos w) below
+    ∙ ap (λ (ds : List ℕ). ds ++ fixed_digits b (suc m) c) digits
+
 -- a run of which the words have room for its interval
 pub sealed_behind : (w s : ℕ) (rest : List ℕ) (r : Run) → w ≤ s → AreWords w rest
     → 2 ^ (s - w) ≤ r.range → r.low + r.range < 2 ^ s * (2 ^ w) ^ r.moves
@@ -86,36 +137,19 @@ sealed_behind w s rest r wide words least inside =
     let n : ℕ = number_of b rest in
     let k : ℕ = length rest in
     let m : ℕ = r.moves in
-    let base : 0 < b = pow_pos w in
-    let some : 0 < q = pow_pos (s - w) in
-    let split : q * b ≡ 2 ^ s = pow-split s w wide in
-    let digits : fixed_digits b k n ≡ reverse rest = digits_of_words w rest words in
     elim (cases_eq r.range (2 ^ s - 1)) [
-      | inl e ↦
-          let number : (n * b ^ m * 2 ^ s + r.low) / 2 ^ s ≡ n * b ^ m + r.low / 2 ^ s =
-          ap (λ y. y / 2 ^ s) (let turn : n * b ^ m * 2 ^ s + r.low ≡ r.low + n * b ^ m * 2 ^ s = omega arith in turn)
-          ∙ add-mul-div_right r.low (n * b ^ m) (pow_pos s) ∙ omega arith in
-          let below : r.low / 2 ^ s < b ^ m = (div-lt_iff_lt-mul (pow_pos s)).1 (omega (arith, inside)) in
-          rw (eq-eqb r.range (2 ^ s - 1) e, number) (digits_behind b m k n (r.low / 2 ^ s) base below ∙ ap (λ (ds : List ℕ). ds ++ fixed_digits b m (r.low / 2 ^ s)) digits)
+      | inl e ↦ rw (eq-eqb r.range (2 ^ s - 1) e) (start_digits_behind w s rest r words (omega (arith, inside)))
       | inr ne ↦
           let c : ℕ = seal_number w s r in
-          let power : b ^ suc m ≡ b ^ m * b = pow-suc b m in
-          let carried : (x : ℕ) → n * b ^ m * 2 ^ s + x ≡ x + n * b ^ suc m * q = λ x. (ap (λ y. n * b ^ m * y + x) (sym split) ∙ rw power (omega arith)) in
-          let parts : (x : ℕ) → (n * b ^ m * 2 ^ s + x) / q ≡ n * b ^ suc m + x / q = λ x. (ap (λ y. y / q) (carried x) ∙ add-mul-div_right x (n * b ^ suc m) some ∙ omega arith) in
-          let point : (n * b ^ m * 2 ^ s + r.low + (q - 1)) / q ≡ n * b ^ suc m + c =
-          ap (λ y. y / q) (let turn : n * b ^ m * 2 ^ s + r.low + (q - 1) ≡ n * b ^ m * 2 ^ s + (r.low + (q - 1)) = omega arith in turn) ∙ parts (r.low + (q - 1)) in
+          let point : (n * b ^ m * 2 ^ s + r.low + (q - 1)) / q ≡ n * b ^ suc m + c = seal_number_behind w s n k r wide in
           let end : (n * b ^ m * 2 ^ s + r.low + r.range) / q ≡ n * b ^ suc m + (r.low + r.range) / q =
-          ap (λ y. y / q) (let turn : n * b ^ m * 2 ^ s + r.low + r.range ≡ n * b ^ m * 2 ^ s + (r.low + r.range) = omega arith in turn) ∙ parts (r.low + r.range) in
-          let room : 2 ^ s * b ^ m ≡ b ^ suc m * q = ap (λ y. y * b ^ m) (sym split) ∙ rw power (omega arith) in
-          let below : c < b ^ suc m = (div-lt_iff_lt-mul some).1 (omega (arith, inside, least, room)) in
+          ap (λ y. y / q) (let turn : n * b ^ m * 2 ^ s + r.low + r.range ≡ n * b ^ m * 2 ^ s + (r.low + r.range) = omega arith in turn) ∙ parts_behind w s n r (r.low + r.range) wide in
           let test = same_test (n * b ^ suc m) ((r.low + r.range) / q) c in
           let tail : List ℕ = if (r.low + r.range) / q == c then 0 ∷ [] else [] in
-          let count : suc (m + k) ≡ suc m + k = omega arith in
           let whole : sealed w s (behind w s n k r) ≡ fixed_digits b (suc (m + k)) (n * b ^ suc m + c) ++ tail = rw (ne_eqb r.range (2 ^ s - 1) ne, point, end, test) refl in
           let own : sealed w s r ≡ fixed_digits b (suc m) c ++ tail = rw (ne_eqb r.range (2 ^ s - 1) ne) refl in
-          let all : fixed_digits b (suc (m + k)) (n * b ^ suc m + c) ≡ reverse rest ++ fixed_digits b (suc m) c =
-          ap (λ j. fixed_digits b j (n * b ^ suc m + c)) count ∙ digits_behind b (suc m) k n c base below ∙ ap (λ (ds : List ℕ). ds ++ fixed_digits b (suc m) c) digits in
-          whole ∙ ap (λ (ds : List ℕ). ds ++ tail) all ∙ append_assoc (reverse rest) (fixed_digits b (suc m) c) tail ∙ ap (λ (ds : List ℕ). reverse rest ++ ds) (sym own)
+          whole ∙ ap (λ (ds : List ℕ). ds ++ tail) (seal_digits_behind w s rest r wide words least inside)
+          ∙ append_assoc (reverse rest) (fixed_digits b (suc m) c) tail ∙ ap (λ (ds : List ℕ). reverse rest ++ ds) (sym own)
     ]
 
 -- ---- what an encoder holds leaves room for its interval

@@ -1,5 +1,5 @@
 -- Range coders between calls, as their callers keep them. A buffer has its words in the order in which they were written.
-use Rattle.std.specs.Prelude.{◌≡◌, ℕ, zero, suc, ◌+◌, ◌-◌, ◌%◌, ◌<◌, ◌≤◌, ◌^◌, List, [], ◌++◌, length, map, reverse, drop, take}
+use Rattle.std.specs.Prelude.{◌≡◌, ℕ, zero, suc, ◌+◌, ◌-◌, ◌*◌, ◌%◌, ◌<◌, ◌≤◌, ◌^◌, ◌⊎◌, List, [], ◌++◌, length, map, reverse, drop, take}
 use Rattle.constriction_base.specs.Models.{Item}
 use Rattle.constriction_queue.specs.Range.{Run, IsAt}
 use Rattle.constriction_queue.specs.Encoder.{run_of, words_held}
@@ -79,6 +79,10 @@ OfWords InvalidData = Unit {0}
 OfWords (NoSpace needed) = Unit {0}
 OfWords NoMemory = Unit {0}
 OfWords other = ⊥
+
+-- a buffer of this size has room for so many words, or their bits can't be counted
+abbrev pub HadRoom : ℕ → ℕ → ℕ → Type 0
+HadRoom w size count = (count ≤ size) ⊎ (2 ^ 64 ≤ w * count)
 
 -- ---- decoders
 -- the numbers are those of a decoder: the interval is long enough, and the point lies in it

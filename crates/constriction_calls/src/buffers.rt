@@ -7,6 +7,25 @@ ghost use Rattle.constriction_calls.specs.declared.refusal.Refusal.TheVariants a
 use crate::refusal::Refusal;
 use constriction_words::BitArray;
 
+/// Looks whether a buffer of `size` words has room for so many behind its first `len`.
+///
+/// # Errors
+///
+/// As [`append`] of so many words.
+pub fn room_for(count: usize, len: usize, size: usize) -> Result<(), Refusal>
+    ensures ok { OnOk result (len + count ≤ size) }
+    ensures err { IfErr result (λ e. (e ≡ refusals.NoSpace (len + count)) ⊎ ((e ≡ refusals.NoMemory) × (2 ^ 64 ≤ len + count))) }
+    ensures full { OnErr result (size < len + count) }
+{
+    let Some(end) = len.checked_add(count) else {
+        return Err(Refusal::NoMemory);
+    };
+    if end > size {
+        return Err(Refusal::NoSpace(end));
+    }
+    Ok(())
+}
+
 /// Puts words behind the first `len` words of a buffer, and counts them.
 ///
 /// # Errors

@@ -24,19 +24,19 @@ module _ {W E C R F : Type 0} (number : W → ℕ) (is_list : Type 0) (held : C 
   step_goes step (Backend (Remainders x)) new call end = not_full x end call.outcome.fails
 
   halt_goes : (e : CoderError DecoderFrontendError (BackendError E F)) (new : ChainValue C R)
-      → Halted number is_list held held' reads prepare_fails w s P coder e new → IsEndOfData lack e → ⊥
-  halt_goes (Frontend OutOfCompressedData) new halted end = some_left new.compressed halted.why.1
+      → Halted number is_list held held' reads prepare_fails room makes_room w s P coder e new → IsEndOfData lack e → ⊥
+  halt_goes (Frontend OutOfCompressedData) new halted end = some_left new.compressed halted.why.1.0
   halt_goes (Backend (Compressed x)) new halted end = end
   halt_goes (Backend (Remainders x)) new halted end = has_place x end halted.why.1
 
-  pub goes_on : GoesOn (DecodeCall number is_list held held' reads write_fails room makes_room w s) (Halted number is_list held held' reads prepare_fails w s P) (IsEndOfData lack) coder
+  pub goes_on : GoesOn (DecodeCall number is_list held held' reads write_fails room makes_room w s) (Halted number is_list held held' reads prepare_fails room makes_room w s P) (IsEndOfData lack) coder
   goes_on = (step_goes, halt_goes)
 
 module _ {W E C R F : Type 0} (number : W → ℕ) (is_list : Type 0) (held : C → List W) (held' : R → List W) (reads : R → Result (Option W) F → R → Type 0)
     (prepare_fails : C → ℕ → E → Type 0) (write_fails : C → E → Type 0) (room : C → ℕ) (makes_room : Type 0) (lack : E → Type 0) (w s : ℕ) (coder : ChainValue C R)
     (some_left : (after : R) → reads coder.remainders (Ok None) after → ⊥) (not_full : (e : E) → lack e → write_fails coder.compressed e → ⊥) (has_place : (e : E) → lack e → prepare_fails coder.compressed 1 e → ⊥) where
   pub has_room : HasRoom (EncodeCall number is_list held held' reads prepare_fails write_fails room makes_room w s) (IsLackOfRoom {F = F} lack) coder
-  has_room step (Frontend OutOfRemainders) new call lacks = some_left new.remainders call.outcome.1
+  has_room step (Frontend OutOfRemainders) new call lacks = some_left new.remainders call.outcome.answered.0
   has_room step (Frontend ImpossibleSymbol) new call lacks = lacks
   has_room step (Backend (Compressed x)) new call lacks = elim call.outcome.why [
     | inl prepare ↦ has_place x lacks prepare.0
@@ -49,7 +49,7 @@ module _ {W E C R F : Type 0} (number : W → ℕ) (is_list : Type 0) (held : C 
     (prepare_fails : R → ℕ → F → Type 0) (write_fails : R → F → Type 0) (room : R → ℕ) (makes_room : Type 0) (lack : F → Type 0) (w s P : ℕ) (coder : ChainValue C R) where
   pub goes_unless : (full : Bool) → ((after : C) → reads coder.compressed (Ok None) after → ⊥) → (full ≡ false → (e : F) → lack e → write_fails coder.remainders e → ⊥)
       → (full ≡ false → (e : F) → lack e → prepare_fails coder.remainders 1 e → ⊥)
-      → OnFalse full (GoesOn (DecodeCall number is_list held held' reads write_fails room makes_room w s) (Halted number is_list held held' reads prepare_fails w s P) (IsEndOfData lack) coder)
+      → OnFalse full (GoesOn (DecodeCall number is_list held held' reads write_fails room makes_room w s) (Halted number is_list held held' reads prepare_fails room makes_room w s P) (IsEndOfData lack) coder)
   goes_unless true some_left not_full has_place = tt
   goes_unless false some_left not_full has_place =
       goes_on number is_list held held' reads prepare_fails write_fails room makes_room lack w s P coder some_left (not_full refl) (has_place refl)

@@ -10,4 +10,5 @@ pub mod Moving
 pub mod Isolation
 pub mod Validity
 pub mod Below
+pub mod Refusals
 pub mod Rows

@@ -10,6 +10,7 @@ use Rattle.constriction_chain.specs.declared.errors.BackendError.{BackendError}
 use Rattle.constriction_chain.specs.declared.errors.BackendError.TheVariants.{Remainders}
 use Rattle.constriction_chain.specs.declared.errors.DecoderFrontendError.{DecoderFrontendError}
 use Rattle.constriction_chain.proofs.Chains.{coder_of, decode_of, state_same}
+use Rattle.constriction_chain.proofs.Moving.{none_left}
 
 -- each outcome tells more
 pub mapped : {T E : Type 0} (P P' : T → Type 0) (Q Q' : E → Type 0) (answer : Result T E) → ((x : T) → P x → P' x) → ((e : E) → Q e → Q' e)
@@ -35,6 +36,7 @@ module _ {W E C R F : Type 0} (number : W → ℕ) (is_list : Type 0) (held : C 
         h = refl;
         r = refl;
         remainders = others;
+        unasked = taken.unasked;
         fails = taken.fails;
         room_left = taken.room_left;
         roomy = λ m. elim (taken.roomy m) [
@@ -61,6 +63,7 @@ module _ {W E C R F : Type 0} (number : W → ℕ) (is_list : Type 0) (held : C 
           below = below;
           by = took.by;
           gain = gain;
+          untouched = λ none low. kept.untouched low ∙ took.unasked none;
           room_used = (let used = rw took.remainders at kept.room_used in omega (arith, used, took.room_left));
         };
       }
@@ -92,17 +95,18 @@ module _ {W E C R F : Type 0} (number : W → ℕ) (is_list : Type 0) (held : C 
             | inl same ↦ state_same _ _ refl refl (ap (λ (x : ChainState). x.compressed) same) (words ∙ took.remainders)
             | inr some ↦ absurd (law other' error some lost.fails)
           ];
+          room_left = (let none = none_left (room other') (λ some. law other' error some lost.fails) in omega (arith, none, took.room_left));
         };
       }
 
 -- no quantile was taken
 pub halted_of : {W E C R F : Type 0} (number : W → ℕ) (is_list : Type 0) (held : C → List W) (held' : R → List W) (reads : C → Result (Option W) E → C → Type 0) (prepare_fails : R → ℕ → F → Type 0)
-    (w s P h r : ℕ) (old new : C) (other other' : R) (e : CoderError DecoderFrontendError (BackendError E F))
+    (room : R → ℕ) (makes_room : Type 0) (w s P h r : ℕ) (old new : C) (other other' : R) (e : CoderError DecoderFrontendError (BackendError E F))
     → IsChainCoder number held held' w s P (value_of number held held' h r old other)
     → IsChainCoder number held held' w s P (value_of number held held' h r new other')
-    → Halts reads prepare_fails w P h old other e new × (held' other' ≡ held' other) × (is_list → held new ≡ held old)
-    → Halted number is_list held held' reads prepare_fails w s P (value_of number held held' h r old other) e (value_of number held held' h r new other')
-halted_of {W = W} number is_list held held' reads prepare_fails w s P h r old new other other' e before after halts =
+    → Halts held is_list reads prepare_fails room makes_room w P h old other e new other' × (held' other' ≡ held' other) × (is_list → held new ≡ held old) × (room other ≤ room other')
+    → Halted number is_list held held' reads prepare_fails room makes_room w s P (value_of number held held' h r old other) e (value_of number held held' h r new other')
+halted_of {W = W} number is_list held held' reads prepare_fails room makes_room w s P h r old new other other' e before after halts =
     let others : map number (held' other') ≡ map number (held' other) = ap (λ (ws : List W). map number ws) halts.1 in
     record {
       before = before;
@@ -114,4 +118,5 @@ halted_of {W = W} number is_list held held' reads prepare_fails w s P h r old ne
         others = others;
         all = λ list. state_same _ _ refl refl (ap (λ (ws : List W). map number ws) (halts.2 list)) others;
       };
+      room_left = halts.3;
     }

@@ -33,7 +33,7 @@ pub fn take<
         (value_of Word.number C.words R.words (Word.number heads.0) (State.number heads.1) compressed.old remainders.old)
         (Word.number found.0) (Word.number found.1)
         (value_of Word.number C.words R.words (Word.number heads.0) (State.number heads.1) compressed.new remainders.new))
-        (λ e. Halted Word.number C.is_list C.words R.words C.reads R.prepare_fails Word.BITS State.BITS PRECISION
+        (λ e. Halted Word.number C.is_list C.words R.words C.reads R.prepare_fails R.room R.makes_room Word.BITS State.BITS PRECISION
         (value_of Word.number C.words R.words (Word.number heads.0) (State.number heads.1) compressed.old remainders.old)
         e (value_of Word.number C.words R.words (Word.number heads.0) (State.number heads.1) compressed.new remainders.new)) }
 {

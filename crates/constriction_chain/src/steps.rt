@@ -5,6 +5,7 @@ ghost use Rattle.constriction_base.specs.Windows.{IsInWindow};
 ghost use Rattle.constriction_chain.specs.Walk.{IsQuantile, NeedsWord, OwesWord};
 ghost use Rattle.constriction_chain.specs.Chain.{IsSized, IsBroughtBelow, least};
 ghost use Rattle.constriction_chain.specs.Steps.{Taken, Halts, RegainedBy};
+ghost use Rattle.constriction_chain.specs.Words.{ReadsAs};
 
 use crate::errors::{BackendError, DecoderError, DecoderFrontendError};
 use constriction_base::backends::{Holds, ReadWords, Stack, WriteWords};
@@ -54,9 +55,11 @@ pub fn take_quantile<Word: BitArray, C: ReadWords<Word, Stack>, R: WriteWords<Wo
     ensures { MatchResult result
         (λ found. Taken Word.number C.is_list C.words C.reads R.words R.write_fails R.room R.makes_room
         Word.BITS precision (Word.number h) compressed.old remainders.old (Word.number found.0) (Word.number found.1) compressed.new remainders.new)
-        (λ e. Halts C.reads R.prepare_fails Word.BITS precision (Word.number h) compressed.old remainders.old e compressed.new
+        (λ e. Halts C.words C.is_list C.reads R.prepare_fails R.room R.makes_room Word.BITS precision (Word.number h)
+        compressed.old remainders.old e compressed.new remainders.new
         × (R.words remainders.new ≡ R.words remainders.old)
-        × (C.is_list → C.words compressed.new ≡ C.words compressed.old)) }
+        × (C.is_list → C.words compressed.new ≡ C.words compressed.old)
+        × (R.room remainders.old ≤ R.room remainders.new)) }
 {
     if !needs_word(h, precision) {
         return Ok((h.low_bits(precision), h.shifted_right(precision)));
@@ -90,6 +93,8 @@ pub fn gain<Word: WordOf<State>, State: BitArray, R: WriteWords<Word>>(
     ensures window { IfOk result (λ x. IsInWindow Word.BITS (least Word.BITS State.BITS precision) (State.number x)) }
     ensures err { IfErr result (λ e. R.write_fails remainders.old e
         × (least Word.BITS State.BITS precision * 2 ^ Word.BITS ≤ State.number r * State.number p + State.number t)) }
+    ensures untouched { OnOk result (State.number r * State.number p + State.number t < least Word.BITS State.BITS precision * 2 ^ Word.BITS
+        → remainders.new ≡ remainders.old) }
     ensures kept { OnErr result (R.words remainders.new ≡ R.words remainders.old) }
     ensures room { OnOk result (R.room remainders.old + length (R.words remainders.old) ≤ R.room remainders.new + length (R.words remainders.new)) }
 {
@@ -125,7 +130,8 @@ pub fn prepare_for_quantile<Word: BitArray, C: WriteWords<Word>>(
         × ((e : C.WriteError) → C.write_fails compressed.new e → C.write_fails compressed.old e)
         × ((OwesWord Word.BITS precision (Word.number h) → ⊥) → compressed.new ≡ compressed.old)
         × (C.room compressed.old ≤ C.room compressed.new)) }
-    ensures err { IfErr result (λ e. OwesWord Word.BITS precision (Word.number h) × C.prepare_fails compressed.old 1 e) }
+    ensures err { IfErr result (λ e. OwesWord Word.BITS precision (Word.number h) × C.prepare_fails compressed.old 1 e
+        × (C.room compressed.old ≤ C.room compressed.new)) }
     ensures words { C.words compressed.new ≡ C.words compressed.old }
 {
     if owes_word(h, precision) {
@@ -191,14 +197,16 @@ pub fn regain<Word: WordOf<State>, State: BitArray, R: ReadWords<Word, Stack>>(
     requires some { 0 < State.number p }
     requires few { State.number p ≤ 2 ^ precision }
     ensures { MatchResult result (λ found. MatchOption found
-        ((State.number r < State.number p * least Word.BITS State.BITS precision) × R.reads remainders.old (Ok None) remainders.new
+        ((State.number r < State.number p * least Word.BITS State.BITS precision)
+        × ReadsAs R.words R.is_list R.reads remainders.old (Ok None) remainders.new
         × (R.is_list → R.words remainders.new ≡ R.words remainders.old))
         (λ v. RegainedBy Word.number R.reads Word.BITS (State.number p * least Word.BITS State.BITS precision)
         (State.number r) remainders.old (State.number v) remainders.new
         × (R.is_list → IsBroughtBelow Word.BITS (least Word.BITS State.BITS precision)
         (State.number v) (map Word.number (R.words remainders.new)) (State.number r) (map Word.number (R.words remainders.old)))
         × IsInWindow Word.BITS (least Word.BITS State.BITS precision) (State.number v / State.number p)))
-        (λ e. (State.number r < State.number p * least Word.BITS State.BITS precision) × R.reads remainders.old (Err e) remainders.new
+        (λ e. (State.number r < State.number p * least Word.BITS State.BITS precision)
+        × ReadsAs R.words R.is_list R.reads remainders.old (Err e) remainders.new
         × (R.is_list → R.words remainders.new ≡ R.words remainders.old)) }
 {
     if !is_short::<Word, State>(r, p, precision) {

@@ -1,6 +1,7 @@
 //! Codewords of symbols as lists of bits, and bits as digits.
 
-ghost use Rattle.std.specs.Prelude.{◌≡◌, ◌++◌, ⊤, Some, IfOk, OnOk};
+ghost use Rattle.std.specs.Prelude.{◌≡◌, ◌++◌, Some, IfOk, OnOk};
+ghost use Rattle.constriction.specs.symbol.Bits.{PutsBit};
 ghost use Rattle.constriction_commands.specs.Codewords.{digits};
 
 use constriction::Queue;
@@ -18,7 +19,7 @@ impl WriteBitStream<Queue> for Bits {
 
     ghost bits = { λ b. b.list.items };
 
-    ghost bit_fails = { λ _ _. ⊤ };
+    ghost puts = { λ old bit result new. PutsBit old.list.items bit result new.list.items };
 
     fn write_bit(&mut self, bit: bool) -> Result<(), AllocError> {
         self.list.push(bit)?;

@@ -9,3 +9,4 @@ pub mod FollowingWords
 mod BoundRows
 pub mod queue_coder
 pub mod bit_coders
+pub mod least_cost

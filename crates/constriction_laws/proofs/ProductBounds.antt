@@ -12,7 +12,9 @@ use Rattle.constriction_laws.specs.Bounds.{product, spare, share, rounded_whole,
 use Rattle.constriction_base.proofs.Sizes.{Facts, facts, table_divides, pow-mul}
 use Rattle.constriction_stack.proofs.Pushing.{only_push, written, kept, put_on, room, valid_pop}
 use Rattle.constriction_queue.proofs.Narrowing.{by_growth, scale_least, valid_cut, valid_run, valid_start}
+use Rattle.constriction_queue.specs.SelfDelimiting.{SelfDelimits}
 use Rattle.constriction_queue.proofs.SealedRuns.{tail, length-fixed_digits}
+use Rattle.constriction_queue.proofs.SelfDelimited.{length_self}
 
 -- ---- over numbers: h is the new head, a the old head's whole steps
 written_bound : (h a x y b p n c : ℕ) → h ≤ suc a * n → a * p ≤ y → y * b ≤ x → p * (c * b) ≤ x → h * b * (p * c) ≤ x * (n * (c + 1))
@@ -195,21 +197,32 @@ length-sealed w s r = elim (cases_eq r.range (2 ^ s - 1)) [
       rw (ne_eqb r.range (2 ^ s - 1) ne) (omega (arith, count, length-fixed_digits (2 ^ w) (suc r.moves) (seal_number w s r), length-tail w s r))
 ]
 
-pub range_words : (w s : ℕ) (es : List Step) → IsSizes w s → AreSteps w es → 2 ≤ length (sealed w s (run w s es (start s))) →
-    2 ^ (w * (length (sealed w s (run w s es (start s))) - 2)) * (2 ^ s - 1) * product (share w s) es < 2 ^ s * product (rounded_whole w s) es
-range_words w s es z hs two =
+-- so many words fewer than moves, or as many
+range_moves : (w s n : ℕ) (es : List Step) → IsSizes w s → AreSteps w es → n ≤ (run w s es (start s)).moves →
+    2 ^ (w * n) * (2 ^ s - 1) * product (share w s) es < 2 ^ s * product (rounded_whole w s) es
+range_moves w s n es z hs within =
     let b : ℕ = 2 ^ w in
     let r : Run = run w s es (start s) in
-    let n : ℕ = length (sealed w s r) - 2 in
     let v : IsInterval w s r = valid_run w s es (start s) z hs (valid_start w s z) in
     let all : (2 ^ s - 1) * b ^ r.moves * product (share w s) es ≤ r.range * b ^ 0 * product (rounded_whole w s) es = runs_bound w s es (start s) z hs (valid_start w s z) in
-    let fewer : b ^ n ≤ b ^ r.moves = base_le w n r.moves (omega (arith, length-sealed w s r)) in
+    let fewer : b ^ n ≤ b ^ r.moves = base_le w n r.moves within in
     let left : b ^ n * ((2 ^ s - 1) * product (share w s) es) ≤ b ^ r.moves * ((2 ^ s - 1) * product (share w s) es) = mul-le-mul_right ((2 ^ s - 1) * product (share w s) es) fewer in
     let right : r.range * product (rounded_whole w s) es < 2 ^ s * product (rounded_whole w s) es = mul-lt-mul_of_pos_right v.fits (product_pos w s es) in
     let one : b ^ 0 ≡ 1 = pow-zero b in
     let begin : r.range * b ^ 0 * product (rounded_whole w s) es ≡ r.range * product (rounded_whole w s) es = rw one (omega arith) in
     let ends : b ^ n * (2 ^ s - 1) * product (share w s) es < 2 ^ s * product (rounded_whole w s) es = omega (arith, all, left, right, begin) in
     rw (mul_comm w n, ← pow-mul w n) ends
+
+pub range_words : (w s : ℕ) (es : List Step) → IsSizes w s → AreSteps w es → 2 ≤ length (sealed w s (run w s es (start s))) →
+    2 ^ (w * (length (sealed w s (run w s es (start s))) - 2)) * (2 ^ s - 1) * product (share w s) es < 2 ^ s * product (rounded_whole w s) es
+range_words w s es z hs two =
+    let r : Run = run w s es (start s) in
+    range_moves w s (length (sealed w s r) - 2) es z hs (omega (arith, length-sealed w s r))
+
+pub self_delimiting_words : (w s : ℕ) (es : List Step) (words : List ℕ) → IsSizes w s → AreSteps w es → SelfDelimits w s (run w s es (start s)) words →
+    2 ^ (w * (length words - s / w)) * (2 ^ s - 1) * product (share w s) es < 2 ^ s * product (rounded_whole w s) es
+self_delimiting_words w s es words z hs h =
+    range_moves w s (length words - s / w) es z hs (omega (arith, length_self w s (run w s es (start s)) words z h))
 
 -- ---- decodes too
 pop_bound : (h a x f p n c : ℕ) → h ≤ suc a * p → a * n ≤ x → x ≤ f → c * n ≤ f → h * (n * c) ≤ f * (p * (c + 1))

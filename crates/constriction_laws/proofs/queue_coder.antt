@@ -5,3 +5,4 @@ pub mod Reading
 pub mod ComingBack
 pub mod ListCalls
 pub mod Pairs
+pub mod Following

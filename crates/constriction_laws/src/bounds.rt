@@ -7,11 +7,12 @@
 pub mod following;
 pub mod words;
 
-ghost use Rattle.std.specs.Prelude.{◌≡◌, ℕ, ◌-◌, ◌*◌, ◌<◌, ◌≤◌, ◌^◌, ◌+◌, List, length};
+ghost use Rattle.std.specs.Prelude.{◌≡◌, ℕ, ◌-◌, ◌*◌, ◌/◌, ◌<◌, ◌≤◌, ◌^◌, ◌+◌, List, length};
 ghost use Rattle.std.specs.List.{AllByRecursion};
 ghost use Rattle.constriction_base.specs.Steps.{Step, IsSizes, AreSteps, InTurn};
 ghost use Rattle.constriction_stack.specs.Ans.{AnsState, IsPush, IsValid, empty, exported};
 ghost use Rattle.constriction_queue.specs.Range.{run, sealed, start};
+ghost use Rattle.constriction_queue.specs.SelfDelimiting.{SelfDelimits};
 ghost use Rattle.constriction_laws.specs.Bounds.{Act, Acts, AreAllowed, net_share, net_whole, product, rounded_whole, share};
 
 /// The words of a stack coder after encodes alone, from the empty one.
@@ -44,5 +45,13 @@ pub fn range_bound()
     ensures { (w s : ℕ) (steps : List Step) → IsSizes w s → AreSteps w steps →
         2 ≤ length (sealed w s (run w s steps (start s))) →
         2 ^ (w * (length (sealed w s (run w s steps (start s))) - 2)) * (2 ^ s - 1) * product (share w s) steps
+        < 2 ^ s * product (rounded_whole w s) steps }
+{}
+
+/// The words of a new range encoder that hold whatever follows, of which there are as many as a state has at least.
+pub fn self_delimiting_bound()
+    ensures { (w s : ℕ) (steps : List Step) (words : List ℕ) → IsSizes w s → AreSteps w steps →
+        SelfDelimits w s (run w s steps (start s)) words → s / w ≤ length words →
+        2 ^ (w * (length words - s / w)) * (2 ^ s - 1) * product (share w s) steps
         < 2 ^ s * product (rounded_whole w s) steps }
 {}

@@ -3,10 +3,12 @@
 //! - [`words`]: what sealed words are read as, and which words are read as a list of steps.
 //! - [`lists`]: lists of symbols come back from the sealed words, the first one first.
 //! - [`positions`]: a recorded position leads to the symbols that were encoded after it.
+//! - [`following`]: words that hold whatever follows them.
 //! - [`guards`]: the words that a guard shows are those of the export, and go again.
 //! - [`refusals`]: when a step isn't refused.
 //! - [`round_trips`]: whole lists there and back, by the coder's own calls.
 
+pub mod following;
 pub mod guards;
 pub mod lists;
 pub mod positions;

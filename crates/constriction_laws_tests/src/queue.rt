@@ -2,7 +2,12 @@
 
 use constriction_base::cursor::Cursor;
 use constriction_base::weights::WeightTable;
+use constriction_laws::bounds;
 use constriction_laws::lists::lists_undo;
+use constriction_laws::queue::following::{
+    fewer_zero_words_hold_less, list_whatever_follows, self_delimiting_words,
+    self_delimiting_words_are_read, symbols_come_back_whatever_follows,
+};
 use constriction_laws::queue::lists::Encoding;
 use constriction_laws::queue::round_trips::coding::encode_list;
 use constriction_laws::queue::round_trips::decoders::list_into_decoder;
@@ -145,5 +150,29 @@ fn each_law_is_a_call(_rt: HostRuntime) -> Result<(), Fail> {
     guards::shown_words_are_exported::<Vec<u8>>();
     guards::shown_words_go::<Vec<u8>>();
     refusals::room_is_enough::<u8, u16, Cursor<u8, Vec<u8>>>();
+    self_delimiting_words::<usize>();
+    self_delimiting_words_are_read();
+    symbols_come_back_whatever_follows::<usize>();
+    fewer_zero_words_hold_less::<usize>();
+    bounds::self_delimiting_bound();
+    Ok(())
+}
+
+/// Symbols of words with these others behind them.
+fn whatever_follows(alloc: Global, table: &WeightTable<u8, 8>, others: &[u8]) -> bool {
+    match list_whatever_follows::<u8, u32, _, 8>(alloc, &SYMBOLS, others, table) {
+        Some(again) => is_list(&again),
+        None => false,
+    }
+}
+
+#[test]
+fn symbols_come_back_whatever_words_follow(rt: HostRuntime) -> Result<(), Fail> {
+    let table = WeightTable::<u8, 8>::new(rt.alloc(), &[127, 1, 127, 1])?;
+    assert!(rt;
+        whatever_follows(rt.alloc(), &table, &[])
+            && whatever_follows(rt.alloc(), &table, &[255, 255, 255, 255, 255])
+            && whatever_follows(rt.alloc(), &table, &[0, 1])
+    );
     Ok(())
 }

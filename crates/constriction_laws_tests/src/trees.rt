@@ -40,5 +40,7 @@ fn each_law_of_trees_is_a_call(_rt: HostRuntime) -> Result<(), Fail> {
     huffman::one_tree();
     huffman::huffman_is_prefix_free();
     huffman::huffman_knows_its_symbols();
+    huffman::huffman_has_codewords();
+    huffman::least_cost();
     Ok(())
 }

@@ -5,6 +5,7 @@ pub mod Parts
 pub mod Begun
 pub mod Owed
 pub mod Seals
+pub mod SelfSealed
 pub mod Encoders
 pub mod Decoders
 pub mod Showing
@@ -12,6 +13,7 @@ pub mod Roomy
 pub mod Sought
 mod Rows
 pub mod Pointing
+pub mod Distances
 pub mod Beginning
 pub mod Exhausted
 pub mod Cuts
@@ -19,3 +21,4 @@ pub mod WordsRead
 pub mod Narrowing
 pub mod ReadingRuns
 pub mod SealedRuns
+pub mod SelfDelimited

@@ -9,7 +9,7 @@ use Rattle.std.proofs.lemmas.Bool.{cases_lt}
 use Rattle.constriction_queue.proofs.Fits.{pow-split}
 
 -- a number without what passes the end, shifted by a word behind which another comes
-shifted_mod : (a q b x : ℕ) → 0 < q → x < b → a % (q * b) % q * b + x ≡ (a * b + x) % (q * b)
+pub shifted_mod : (a q b x : ℕ) → 0 < q → x < b → a % (q * b) % q * b + x ≡ (a * b + x) % (q * b)
 shifted_mod a q b x hq hx =
     let m : ℕ = q * b in
     let e : a % m / q * q + a % m % q ≡ a % m = div-add-mod' (a % m) q in

@@ -71,11 +71,6 @@ ceil_split n l q b h =
     let same : n * (q * b) + l + (q - 1) ≡ (l + (q - 1)) + n * b * q = omega arith in
     ap (λ x. x / q) same ∙ add-mul-div_right (l + (q - 1)) (n * b) h ∙ omega arith
 
-floor_split : (n l r q b : ℕ) → 0 < q → (n * (q * b) + l + r) / q ≡ n * b + (l + r) / q
-floor_split n l r q b h =
-    let same : n * (q * b) + l + r ≡ (l + r) + n * b * q = omega arith in
-    ap (λ x. x / q) same ∙ add-mul-div_right (l + r) (n * b) h ∙ omega arith
-
 -- the number, with the carry and without
 pub seal_number_is : (n k l b q point t : ℕ) (carry : Bool) → 0 < q → 0 < b → l < q * b → k ≡ n + (if carry then 1 else 0)
     → point ≡ (l + (q - 1)) % (q * b) → (IsTrue carry ↔ (point < l)) → t ≡ point / q
@@ -95,106 +90,14 @@ seal_number_is n k l b q point t false hq hb fits k_is point_is wrapped t_is =
     let same : point ≡ l + (q - 1) = point_is ∙ not_less l (q - 1) (q * b) fits (omega arith) (rw (← point_is) above) in
     rw (ceil_split n l q b hq, t_is, same, k_is) (omega arith)
 
--- ---- the zero word: the top word of the high end is the point's
--- where the interval doesn't reach over the end
-same_normal : (n l r q b k t u : ℕ) → 0 < q → k ≡ n → u ≡ (l + r) / q → ((n * (q * b) + l + r) / q ≡ k * b + t) ↔ (u ≡ t)
-same_normal n l r q b k t u hq k_is u_is =
-    let high : (n * (q * b) + l + r) / q ≡ n * b + u = rw u_is (floor_split n l r q b hq) in
-    (λ e. omega (arith, k_is, ap (λ x. x * b) k_is), λ e. high ∙ rw (k_is, e) refl)
-
--- where it does, and the point's sum wrapped
-same_carried : (n l r q b k t u : ℕ) → 0 < q → k ≡ n + 1 → (l + r) / q ≡ u + b → ((n * (q * b) + l + r) / q ≡ k * b + t) ↔ (u ≡ t)
-same_carried n l r q b k t u hq k_is u_is =
-    let high : (n * (q * b) + l + r) / q ≡ n * b + (u + b) = rw (← u_is) (floor_split n l r q b hq) in
-    let times : k * b ≡ n * b + b = ap (λ x. x * b) k_is ∙ omega arith in
-    (λ e. omega arith, λ e. omega arith)
-
--- where it does, and that sum did not: neither is so
-differ : (n l r q b k t u : ℕ) → 0 < q → 0 < b → r < q * b → k ≡ n → (l + r) / q ≡ u + b → t ≡ (l + (q - 1)) / q → t < b
-    → ((n * (q * b) + l + r) / q ≡ k * b + t) ↔ (u ≡ t)
-differ n l r q b k t u hq hb short k_is u_is t_is t_fits =
-    let high : (n * (q * b) + l + r) / q ≡ n * b + (u + b) = rw (← u_is) (floor_split n l r q b hq) in
-    let times : k * b ≡ n * b = ap (λ x. x * b) k_is in
-    let floor : (l + r) / q * q ≤ l + r = div-mul-le_self (l + r) q in
-    let floor_u : (u + b) * q ≤ l + r = rw (← u_is) floor in
-    let ceil : l + (q - 1) < (l + (q - 1)) / q * q + q = lt-div-mul-add hq in
-    let ceil_t : l + (q - 1) < t * q + q = rw t_is ceil in
-    (λ e. absurd (omega arith), λ e. absurd (let m : u * q ≡ t * q = ap (λ x. x * q) e in omega arith))
-
 -- a test as a Bool
 pub test_is : (a b : ℕ) (zero : Bool) → (IsTrue zero ↔ (a ≡ b)) → (a == b) ≡ zero
 test_is a b true h = eq-eqb a b (h.0 refl)
 test_is a b false h = ne_eqb a b (λ e. let no = h.1 e in cc)
 
--- the top word of a sum that is a state, or reaches over the end
-high_normal : (w s l r : ℕ) → w ≤ s → l + r < 2 ^ s → (l + r) % 2 ^ s / 2 ^ (s - w) % 2 ^ w ≡ (l + r) / 2 ^ (s - w)
-high_normal w s l r wide fits = rw (mod-eq_of_lt fits) (top_is w s (l + r) wide fits)
-
-high_over : (w s l r u : ℕ) → w ≤ s → l < 2 ^ s → r < 2 ^ s → 2 ^ s ≤ l + r → u ≡ (l + r) % 2 ^ s / 2 ^ (s - w) % 2 ^ w → (l + r) / 2 ^ (s - w) ≡ u + 2 ^ w
-high_over w s l r u wide lf rf over u_is =
-    let q : ℕ = 2 ^ (s - w) in
-    let b : ℕ = 2 ^ w in
-    let split : q * b ≡ 2 ^ s = pow-split s w wide in
-    let back : (l + r) % 2 ^ s + 2 ^ s ≡ l + r = wraps l r (2 ^ s) lf rf over in
-    let top : u ≡ (l + r) % 2 ^ s / q = u_is ∙ top_is w s ((l + r) % 2 ^ s) wide (mod-lt (l + r) (pow_pos s)) in
-    let same : l + r ≡ (l + r) % 2 ^ s + b * q = omega arith in
-    ap (λ x. x / q) same ∙ add-mul-div_right ((l + r) % 2 ^ s) b (pow_pos (s - w)) ∙ rw top refl
-
--- the top words are one exactly where the interval ends before the next multiple of q
-same_top : (w s n k l r point t u : ℕ) (carry : Bool) → w ≤ s → l < 2 ^ s → r + 1 < 2 ^ s → 2 ^ (s - w) ≤ r
-    → k ≡ n + (if carry then 1 else 0) → point ≡ (l + (2 ^ (s - w) - 1)) % 2 ^ s → (IsTrue carry ↔ (point < l)) → t < 2 ^ w → t ≡ point / 2 ^ (s - w)
-    → u ≡ (l + r) % 2 ^ s / 2 ^ (s - w) % 2 ^ w
-    → ((n * (2 ^ (s - w) * 2 ^ w) + l + r) / 2 ^ (s - w) ≡ k * 2 ^ w + t) ↔ (u ≡ t)
-same_top w s n k l r point t u true wide lf rf long k_is point_is wrapped small t_is u_is =
-    let q : ℕ = 2 ^ (s - w) in
-    let below : point < l = wrapped.0 refl in
-    elim (cases_lt (l + r) (2 ^ s)) [
-      | inl low ↦ absurd (let fits : l + (q - 1) < 2 ^ s = omega arith in let same : point ≡ l + (q - 1) = point_is ∙ mod-eq_of_lt fits in omega arith)
-      | inr over ↦ same_carried n l r q (2 ^ w) k t u (pow_pos (s - w)) k_is (high_over w s l r u wide lf (omega arith) over u_is)
-    ]
-same_top w s n k l r point t u false wide lf rf long k_is point_is wrapped small t_is u_is =
-    let q : ℕ = 2 ^ (s - w) in
-    let b : ℕ = 2 ^ w in
-    let split : q * b ≡ 2 ^ s = pow-split s w wide in
-    let above : l ≤ point = elim (cases_lt point l) [
-      | inl low ↦ absurd (let off = wrapped.1 low in cc)
-      | inr high ↦ high
-    ] in
-    let same : point ≡ l + (q - 1) = point_is ∙ not_less l (q - 1) (2 ^ s) lf (omega arith) (rw (← point_is) above) in
-    let k_same : k ≡ n = omega arith in
-    elim (cases_lt (l + r) (2 ^ s)) [
-      | inl low ↦ same_normal n l r q b k t u (pow_pos (s - w)) k_same (u_is ∙ high_normal w s l r wide low)
-      | inr over ↦ differ n l r q b k t u (pow_pos (s - w)) (pow_pos w) (rw split (omega arith)) k_same (high_over w s l r u wide lf (omega arith) over u_is) (t_is ∙ ap (λ x. x / q) same) small
-    ]
-
-tail_is : (ends : Bool) (ws : List ℕ) → reverse ((if ends then 0 ∷ [] else []) ++ ws) ≡ reverse ws ++ (if ends then 0 ∷ [] else [])
+pub tail_is : (ends : Bool) (ws : List ℕ) → reverse ((if ends then 0 ∷ [] else []) ++ ws) ≡ reverse ws ++ (if ends then 0 ∷ [] else [])
 tail_is true ws = reverse-append (0 ∷ []) ws
 tail_is false ws = sym (append-nil (reverse ws))
-
--- ---- a seal of an encoder
-pub sealed_run : (w s l r point t u : ℕ) (carry ends : Bool) (ws vs : List ℕ) → w ≤ s
-    → l < 2 ^ s → r + 1 < 2 ^ s → 2 ^ (s - w) ≤ r
-    → IsCarried w carry ws vs
-    → point ≡ (l + (2 ^ (s - w) - 1)) % 2 ^ s → (IsTrue carry ↔ (point < l)) → t ≡ point / 2 ^ (s - w) % 2 ^ w
-    → u ≡ (l + r) % 2 ^ s / 2 ^ (s - w) % 2 ^ w → (IsTrue ends ↔ (u ≡ t))
-    → reverse ((if ends then 0 ∷ [] else []) ++ (t ∷ vs)) ≡ sealed w s (run_of w s ws l r)
-sealed_run w s l r point t u carry ends ws vs wide lf rf long into point_is wrapped t_is u_is ends_is =
-    let q : ℕ = 2 ^ (s - w) in
-    let b : ℕ = 2 ^ w in
-    let n : ℕ = number_of b ws in
-    let k : ℕ = number_of b vs in
-    let split : q * b ≡ 2 ^ s = pow-split s w wide in
-    let point_fits : point < 2 ^ s = rw point_is (mod-lt (l + (q - 1)) (pow_pos s)) in
-    let top : t ≡ point / q = t_is ∙ top_is w s point wide point_fits in
-    let small : t < b = rw t_is (mod-lt (point / q) (pow_pos w)) in
-    let number : k * b + t ≡ (n * 2 ^ s + l + (q - 1)) / q =
-    rw (← split) (seal_number_is n k l b q point t carry (pow_pos (s - w)) (pow_pos w) (rw split lf) into.number (rw split point_is) wrapped top) in
-    let digits = seal_digits w ((n * 2 ^ s + l + (q - 1)) / q) t carry ws vs into small number in
-    let tops : ((n * 2 ^ s + l + r) / q ≡ k * b + t) ↔ (u ≡ t) = rw split at (same_top w s n k l r point t u carry wide lf rf long into.number point_is wrapped small top u_is) in
-    let test : ((n * 2 ^ s + l + r) / q == (n * 2 ^ s + l + (q - 1)) / q) ≡ ends =
-    test_is ((n * 2 ^ s + l + r) / q) ((n * 2 ^ s + l + (q - 1)) / q) ends (λ h. tops.1 (ends_is.0 h) ∙ number, λ e. ends_is.1 (tops.0 (e ∙ sym number))) in
-    let coded : (r == 2 ^ s - 1) ≡ false = ne_eqb r (2 ^ s - 1) (λ e. absurd (omega arith)) in
-    rw (coded, test, digits) (tail_is ends (t ∷ vs))
 
 -- nothing was coded: the words are as they are
 pub sealed_start : (w s l r : ℕ) (ws : List ℕ) → AreWords w ws → l + r < 2 ^ s → r + 1 ≡ 2 ^ s → reverse ws ≡ sealed w s (run_of w s ws l r)

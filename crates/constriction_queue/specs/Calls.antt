@@ -6,8 +6,9 @@ use Rattle.constriction_base.specs.declared.errors.ReadWriteError.{ReadWriteErro
 use Rattle.constriction_base.specs.declared.errors.ReadWriteError.TheVariants.{Read, Write}
 use Rattle.constriction_queue.specs.Range.{Run, IsAt, narrow}
 use Rattle.constriction_queue.specs.Encoder.{Encoder, IsEncoder, HasHeads, Owes, run_by, sealed_by}
-use Rattle.constriction_queue.specs.Decoder.{Decoder, IsDecoder, quantile_read, OwesRead, ReadsOn}
+use Rattle.constriction_queue.specs.Decoder.{Decoder, IsDecoder, RefusesPoint, quantile_read, OwesRead, ReadsOn}
 use Rattle.constriction_queue.specs.Writing.{IsBegun}
+use Rattle.constriction_queue.specs.SelfDelimiting.{SelfDelimits}
 
 -- the words that a step owes were written
 pub record IsWritten {Word B : Type 0} (number : Word → ℕ) (w s : ℕ) (room : B → ℕ) (old : Encoder B) (step : Step) (new : Encoder B) : Type 0 where
@@ -49,19 +50,35 @@ pub record EncodeCall {Word B E : Type 0} (number : Word → ℕ) (words_in : B 
   -- and comes only where words are owed, from the call of the backend that asks for them, or writes them
   pub error : IfErr answer (λ e. IsRefused number words_in w s room makes_room prepare_fails write_fails old step e new)
 
--- a call of the backend was refused, for the words that an export owes: those held, and the seal
-pub record SealRefused {Word B E : Type 0} (number : Word → ℕ) (words_in : B → List Word) (w s : ℕ) (room : B → ℕ) (makes_room : Type 0) (prepare_fails : B → ℕ → E → Type 0) (write_fails : B → E → Type 0) (old : Encoder B) (e : E) : Type 0 where
+-- a call of the backend was refused, for the words that an export owes: those held, and the seal. This holds of all the
+-- words that the export would have given
+pub record ExportRefused {Word B E : Type 0} (number : Word → ℕ) (words_in : B → List Word) (room : B → ℕ) (makes_room : Type 0) (prepare_fails : B → ℕ → E → Type 0) (write_fails : B → E → Type 0) (all : List ℕ → Type 0) (old : Encoder B) (e : E) : Type 0 where
   pub owed : List ℕ
-  pub is : reverse (owed ++ old.words) ≡ sealed_by w s old
+  pub is : all (reverse (owed ++ old.words))
   -- the backend had no room for all of them
   pub short : room old.bulk < length owed
   -- it said so before any was written; or, where asking for room makes none, a write was refused behind a beginning of them
   pub error : prepare_fails old.bulk (length owed) e ⊎ ((makes_room → ⊥) × ((last : B) × write_fails last e × IsBegun owed old.words (map number (words_in last))))
 
+-- the same of the sealed words
+abbrev pub SealRefused : {Word B E : Type 0} → (Word → ℕ) → (B → List Word) → ℕ → ℕ → (B → ℕ) → Type 0 → (B → ℕ → E → Type 0) → (B → E → Type 0) → Encoder B → E → Type 0
+SealRefused number words_in w s room makes_room prepare_fails write_fails old e =
+    ExportRefused number words_in room makes_room prepare_fails write_fails (λ words. words ≡ sealed_by w s old) old e
+
+-- and of words that hold whatever follows
+abbrev pub SelfDelimitingRefused : {Word B E : Type 0} → (Word → ℕ) → (B → List Word) → ℕ → ℕ → (B → ℕ) → Type 0 → (B → ℕ → E → Type 0) → (B → E → Type 0) → Encoder B → E → Type 0
+SelfDelimitingRefused number words_in w s room makes_room prepare_fails write_fails old e =
+    ExportRefused number words_in room makes_room prepare_fails write_fails (SelfDelimits w s (run_by w s old)) old e
+
+-- a decoder of an encoder's sealed words didn't begin: a read of its first words was refused
+abbrev pub NotBegun : {Word B R F : Type 0} → (Word → ℕ) → (B → List Word) → (B → R → Type 0) → (R → Result (Option Word) F → R → Type 0) → ℕ → ℕ → Encoder B → F → Type 0
+NotBegun {B = B} {R = R} number words_in becomes reads w s encoder e =
+    (all : B) × (reverse (map number (words_in all)) ≡ sealed_by w s encoder) × (first rest : R) × becomes all first × RefusesPoint number reads w s first e rest
+
 -- why an encoder didn't become a decoder: its words could not be sealed, or a read of the first of them was refused
-abbrev pub NoDecoder : {B R E : Type 0} {Word : Type 0} → (E → Type 0) → (B → Result (Option Word) R → B → Type 0) → ReadWriteError R E → Type 0
-NoDecoder {B} unsealed reads (Write e) = unsealed e
-NoDecoder {B} unsealed reads (Read e) = (last rest : B) × reads last (Err e) rest
+abbrev pub NoDecoder : {R E : Type 0} → (E → Type 0) → (R → Type 0) → ReadWriteError R E → Type 0
+NoDecoder unsealed not_begun (Write e) = unsealed e
+NoDecoder unsealed not_begun (Read e) = not_begun e
 
 -- a decode at a step, of a decoder over a backend that knows its words (is_list) or whose reads tell them
 pub record DecodeCall {Word B E : Type 0} (number : Word → ℕ) (words_in : B → List Word) (is_list : Type 0) (reads : B → Result (Option Word) E → B → Type 0) (w s : ℕ) (old : Decoder B) (step : Step) (answer : Result (Unit {0}) E) (new : Decoder B) : Type 0 where

@@ -1,5 +1,5 @@
 -- What a range decoder holds, and which quantile it reads.
-use Rattle.std.specs.Prelude.{◌≡◌, ℕ, ◌+◌, ◌-◌, ◌*◌, ◌/◌, ◌%◌, ◌<◌, ◌≤◌, ◌^◌, ◌⊎◌, Bool, IsTrue, List, [], ◌∷◌, ◌++◌, Option, Some, None, Result, Ok, map, drop, length}
+use Rattle.std.specs.Prelude.{◌≡◌, ℕ, ◌+◌, ◌-◌, ◌*◌, ◌/◌, ◌%◌, ◌<◌, ◌≤◌, ◌^◌, ◌⊎◌, Bool, IsTrue, List, [], ◌∷◌, ◌++◌, Option, Some, None, Result, Ok, Err, map, drop, length}
 use Rattle.constriction_base.specs.Steps.{Step, IsSizes}
 use Rattle.constriction_queue.specs.Range.{Run, IsAt, number_of_first}
 
@@ -59,6 +59,11 @@ HasPoint number words_in w s old point new =
 abbrev pub ReadsPoint : {Word E B : Type 0} → (Word → ℕ) → (B → Result (Option Word) E → B → Type 0) → ℕ → ℕ → B → ℕ → B → Type 0
 ReadsPoint number reads w s old point new =
     (xs : List ℕ) × (length xs ≡ s / w) × TakesWords number reads old xs new × (point ≡ number_of_first (2 ^ w) (s / w) xs)
+
+-- a read was refused, of the words that a point needs: fewer of them were read before, and just these
+abbrev pub RefusesPoint : {Word E B : Type 0} → (Word → ℕ) → (B → Result (Option Word) E → B → Type 0) → ℕ → ℕ → B → E → B → Type 0
+RefusesPoint {B = B} number reads w s old e new =
+    (xs : List ℕ) × (length xs < s / w) × ((before : B) × TakesWords number reads old xs before × reads before (Err e) new)
 
 -- a decoder before its first symbol, which read its point from the first backend
 abbrev pub BeginsOver : {Word E B : Type 0} → (Word → ℕ) → (B → Result (Option Word) E → B → Type 0) → ℕ → ℕ → B → Decoder B → Type 0

@@ -20,13 +20,14 @@ use std::marker::Model;
 /// It narrows the encoder's intervals, and knows which of their parts a symbol belongs to by the words that it
 /// reads. Past the end of its words it reads zero words.
 ///
-/// Contracts see a `Decoder`: the backend, the words that are left, the interval, and the point, which is
-/// the number of the words that were read last.
+/// It holds how far the point lies above the interval's low end, modulo the numbers of a state. Contracts see a
+/// `Decoder`: the backend, the words that are left, the interval, and the point, which is the number of the words
+/// that were read last.
 #[derive(Debug, Drop)]
 pub struct RangeDecoder<Word: WordOf<State>, State: BitArray, Backend: Holds<Word, Queue>> {
     pub(crate) bulk: Backend,
     pub(crate) state: RangeCoderState<Word, State>,
-    pub(crate) point: State,
+    pub(crate) distance: State,
 }
 
 /// A decoder of words of 32 bits and states of 64, for precisions up to 32.
@@ -37,13 +38,14 @@ pub type SmallRangeDecoder<Backend> = RangeDecoder<u16, u32, Backend>;
 
 impl<Word: WordOf<State>, State: BitArray, Backend: Holds<Word, Queue>> Model
     for RangeDecoder<Word, State, Backend> {
+    ghost use Rattle.std.specs.Prelude.{◌+◌, ◌%◌, ◌^◌};
     ghost use Rattle.constriction_base.specs.Steps.{IsSizes};
     ghost use Rattle.constriction_queue.specs.States.{lower_of, range_of};
     ghost use Rattle.constriction_queue.specs.Decoder.{Decoder, decoder_of};
 
     ghost Value = { Decoder Backend };
 
-    ghost view = { λ d. decoder_of Word.number Backend.words (lower_of d.state) (range_of d.state) (State.number d.point) d.bulk };
+    ghost view = { λ d. decoder_of Word.number Backend.words (lower_of d.state) (range_of d.state) ((State.number d.distance + lower_of d.state) % 2 ^ State.BITS) d.bulk };
 
     ghost invariant = { λ _. IsSizes Word.BITS State.BITS };
 }

@@ -106,6 +106,64 @@ pub fn owed_count<Word: BitArray>(
     held_count(held) + word_count(top) + word_count(last)
 }
 
+/// Writes held words, then one, then another. No room is asked for.
+fn write_parts<Word: BitArray, Backend: WriteWords<Word>>(
+    bulk: &mut Backend,
+    held: Option<HeldWords<Word>>,
+    top: Option<Word>,
+    last: Option<Word>,
+) -> Result<(), Backend::WriteError>
+    ensures ok { OnOk result (map Word.number (Backend.words bulk.new) ≡ owed_of Word.number held top last ++ map Word.number (Backend.words bulk.old)) }
+    ensures room { OnOk result (Backend.room bulk.old ≤ Backend.room bulk.new + length (owed_of Word.number held top last)) }
+    ensures begun { OnErr result (IsBegun (owed_of Word.number held top last) (map Word.number (Backend.words bulk.old)) (map Word.number (Backend.words bulk.new))) }
+    ensures short { OnErr result (Backend.room bulk.old < length (owed_of Word.number held top last)) }
+    ensures err { IfErr result (λ e. (last : Backend) × Backend.write_fails last e × (Backend.words last ≡ Backend.words bulk.new)) }
+{
+    match write_released(bulk, held) {
+        Ok(()) => {}
+        Err(error) => return Err(error),
+    }
+    match write_word(bulk, top) {
+        Ok(()) => {}
+        Err(error) => return Err(error),
+    }
+    write_word(bulk, last)
+}
+
+/// Writes held words, then one, then another, and others behind them. Room for all of them is asked for first,
+/// where there is any of them.
+pub fn write_owed_behind<Word: BitArray, Backend: WriteWords<Word>>(
+    bulk: &mut Backend,
+    held: Option<HeldWords<Word>>,
+    top: Option<Word>,
+    last: Option<Word>,
+    behind: Option<HeldWords<Word>>,
+) -> Result<(), Backend::WriteError>
+    requires { length (released_of Word.number held) + 2 + length (released_of Word.number behind) < 2 ^ 64 }
+    ensures ok { OnOk result (map Word.number (Backend.words bulk.new) ≡ (released_of Word.number behind ++ owed_of Word.number held top last) ++ map Word.number (Backend.words bulk.old)) }
+    ensures room { OnOk result (Backend.room bulk.old ≤ Backend.room bulk.new + length (released_of Word.number behind ++ owed_of Word.number held top last)) }
+    ensures untouched { OnOk result (released_of Word.number behind ++ owed_of Word.number held top last ≡ [] → bulk.new ≡ bulk.old) }
+    ensures begun { OnErr result (IsBegun (released_of Word.number behind ++ owed_of Word.number held top last) (map Word.number (Backend.words bulk.old)) (map Word.number (Backend.words bulk.new))) }
+    ensures short { OnErr result (Backend.room bulk.old < length (released_of Word.number behind ++ owed_of Word.number held top last)) }
+    ensures kept { Backend.makes_room → OnErr result (Backend.words bulk.new ≡ Backend.words bulk.old) }
+    ensures err { IfErr result (λ e. Backend.prepare_fails bulk.old (length (released_of Word.number behind ++ owed_of Word.number held top last)) e
+        ⊎ ((Backend.makes_room → ⊥) × ((last : Backend) × Backend.write_fails last e × (Backend.words last ≡ Backend.words bulk.new)))) }
+{
+    let count = owed_count(&held, &top, &last) + held_count(&behind);
+    if count == 0 {
+        return Ok(());
+    }
+    match bulk.prepare(count) {
+        Ok(()) => {}
+        Err(error) => return Err(error),
+    }
+    match write_parts(bulk, held, top, last) {
+        Ok(()) => {}
+        Err(error) => return Err(error),
+    }
+    write_released(bulk, behind)
+}
+
 /// Writes held words, then one, then another. Room for all of them is asked for first, where there is
 /// any of them.
 pub fn write_owed<Word: BitArray, Backend: WriteWords<Word>>(
@@ -124,23 +182,7 @@ pub fn write_owed<Word: BitArray, Backend: WriteWords<Word>>(
     ensures err { IfErr result (λ e. Backend.prepare_fails bulk.old (length (owed_of Word.number held top last)) e
         ⊎ ((Backend.makes_room → ⊥) × ((last : Backend) × Backend.write_fails last e × (Backend.words last ≡ Backend.words bulk.new)))) }
 {
-    let count = owed_count(&held, &top, &last);
-    if count == 0 {
-        return Ok(());
-    }
-    match bulk.prepare(count) {
-        Ok(()) => {}
-        Err(error) => return Err(error),
-    }
-    match write_released(bulk, held) {
-        Ok(()) => {}
-        Err(error) => return Err(error),
-    }
-    match write_word(bulk, top) {
-        Ok(()) => {}
-        Err(error) => return Err(error),
-    }
-    write_word(bulk, last)
+    write_owed_behind(bulk, held, top, last, None)
 }
 
 /// Writes a word, and another behind it if there is one. Room for both is asked for first.

@@ -36,6 +36,8 @@ mod readers;
 #[cfg(test)]
 mod reading;
 #[cfg(test)]
+mod seals;
+#[cfg(test)]
 mod seeking;
 #[cfg(test)]
 mod steps;

@@ -47,7 +47,7 @@ fn the_text_of_a_decoder(rt: HostRuntime) -> Result<(), Fail> {
     let text = format!(in rt.alloc(); "{:?}", decoder)?;
     assert_eq!(rt;
         text.as_str(),
-        "RangeDecoder { bulk: Cursor { buf: [127, 127, 1], pos: 3, word: PhantomData<_> }, state: RangeCoderState { lower: 33024, range: 65280, phantom: PhantomData<_> }, point: 32513 }"
+        "RangeDecoder { bulk: Cursor { buf: [127, 127, 1], pos: 3, word: PhantomData<_> }, state: RangeCoderState { lower: 33024, range: 65280, phantom: PhantomData<_> }, distance: 65025 }"
     );
     Ok(())
 }

@@ -5,7 +5,8 @@ use crate::callers::{
     first_of_three, there_and_back,
 };
 use crate::calls::{
-    Put, Table, Took, how_put, put_list, seems_exhausted, seems_full, what_came, what_came_or_bad,
+    Put, Table, Took, how_put, put_list, seems_exhausted, seems_full, take_lent, take_lent_or_bad,
+    what_came, what_came_or_bad,
 };
 use crate::pile::{Empty, Pile};
 use crate::sources::{Mixed, Ones};
@@ -162,6 +163,25 @@ fn iterators_dropped_early(rt: HostRuntime) -> Result<(), Fail> {
     assert!(rt;
         some_are_left(&mut pile, &table) && comes_back(&mut known, &mut impossible, &table)
     );
+    Ok(())
+}
+
+/// An answer takes one model of those that are lent, also where it is an error.
+fn leave_the_models_behind(pile: &mut Pile, tables: &[Table; 3]) -> bool {
+    matches!(take_lent(pile, tables.as_slice()), (Took::Empty, 2))
+        && matches!(take_lent_or_bad(pile, 4, 3, &tables[0]), (Took::Bad(7), 3))
+        && matches!(take_lent_or_bad(pile, 4, 1, &tables[0]), (Took::Empty, 3))
+}
+
+#[test]
+fn models_behind_a_fault_are_not_asked_for(rt: HostRuntime) -> Result<(), Fail> {
+    let tables = [
+        Table::new(rt.alloc(), &[255, 1])?,
+        Table::new(rt.alloc(), &[1, 255])?,
+        Table::new(rt.alloc(), &[128, 128])?,
+    ];
+    let mut pile = Pile::new(rt.alloc(), 9);
+    assert!(rt; leave_the_models_behind(&mut pile, &tables));
     Ok(())
 }
 

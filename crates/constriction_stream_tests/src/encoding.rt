@@ -4,8 +4,9 @@ use crate::callers::{
     encode_exactly, encode_last_first, encode_one, encode_two, encode_unless_full,
 };
 use crate::calls::{
-    Put, Table, how_put, how_tried, put_again, put_around, put_around_back, put_list,
-    put_list_back, put_none, put_three, put_three_back, seems_full,
+    Put, Table, how_put, how_tried, put_again, put_around, put_around_back, put_lent,
+    put_lent_around, put_lent_around_back, put_lent_back, put_lent_list, put_lent_list_back,
+    put_list, put_list_back, put_none, put_three, put_three_back, seems_full,
 };
 use crate::pile::Pile;
 use constriction_stream::encoding::Encode;
@@ -81,6 +82,65 @@ fn reversed_lists_stop_at_the_last_fault(rt: HostRuntime) -> Result<(), Fail> {
     let mut around = Pile::new(rt.alloc(), 9);
     let mut list = Pile::new(rt.alloc(), 9);
     assert!(rt; stop_at_the_last_fault(&mut three, &mut around, &mut list, &table));
+    Ok(())
+}
+
+/// Of four items that are lent the two behind the fault are left, whichever call takes them.
+fn leave_the_items_behind(
+    one: &mut Pile,
+    tried: &mut Pile,
+    list: &mut Pile,
+    table: &Table,
+) -> bool {
+    matches!(put_lent(one, [1, 5, 0, 0], table), (Put::Impossible, 2))
+        && one.holds(&[255])
+        && matches!(put_lent_around(tried, 1, 7, table), (Put::Bad(7), 2))
+        && tried.holds(&[255])
+        && matches!(
+            put_lent_list(list, &[1, 5, 0, 0], table),
+            (Put::Impossible, 2)
+        )
+        && list.holds(&[255])
+        && matches!(put_lent_list(list, &[0, 0, 0, 0], table), (Put::Done, 0))
+}
+
+/// The same from the last item to the first.
+fn leave_the_items_before(
+    one: &mut Pile,
+    tried: &mut Pile,
+    list: &mut Pile,
+    table: &Table,
+) -> bool {
+    matches!(
+        put_lent_back(one, [0, 0, 5, 1], table),
+        (Put::Impossible, 2)
+    ) && one.holds(&[255])
+        && matches!(put_lent_around_back(tried, 1, 7, table), (Put::Bad(7), 2))
+        && tried.holds(&[255])
+        && matches!(
+            put_lent_list_back(list, &[0, 0, 5, 1], table),
+            (Put::Impossible, 2)
+        )
+        && list.holds(&[255])
+}
+
+#[test]
+fn items_behind_a_fault_are_not_asked_for(rt: HostRuntime) -> Result<(), Fail> {
+    let table = Table::new(rt.alloc(), &[255, 1])?;
+    let mut one = Pile::new(rt.alloc(), 9);
+    let mut tried = Pile::new(rt.alloc(), 9);
+    let mut list = Pile::new(rt.alloc(), 9);
+    assert!(rt; leave_the_items_behind(&mut one, &mut tried, &mut list, &table));
+    Ok(())
+}
+
+#[test]
+fn items_before_a_fault_are_not_asked_for(rt: HostRuntime) -> Result<(), Fail> {
+    let table = Table::new(rt.alloc(), &[255, 1])?;
+    let mut one = Pile::new(rt.alloc(), 9);
+    let mut tried = Pile::new(rt.alloc(), 9);
+    let mut list = Pile::new(rt.alloc(), 9);
+    assert!(rt; leave_the_items_before(&mut one, &mut tried, &mut list, &table));
     Ok(())
 }
 

@@ -152,15 +152,15 @@ top_word w n count (suc k) low some high least within is rest =
         omega (arith, same, low_bound)
 
 -- after a bit was put, the last word has one
-pub put_some : {W B E : Type 0} (w : ℕ) (number : W → ℕ) (words : B → List W) (fails : B → E → Type 0) (last last' : List Bool) (backend backend' : B) (bit : Bool) → PutsLast w number words fails last backend bit (Ok tt) last' backend' → 0 < length last'
-put_some w number words fails last last' backend backend' bit (inl (room, more, same)) = rw more (omega (arith, length-append last (bit ∷ [])))
-put_some w number words fails last last' backend backend' bit (inr (full, more, follows)) = rw more (omega arith)
+pub put_some : {W B E : Type 0} (w : ℕ) (number : W → ℕ) (words : B → List W) (room : B → ℕ) (fails : B → E → Type 0) (last last' : List Bool) (backend backend' : B) (bit : Bool) → PutsLast w number words room fails last backend bit (Ok tt) last' backend' → 0 < length last'
+put_some w number words room fails last last' backend backend' bit (inl (within, more, same)) = rw more (omega (arith, length-append last (bit ∷ [])))
+put_some w number words room fails last last' backend backend' bit (inr (full, more, follows, left)) = rw more (omega arith)
 
 -- a refused write after a bit was put
-pub closing_fails : {W B E : Type 0} (w : ℕ) (number : W → ℕ) (words : B → List W) (fails : B → E → Type 0) (last last' : List Bool) (backend backend' : B) (bit : Bool) (e : E) → PutsLast {E = E} w number words fails last backend bit (Ok tt) last' backend' → fails backend' e
-    → ClosingFails w number words fails last backend e
-closing_fails w number words fails last last' backend backend' bit e (inl (room, more, same)) refused = inl (rw same at refused)
-closing_fails w number words fails last last' backend backend' bit e (inr (full, more, follows)) refused = inr (full, backend', refused, follows)
+pub closing_fails : {W B E : Type 0} (w : ℕ) (number : W → ℕ) (words : B → List W) (room : B → ℕ) (fails : B → E → Type 0) (last last' : List Bool) (backend backend' : B) (bit : Bool) (e : E) → PutsLast {E = E} w number words room fails last backend bit (Ok tt) last' backend' → fails backend' e
+    → ClosingFails w number words room fails last backend e
+closing_fails w number words room fails last last' backend backend' bit e (inl (within, more, same)) refused = inl (rw same at refused)
+closing_fails w number words room fails last last' backend backend' bit e (inr (full, more, follows, left)) refused = inr (full, backend', refused, follows, left)
 
 -- the full last word was written, and a bit begins the next
 pub bit_after_flush : (w : ℕ) {W : Type 0} (number : W → ℕ) (words words' : List W) (full : W) (last last' : List Bool) (bit : Bool) → bits_of w (number full) ≡ last → last' ≡ bit ∷ [] → words' ≡ full ∷ words
@@ -168,13 +168,13 @@ pub bit_after_flush : (w : ℕ) {W : Type 0} (number : W → ℕ) (words words' 
 bit_after_flush w number words words' full last last' bit has begun more = rw (begun, more, words_more w number words full, has) refl
 
 -- what putting a bit into the last word makes of all bits
-pub puts_bits : {W B E : Type 0} (w : ℕ) (number : W → ℕ) (words : B → List W) (fails : B → E → Type 0) (last last' : List Bool) (backend backend' : B) (bit : Bool) (r : Result (Unit {0}) E)
-    → PutsLast w number words fails last backend bit r last' backend' → PutsBit (bits_above w number (words backend) last) bit r (bits_above w number (words backend') last')
-puts_bits w number words fails last last' backend backend' bit (Ok _) (inl (room, more, same)) =
+pub puts_bits : {W B E : Type 0} (w : ℕ) (number : W → ℕ) (words : B → List W) (room : B → ℕ) (fails : B → E → Type 0) (last last' : List Bool) (backend backend' : B) (bit : Bool) (r : Result (Unit {0}) E)
+    → PutsLast w number words room fails last backend bit r last' backend' → PutsBit (bits_above w number (words backend) last) bit r (bits_above w number (words backend') last')
+puts_bits w number words room fails last last' backend backend' bit (Ok _) (inl (within, more, same)) =
     rw (more, same) (sym (append_assoc (bits_of_words w (map number (reverse (words backend)))) last (bit ∷ [])))
-puts_bits w number words fails last last' backend backend' bit (Ok _) (inr (full, more, follows)) =
+puts_bits w number words room fails last last' backend backend' bit (Ok _) (inr (full, more, follows, left)) =
     rw (more, follows.1, words_more w number (words backend) follows.0, follows.2) refl
-puts_bits w number words fails last last' backend backend' bit (Err e) (full, refused, same, held) = rw (same, held) refl
+puts_bits w number words room fails last last' backend backend' bit (Err e) (full, refused, same, held) = rw (same, held) refl
 
 -- all bits of a number are zeros exactly where it is 0
 no_bit_set : (k n : ℕ) → n < 2 ^ k → bits_of k n ≡ replicate k false → n ≡ 0

@@ -1,19 +1,19 @@
--- Merging by a heap of weights and indices: what is kept by a loop that takes the two least and puts their union in.
-use Rattle.std.proofs.Common.{◌≡◌, ◌+◌, ◌-◌, ◌*◌, ◌<◌, ◌≤◌, ◌==◌, ℕ, zero, suc, true, false, List, [], ◌∷◌, ◌++◌, ap, ap₂, sym, inl, inr, refl, ◌∙◌, ◌⊎◌, arith, if◌then◌else◌, length, map, sum, sum_by, IsPermutation, All, get_or, take, length-take, ltb, ltb-true, ltb-false, eqb-true, eq-eqb, ◌&&◌}
+-- Merging by weights and indices: what is kept by a loop that takes the two least and puts their union in.
+use Rattle.std.proofs.Common.{◌≡◌, ◌+◌, ◌-◌, ◌<◌, ◌≤◌, ◌==◌, ℕ, zero, suc, true, false, List, [], ◌∷◌, ◌++◌, ap, ap₂, sym, inl, inr, refl, ◌∙◌, ◌⊎◌, arith, if◌then◌else◌, length, map, sum, sum_by, IsPermutation, All, get_or, take, length-take, ltb, ltb-true, ltb-false, eqb-true, eq-eqb, ◌&&◌}
 use Rattle.std.specs.Prelude.{⊤}
 use Rattle.std.specs.List.{AllByRecursion}
 use Rattle.std.proofs.lemmas.Bool.{cond_both, cases_eq, cases_lt, or_cases, or_parts, and_parts, and_cases, eqb-false}
 use Rattle.std.proofs.lemmas.Bool.Decides.{eqb_tells}
-use Rattle.std.proofs.lemmas.List.{length-map, get_or_append_left, get_or_push, length_push, take-append-le, take_at}
-use Rattle.std.proofs.lemmas.List.Elements.{All-map, All-nil, All-head, All-tail, All-push, All-from_get_or}
+use Rattle.std.proofs.lemmas.List.{get_or_append_left, get_or_push, length_push, take-append-le, take_at}
+use Rattle.std.proofs.lemmas.List.Elements.{All-nil, All-head, All-tail, All-push, All-from_get_or}
 use Rattle.std.proofs.lemmas.List.Sums.{sum_by-cons}
-use Rattle.std.proofs.lemmas.List.Sorted.{IsPermutation-map, sum_by-IsPermutation, sum_by_popped, sum_by_pushed, length_permutation}
+use Rattle.std.proofs.lemmas.List.Sorted.{sum_by-IsPermutation, sum_by_popped, sum_by_pushed, length_permutation}
 use Rattle.constriction_symbol.specs.Huffman.{Tree, Weighed, comes_before, put_in, leaves_from, united, merged, children, IsTreeAt, IsNeither, IsRoot, IsUnion, AreUnions, keys_from, IsPairLe, IsMerged}
 use Rattle.constriction_symbol.specs.Huffman.Tree.{Leaf}
 use Rattle.constriction_symbol.specs.HuffmanLaws.{tree_at_more}
 use Rattle.constriction_symbol.specs.HuffmanMerge.{sum_put, length_put, length_leaves}
 
--- what a heap holds of a tree
+-- what a queue holds of a tree
 abbrev pub key : Weighed → ℕ × ℕ
 key x = (x.weight, x.index)
 
@@ -82,7 +82,7 @@ ordered_put x (y ∷ ys) apart ordered =
     ((first, each_both (IsBefore y) (λ z. x.index ≡ z.index → ⊥) (IsBefore x) (λ z after other. before_before x y z first after other) ys ordered.0 apart.1), ordered))
     (λ is. (each_put (IsBefore y) x ys (before_false x y is apart.0) ordered.0, ordered_put x ys apart.1 ordered.1))
 
--- the pairs of a heap are those of a set: each sum over them is one
+-- the pairs of both queues are those of a set: each sum over them is one
 abbrev pub HoldsKeys : List (ℕ × ℕ) → List Weighed → Type 0
 HoldsKeys items set = (f : ℕ × ℕ → ℕ) → sum_by f items ≡ sum_by (λ x. f (key x)) set
 
@@ -127,7 +127,7 @@ excess_set x (y ∷ set) all =
     le (inl less) = inl less
     le (inr same) = inr (same.0, omega (arith, same.1))
 
--- the least of the heap is that of the set, and the others stay the same
+-- the least of the items is that of the set, and the others stay the same
 pub least_taken : (items rest : List (ℕ × ℕ)) (a : ℕ × ℕ) (x : Weighed) (set : List Weighed) → HoldsKeys items (x ∷ set) → IsOrdered (x ∷ set) → IsPermutation items (a ∷ rest) → All (IsPairLe a) items
     → (a ≡ key x) × HoldsKeys rest set
 least_taken items rest a x set same ordered popped least =
@@ -161,7 +161,7 @@ pub record IsMerging (weights : List ℕ) (items pairs : List (ℕ × ℕ)) (set
   pub newest : 0 < sum_by (is_last (length weights + length pairs)) set
   pub unions : AreUnions (length weights) pairs
 
--- the invariant of the loop, over the items of its heap and the unions so far
+-- the invariant of the loop, over the items that are left and the unions so far
 abbrev pub Merging : List ℕ → List (ℕ × ℕ) → List (ℕ × ℕ) → Type 0
 Merging weights items pairs = (set : List Weighed) × (left : ℕ) × IsMerging weights items pairs set left
 
@@ -210,7 +210,7 @@ leaves_newest : (next : ℕ) (weights : List ℕ) → 0 < length weights → len
 leaves_newest next [] some is = absurd (omega (arith, some))
 leaves_newest next (weight ∷ weights) some is = leaves_last next 0 weight weights (omega (arith, is))
 
--- at the start: a heap of all weights with their indices
+-- at the start: all weights with their indices
 pub merging_start : (weights : List ℕ) (items : List (ℕ × ℕ)) → 0 < length weights → IsPermutation (keys_from 0 weights) items → Merging weights items []
 merging_start weights items some all =
     let count = length_leaves 0 weights in (
@@ -333,17 +333,6 @@ pub merging_fits : (weights : List ℕ) (items first second pairs : List (ℕ ×
 merging_fits weights items first second pairs a b merging one two =
     omega (arith, merging_total weights items pairs merging, sum_by_popped (λ p. p.0) a items first one, sum_by_popped (λ p. p.0) b first second two)
 
--- the two least are a union
-pub merging_union : (weights : List ℕ) (items first second pairs : List (ℕ × ℕ)) (a b : ℕ × ℕ) → Merging weights items pairs → IsPermutation items (a ∷ first) → All (IsPairLe a) items → IsPermutation first (b ∷ second) → All (IsPairLe b) first
-    → IsUnion (length weights) pairs (a.1, b.1)
-merging_union weights items first second pairs a b ([], left, m) one least two least₁ = absurd (omega (arith, m.newest))
-merging_union weights items first second pairs a b (x ∷ [], left, m) one least two least₁ =
-    absurd (omega (arith, same_count items (x ∷ []) m.keys, length_permutation items (a ∷ first) one, length_permutation first (b ∷ second) two))
-merging_union weights items first second pairs a b (x ∷ y ∷ set, left, m) one least two least₁ =
-    let lesser = least_taken items first a x (y ∷ set) m.keys m.ordered one least in
-    let other = least_taken first second b y set lesser.1 m.ordered.1 two least₁ in
-    rw (lesser.0, other.0) (placed_union_of weights items pairs x y set left m)
-
 -- a step of the loop: the two least go out, and their union in
 pub merging_step : (weights : List ℕ) (items first second new pairs : List (ℕ × ℕ)) (a b : ℕ × ℕ) → Merging weights items pairs → IsPermutation items (a ∷ first) → All (IsPairLe a) items → IsPermutation first (b ∷ second) → All (IsPairLe b) first
     → IsPermutation ((a.0 + b.0, length weights + length pairs) ∷ second) new → Merging weights new (pairs ++ (a.1, b.1) ∷ [])
@@ -383,23 +372,3 @@ merging_done weights items pairs (x ∷ [], left, m) one =
           | inl same ↦ omega (arith, same.1)
           | inr other ↦ absurd (omega (arith, rw other.0 at some))
         ]
-
--- the same of a heap of other items, each of which has a weight and an index
-module _ {X : Type 0} (item : X → ℕ × ℕ) (weights : List ℕ) (pairs : List (ℕ × ℕ)) (items first second : List X) (u v : X) (merging : Merging weights (map item items) pairs) (one : IsPermutation items (u ∷ first)) (two : IsPermutation first (v ∷ second)) where
-  pub heap_fits : (item u).0 + (item v).0 ≤ sum weights
-  heap_fits = merging_fits weights _ _ _ pairs _ _ merging (IsPermutation-map item _ _ one) (IsPermutation-map item _ _ two)
-
-  -- the two are no union yet, so that the next index is below that of the last
-  pub heap_room : length weights + length pairs + 1 < 2 * length weights
-  heap_room =
-      omega (arith, merging_count weights (map item items) pairs merging, length-map items item, length_permutation items (u ∷ first) one, length_permutation first (v ∷ second) two)
-
-  module _ (least : All (λ q. IsPairLe (item u) (item q)) items) (next : All (λ q. IsPairLe (item v) (item q)) first) where
-    pub heap_union : IsUnion (length weights) pairs ((item u).1, (item v).1)
-    heap_union =
-        merging_union weights _ _ _ pairs _ _ merging (IsPermutation-map item _ _ one) (All-map (IsPairLe (item u)) item items least) (IsPermutation-map item _ _ two) (All-map (IsPairLe (item v)) item first next)
-
-    pub heap_step : (w : X) (new : List X) → item w ≡ ((item u).0 + (item v).0, length weights + length pairs) → IsPermutation (w ∷ second) new → Merging weights (map item new) (pairs ++ ((item u).1, (item v).1) ∷ [])
-    heap_step w new is put =
-        merging_step weights _ _ _ _ pairs _ _ merging (IsPermutation-map item _ _ one) (All-map (IsPairLe (item u)) item items least) (IsPermutation-map item _ _ two) (All-map (IsPairLe (item v)) item first next)
-        (rw is at (IsPermutation-map item _ _ put))

@@ -16,7 +16,10 @@ pub mod Merged
 pub mod HuffmanMerging
 pub mod DecoderTrees
 pub mod Walking
+pub mod FirstBits
 pub mod Climbing
 pub mod Marked
 pub mod EncoderTrees
 pub mod Turned
+pub mod TwoQueues
+pub mod Refusals

@@ -1,13 +1,14 @@
--- The set of some weights, and the least of a set.
-use Rattle.std.proofs.Common.{◌≡◌, ◌+◌, ◌<◌, ◌≤◌, ℕ, List, [], ◌∷◌, ◌++◌, map, All, false, rules, ◌⊎◌, length, take, get_or, ap, ◌∙◌, arith, length-take}
+-- The weights with their indices, and their order after a sort.
+use Rattle.std.proofs.Common.{◌≡◌, ◌+◌, ◌<◌, ◌≤◌, ℕ, suc, List, [], ◌∷◌, ◌++◌, map, false, rules, ◌⊎◌, length, take, get_or, ap, subst, ◌∙◌, arith, length-take}
 use Rattle.std.proofs.lemmas.List.{take_more, length-map, map_push}
-use Rattle.std.proofs.lemmas.List.Elements.{All-from_recursion}
-use Rattle.std.specs.List.{AllByRecursion}
+use Rattle.std.proofs.lemmas.List.Elements.{All-nil}
+use Rattle.std.specs.List.Sorted.{IsSorted}
 use Rattle.std.specs.Ordering.{is_lt, nat_cmp, on, then_cmp, ordering_then}
-use Rattle.std.specs.declared.cmp.Reverse.{Reverse}
 use Rattle.constriction_symbol.specs.declared.huffman.weighed.Weighed.{Weighed}
 use Rattle.constriction_symbol.specs.Huffman.{IsPairLe, keys_from}
-use Rattle.constriction_symbol.specs.Merging.{pair_of, set_of}
+use Rattle.constriction_symbol.specs.Merging.{key_of, keys_of}
+use Rattle.constriction_symbol.specs.Queues.{AreRising}
+use Rattle.constriction_symbol.proofs.TwoQueues.{rising_cons}
 
 keys_more : (ws : List ℕ) (k : ℕ) (w : ℕ) → keys_from k (ws ++ w ∷ []) ≡ keys_from k ws ++ (w, k + length ws) ∷ []
 keys_more [] k w = ap (λ i. (w, i) ∷ []) (omega arith)
@@ -24,12 +25,20 @@ keys_step f xs i d h =
 no_later : (a b c d : ℕ) → is_lt (ordering_then (nat_cmp c a) (nat_cmp d b)) ≡ false → (a < c) ⊎ ((a ≡ c) × (b ≤ d))
 no_later a b c d h = search rules
 
-each_later : {P Z : Type 0} (number : P → ℕ) (x : Reverse (Weighed P Z)) (xs : List (Reverse (Weighed P Z)))
-    → AllByRecursion (λ y. is_lt (then_cmp (on (λ w. number w.weight) nat_cmp) (on (λ w. w.index) nat_cmp) y.0 x.0) ≡ false) xs → AllByRecursion (IsPairLe (pair_of number x)) (set_of number xs)
-each_later number x [] e = tt
-each_later number x (y ∷ ys) e = (no_later (number x.0.weight) x.0.index (number y.0.weight) y.0.index e.0, each_later number x ys e.1)
+-- the order of a sort, one place on
+sorted_later : {P Z : Type 0} (number : P → ℕ) (x : Weighed P Z) (xs : List (Weighed P Z)) (k : ℕ) (d : Weighed P Z) → is_lt (then_cmp (on (λ w. number w.weight) nat_cmp) (on (λ w. w.index) nat_cmp) (get_or (x ∷ xs) (suc k + 1) d) (get_or xs k d)) ≡ false
+    → is_lt (then_cmp (on (λ w. number w.weight) nat_cmp) (on (λ w. w.index) nat_cmp) (get_or xs (k + 1) d) (get_or xs k d)) ≡ false
+sorted_later number x xs k d is =
+    subst (λ i. is_lt (then_cmp (on (λ w. number w.weight) nat_cmp) (on (λ w. w.index) nat_cmp) (get_or (x ∷ xs) i d) (get_or xs k d)) ≡ false) (next k) is
+  where
+    next : (k : ℕ) → suc k + 1 ≡ suc (k + 1)
+    next k = omega arith
 
--- what is above nothing in the order of a set, which is turned round, is the least
-pub least_of : {P Z : Type 0} (number : P → ℕ) (x : Reverse (Weighed P Z)) (xs : List (Reverse (Weighed P Z)))
-    → AllByRecursion (λ y. is_lt (then_cmp (on (λ w. number w.weight) nat_cmp) (on (λ w. w.index) nat_cmp) y.0 x.0) ≡ false) xs → All (IsPairLe (pair_of number x)) (set_of number xs)
-least_of number x xs h = All-from_recursion (IsPairLe (pair_of number x)) (set_of number xs) (each_later number x xs h)
+-- leaves that are sorted rise
+pub rising_from_sorted : {P Z : Type 0} (number : P → ℕ) (xs : List (Weighed P Z)) → IsSorted (then_cmp (on (λ w. number w.weight) nat_cmp) (on (λ w. w.index) nat_cmp)) xs → AreRising (keys_of number xs)
+rising_from_sorted number [] sorted = tt
+rising_from_sorted number (x ∷ []) sorted = (All-nil (IsPairLe (key_of number x)), tt)
+rising_from_sorted number (x ∷ y ∷ xs) sorted =
+    let first : IsPairLe (key_of number x) (key_of number y) = no_later (number x.weight) x.index (number y.weight) y.index (sorted 0 x (omega arith) (omega arith)) in
+    rising_cons (key_of number x) (key_of number y) (keys_of number xs) first
+    (rising_from_sorted number (y ∷ xs) (λ k d low within. sorted_later number x (y ∷ xs) k d (sorted (suc k) d (omega arith) (omega (arith, within)))))

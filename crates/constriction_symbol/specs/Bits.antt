@@ -1,5 +1,5 @@
 -- Bits of words, and what a coder of bits holds.
-use Rattle.std.specs.Prelude.{◌≡◌, ℕ, zero, suc, ◌/◌, ◌%◌, ◌<◌, Bool, true, false, List, [], ◌∷◌, ◌++◌, ◌==◌, ◌⊎◌, flat_map, map, replicate, reverse, length, Result, Ok, Err, Option, Some, None}
+use Rattle.std.specs.Prelude.{◌≡◌, ℕ, zero, suc, ◌/◌, ◌%◌, ◌<◌, ◌≤◌, ◌+◌, Bool, true, false, List, [], ◌∷◌, ◌++◌, ◌==◌, ◌⊎◌, flat_map, map, replicate, reverse, length, Result, Ok, Err, Option, Some, None}
 
 -- the n lowest bits of a number, the lowest first
 abbrev pub bits_of : ℕ → ℕ → List Bool
@@ -52,13 +52,17 @@ abbrev pub Follows : {W : Type 0} → (W → ℕ) → ℕ → List Bool → List
 Follows {W} number w last old new = (word : W) × (new ≡ word ∷ old) × (bits_of w (number word) ≡ last)
 
 -- a bit is put behind those of the last word; where that is full, it is written first and the bit begins the
--- next; or an error of that write, which leaves all words
-abbrev pub PutsLast : {W B E : Type 0} → ℕ → (W → ℕ) → (B → List W) → (B → E → Type 0) → List Bool → B → Bool → Result (Unit {0}) E → List Bool → B → Type 0
-PutsLast w number words write_fails last backend bit (Ok _) last' backend' =
+-- next, and that write took room for one word at most; or an error of that write, which leaves all words
+abbrev pub PutsLast : {W B E : Type 0} → ℕ → (W → ℕ) → (B → List W) → (B → ℕ) → (B → E → Type 0) → List Bool → B → Bool → Result (Unit {0}) E → List Bool → B → Type 0
+PutsLast w number words room write_fails last backend bit (Ok _) last' backend' =
     ((length last < w) × (last' ≡ last ++ bit ∷ []) × (backend' ≡ backend))
-    ⊎ ((length last ≡ w) × (last' ≡ bit ∷ []) × Follows number w last (words backend) (words backend'))
-PutsLast w number words write_fails last backend bit (Err e) last' backend' =
+    ⊎ ((length last ≡ w) × (last' ≡ bit ∷ []) × Follows number w last (words backend) (words backend') × (room backend ≤ room backend' + 1))
+PutsLast w number words room write_fails last backend bit (Err e) last' backend' =
     (length last ≡ w) × write_fails backend e × (last' ≡ last) × (words backend' ≡ words backend)
+
+-- a bit is put onto all that a coder holds: its last word and its backend
+abbrev pub PutsOnto : {W B E : Type 0} → ℕ → (W → ℕ) → (B → List W) → (B → ℕ) → (B → E → Type 0) → BitsValue B → Bool → Result (Unit {0}) E → BitsValue B → Type 0
+PutsOnto w number words room write_fails old bit r new = PutsLast w number words room write_fails old.last old.backend bit r new.last new.backend
 
 -- a bit is put behind the others, or all are as before
 abbrev pub PutsBit : {E : Type 0} → List Bool → Bool → Result (Unit {0}) E → List Bool → Type 0
@@ -82,13 +86,16 @@ TakesFirst {W} w number reads last backend (Some (Ok bit)) last' backend' =
 TakesFirst w number reads last backend None last' backend' = (last ≡ []) × (last' ≡ []) × reads backend (Ok None) backend'
 TakesFirst w number reads last backend (Some (Err e)) last' backend' = (last ≡ []) × (last' ≡ []) × reads backend (Err e) backend'
 
--- bits are put behind the others; or the first of them, up to a full word whose write is refused
-abbrev pub PutsBits : {W B E : Type 0} → ℕ → (W → ℕ) → (B → List W) → (B → E → Type 0) → List Bool → B → List Bool → Result (Unit {0}) E → List Bool → B → Type 0
-PutsBits w number words write_fails last backend bits (Ok _) last' backend' =
-    bits_above w number (words backend') last' ≡ bits_above w number (words backend) last ++ bits
-PutsBits w number words write_fails last backend bits (Err e) last' backend' =
-    (length last' ≡ w) × write_fails backend e × (words backend' ≡ words backend)
-    × ((front : List Bool) × (back : List Bool) × (bits ≡ front ++ back) × (last' ≡ last ++ front))
+-- bits are put behind those of the last word, which has room for all; or the first of them fill it, it is written, which took
+-- room for one word at most, and the others, one at least, begin the next; or that write is refused, and the first of them stay
+abbrev pub PutsBits : {W B E : Type 0} → ℕ → (W → ℕ) → (B → List W) → (B → ℕ) → (B → E → Type 0) → List Bool → B → List Bool → Result (Unit {0}) E → List Bool → B → Type 0
+PutsBits w number words room write_fails last backend bits (Ok _) last' backend' =
+    ((length last + length bits ≤ w) × (last' ≡ last ++ bits) × (backend' ≡ backend))
+    ⊎ ((front : List Bool) × (bit : Bool) × (back : List Bool) × (bits ≡ front ++ bit ∷ back) × (length (last ++ front) ≡ w) × (length back < w)
+    × (last' ≡ bit ∷ back) × Follows number w (last ++ front) (words backend) (words backend') × (room backend ≤ room backend' + 1))
+PutsBits w number words room write_fails last backend bits (Err e) last' backend' =
+    (front : List Bool) × (bit : Bool) × (back : List Bool) × (bits ≡ front ++ bit ∷ back) × (length (last ++ front) ≡ w)
+    × (last' ≡ last ++ front) × write_fails backend e × (words backend' ≡ words backend)
 
 -- the next of the bits is given, or there is none; an error leaves them
 abbrev pub GivesBit : {E : Type 0} → List Bool → Option (Result Bool E) → List Bool → Type 0
@@ -108,10 +115,11 @@ TakesBit w number is_list reads old item new =
     TakesFirst w number reads old.last old.backend item new.last new.backend
     × (is_list → GivesBit old.bits item new.bits)
 
--- a write to the backend is refused; or one more, after the full last word was written
-abbrev pub ClosingFails : {W B E : Type 0} → ℕ → (W → ℕ) → (B → List W) → (B → E → Type 0) → List Bool → B → E → Type 0
-ClosingFails {B = B} w number words write_fails last backend e =
-    write_fails backend e ⊎ ((length last ≡ w) × (between : B) × write_fails between e × Follows number w last (words backend) (words between))
+-- a write to the backend is refused; or one more, after the full last word was written, which took room for one word at most
+abbrev pub ClosingFails : {W B E : Type 0} → ℕ → (W → ℕ) → (B → List W) → (B → ℕ) → (B → E → Type 0) → List Bool → B → E → Type 0
+ClosingFails {B = B} w number words room write_fails last backend e =
+    write_fails backend e
+    ⊎ ((length last ≡ w) × (between : B) × write_fails between e × Follows number w last (words backend) (words between) × (room backend ≤ room between + 1))
 
 -- no bit of the list is set
 abbrev pub AreZeros : List Bool → Type 0

@@ -7,6 +7,7 @@ use Rattle.constriction_base.specs.declared.errors.CoderError.{CoderError}
 use Rattle.constriction_base.specs.declared.errors.CoderError.TheVariants.{Frontend, Backend}
 use Rattle.constriction_base.specs.declared.errors.DefaultEncoderFrontendError.{DefaultEncoderFrontendError}
 use Rattle.constriction_base.specs.declared.errors.DefaultEncoderFrontendError.TheVariants.{ImpossibleSymbol}
+use Rattle.constriction_stream.specs.Lists.{StepsAll}
 use Rattle.constriction_symbol.specs.declared.codebooks.SymbolCodeError.{SymbolCodeError}
 use Rattle.constriction_symbol.specs.declared.codebooks.SymbolCodeError.TheVariants.{OutOfCompressedData, InvalidCodeword}
 
@@ -25,23 +26,32 @@ abbrev pub EmitsCodeword : {F E : Type 0} → Mut F (Bool × Unit {0}) (Result (
 EmitsCodeword g wants f None r last = (r ≡ Err (Frontend ImpossibleSymbol)) × (f ≡ last)
 EmitsCodeword {F} {E} g wants f (Some bits) r last = Emits g f bits r last ⊎ ((e : E) × wants e × (r ≡ Err (Backend e)) × (f ≡ last))
 
--- new is old and then a beginning of bs
-abbrev pub IsBeginning : List Bool → List Bool → List Bool → Type 0
-IsBeginning old bs new = (front : List Bool) × (back : List Bool) × (bs ≡ front ++ back) × (new ≡ old ++ front)
+-- a codeword of which one bit was refused: those before it were put one by one, and it and those behind it weren't
+pub record RefusedAt {C E : Type 0} (bits : C → List Bool) (puts : C → Bool → Result (Unit {0}) E → C → Type 0) (old : C) (code : List Bool) (e : E) (new : C) : Type 0 where
+  -- the bits before the refused one, that one, and those behind it
+  pub front : List Bool
+  pub bit : Bool
+  pub back : List Bool
+  pub whole : code ≡ front ++ bit ∷ back
+  -- the stream at which it was refused, to which the bits before it lead one by one
+  pub mid : C
+  pub before : StepsAll puts old front mid
+  -- the write of that bit answers the error, and leaves the new stream
+  pub refused : puts mid bit (Err e) new
+  -- the new stream has just the bits before it more
+  pub begun : bits new ≡ bits old ++ front
 
--- a stream of bits has a codeword more; or it has a beginning of it, as the stream at which the next bit was
--- refused; or it is as before, where memory was wanted
-abbrev pub Writes : {C E : Type 0} → (C → List Bool) → (C → E → Type 0) → (E → Type 0) → C → List Bool → Answer E → C → Type 0
-Writes bits fails wants old code (Ok _) new = bits new ≡ bits old ++ code
-Writes bits fails wants old code (Err (Frontend _)) new = ⊥
-Writes {C} bits fails wants old code (Err (Backend e)) new =
-    (IsBeginning (bits old) code (bits new) × (refused : C) × (bits refused ≡ bits new) × fails refused e)
-    ⊎ (wants e × (bits new ≡ bits old))
+-- a stream of bits has a codeword more, as if its bits were put one by one; or it has those before a bit that was refused;
+-- or it is as before, where memory was wanted
+abbrev pub Writes : {C E : Type 0} → (C → List Bool) → (C → Bool → Result (Unit {0}) E → C → Type 0) → (E → Type 0) → C → List Bool → Answer E → C → Type 0
+Writes bits puts wants old code (Ok _) new = (bits new ≡ bits old ++ code) × StepsAll puts old code new
+Writes bits puts wants old code (Err (Frontend _)) new = ⊥
+Writes bits puts wants old code (Err (Backend e)) new = RefusedAt bits puts old code e new ⊎ (wants e × (new ≡ old))
 
--- the same of a symbol, which may have no codeword
-abbrev pub WritesCodeword : {C E : Type 0} → (C → List Bool) → (C → E → Type 0) → (E → Type 0) → C → Option (List Bool) → Answer E → C → Type 0
-WritesCodeword bits fails wants old None r new = (r ≡ Err (Frontend ImpossibleSymbol)) × (bits new ≡ bits old)
-WritesCodeword bits fails wants old (Some code) r new = Writes bits fails wants old code r new
+-- the same of a symbol, which may have no codeword: then nothing changes
+abbrev pub WritesCodeword : {C E : Type 0} → (C → List Bool) → (C → Bool → Result (Unit {0}) E → C → Type 0) → (E → Type 0) → C → Option (List Bool) → Answer E → C → Type 0
+WritesCodeword bits puts wants old None r new = (r ≡ Err (Frontend ImpossibleSymbol)) × (new ≡ old)
+WritesCodeword bits puts wants old (Some code) r new = Writes bits puts wants old code r new
 
 -- the form of a codeword, where there is one
 abbrev pub formed : (List Bool → List Bool) → Option (List Bool) → Option (List Bool)
@@ -49,13 +59,13 @@ formed form None = None
 formed form (Some bits) = Some (form bits)
 
 -- the same of a symbol that is lent and its codebook; and of a symbol that is lent
-abbrev pub WritesPair : {C L K S E : Type 0} → (C → List Bool) → (C → E → Type 0) → (K → S → E → Type 0) → (K → S → Option (List Bool)) → (List Bool → List Bool) → (L → S) → C → L × K → Answer E → C → Type 0
-WritesPair bits fails wants codeword form lent old pair r new =
-    WritesCodeword bits fails (wants pair.1 (lent pair.0)) old (formed form (codeword pair.1 (lent pair.0))) r new
+abbrev pub WritesPair : {C L K S E : Type 0} → (C → List Bool) → (C → Bool → Result (Unit {0}) E → C → Type 0) → (K → S → E → Type 0) → (K → S → Option (List Bool)) → (List Bool → List Bool) → (L → S) → C → L × K → Answer E → C → Type 0
+WritesPair bits puts wants codeword form lent old pair r new =
+    WritesCodeword bits puts (wants pair.1 (lent pair.0)) old (formed form (codeword pair.1 (lent pair.0))) r new
 
-abbrev pub WritesSymbol : {C L S E : Type 0} → (C → List Bool) → (C → E → Type 0) → (S → E → Type 0) → (S → Option (List Bool)) → (List Bool → List Bool) → (L → S) → C → L → Answer E → C → Type 0
-WritesSymbol bits fails wants codeword form lent old item r new =
-    WritesCodeword bits fails (wants (lent item)) old (formed form (codeword (lent item))) r new
+abbrev pub WritesSymbol : {C L S E : Type 0} → (C → List Bool) → (C → Bool → Result (Unit {0}) E → C → Type 0) → (S → E → Type 0) → (S → Option (List Bool)) → (List Bool → List Bool) → (L → S) → C → L → Answer E → C → Type 0
+WritesSymbol bits puts wants codeword form lent old item r new =
+    WritesCodeword bits puts (wants (lent item)) old (formed form (codeword (lent item))) r new
 
 -- the codeword is the lowest bits of a number, the first one highest; they are fewer than w, and above them are zeros
 pub record IsLowBits (w : ℕ) (codeword : Option (List Bool)) (number count : ℕ) : Type 0 where

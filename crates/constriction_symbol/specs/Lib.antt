@@ -13,3 +13,4 @@ pub mod TreeCode
 pub mod DecoderTree
 pub mod EncoderTree
 pub mod Reversed
+pub mod Queues

@@ -4,7 +4,6 @@ use Rattle.std.specs.Iterator.{Drains, YieldsThen}
 use Rattle.constriction_symbol.specs.Huffman.{IsHuffman, IsMerged, Tree, book_of}
 use Rattle.constriction_symbol.specs.declared.huffman.error.HuffmanError.{HuffmanError}
 use Rattle.constriction_symbol.specs.declared.huffman.weighed.Weighed.{Weighed}
-use Rattle.std.specs.declared.cmp.Reverse.{Reverse}
 use Rattle.constriction_symbol.specs.declared.huffman.error.HuffmanError.TheVariants.{Empty, TooManySymbols, WeightOverflow, Iterator, Memory}
 
 abbrev pub as_weight : {P E : Type 0} → P → Result P E
@@ -71,8 +70,8 @@ abbrev pub ArePairs : List ℕ → List (List ℕ) → Type 0
 ArePairs weights pairs = (tree : Tree) × IsMerged weights (map as_pair pairs) tree
 
 -- the weights and indices of some trees
-abbrev pub pair_of : {P Z : Type 0} → (P → ℕ) → Reverse (Weighed P Z) → ℕ × ℕ
-pair_of number item = (number item.0.weight, item.0.index)
+abbrev pub key_of : {P Z : Type 0} → (P → ℕ) → Weighed P Z → ℕ × ℕ
+key_of number item = (number item.weight, item.index)
 
-abbrev pub set_of : {P Z : Type 0} → (P → ℕ) → List (Reverse (Weighed P Z)) → List (ℕ × ℕ)
-set_of number items = map (pair_of number) items
+abbrev pub keys_of : {P Z : Type 0} → (P → ℕ) → List (Weighed P Z) → List (ℕ × ℕ)
+keys_of number items = map (key_of number) items

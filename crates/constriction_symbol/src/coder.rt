@@ -13,7 +13,7 @@ pub mod words;
 
 ghost use Rattle.constriction_base.specs.Iterators.{item_of_answer};
 ghost use Rattle.constriction_symbol.specs.Bits.{BitsValue, PopsBit, PutsBit, PutsLast, bits_above};
-ghost use Rattle.std.specs.Prelude.{IfErr, IfOk, IsTrue, List, OnErr, OnOk, Result, [], length, reverse, ℕ, ◌*◌, ◌+◌, ◌<◌, ◌↔◌, ◌≡◌, ◌≤◌};
+ghost use Rattle.std.specs.Prelude.{IfErr, IfOk, IsOk, IsTrue, List, OnErr, OnOk, Result, [], length, reverse, vec_capacity, ℕ, ◌*◌, ◌+◌, ◌<◌, ◌↔◌, ◌≡◌, ◌≤◌};
 
 use crate::steps::{put_last, take_last};
 use crate::top_bits::TopBits;
@@ -85,7 +85,8 @@ impl<Word: BitArray> StackCoder<Word, Vec<Word>> {
     /// # Errors
     /// Where the memory isn't found.
     pub fn with_bit_capacity(alloc: Global, bit_capacity: usize) -> Result<Self, AllocError>
-        ensures { IfOk result (λ new. new.bits ≡ []) }
+        ensures ok { IfOk result (λ new. new.bits ≡ []) }
+        ensures room { IfOk result (λ new. bit_capacity < vec_capacity new.backend * Word.BITS) }
     {
         let backend = Vec::with_capacity(alloc, bit_capacity / Word::BITS as usize + 1)?;
         Ok(SymbolCoder {
@@ -97,12 +98,14 @@ impl<Word: BitArray> StackCoder<Word, Vec<Word>> {
 }
 
 impl<Word: BitArray> QueueEncoder<Word, Vec<Word>> {
-    /// A coder without bits, and memory for the words of so many.
+    /// A coder without bits, and memory for the words of so many. For none it takes no memory.
     ///
     /// # Errors
     /// Where the memory isn't found.
     pub fn with_bit_capacity(alloc: Global, bit_capacity: usize) -> Result<Self, AllocError>
-        ensures { IfOk result (λ new. new.bits ≡ []) }
+        ensures ok { IfOk result (λ new. new.bits ≡ []) }
+        ensures room { IfOk result (λ new. bit_capacity ≤ vec_capacity new.backend * Word.BITS) }
+        ensures variant { bit_capacity ≡ 0 → IsOk result }
     {
         let backend = Vec::with_capacity(alloc, bit_capacity.div_ceil(Word::BITS as usize))?;
         Ok(SymbolCoder {
@@ -165,7 +168,7 @@ impl<Word: BitArray, S: Semantics, B: WriteWords<Word>> SymbolCoder<Word, S, B> 
     /// Where the backend refuses that write. The bits are as before.
     #[inline]
     pub fn write_bit(&mut self, bit: bool) -> Result<(), B::WriteError>
-        ensures puts { PutsLast Word.BITS Word.number B.words B.write_fails self.old.last self.old.backend bit result self.new.last self.new.backend }
+        ensures puts { PutsLast Word.BITS Word.number B.words B.room B.write_fails self.old.last self.old.backend bit result self.new.last self.new.backend }
         ensures bits { PutsBit self.old.bits bit result self.new.bits }
     {
         put_last(&mut self.backend, &mut self.last, bit)

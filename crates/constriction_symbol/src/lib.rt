@@ -22,7 +22,7 @@
 //! - [`reversed`]: codewords that are given from the last bit to the first, turned round.
 //! - [`iterators`]: the iterators of symbols.
 //! - [`exp_golomb`]: the Exp-Golomb codebook of numbers.
-//! - [`huffman`]: Huffman trees, the codebooks of least cost for given weights, one for encoding and one for decoding.
+//! - [`huffman`]: Huffman trees, which cost as little as any prefix-free codebook for given weights, for encoding and for decoding.
 //!
 //! Contracts cite the definitions of `specs/Bits.antt` (bits of words), `specs/Codewords.antt` (what is emitted, written
 //! and read), `specs/Golomb.antt` (the grammar), `specs/Huffman.antt` (the tree that merging weights gives, and its

@@ -16,7 +16,7 @@ pub fn put_last<Word: BitArray, B: WriteWords<Word>>(
     last: &mut TopBits<Word>,
     bit: bool,
 ) -> Result<(), B::WriteError>
-    ensures { PutsLast Word.BITS Word.number B.words B.write_fails last.old backend.old bit result last.new backend.new }
+    ensures { PutsLast Word.BITS Word.number B.words B.room B.write_fails last.old backend.old bit result last.new backend.new }
 {
     if last.is_full() {
         match backend.write(last.word()) {
@@ -43,7 +43,7 @@ pub fn put_bits<Word: BitArray, B: WriteWords<Word>>(
     requires some { 0 < count }
     requires part { count < Word.BITS }
     requires small { Word.number bits < 2 ^ count }
-    ensures { PutsBits Word.BITS Word.number B.words B.write_fails last.old backend.old (bits_of count (Word.number bits)) result last.new backend.new }
+    ensures { PutsBits Word.BITS Word.number B.words B.room B.write_fails last.old backend.old (bits_of count (Word.number bits)) result last.new backend.new }
 {
     if count <= last.room() {
         last.push_all(bits, count);
@@ -63,7 +63,7 @@ fn put_across<Word: BitArray, B: WriteWords<Word>>(
     requires across { Word.BITS < length last.old + count }
     requires part { count < Word.BITS }
     requires small { Word.number bits < 2 ^ count }
-    ensures { PutsBits Word.BITS Word.number B.words B.write_fails last.old backend.old (bits_of count (Word.number bits)) result last.new backend.new }
+    ensures { PutsBits Word.BITS Word.number B.words B.room B.write_fails last.old backend.old (bits_of count (Word.number bits)) result last.new backend.new }
 {
     let room = last.room();
     last.fill(bits);

@@ -1,10 +1,10 @@
 //! Streams of bits, to which the codewords of symbols are written.
 
-ghost use Rattle.constriction_symbol.specs.Bits.{PutsBit};
+ghost use Rattle.constriction_symbol.specs.Bits.{PutsBit, PutsOnto};
 ghost use Rattle.constriction_stream.specs.Lists.{StepsUntilFault};
 ghost use Rattle.constriction_symbol.specs.Codewords.{WritesCodeword, WritesPair, WritesSymbol, formed};
 ghost use Rattle.std.specs.Iterator.{IsFiniteIterable};
-ghost use Rattle.std.specs.Prelude.{Bool, IfErr, List, length, reverse, ◌≡◌};
+ghost use Rattle.std.specs.Prelude.{Bool, List, Result, reverse};
 
 use crate::codebooks::{BitOrder, Codebook, EncoderCodebook};
 use crate::coder::{StackCoder, SymbolCoder};
@@ -18,16 +18,16 @@ use std::alloc::AllocError;
 /// A stream of bits that grows: bits can be put behind the others, and so the codewords of symbols, in prefix form where
 /// it is read as a queue and in suffix form where it is read as a stack.
 ///
-/// An implementation chooses freely which bits it holds, and which error the next write of a bit may return; the clauses
-/// tie both to the calls.
+/// An implementation chooses freely which bits it holds, and what a write of a bit may answer and leave; the clauses tie both
+/// to the calls. A codeword is written as if each of its bits was.
 pub trait WriteBitStream<S: BitOrder> {
     type WriteError: From<AllocError>;
 
     /// The bits, in the order of writing.
     ghost bits: { Self → List Bool };
 
-    /// Which error the next write of a bit may return.
-    ghost bit_fails: { Self → Self.WriteError → Type 0 };
+    /// What a write of a bit answers, and what it leaves.
+    ghost puts: { Self → Bool → Result (Unit {0}) Self.WriteError → Self → Type 0 };
 
     /// Puts a bit behind the others.
     ///
@@ -35,14 +35,14 @@ pub trait WriteBitStream<S: BitOrder> {
     /// Where there is no room for it. The bits are as before.
     fn write_bit(&mut self, bit: bool) -> Result<(), Self::WriteError>
         ensures bits { PutsBit (bits self.old) bit result (bits self.new) }
-        ensures err { IfErr result (λ e. bit_fails self.old e) };
+        ensures puts { puts self.old bit result self.new };
 
     /// Writes the codeword of a symbol.
     ///
     /// # Errors
-    /// - `Frontend(ImpossibleSymbol)` exactly where the symbol has no codeword. No bit was written.
-    /// - `Backend(error)` where the write of a bit is refused: a beginning of the codeword was written. Or where the
-    ///   codebook wants memory for the codeword and finds none: no bit was written.
+    /// - `Frontend(ImpossibleSymbol)` exactly where the symbol has no codeword. Nothing changed.
+    /// - `Backend(error)` where the write of a bit is refused: the bits of the codeword before it were written, and it and
+    ///   those behind it weren't. Or where the codebook wants memory for the codeword and finds none: nothing changed.
     fn encode_symbol<C: EncoderCodebook>(
         &mut self,
         symbol: &C::Symbol,
@@ -50,7 +50,7 @@ pub trait WriteBitStream<S: BitOrder> {
     ) -> Result<(), DefaultEncoderError<Self::WriteError>>
     where
         Self: Sized,
-        ensures { WritesCodeword bits bit_fails
+        ensures { WritesCodeword bits puts
             (λ e. S.chosen (C.prefix_wants codebook symbol.now) (C.suffix_wants codebook symbol.now) × ((a : _) × Self.WriteError.from_gives a e))
             self.old (formed S.form (C.codeword codebook symbol.now)) result self.new }
     {
@@ -78,7 +78,7 @@ pub trait WriteBitStream<S: BitOrder> {
         I: IntoIterator<Item = (L, C)>,
         I::IntoIter: Drop,
         requires { IsFiniteIterable I.into_iter_gives I.IntoIter.can_next I.IntoIter.remaining symbols_and_codebooks }
-        ensures { StepsUntilFault (WritesPair bits bit_fails
+        ensures { StepsUntilFault (WritesPair bits puts
             (λ codebook symbol e. S.chosen (C.prefix_wants codebook symbol) (C.suffix_wants codebook symbol) × ((a : _) × Self.WriteError.from_gives a e))
             C.codeword S.form L.lent)
             (I.into_iter_gives symbols_and_codebooks) I.IntoIter.next_gives self.old result self.new }
@@ -108,7 +108,7 @@ pub trait WriteBitStream<S: BitOrder> {
         I: IntoIterator<Item = L>,
         I::IntoIter: Drop,
         requires { IsFiniteIterable I.into_iter_gives I.IntoIter.can_next I.IntoIter.remaining symbols }
-        ensures { StepsUntilFault (WritesSymbol bits bit_fails
+        ensures { StepsUntilFault (WritesSymbol bits puts
             (λ symbol e. S.chosen (C.prefix_wants codebook.now symbol) (C.suffix_wants codebook.now symbol) × ((a : _) × Self.WriteError.from_gives a e))
             (C.codeword codebook.now) S.form L.lent)
             (I.into_iter_gives symbols) I.IntoIter.next_gives self.old result self.new }
@@ -130,8 +130,8 @@ trait BitSink {
     /// The bits, in the order of writing.
     ghost bits: { Self → List Bool };
 
-    /// Which error the next bit may be refused with.
-    ghost bit_fails: { Self → Self.Refusal → Type 0 };
+    /// What is answered at a bit, and what is left.
+    ghost puts: { Self → Bool → Result (Unit {0}) Self.Refusal → Self → Type 0 };
 
     /// Puts a bit behind the others.
     ///
@@ -139,7 +139,7 @@ trait BitSink {
     /// Where there is no room for it. The bits are as before.
     fn put_bit(&mut self, bit: bool) -> Result<(), Self::Refusal>
         ensures bits { PutsBit (bits self.old) bit result (bits self.new) }
-        ensures err { IfErr result (λ e. bit_fails self.old e) };
+        ensures puts { puts self.old bit result self.new };
 }
 
 impl<Word: BitArray, S: BitOrder, B: WriteWords<Word>> BitSink for SymbolCoder<Word, S, B>
@@ -150,7 +150,7 @@ where
 
     ghost bits = { λ c. c.bits };
 
-    ghost bit_fails = { λ c e. (length c.last ≡ Word.BITS) × B.write_fails c.backend e };
+    ghost puts = { PutsOnto Word.BITS Word.number B.words B.room B.write_fails };
 
     #[inline]
     fn put_bit(&mut self, bit: bool) -> Result<(), B::WriteError> {
@@ -165,7 +165,7 @@ fn write_emitted<S: BitOrder, W: BitSink, C: EncoderCodebook>(
     symbol: &C::Symbol,
     codebook: C,
 ) -> Result<(), DefaultEncoderError<W::Refusal>>
-    ensures { WritesCodeword W.bits W.bit_fails
+    ensures { WritesCodeword W.bits W.puts
         (λ e. S.chosen (C.prefix_wants codebook symbol.now) (C.suffix_wants codebook symbol.now) × ((a : _) × W.Refusal.from_gives a e))
         stream.old (formed S.form (C.codeword codebook symbol.now)) result stream.new }
 {
@@ -181,7 +181,7 @@ where
 
     ghost bits = { λ c. c.bits };
 
-    ghost bit_fails = { λ c e. (length c.last ≡ Word.BITS) × B.write_fails c.backend e };
+    ghost puts = { PutsOnto Word.BITS Word.number B.words B.room B.write_fails };
 
     /// Puts a bit behind the others. Only where the last word is full it writes a word to the backend.
     #[inline]
@@ -227,7 +227,7 @@ where
         I: IntoIterator<Item = (L, C)>,
         I::IntoIter: DoubleEndedIterator + Drop,
         requires { IsFiniteIterable I.into_iter_gives I.IntoIter.can_next_back I.IntoIter.remaining symbols_and_codebooks }
-        ensures { StepsUntilFault (WritesPair (⟦<StackCoder<Word, B> as WriteBitStream<Stack>>⟧.bits) (⟦<StackCoder<Word, B> as WriteBitStream<Stack>>⟧.bit_fails)
+        ensures { StepsUntilFault (WritesPair (⟦<StackCoder<Word, B> as WriteBitStream<Stack>>⟧.bits) (⟦<StackCoder<Word, B> as WriteBitStream<Stack>>⟧.puts)
             (λ codebook symbol e. C.suffix_wants codebook symbol × ((a : _) × B.WriteError.from_gives a e))
             C.codeword (λ bits. reverse bits) L.lent)
             (I.into_iter_gives symbols_and_codebooks) I.IntoIter.next_back_gives self.old result self.new }
@@ -257,7 +257,7 @@ where
         I: IntoIterator<Item = L>,
         I::IntoIter: DoubleEndedIterator + Drop,
         requires { IsFiniteIterable I.into_iter_gives I.IntoIter.can_next_back I.IntoIter.remaining symbols }
-        ensures { StepsUntilFault (WritesSymbol (⟦<StackCoder<Word, B> as WriteBitStream<Stack>>⟧.bits) (⟦<StackCoder<Word, B> as WriteBitStream<Stack>>⟧.bit_fails)
+        ensures { StepsUntilFault (WritesSymbol (⟦<StackCoder<Word, B> as WriteBitStream<Stack>>⟧.bits) (⟦<StackCoder<Word, B> as WriteBitStream<Stack>>⟧.puts)
             (λ symbol e. C.suffix_wants codebook.now symbol × ((a : _) × B.WriteError.from_gives a e))
             (C.codeword codebook.now) (λ bits. reverse bits) L.lent)
             (I.into_iter_gives symbols) I.IntoIter.next_back_gives self.old result self.new }

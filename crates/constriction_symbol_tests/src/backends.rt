@@ -162,3 +162,27 @@ fn a_stack_goes_on_after_a_read_error(rt: HostRuntime) {
     );
     assert!(rt; goes_on && ends_import);
 }
+
+/// One bit and a codeword of seven bits fill a word of eight, and owe no word.
+#[test]
+fn codeword_fills_the_word(rt: HostRuntime) {
+    let mut none = [0u8; 0];
+    let mut coder: QueueEncoder<u8, Buffer<'_>> = QueueEncoder::from_compressed(
+        Cursor::new_at_write_beginning(none.as_mut_slice()),
+    );
+    let is_begun = writes::<Queue, _>(&mut coder, b"1");
+    let is_written = matches!(coder.encode_symbol(&7u8, ExpGolomb::<u8>::new()), Ok(()));
+    assert!(rt; is_begun && is_written && has_len(&coder, 8));
+}
+
+/// Two bits and a codeword of seven bits: six bits of it stay.
+#[test]
+fn beginning_of_a_codeword_stays(rt: HostRuntime) {
+    let mut none = [0u8; 0];
+    let mut coder: QueueEncoder<u8, Buffer<'_>> = QueueEncoder::from_compressed(
+        Cursor::new_at_write_beginning(none.as_mut_slice()),
+    );
+    let is_begun = writes::<Queue, _>(&mut coder, b"10");
+    let is_refused = coder.encode_symbol(&7u8, ExpGolomb::<u8>::new()).is_err();
+    assert!(rt; is_begun && is_refused && has_len(&coder, 8));
+}

@@ -8,7 +8,7 @@ use constriction_symbol::coder::{
     DefaultQueueEncoder, DefaultStackCoder, QueueEncoder, StackCoder,
 };
 use constriction_words::BitArray;
-use std::alloc::{AllocError, Allocator};
+use std::alloc::{AllocError, Allocator, Global};
 use std::test::Fail;
 
 /// Whether a guard shows these words.
@@ -60,6 +60,75 @@ fn queue_bits(rt: HostRuntime) -> Result<(), Fail> {
     let is_read = overshoots(coder);
     assert!(rt; is_empty && is_shown && is_read);
     Ok(())
+}
+
+/// Whether a queue of this capacity is made, without bits, and goes on to its first word.
+fn queue_begins(alloc: Global, bit_capacity: usize) -> bool {
+    match DefaultQueueEncoder::with_bit_capacity(alloc, bit_capacity) {
+        Ok(mut coder) => shows_five(&mut coder),
+        Err(_) => false,
+    }
+}
+
+/// The same of each of these capacities.
+fn queues_begin(alloc: Global, bit_capacities: &[usize]) -> bool {
+    for bit_capacity in bit_capacities {
+        if !queue_begins(alloc, *bit_capacity) {
+            return false;
+        }
+    }
+    true
+}
+
+#[test]
+fn queues_of_small_capacities(rt: HostRuntime) {
+    let begins = queues_begin(rt.alloc(), &[0, 1, 31, 32, 33]);
+    assert!(rt; begins);
+}
+
+#[test]
+fn queues_of_large_capacities(rt: HostRuntime) {
+    let begins = queues_begin(rt.alloc(), &[999, 1000, 100_000, 1 << 24]);
+    assert!(rt; begins);
+}
+
+/// Three bits are written, of which the guard shows a word with the bit that ends them, and takes it off.
+fn shows_thirteen(coder: &mut DefaultStackCoder) -> bool {
+    has_len(coder, 0)
+        && writes::<Stack, _>(coder, b"101")
+        && has_len(coder, 3)
+        && matches!(shows_stack(coder, &[13]), Ok(true))
+        && has_len(coder, 3)
+}
+
+/// Whether a stack of this capacity is made, without bits, and goes on to its first word.
+fn stack_begins(alloc: Global, bit_capacity: usize) -> bool {
+    match DefaultStackCoder::with_bit_capacity(alloc, bit_capacity) {
+        Ok(mut coder) => shows_thirteen(&mut coder),
+        Err(_) => false,
+    }
+}
+
+/// The same of each of these capacities.
+fn stacks_begin(alloc: Global, bit_capacities: &[usize]) -> bool {
+    for bit_capacity in bit_capacities {
+        if !stack_begins(alloc, *bit_capacity) {
+            return false;
+        }
+    }
+    true
+}
+
+#[test]
+fn stacks_of_small_capacities(rt: HostRuntime) {
+    let begins = stacks_begin(rt.alloc(), &[0, 1, 31, 32, 33]);
+    assert!(rt; begins);
+}
+
+#[test]
+fn stacks_of_large_capacities(rt: HostRuntime) {
+    let begins = stacks_begin(rt.alloc(), &[999, 1000, 100_000, 1 << 24]);
+    assert!(rt; begins);
 }
 
 /// Whether the iterator gives the three bits, and then ends.

@@ -108,7 +108,7 @@ fn have_codes(
 }
 
 /// Whether both trees of some weights have these codewords.
-fn are_codes(alloc: Global, weights: &[u8], codes: &[(u32, u32)]) -> bool {
+pub fn are_codes(alloc: Global, weights: &[u8], codes: &[(u32, u32)]) -> bool {
     match (encoder_of(alloc, weights), decoder_of(alloc, weights)) {
         (Ok(encoder), Ok(decoder)) => have_codes(alloc, &encoder, &decoder, codes),
         _ => false,
@@ -212,7 +212,7 @@ fn are_of_five(alloc: Global) -> bool {
             ) && prints(
                 alloc,
                 &decoder,
-                "DecoderHuffmanTree { nodes: [[3, 4], [0, 1], [5, 2], [6, 7]] }",
+                "DecoderHuffmanTree { nodes: [[3, 4], [0, 1], [5, 2], [6, 7]], ",
             )
         }
         _ => false,

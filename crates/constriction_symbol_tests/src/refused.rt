@@ -1,6 +1,6 @@
 //! Huffman trees, and codewords that are turned round, that find no memory.
 //!
-//! `tests/refused-memory` has the twelfth allocation of each of these tests refused: of each tree after so many lists it is another
+//! `tests/refused-memory` has the thirteenth allocation of each of these tests refused: of each tree after so many lists it is another
 //! one, since each list is an allocation too. Where none is refused, the tree is made and the codeword is whole.
 
 use crate::huffman::{Coded, deep_tree, prefix_of};
@@ -38,7 +38,7 @@ fn fail_of(error: HuffmanError<Infallible>) -> Fail {
     }
 }
 
-/// An encoder's tree of three weights is five allocations: its weights, a heap of them, the pairs, the nodes and their codewords.
+/// An encoder's tree of three weights is six allocations: its weights, both queues, the pairs, the nodes and their codewords.
 fn encoder_after(alloc: Global, lists: usize) -> Result<(), Fail> {
     make_lists(alloc, lists)?;
     match EncoderHuffmanTree::from_probabilities(alloc, &[5u8, 2, 4]) {
@@ -47,7 +47,7 @@ fn encoder_after(alloc: Global, lists: usize) -> Result<(), Fail> {
     }
 }
 
-/// A decoder's tree of three weights is three allocations: its weights, a heap of them, and the pairs.
+/// A decoder's tree of three weights is five allocations: its weights, both queues, the pairs, and the table of first bits.
 fn decoder_after(alloc: Global, lists: usize) -> Result<(), Fail> {
     make_lists(alloc, lists)?;
     match DecoderHuffmanTree::from_probabilities(alloc, &[5u8, 2, 4]) {
@@ -82,6 +82,16 @@ fn a_tree_for_encoding_after_11(rt: HostRuntime) -> Result<(), Fail> {
 }
 
 #[test]
+fn a_tree_for_encoding_after_12(rt: HostRuntime) -> Result<(), Fail> {
+    encoder_after(rt.alloc(), 12)
+}
+
+#[test]
+fn a_tree_for_decoding_after_8(rt: HostRuntime) -> Result<(), Fail> {
+    decoder_after(rt.alloc(), 8)
+}
+
+#[test]
 fn a_tree_for_decoding_after_9(rt: HostRuntime) -> Result<(), Fail> {
     decoder_after(rt.alloc(), 9)
 }
@@ -96,16 +106,21 @@ fn a_tree_for_decoding_after_11(rt: HostRuntime) -> Result<(), Fail> {
     decoder_after(rt.alloc(), 11)
 }
 
+#[test]
+fn a_tree_for_decoding_after_12(rt: HostRuntime) -> Result<(), Fail> {
+    decoder_after(rt.alloc(), 12)
+}
+
 /// Two words of bits take no memory when they are turned round.
 #[test]
 fn a_codeword_of_128_bits(rt: HostRuntime) -> Result<(), Fail> {
-    make_lists(rt.alloc(), 11)?;
+    make_lists(rt.alloc(), 12)?;
     turned_round(rt.alloc(), 127)
 }
 
 #[test]
 fn a_codeword_of_129_bits(rt: HostRuntime) -> Result<(), Fail> {
-    make_lists(rt.alloc(), 11)?;
+    make_lists(rt.alloc(), 12)?;
     turned_round(rt.alloc(), 128)
 }
 

@@ -2,20 +2,93 @@
 
 from __future__ import annotations
 
-from collections.abc import Callable
+from array import array
 from ctypes import byref, c_size_t
-from typing import Any
+from typing import Any, NamedTuple
 
 from .. import errors
-from .._buffers import Items, List, Numbers, WordStack
-from .._coding import Symbols, decoded, encode
+from .._buffers import List, Numbers, answered, lent
+from .._coder import Coder
+from .._coding import Symbols, decoded, encoded
 from .._library import ChainHeads, call
+from .._words import Words, copied, packed, unpacked
 from .model import Model
 
 __all__ = ["ChainCoder"]
 
 
-class ChainCoder:
+class _State(NamedTuple):
+    """Two stacks of words, and a head above each: of the remainders and of the compressed words."""
+
+    compressed: Words
+    remainders: Words
+    heads: tuple[int, int]
+
+
+class _Call:
+    """The arguments of a call that moves words between the two stacks, and the state behind it."""
+
+    def __init__(self, compressed: Words, remainders: Words, heads: tuple[int, int]) -> None:
+        self._compressed, self._remainders, self._heads = compressed, remainders, ChainHeads(*heads)
+        self._lengths = c_size_t(compressed.length), c_size_t(remainders.length)
+        self.needed = c_size_t(0)
+
+    def arguments(self) -> tuple[Any, ...]:
+        below, above = self._lengths
+        return byref(self._heads), *self._compressed.lent(), byref(below), *self._remainders.lent(), byref(above)
+
+    def state(self) -> _State:
+        below, above = (it.value for it in self._lengths)
+        heads = self._heads.remainders, self._heads.compressed
+        return _State(Words(self._compressed.memory, below), Words(self._remainders.memory, above), heads)
+
+
+def _encode_table(state: _State, weights: array[int], symbols: array[int]) -> _State:
+    it = _Call(state.compressed.reserve(len(symbols)), state.remainders, state.heads)  # A step moves one word at most.
+    call(
+        "chain_encode_reverse", *it.arguments(), lent(weights), len(weights), lent(symbols), len(symbols),
+        byref(it.needed), texts={8: errors.OUT_OF_REMAINDERS},
+    )  # fmt: skip
+    return it.state()
+
+
+def _encode_intervals(state: _State, lefts: array[int], ps: array[int]) -> _State:
+    it = _Call(state.compressed.reserve(len(ps)), state.remainders, state.heads)
+    call(
+        "chain_encode_intervals_reverse", *it.arguments(), lent(lefts), len(lefts), lent(ps), len(ps),
+        byref(it.needed), texts={8: errors.OUT_OF_REMAINDERS},
+    )  # fmt: skip
+    return it.state()
+
+
+def _decode_table(state: _State, weights: array[int], symbols: array[int]) -> _State:
+    it = _Call(state.compressed, state.remainders.reserve(len(symbols)), state.heads)
+    call(
+        "chain_decode", *it.arguments(), lent(weights), len(weights), lent(symbols), len(symbols), byref(it.needed)
+    )
+    return it.state()
+
+
+def _decode_rows(state: _State, weights: array[int], width: int, symbols: array[int]) -> _State:
+    it = _Call(state.compressed, state.remainders.reserve(len(symbols)), state.heads)
+    call(
+        "chain_decode_each", *it.arguments(), lent(weights), len(weights), width, lent(symbols), len(symbols),
+        byref(it.needed),
+    )  # fmt: skip
+    return it.state()
+
+
+def _quantile(state: _State) -> int:
+    """Which of the 2^24 quantiles the next symbol's interval has: bits left over, or those of the next word."""
+    bits, words = state.heads[1], state.compressed
+    if bits < 1 << 24:
+        if not words.length:
+            raise errors.OutOfDataError(errors.OUT_OF_COMPRESSED_DATA)
+        bits = words.memory[words.length - 1]
+    return bits & 0xFFFFFF
+
+
+class ChainCoder(Coder):
     """Two stacks of words: a decode takes from ``compressed`` and puts what is left over on ``remainders``, an encode the other way.
 
     >>> from constriction.stream.model import Uniform
@@ -34,47 +107,23 @@ class ChainCoder:
         ``get_remainders`` gave, its two lists put together, or the second one alone.
         Raises :class:`InvalidDataError` where they are too few or end with a zero word.
         """
-        self._heads, self._needed = ChainHeads(), c_size_t(0)
         if is_remainders and seal:
             raise ValueError("remainders can't be sealed")
-        words = WordStack(data)
-        address, _, _ = words.parts()
+        words, length, heads = copied(data), c_size_t(0), ChainHeads()
         name = "chain_from_remainders" if is_remainders else "chain_from_binary" if seal else "chain_from_compressed"
         texts = {7: errors.NOT_ENOUGH_WORDS}
-        call(name, address, len(words), byref(words.length), byref(self._heads), texts=texts)
-        self._compressed, self._remainders = (WordStack(), words) if is_remainders else (words, WordStack())
+        call(name, lent(words.memory), words.length, byref(length), byref(heads), texts=texts)
+        words, numbers = Words(words.memory, length.value), (heads.remainders, heads.compressed)
+        self._begin(_State(copied(), words, numbers) if is_remainders else _State(words, copied(), numbers))
 
     def decode(self, model: Model, *amt_or_parameters: Any) -> Any:
         """Decodes symbols: one, or a list of ``amt``, or one for each set of parameters.
 
         Raises :class:`OutOfDataError` where the words end; the coder is as before then.
         """
-        return decoded(model, amt_or_parameters, self._decode_fixed, self._decode_rows, self._save)
-
-    def _decode_fixed(self, weights: Items, room: Items) -> None:
-        self._remainders.reserve(room.count)  # A step moves one word out at most.
-        call(
-            "chain_decode", byref(self._heads), *self._compressed.parts(), *self._remainders.parts(),
-            weights.address, weights.count, room.address, room.count, byref(self._needed),
-        )  # fmt: skip
-
-    def _decode_rows(self, weights: Items, width: int, room: Items) -> None:
-        self._remainders.reserve(room.count)
-        call(
-            "chain_decode_each", byref(self._heads), *self._compressed.parts(), *self._remainders.parts(),
-            weights.address, weights.count, width, room.address, room.count, byref(self._needed),
-        )  # fmt: skip
-
-    def _save(self) -> Callable[[], None]:
-        heads = ChainHeads.from_buffer_copy(self._heads)
-        lengths = len(self._compressed), len(self._remainders)
-
-        def back() -> None:
-            # Only words behind those in use can have changed.
-            self._heads = heads
-            self._compressed.length.value, self._remainders.length.value = lengths
-
-        return back
+        return self._changed(
+            lambda it: decoded(it, model, amt_or_parameters, _decode_table, _decode_rows, _quantile)
+        )
 
     def encode_reverse(self, symbols: Symbols, model: Model, *parameters: Any) -> None:
         """Encodes a symbol, or a list of them from the last one to the first: the converse of ``decode``.
@@ -82,47 +131,43 @@ class ChainCoder:
         Raises :class:`ImpossibleSymbolError`, :class:`WrongWeightsError`, and :class:`OutOfDataError` where the remainders end; the coder is as
         before then.
         """
-        encode(symbols, model, parameters, self._encode_fixed, self._encode_intervals, self._save, True)
+        self._changed(
+            lambda it: (encoded(it, symbols, model, parameters, _encode_table, _encode_intervals, True), None)
+        )
 
-    def _encode_fixed(self, weights: Items, symbols: Items) -> None:
-        self._compressed.reserve(symbols.count)
-        call(
-            "chain_encode_reverse", byref(self._heads), *self._compressed.parts(), *self._remainders.parts(),
-            weights.address, weights.count, symbols.address, symbols.count, byref(self._needed),
-            texts={8: errors.OUT_OF_REMAINDERS},
-        )  # fmt: skip
-
-    def _encode_intervals(self, lefts: Items, ps: Items) -> None:
-        self._compressed.reserve(ps.count)
-        call(
-            "chain_encode_intervals_reverse", byref(self._heads), *self._compressed.parts(), *self._remainders.parts(),
-            lefts.address, lefts.count, ps.address, ps.count, byref(self._needed),
-            texts={8: errors.OUT_OF_REMAINDERS},
-        )  # fmt: skip
-
-    def get_data(self, unseal: bool = False) -> tuple[Numbers, Numbers]:
+    def get_data(self, unseal: bool = False) -> tuple[Any, Any]:
         """The remainders left, and the data: put together, the second behind the first, they are what the coder began with, once
         all that was decoded is encoded again. The coder stays as it is.
 
         Raises :class:`InvalidDataError` where the coder holds no whole number of words.
         """
-        words, length = self._compressed, c_size_t(len(self._compressed))
-        words.reserve(2)
         name = "chain_into_binary" if unseal else "chain_into_compressed"
-        texts = {7: errors.NO_WHOLE_WORDS}
-        call(name, byref(self._heads), *words.parts(length), byref(self._needed), texts=texts)
-        return self._remainders.words(), words.words(length.value)
 
-    def get_remainders(self) -> tuple[Numbers, Numbers]:
+        def ask(state: _State) -> tuple[Numbers, Numbers]:
+            return state.remainders.numbers(), _export(name, state.compressed.reserve(2), state.heads)
+
+        left, data = self._asked(ask)
+        return answered(left), answered(data)
+
+    def get_remainders(self) -> tuple[Any, Any]:
         """The data left, and the remainders: each alone, or put together, can be handed to a coder. This one stays as it is."""
-        words, length = self._remainders, c_size_t(len(self._remainders))
-        words.reserve(3)
-        call("chain_into_remainders", byref(self._heads), *words.parts(length), byref(self._needed))
-        return self._compressed.words(), words.words(length.value)
 
-    def clone(self) -> ChainCoder:
-        """A copy, which goes its own way."""
-        copy = ChainCoder.__new__(ChainCoder)
-        copy._heads, copy._needed = ChainHeads.from_buffer_copy(self._heads), c_size_t(0)
-        copy._compressed, copy._remainders = self._compressed.clone(), self._remainders.clone()
-        return copy
+        def ask(state: _State) -> tuple[Numbers, Numbers]:
+            return state.compressed.numbers(), _export("chain_into_remainders", state.remainders.reserve(3), state.heads)
+
+        left, remainders = self._asked(ask)
+        return answered(left), answered(remainders)
+
+    def _plain(self, state: _State) -> tuple[Any, ...]:
+        return packed(state.compressed), packed(state.remainders), state.heads
+
+    def _unplain(self, plain: tuple[Any, ...]) -> _State:
+        return _State(unpacked(plain[0]), unpacked(plain[1]), plain[2])
+
+
+def _export(name: str, words: Words, heads: tuple[int, int]) -> Numbers:
+    """The words with those of the heads. The state stays as it is."""
+    length, needed = c_size_t(words.length), c_size_t(0)
+    texts = {7: errors.NO_WHOLE_WORDS}
+    call(name, byref(ChainHeads(*heads)), *words.lent(), byref(length), byref(needed), texts=texts)
+    return Words(words.memory, length.value).numbers()

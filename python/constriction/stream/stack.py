@@ -2,20 +2,74 @@
 
 from __future__ import annotations
 
-from collections.abc import Callable
+from array import array
 from ctypes import byref, c_size_t, c_uint64
-from typing import Any
+from typing import Any, NamedTuple
 
 from .. import errors
-from .._buffers import Items, List, Numbers, WordStack
-from .._coding import Symbols, decoded, encode
+from .._buffers import List, Numbers, answered, lent
+from .._coder import Coder
+from .._coding import Symbols, decoded, encoded
 from .._library import call
+from .._numbers import whole
+from .._words import Words, copied, packed, unpacked
 from .model import Model
 
 __all__ = ["AnsCoder"]
 
 
-class AnsCoder:
+class _State(NamedTuple):
+    """Words, and the head above them."""
+
+    words: Words
+    head: int
+
+
+def _encode_table(state: _State, weights: array[int], symbols: array[int]) -> _State:
+    words = state.words.reserve(len(symbols))  # A step writes one word at most.
+    head, length, needed = c_uint64(state.head), c_size_t(words.length), c_size_t(0)
+    call(
+        "ans_encode_reverse", byref(head), *words.lent(), byref(length), lent(weights), len(weights),
+        lent(symbols), len(symbols), byref(needed),
+    )  # fmt: skip
+    return _State(Words(words.memory, length.value), head.value)
+
+
+def _encode_intervals(state: _State, lefts: array[int], ps: array[int]) -> _State:
+    words = state.words.reserve(len(ps))
+    head, length, needed = c_uint64(state.head), c_size_t(words.length), c_size_t(0)
+    call(
+        "ans_encode_intervals_reverse", byref(head), *words.lent(), byref(length), lent(lefts), len(lefts),
+        lent(ps), len(ps), byref(needed),
+    )  # fmt: skip
+    return _State(Words(words.memory, length.value), head.value)
+
+
+def _decode_table(state: _State, weights: array[int], symbols: array[int]) -> _State:
+    words = state.words
+    head, length = c_uint64(state.head), c_size_t(words.length)
+    call(
+        "ans_decode", byref(head), *words.lent(), byref(length), lent(weights), len(weights), lent(symbols), len(symbols)
+    )
+    return _State(Words(words.memory, length.value), head.value)
+
+
+def _decode_rows(state: _State, weights: array[int], width: int, symbols: array[int]) -> _State:
+    words = state.words
+    head, length = c_uint64(state.head), c_size_t(words.length)
+    call(
+        "ans_decode_each", byref(head), *words.lent(), byref(length), lent(weights), len(weights), width,
+        lent(symbols), len(symbols),
+    )  # fmt: skip
+    return _State(Words(words.memory, length.value), head.value)
+
+
+def _quantile(state: _State) -> int:
+    """Which of the 2^24 quantiles the next symbol's interval has."""
+    return state.head & 0xFFFFFF
+
+
+class AnsCoder(Coder):
     """A stack of symbols, in words of 32 bits.
 
     >>> from constriction.stream.model import QuantizedGaussian
@@ -32,14 +86,14 @@ class AnsCoder:
         With ``seal`` the words may be any at all, as for bits back, and ``get_binary`` gives them back.
         Raises :class:`InvalidDataError` where the last word is 0 and ``seal`` isn't set.
         """
-        self._head, self._needed = c_uint64(0), c_size_t(0)
-        self._words = WordStack(() if compressed is None else compressed)
+        words, head = copied(() if compressed is None else compressed), c_uint64(0)
         if compressed is not None:
-            words = self._words
-            address, _, _ = words.parts()
+            length = c_size_t(0)
             name = "ans_from_binary" if seal else "ans_from_compressed"
             texts = {7: errors.ENDS_WITH_ZERO_WORD}
-            call(name, address, len(words), byref(words.length), byref(self._head), texts=texts)
+            call(name, lent(words.memory), words.length, byref(length), byref(head), texts=texts)
+            words = Words(words.memory, length.value)
+        self._begin(_State(words, head.value))
 
     def encode_reverse(self, symbols: Symbols, model: Model, *parameters: Any) -> None:
         """Encodes a symbol, or a list of them from the last one to the first, so that ``decode`` gives them in the list's order.
@@ -47,72 +101,44 @@ class AnsCoder:
         Where the model has no parameters of its own, a list of each follows. Raises :class:`ImpossibleSymbolError` and
         :class:`WrongWeightsError`; the coder is as before then.
         """
-        encode(symbols, model, parameters, self._encode_fixed, self._encode_intervals, self._save, True)
-
-    def _encode_fixed(self, weights: Items, symbols: Items) -> None:
-        words = self._words
-        words.reserve(symbols.count)  # A step writes one word at most.
-        call(
-            "ans_encode_reverse", byref(self._head), *words.parts(), weights.address, weights.count,
-            symbols.address, symbols.count, byref(self._needed),
-        )  # fmt: skip
-
-    def _encode_intervals(self, lefts: Items, ps: Items) -> None:
-        words = self._words
-        words.reserve(ps.count)
-        call(
-            "ans_encode_intervals_reverse", byref(self._head), *words.parts(), lefts.address, lefts.count,
-            ps.address, ps.count, byref(self._needed),
-        )  # fmt: skip
+        self._changed(
+            lambda it: (encoded(it, symbols, model, parameters, _encode_table, _encode_intervals, True), None)
+        )
 
     def decode(self, model: Model, *amt_or_parameters: Any) -> Any:
         """Takes symbols off: one, or a list of ``amt``, or one for each set of parameters.
 
         It goes on past the end of data, as the coder does.
         """
-        return decoded(model, amt_or_parameters, self._decode_fixed, self._decode_rows, self._save)
-
-    def _decode_fixed(self, weights: Items, room: Items) -> None:
-        call(
-            "ans_decode", byref(self._head), *self._words.parts(), weights.address, weights.count, room.address, room.count
+        return self._changed(
+            lambda it: decoded(it, model, amt_or_parameters, _decode_table, _decode_rows, _quantile)
         )
 
-    def _decode_rows(self, weights: Items, width: int, room: Items) -> None:
-        call(
-            "ans_decode_each", byref(self._head), *self._words.parts(), weights.address, weights.count, width,
-            room.address, room.count,
-        )  # fmt: skip
-
-    def _save(self) -> Callable[[], None]:
-        head, length = self._head.value, len(self._words)
-
-        def back() -> None:
-            # Only words behind those in use can have changed.
-            self._head.value, self._words.length.value = head, length
-
-        return back
-
-    def get_compressed(self, unseal: bool = False) -> Numbers:
+    def get_compressed(self, unseal: bool = False) -> Any:
         """A copy of the words with those of the head. The coder stays as it is. With ``unseal`` that is ``get_binary``."""
         return self._exported("ans_into_binary" if unseal else "ans_into_compressed")
 
-    def get_binary(self) -> Numbers:
+    def get_binary(self) -> Any:
         """A copy of the words with those of the head below its leading 1: the converse of ``AnsCoder(words, seal=True)``.
 
         Raises :class:`InvalidDataError` where the head holds no whole number of words.
         """
         return self._exported("ans_into_binary")
 
-    def _exported(self, name: str) -> Numbers:
-        words, length = self._words, c_size_t(len(self._words))
-        words.reserve(2)
-        texts = {7: errors.NO_WHOLE_WORDS}
-        call(name, self._head, *words.parts(length), byref(self._needed), texts=texts)
-        return words.words(length.value)
+    def _exported(self, name: str) -> Any:
+        def export(state: _State) -> Numbers:
+            words = state.words.reserve(2)
+            length, needed = c_size_t(words.length), c_size_t(0)
+            texts = {7: errors.NO_WHOLE_WORDS}
+            call(name, state.head, *words.lent(), byref(length), byref(needed), texts=texts)
+            return Words(words.memory, length.value).numbers()
+
+        return answered(self._asked(export))
 
     def num_words(self) -> int:
         """How many words ``get_compressed`` gives."""
-        return len(self._words) + (self._head.value.bit_length() + 31) // 32
+        state: _State = self._state
+        return state.words.length + (state.head.bit_length() + 31) // 32
 
     def num_bits(self) -> int:
         """How many bits ``get_compressed`` gives."""
@@ -120,28 +146,36 @@ class AnsCoder:
 
     def num_valid_bits(self) -> int:
         """How many bits carry information: those below the head's leading 1, and those of the other words."""
-        return 32 * len(self._words) + max(self._head.value.bit_length() - 1, 0)
+        state: _State = self._state
+        return 32 * state.words.length + max(state.head.bit_length() - 1, 0)
 
     def is_empty(self) -> bool:
         """Whether there is nothing to decode."""
-        return not self._head.value and not len(self._words)
+        state: _State = self._state
+        return not state.head and not state.words.length
 
     def pos(self) -> tuple[int, int]:
         """The position, for ``seek``: how many words are below the head, and the head."""
-        return len(self._words), self._head.value
+        state: _State = self._state
+        return state.words.length, state.head
 
     def seek(self, position: int, state: int) -> None:
         """Goes back to a recorded position: what was encoded since is dropped. Raises :class:`WrongLengthError` past the words."""
-        if not 0 <= position <= len(self._words) or not 0 <= state < 1 << 64:
-            raise errors.WrongLengthError(errors.NO_SUCH_POSITION)
-        self._words.length.value, self._head.value = position, state
+        length, head = whole(position), whole(state)
+
+        def go(now: _State) -> tuple[_State, None]:
+            if not 0 <= length <= now.words.length or not 0 <= head < 1 << 64:
+                raise errors.WrongLengthError(errors.NO_SUCH_POSITION)
+            return _State(Words(now.words.memory, length), head), None
+
+        self._changed(go)
 
     def clear(self) -> None:
         """Drops all symbols."""
-        self._words.length.value, self._head.value = 0, 0
+        self._changed(lambda state: (_State(Words(state.words.memory, 0), 0), None))
 
-    def clone(self) -> AnsCoder:
-        """A copy, which goes its own way."""
-        copy = AnsCoder()
-        copy._words, copy._head.value = self._words.clone(), self._head.value
-        return copy
+    def _plain(self, state: _State) -> tuple[Any, ...]:
+        return packed(state.words), state.head
+
+    def _unplain(self, plain: tuple[Any, ...]) -> _State:
+        return _State(unpacked(plain[0]), plain[1])

@@ -1,12 +1,13 @@
 """Codewords of whole bits, in words of 32 bits.
 
-The C functions code whole lists under one codebook, and so do the coders here: an encoder collects symbols, and codes them where
-the words are asked for.
+Each symbol can have a codebook of its own. The C functions code whole lists under one codebook; here they make long lists' codewords,
+and the codewords of a tree, which single symbols have, are compared with theirs. Where codewords lie is counted in Python.
 
 >>> tree = EncoderHuffmanTree([2, 2, 4, 1, 1])
 >>> encoder = QueueEncoder()
 >>> encoder.encode([3, 0, 2], tree)
->>> QueueDecoder(encoder.get_compressed()).decode(DecoderHuffmanTree([2, 2, 4, 1, 1]), 3) == [3, 0, 2]
+>>> words, bits = encoder.get_compressed()
+>>> QueueDecoder(words).decode(DecoderHuffmanTree([2, 2, 4, 1, 1]), 3) == [3, 0, 2]
 True
 """
 

@@ -1,135 +1,247 @@
-"""Lists of codewords as a queue or as a stack of bits."""
+"""Codewords one behind another, as a queue or as a stack of bits."""
 
 from __future__ import annotations
 
-from typing import Any, Protocol
+from typing import Any, NamedTuple
 
-from .._buffers import Items, List, Numbers, own_words
-from .._coding import Symbols, _is_one
+from .. import errors
+from .._buffers import SYMBOL, List, Numbers, answered, room
+from .._coder import Coder
+from .._coding import Symbols
+from .._numbers import count_of, is_one, whole, words_of
+from ._bits import Bits, bits_of, words_with
+from ._codebook import Codebook
 
 __all__ = ["QueueDecoder", "QueueEncoder", "StackCoder"]
 
-
-class EncoderCodebook(Protocol):
-    """A codebook that encodes whole lists."""
-
-    def encoded(self, symbols: List, stack: bool) -> Numbers: ...
+#: Lists at least so long go through the C functions; shorter ones symbol by symbol.
+_LONG = 64
 
 
-class DecoderCodebook(Protocol):
-    """A codebook that decodes whole lists."""
-
-    def decoded(self, words: Items, count: int, stack: bool) -> Numbers: ...
+def _symbol_codeword(symbol: Any, codebook: Codebook) -> tuple[int, int]:
+    return codebook.codeword(whole(symbol))
 
 
-def _list_of(symbols: Symbols) -> list[int]:
-    """A symbol or a list of them as a list."""
-    return [int(symbols)] if _is_one(symbols) else [int(it) for it in symbols]  # type: ignore[arg-type, union-attr]
+class _Place(NamedTuple):
+    """Bits, and how many of them were read."""
+
+    bits: Bits
+    place: int
 
 
-class _Reader:
-    """Words and the symbols that were decoded of them. Each call decodes from the beginning, as the C functions code whole lists."""
-
-    def __init__(self, words: Items, stack: bool) -> None:
-        self._words, self._stack, self._count = words, stack, 0
-        self._codebook: Any = None
-
-    def next(self, codebook: DecoderCodebook, count: int) -> Numbers:
-        """The next so many symbols."""
-        if self._count and codebook is not self._codebook:
-            raise ValueError("a list has one codebook")
-        numbers = codebook.decoded(self._words, self._count + count, self._stack)
-        found = Numbers(numbers.typecode, numbers[self._count :])
-        self._codebook, self._count = codebook, self._count + count
-        return found
-
-
-class QueueEncoder:
-    """Collects symbols, the first of which are decoded first."""
+class QueueEncoder(Coder):
+    """Puts codewords behind one another; the first is decoded first. Each symbol can have a codebook of its own."""
 
     def __init__(self) -> None:
-        self._symbols: list[int] = []
-        self._codebook: Any = None
+        """An encoder without symbols."""
+        self._begin(Bits(bytearray(), 0))
 
-    def encode(self, symbols: Symbols, codebook: EncoderCodebook) -> None:
-        """Puts symbols behind those before, all under one codebook. Raises :class:`ImpossibleSymbolError`."""
-        if self._symbols and codebook is not self._codebook:
-            raise ValueError("a list has one codebook")
-        listed = _list_of(symbols)
-        codebook.encoded(listed, False)
-        self._symbols += listed
-        self._codebook = codebook
+    def encode(self, symbols: Symbols, codebook: Codebook) -> None:
+        """Puts symbols behind those before. Raises :class:`ImpossibleSymbolError`; the encoder is as before then."""
+        if is_one(symbols):
+            return self.encode_symbol(symbols, codebook)  # type: ignore[arg-type]
+        listed = codebook.symbols(symbols)
 
-    def encode_symbol(self, symbol: int, codebook: EncoderCodebook) -> None:
+        def change(bits: Bits) -> tuple[Bits, None]:
+            if len(listed) < _LONG:
+                for symbol in listed:
+                    bits = bits.put(*codebook.codeword(symbol))
+                return bits, None
+            words = bits_of(codebook.encoded(listed, False))
+            count = sum(codebook.codeword(it)[1] for it in listed)
+            return bits.put(words.part(0, count), count), None
+
+        self._changed(change)
+
+    def encode_symbol(self, symbol: int, codebook: Codebook) -> None:
         """Puts one symbol behind those before."""
-        self.encode(symbol, codebook)
+        codeword = _symbol_codeword(symbol, codebook)
+        self._changed(lambda bits: (bits.put(*codeword), None))
 
-    def get_compressed(self) -> Numbers:
-        """The words of the codewords, one behind another, filled up with zero bits."""
-        words: Numbers = self._codebook.encoded(self._symbols, False) if self._symbols else Numbers("I")
-        return words
+    def get_compressed(self) -> tuple[Any, int]:
+        """The words of the codewords, filled up with zero bits, and how many bits the codewords have."""
+        words, count = self._asked(lambda bits: (words_with(bits.part(0, bits.length), bits.length), bits.length))
+        return answered(words), count
 
     def get_decoder(self) -> QueueDecoder:
         """A decoder of the symbols up to now."""
-        return QueueDecoder(self.get_compressed())
+        return QueueDecoder(self._asked(lambda bits: words_with(bits.part(0, bits.length), bits.length)))
+
+    def _plain(self, state: Bits) -> tuple[Any, ...]:
+        return bytes(state.clone().memory), state.length
+
+    def _unplain(self, plain: tuple[Any, ...]) -> Bits:
+        return Bits(bytearray(plain[0]), plain[1])
 
 
-class QueueDecoder:
-    """Reads codewords from the beginning of words."""
+class QueueDecoder(Coder):
+    """Reads codewords from the beginning of words, and keeps its place. Each symbol can have a codebook of its own."""
 
     def __init__(self, compressed: List) -> None:
         """A decoder at the beginning of these words, which are copied."""
-        self._reader = _Reader(own_words(compressed), False)
+        self._begin(_Place(bits_of(compressed), 0))
 
-    def decode(self, codebook: DecoderCodebook, amt: int | None = None) -> Any:
-        """The next symbol, or a list of ``amt``, all under one codebook. Raises :class:`OutOfDataError` and
-        :class:`InvalidDataError`."""
-        found = self._reader.next(codebook, 1 if amt is None else amt)
-        return found[0] if amt is None else found
+    def decode(self, codebook: Codebook, amt: int | None = None) -> Any:
+        """The next symbol, or a list of ``amt``. Raises :class:`OutOfDataError` and :class:`InvalidDataError`; the decoder is as before
+        then."""
+        if amt is None:
+            return self.decode_symbol(codebook)
+        count = count_of(amt)
+        return answered(self._changed(lambda state: _read_list(state, codebook, count)))
 
-    def decode_symbol(self, codebook: DecoderCodebook) -> int:
+    def decode_symbol(self, codebook: Codebook) -> int:
         """The next symbol."""
-        return int(self.decode(codebook))
+        return self._changed(lambda state: _read(state, codebook))
+
+    def _plain(self, state: _Place) -> tuple[Any, ...]:
+        return bytes(state.bits.memory), state.place
+
+    def _unplain(self, plain: tuple[Any, ...]) -> _Place:
+        return _Place(Bits(bytearray(plain[0]), 8 * len(plain[0])), plain[1])
 
 
-class StackCoder:
-    """Collects symbols, the last of which are decoded first; or reads such words."""
+def _read(state: _Place, codebook: Codebook) -> tuple[_Place, int]:
+    """The next symbol of a queue."""
+    bits, place = state
+
+    def bit() -> int:
+        nonlocal place
+        if place >= bits.length:
+            raise errors.OutOfDataError(errors.CODEWORD_ENDED)
+        place += 1
+        return bits.get(place - 1)
+
+    symbol = codebook.read(bit)
+    return _Place(bits, place), symbol
+
+
+def _read_list(state: _Place, codebook: Codebook, count: int) -> tuple[_Place, Numbers]:
+    """The next so many symbols of a queue, by a C function where it is a long list that is all there."""
+    if count >= _LONG:
+        bits, place = state
+        end = min(bits.length, place + count * codebook.longest())
+        found = _by_library(codebook, bits.part(place, end), end - place, count, False)
+        if found is not None:
+            return _Place(bits, place + found[1]), found[0]
+    symbols = room(SYMBOL, 0)
+    for _ in range(count):
+        state, symbol = _read(state, codebook)
+        symbols.append(symbol)
+    return state, symbols
+
+
+def _by_library(codebook: Codebook, bits: int, length: int, count: int, stack: bool) -> tuple[Numbers, int] | None:
+    """So many symbols by a C function, and how many bits they had; None where they are not all there."""
+    try:
+        words = words_with(bits | 1 << length, length + 1) if stack else words_with(bits, length)
+        found = codebook.decoded(words, count, stack)
+    except errors.Refusal:
+        return None  # Which refusal it is says the way by single symbols.
+    size = sum(codebook.codeword(it)[1] for it in found)
+    if size > length:
+        return None  # The zeros behind the last bit were read.
+    symbols = room(SYMBOL, 0)
+    symbols.fromlist(found.tolist())
+    return symbols, size
+
+
+class StackCoder(Coder):
+    """A stack of codewords: the last one put on is the first one taken off. Each symbol can have a codebook of its own."""
 
     def __init__(self, compressed: List | None = None) -> None:
-        """An empty stack, or one that decodes these words, which are copied."""
-        self._symbols: list[int] = []
-        self._codebook: Any = None
-        self._reader = None if compressed is None else _Reader(own_words(compressed), True)
+        """An empty stack, or the one whose ``get_compressed`` gave these words, which are copied.
 
-    def encode_reverse(self, symbols: Symbols, codebook: EncoderCodebook) -> None:
-        """Puts symbols on top, from the last one to the first, all under one codebook. Raises :class:`ImpossibleSymbolError`."""
-        if self._reader is not None:
-            raise ValueError("a stack over given words only decodes")
-        if self._symbols and codebook is not self._codebook:
-            raise ValueError("a list has one codebook")
-        listed = _list_of(symbols)
-        codebook.encoded(listed, True)
-        self._symbols = listed + self._symbols
-        self._codebook = codebook
+        Raises :class:`InvalidDataError` where the last word is 0.
+        """
+        words = words_of(() if compressed is None else compressed)
+        if len(words) and not words[-1]:
+            raise errors.InvalidDataError(errors.NOT_ENOUGH_WORDS)
+        bits = bits_of(words)
+        # The highest bit that is 1 ends the stack.
+        length = 32 * (len(words) - 1) + words[-1].bit_length() - 1 if len(words) else 0
+        self._begin(Bits(bits.memory, length))
 
-    def encode_symbol(self, symbol: int, codebook: EncoderCodebook) -> None:
+    def encode_reverse(self, symbols: Symbols, codebook: Codebook) -> None:
+        """Puts symbols on top, from the last one to the first. Raises :class:`ImpossibleSymbolError`; the stack is as before then."""
+        if is_one(symbols):
+            return self.encode_symbol(symbols, codebook)  # type: ignore[arg-type]
+        listed = codebook.symbols(symbols)
+
+        def change(bits: Bits) -> tuple[Bits, None]:
+            if len(listed) < _LONG:
+                for symbol in reversed(listed):
+                    bits = bits.put(*_turned(*codebook.codeword(symbol)))
+                return bits, None
+            words = StackCoder(codebook.encoded(listed, True))._state
+            return bits.put(words.part(0, words.length), words.length), None
+
+        self._changed(change)
+
+    def encode_symbol(self, symbol: int, codebook: Codebook) -> None:
         """Puts one symbol on top."""
-        self.encode_reverse(symbol, codebook)
+        codeword = _turned(*_symbol_codeword(symbol, codebook))
+        self._changed(lambda bits: (bits.put(*codeword), None))
 
-    def decode(self, codebook: DecoderCodebook, amt: int | None = None) -> Any:
-        """The symbol on top, or a list of the ``amt`` topmost, of a stack over given words."""
-        if self._reader is None:
-            raise ValueError("a stack that collects symbols gives words: StackCoder(words) decodes them")
-        found = self._reader.next(codebook, 1 if amt is None else amt)
-        return found[0] if amt is None else found
+    def decode(self, codebook: Codebook, amt: int | None = None) -> Any:
+        """Takes off the symbol on top, or a list of the ``amt`` topmost. Raises :class:`OutOfDataError` and
+        :class:`InvalidDataError`; the stack is as before then."""
+        if amt is None:
+            return self.decode_symbol(codebook)
+        count = count_of(amt)
+        return answered(self._changed(lambda bits: _take_list(bits, codebook, count)))
 
-    def decode_symbol(self, codebook: DecoderCodebook) -> int:
-        """The symbol on top."""
-        return int(self.decode(codebook))
+    def decode_symbol(self, codebook: Codebook) -> int:
+        """Takes off the symbol on top."""
+        return self._changed(lambda bits: _take(bits, codebook))
 
-    def get_compressed(self) -> Numbers:
-        """The words of the codewords, closed by a bit 1 and filled up with zero bits."""
-        if self._reader is not None:
-            raise ValueError("a stack over given words only decodes")
-        words: Numbers = self._codebook.encoded(self._symbols, True) if self._symbols else Numbers("I", (1,))
-        return words
+    def is_empty(self) -> bool:
+        """Whether there is nothing to decode."""
+        return not self._state.length
+
+    def get_compressed(self) -> tuple[Any, int]:
+        """The words of the codewords, closed by a bit 1 and filled up with zero bits, and how many bits the codewords have."""
+        def export(bits: Bits) -> tuple[Numbers, int]:
+            return words_with(bits.part(0, bits.length) | 1 << bits.length, bits.length + 1), bits.length
+
+        words, count = self._asked(export)
+        return answered(words), count
+
+    def _plain(self, state: Bits) -> tuple[Any, ...]:
+        return bytes(state.clone().memory), state.length
+
+    def _unplain(self, plain: tuple[Any, ...]) -> Bits:
+        return Bits(bytearray(plain[0]), plain[1])
+
+
+def _turned(bits: int, count: int) -> tuple[int, int]:
+    """A codeword from its last bit to its first."""
+    return int(format(bits, f"0{count}b")[::-1], 2) if count else 0, count
+
+
+def _take(bits: Bits, codebook: Codebook) -> tuple[Bits, int]:
+    """The symbol on top of a stack."""
+    place = bits.length
+
+    def bit() -> int:
+        nonlocal place
+        if not place:
+            raise errors.OutOfDataError(errors.CODEWORD_ENDED)
+        place -= 1
+        return bits.get(place)
+
+    symbol = codebook.read(bit)
+    return Bits(bits.memory, place), symbol
+
+
+def _take_list(bits: Bits, codebook: Codebook, count: int) -> tuple[Bits, Numbers]:
+    """The so many topmost symbols of a stack, by a C function where it is a long list that is all there."""
+    if count >= _LONG:
+        start = max(0, bits.length - count * codebook.longest())
+        found = _by_library(codebook, bits.part(start, bits.length), bits.length - start, count, True)
+        if found is not None:
+            return Bits(bits.memory, bits.length - found[1]), found[0]
+    symbols = room(SYMBOL, 0)
+    for _ in range(count):
+        bits, symbol = _take(bits, codebook)
+        symbols.append(symbol)
+    return bits, symbols

@@ -2,36 +2,62 @@
 
 from __future__ import annotations
 
+from array import array
+from collections.abc import Callable
 from ctypes import byref, c_size_t
+from typing import Any
 
 from .. import errors
-from .._buffers import Items, List, Numbers, WordStack, words_of
+from .._buffers import WORD, Numbers, lent, room
 from .._library import call
+from .._numbers import is_one, whole, words_of
+from .._words import Words
+from ._codebook import Codebook
 
 __all__ = ["ExpGolomb"]
 
 
-class ExpGolomb:
+class ExpGolomb(Codebook):
     """The codewords: for ``n + 1`` of ``k + 1`` bits ``k`` zeros, then its bits from the highest down."""
 
-    def encoded(self, symbols: List, stack: bool) -> Numbers:
-        """The words of these numbers, in a queue or in a stack."""
+    def codeword(self, symbol: int) -> tuple[int, int]:
+        if not 0 <= symbol < 1 << 32:
+            raise errors.ImpossibleSymbolError(errors.IMPOSSIBLE_SYMBOL)
+        digits = format(symbol + 1, "b")
+        return int(digits[::-1], 2) << (len(digits) - 1), 2 * len(digits) - 1
+
+    def read(self, bit: Callable[[], int]) -> int:
+        zeros = 0
+        while not bit():
+            zeros += 1
+            if zeros > 32:
+                raise errors.InvalidDataError(errors.INVALID_CODEWORD)
+        number = 1
+        for _ in range(zeros):
+            number = 2 * number + bit()
+        if number > 1 << 32:
+            raise errors.InvalidDataError(errors.INVALID_CODEWORD)
+        return number - 1
+
+    def longest(self) -> int:
+        return 65
+
+    def symbols(self, symbols: Any) -> array[Any]:
         try:
-            items = words_of(symbols)
+            return array(WORD, (whole(symbols),)) if is_one(symbols) else words_of(symbols)
         except OverflowError:
             raise errors.ImpossibleSymbolError(errors.IMPOSSIBLE_SYMBOL) from None
-        words, needed = WordStack(), c_size_t(0)
-        words.reserve(3 * items.count + 1)  # A codeword has 65 bits at most.
-        name = "exp_golomb_encode_stack" if stack else "exp_golomb_encode_queue"
-        call(name, items.address, items.count, *words.parts(), byref(needed))
-        return words.words()
 
-    def decoded(self, words: Items, count: int, stack: bool) -> Numbers:
-        """So many numbers from the beginning of a queue, or from the top of a stack."""
-        room = Numbers("I", (0,))
-        room *= count
-        items = Items(room, count)
+    def encoded(self, symbols: array[Any], stack: bool) -> Numbers:
+        count = len(symbols)
+        words, length, needed = room(WORD, 3 * count + 1), c_size_t(0), c_size_t(0)  # A codeword has 65 bits at most.
+        name = "exp_golomb_encode_stack" if stack else "exp_golomb_encode_queue"
+        call(name, lent(symbols), count, lent(words), len(words), byref(length), byref(needed))
+        return Words(words, length.value).numbers()
+
+    def decoded(self, words: array[Any], count: int, stack: bool) -> Numbers:
+        found = room(WORD, count)
         name = "exp_golomb_decode_stack" if stack else "exp_golomb_decode_queue"
         texts = {7: errors.INVALID_CODEWORD, 8: errors.CODEWORD_ENDED}
-        call(name, words.address, words.count, items.address, items.count, texts=texts)
-        return room
+        call(name, lent(words), len(words), lent(found), count, texts=texts)
+        return found

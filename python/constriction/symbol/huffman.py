@@ -2,12 +2,20 @@
 
 from __future__ import annotations
 
+import math
+from array import array
+from collections.abc import Callable
 from ctypes import byref, c_size_t
+from heapq import heapify, heappop, heappush
 from typing import Any
 
 from .. import errors
-from .._buffers import Items, List, Numbers, WordStack, floats, new_symbols, symbols_of, weights_of
+from .._buffers import SYMBOL, WORD, List, Numbers, lent, room
 from .._library import call
+from .._numbers import floats_of, places_of, wholes_of, words_of
+from .._words import Words
+from ._bits import bits_of
+from ._codebook import Codebook
 
 __all__ = ["DecoderHuffmanTree", "EncoderHuffmanTree"]
 
@@ -15,20 +23,21 @@ __all__ = ["DecoderHuffmanTree", "EncoderHuffmanTree"]
 _SHARES = 1 << 31
 
 
-def _whole(probabilities: List) -> Any:
-    """Whole weights as they are; floats by their share."""
-    listed = list(probabilities)
-    if all(isinstance(it, int) for it in listed):
-        return listed
-    shares = floats(listed)
+def _weights(probabilities: List) -> array[int]:
+    """Whole numbers of any type as they are; floats by their share."""
+    listed = probabilities if hasattr(probabilities, "__len__") else list(probabilities)
+    try:
+        return wholes_of(WORD, listed)
+    except TypeError:
+        shares = floats_of(listed)
     whole = sum(shares)
-    if not 0 < whole < float("inf") or min(shares) < 0:
+    if not 0 < whole < math.inf or min(shares) < 0:
         raise ValueError("the probabilities have no positive sum, or one is negative")
-    return [int(it / whole * _SHARES) for it in shares]
+    return array(WORD, (int(it / whole * _SHARES) for it in shares))
 
 
-class _Tree:
-    """Weights, whose tree each call makes."""
+class _Tree(Codebook):
+    """Weights, whose tree each call of a C function makes; and the same tree in Python for single symbols."""
 
     def __init__(self, probabilities: List) -> None:
         """Whole weights whose sum is below 2^32 are taken as they are; floats by their share, in Python, which isn't proved.
@@ -36,48 +45,94 @@ class _Tree:
         Raises :class:`WrongWeightsError` where there are none, or their sum is too large.
         """
         try:
-            self._weights = weights_of(_whole(probabilities))
+            self._weights = _weights(probabilities)
         except OverflowError:
             raise errors.WrongWeightsError("sum of weights too large") from None
-        self._texts = {2: "sum of weights too large" if self._weights.count else "no weights", 8: errors.CODEWORD_ENDED}
+        self._texts = {2: "sum of weights too large" if len(self._weights) else "no weights", 8: errors.CODEWORD_ENDED}
+        self._grown: tuple[list[tuple[int, int]], list[tuple[int, int]]] | None = None
         # No symbols: this only tests the weights.
-        self._encoded((), False)
+        self.encoded(array(SYMBOL), False)
 
     def num_symbols(self) -> int:
         """How many symbols there are."""
-        return self._weights.count
+        return len(self._weights)
 
-    def _encoded(self, symbols: List, stack: bool) -> Numbers:
-        items, weights = symbols_of(symbols, 0), self._weights
-        words, needed = WordStack(), c_size_t(0)
+    def _tree(self) -> tuple[list[tuple[int, int]], list[tuple[int, int]]]:
+        """The codewords, and the two children of each union. It is made where it is first asked for, and compared with the words of the
+        C function."""
+        if self._grown is None:
+            unions, codewords = _merged(self._weights)
+            found = bits_of(self.encoded(array(SYMBOL, range(len(codewords))), False))
+            place = 0
+            for bits, count in codewords:
+                if found.part(place, place + count) != bits:
+                    raise RuntimeError("a codeword isn't that of the library")
+                place += count
+            if (place + 31) // 32 * 32 != found.length:
+                raise RuntimeError("codewords aren't those of the library")
+            self._grown = codewords, unions
+        return self._grown
+
+    def codeword(self, symbol: int) -> tuple[int, int]:
+        if not 0 <= symbol < len(self._weights):
+            raise errors.ImpossibleSymbolError(errors.IMPOSSIBLE_SYMBOL)
+        return self._tree()[0][symbol]
+
+    def read(self, bit: Callable[[], int]) -> int:
+        leaves, unions = len(self._weights), self._tree()[1]
+        node = 2 * leaves - 2
+        while node >= leaves:
+            node = unions[node - leaves][bit()]
+        return node
+
+    def longest(self) -> int:
+        return max(count for _, count in self._tree()[0])
+
+    def symbols(self, symbols: Any) -> array[Any]:
+        return places_of(symbols, 0)
+
+    def encoded(self, symbols: array[Any], stack: bool) -> Numbers:
+        weights, length, needed = self._weights, c_size_t(0), c_size_t(0)
         name = "huffman_encode_stack" if stack else "huffman_encode_queue"
-        # First as if a symbol took a word, which is more than most lists take; a codeword can be as long as there are symbols.
-        words.reserve(items.count + 1)
-        arguments = (weights.address, weights.count, items.address, items.count)
+        # First as if a symbol took a word, which is more than most lists take.
+        words = room(WORD, len(symbols) + 1)
+        arguments = (lent(weights), len(weights), lent(symbols), len(symbols))
         try:
-            call(name, *arguments, *words.parts(), byref(needed), texts=self._texts)
+            call(name, *arguments, lent(words), len(words), byref(length), byref(needed), texts=self._texts)
         except errors.NoSpaceError:
-            words.reserve(needed.value)
-            call(name, *arguments, *words.parts(), byref(needed), texts=self._texts)
-        return words.words()
+            words = room(WORD, needed.value)
+            call(name, *arguments, lent(words), len(words), byref(length), byref(needed), texts=self._texts)
+        return Words(words, length.value).numbers()
+
+    def decoded(self, words: array[Any], count: int, stack: bool) -> Numbers:
+        found, weights = room(SYMBOL, count), self._weights
+        name = "huffman_decode_stack" if stack else "huffman_decode_queue"
+        texts = {**self._texts, 7: errors.NOT_ENOUGH_WORDS}
+        call(name, lent(weights), len(weights), lent(words), len(words), lent(found), count, texts=texts)
+        return found
+
+
+def _merged(weights: array[int]) -> tuple[list[tuple[int, int]], list[tuple[int, int]]]:
+    """The children of each union, and the codewords: the two least by (weight, index) are merged, and a union comes behind all others."""
+    leaves = len(weights)
+    heap = [(weight, i) for i, weight in enumerate(weights)]
+    heapify(heap)
+    unions: list[tuple[int, int]] = []
+    while len(heap) > 1:
+        (a, left), (b, right) = heappop(heap), heappop(heap)
+        heappush(heap, (a + b, leaves + len(unions)))
+        unions.append((left, right))
+    codewords = [(0, 0)] * (leaves + len(unions))
+    for node in range(leaves + len(unions) - 1, leaves - 1, -1):
+        bits, count = codewords[node]
+        left, right = unions[node - leaves]
+        codewords[left], codewords[right] = (bits, count + 1), (bits | 1 << count, count + 1)
+    return unions, codewords[:leaves]
 
 
 class EncoderHuffmanTree(_Tree):
     """The tree of some weights, for encoding."""
 
-    def encoded(self, symbols: List, stack: bool) -> Numbers:
-        """The words of these symbols' codewords, in a queue or in a stack."""
-        return self._encoded(symbols, stack)
-
 
 class DecoderHuffmanTree(_Tree):
     """The tree of some weights, for decoding."""
-
-    def decoded(self, words: Items, count: int, stack: bool) -> Numbers:
-        """So many symbols from the beginning of a queue, or from the top of a stack."""
-        room = new_symbols(count)
-        items, weights = Items(room, count), self._weights
-        name = "huffman_decode_stack" if stack else "huffman_decode_queue"
-        texts = {**self._texts, 7: errors.NOT_ENOUGH_WORDS}
-        call(name, weights.address, weights.count, words.address, words.count, items.address, items.count, texts=texts)
-        return room

@@ -1,2 +1,2 @@
 -- Runs of decodes and changes of the precision, and when they are alike.
-pub use Rattle.constriction_chain.specs.Runs.{Decoding, Event, IsRun, decodings, AreIsolated}
+pub use Rattle.constriction_chain.specs.Runs.{Decoding, Event, Decode, Change, IsRun, decodings, AreIsolated}

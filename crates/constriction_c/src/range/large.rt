@@ -6,11 +6,12 @@ ghost use Rattle.constriction_c.specs.Codes.{answer_of, needed_by};
 ghost use Rattle.constriction_c.specs.Ranges.{large_decoder, large_encoder};
 ghost use Rattle.constriction_calls.specs.Buffers.{Appended, NeedsSpace};
 ghost use Rattle.constriction_calls.specs.Intervals.{AreIntervals, interval_items};
-ghost use Rattle.constriction_calls.specs.RangeCalls.{CanEncode, IsDecoderKept, IsEncodedBy, IsEncoderKept, LacksRoom, OfDecode, OfIntervals, OfPlace, OfWeights, OfWords, StandsKept, run_kept};
+ghost use Rattle.constriction_calls.specs.RangeCalls.{CanEncode, HadRoom, IsDecoderKept, IsEncodedBy, IsEncoderKept, LacksRoom, OfDecode, OfIntervals, OfPlace, OfWeights, OfWords, StandsKept, run_kept};
 ghost use Rattle.constriction_calls.specs.Weights.{AreTotals, IsTotal, row_items, weights_model};
 ghost use Rattle.constriction_calls.specs.declared.refusal.Refusal.TheVariants as refusals;
 ghost use Rattle.constriction_laws.specs.queue.Symbols.{FindsAll, MayEnd};
 ghost use Rattle.constriction_queue.specs.Range.{Run, sealed, start};
+ghost use Rattle.constriction_queue.specs.SelfDelimiting.{SelfDelimits};
 ghost use Rattle.constriction_queue.specs.States.{IsPosition};
 
 use crate::codes::{code_of, code_without_space};
@@ -18,7 +19,7 @@ use constriction_calls::range::decoding::{decode, decode_each};
 use constriction_calls::range::encoding::{encode, encode_each, encode_intervals};
 use constriction_calls::range::parts::{DecoderParts, EncoderParts};
 use constriction_calls::range::positions::{maybe_exhausted, seek};
-use constriction_calls::range::words::{from_compressed, into_compressed};
+use constriction_calls::range::words::{from_compressed, into_compressed, into_self_delimited};
 use constriction_words::BitArray;
 use std::alloc::Global;
 
@@ -233,11 +234,38 @@ pub extern "C" fn constriction_range_into_compressed_u32(
     ensures invalid_data { IsErrOf (answer_of result needed.new) refusals.InvalidData ↔ ((len.old ≤ length words.old) × (IsEncoderKept ⟦<u32 as BitArray>⟧.number ⟦<u64 as BitArray>⟧.number 32 64 (large_encoder encoder.now) → ⊥)) }
     ensures err { IfErr (answer_of result needed.new) OfWords }
     ensures no_space { (count : ℕ) → IsErrOf (answer_of result needed.new) (refusals.NoSpace count) → (length words.old < count) × (count ≡ length (sealed 32 64 (run_kept ⟦<u32 as BitArray>⟧.number ⟦<u64 as BitArray>⟧.number 32 64 (large_encoder encoder.now) (take len.old words.old)))) }
+    ensures room_first { IsErrOf (answer_of result needed.new) refusals.NoMemory → HadRoom 32 (length words.old) (length (sealed 32 64 (run_kept ⟦<u32 as BitArray>⟧.number ⟦<u64 as BitArray>⟧.number 32 64 (large_encoder encoder.now) (take len.old words.old)))) }
     ensures kept { OnErr (answer_of result needed.new) ((words.new ≡ words.old) × (len.new ≡ len.old)) }
     ensures needed { needed.new ≡ needed_by (answer_of result needed.new) needed.old }
 {
     code_of(
         into_compressed::<u32, u64>(alloc, encoder.parts(), words, len),
+        needed,
+    )
+}
+
+/// `into_self_delimited`: the same with a seal that holds whatever words follow. It is the other seal, since a state is two words.
+#[unsafe(no_mangle)]
+pub extern "C" fn constriction_range_into_self_delimited_u32(
+    alloc: Global,
+    encoder: &RangeEncoderU32,
+    words: &mut [u32],
+    len: &mut usize,
+    needed: &mut usize,
+) -> u32
+    ensures followed { OnOk (answer_of result needed.new) (SelfDelimits 32 64 (run_kept ⟦<u32 as BitArray>⟧.number ⟦<u64 as BitArray>⟧.number 32 64 (large_encoder encoder.now) (take len.old words.old)) (map ⟦<u32 as BitArray>⟧.number (take len.new words.new))) }
+    ensures words { OnOk (answer_of result needed.new) (map ⟦<u32 as BitArray>⟧.number (take len.new words.new) ≡ sealed 32 64 (run_kept ⟦<u32 as BitArray>⟧.number ⟦<u64 as BitArray>⟧.number 32 64 (large_encoder encoder.now) (take len.old words.old))) }
+    ensures ok { OnOk (answer_of result needed.new) ((added : List ℕ) × Appended words.old len.old added words.new len.new) }
+    ensures wrong_length { IsErrOf (answer_of result needed.new) refusals.WrongLength ↔ (length words.old < len.old) }
+    ensures invalid_data { IsErrOf (answer_of result needed.new) refusals.InvalidData ↔ ((len.old ≤ length words.old) × (IsEncoderKept ⟦<u32 as BitArray>⟧.number ⟦<u64 as BitArray>⟧.number 32 64 (large_encoder encoder.now) → ⊥)) }
+    ensures err { IfErr (answer_of result needed.new) OfWords }
+    ensures no_space { (count : ℕ) → IsErrOf (answer_of result needed.new) (refusals.NoSpace count) → (length words.old < count) × (count ≡ length (sealed 32 64 (run_kept ⟦<u32 as BitArray>⟧.number ⟦<u64 as BitArray>⟧.number 32 64 (large_encoder encoder.now) (take len.old words.old)))) }
+    ensures room_first { IsErrOf (answer_of result needed.new) refusals.NoMemory → HadRoom 32 (length words.old) (length (sealed 32 64 (run_kept ⟦<u32 as BitArray>⟧.number ⟦<u64 as BitArray>⟧.number 32 64 (large_encoder encoder.now) (take len.old words.old)))) }
+    ensures kept { OnErr (answer_of result needed.new) ((words.new ≡ words.old) × (len.new ≡ len.old)) }
+    ensures needed { needed.new ≡ needed_by (answer_of result needed.new) needed.old }
+{
+    code_of(
+        into_self_delimited::<u32, u64>(alloc, encoder.parts(), words, len),
         needed,
     )
 }
@@ -250,6 +278,7 @@ pub extern "C" fn constriction_range_from_compressed_u32(
 ) -> u32
     ensures done { result ≡ 0 }
     ensures stands { StandsKept ⟦<u32 as BitArray>⟧.number ⟦<u64 as BitArray>⟧.number 32 64 words.now (start 64) (large_decoder decoder.new) }
+    ensures within { decoder.new.pos ≤ length words.now }
 {
     *decoder = RangeDecoderU32::of(from_compressed::<u32, u64>(words));
     0
@@ -265,6 +294,7 @@ pub extern "C" fn constriction_range_decode_u32(
     symbols: &mut [usize],
 ) -> u32
     ensures ok { OnOk (answer_of result 0) ((old : Run) → StandsKept ⟦<u32 as BitArray>⟧.number ⟦<u64 as BitArray>⟧.number 32 64 words.now old (large_decoder decoder.old) → (last : Run) × FindsAll 32 64 (map ⟦<u32 as BitArray>⟧.number words.now) (items_of (weights_model 24 (map ⟦<u32 as BitArray>⟧.number weights.now)) symbols.new) old last × StandsKept ⟦<u32 as BitArray>⟧.number ⟦<u64 as BitArray>⟧.number 32 64 words.now last (large_decoder decoder.new)) }
+    ensures within { OnOk (answer_of result 0) (decoder.new.pos ≤ length words.now) }
     ensures wrong_length { IsErrOf (answer_of result 0) refusals.WrongLength ↔ (length words.now < decoder.old.pos) }
     ensures wrong_weights { IsErrOf (answer_of result 0) refusals.WrongWeights ↔ ((decoder.old.pos ≤ length words.now) × (IsTotal 24 (map ⟦<u32 as BitArray>⟧.number weights.now) → ⊥)) }
     ensures no_decoder { (decoder.old.pos ≤ length words.now) × IsTotal 24 (map ⟦<u32 as BitArray>⟧.number weights.now) × (IsDecoderKept ⟦<u64 as BitArray>⟧.number 32 64 (large_decoder decoder.old) → ⊥) → IsErrOf (answer_of result 0) refusals.InvalidData }
@@ -292,6 +322,7 @@ pub extern "C" fn constriction_range_decode_each_u32(
     symbols: &mut [usize],
 ) -> u32
     ensures ok { OnOk (answer_of result 0) ((old : Run) → StandsKept ⟦<u32 as BitArray>⟧.number ⟦<u64 as BitArray>⟧.number 32 64 words.now old (large_decoder decoder.old) → (last : Run) × FindsAll 32 64 (map ⟦<u32 as BitArray>⟧.number words.now) (row_items 24 width (map ⟦<u32 as BitArray>⟧.number weights.now) symbols.new) old last × StandsKept ⟦<u32 as BitArray>⟧.number ⟦<u64 as BitArray>⟧.number 32 64 words.now last (large_decoder decoder.new)) }
+    ensures within { OnOk (answer_of result 0) (decoder.new.pos ≤ length words.now) }
     ensures wrong_length { IsErrOf (answer_of result 0) refusals.WrongLength ↔ ((length words.now < decoder.old.pos) ⊎ (length weights.now ≢ width * length symbols.old)) }
     ensures wrong_weights { IsErrOf (answer_of result 0) refusals.WrongWeights ↔ ((decoder.old.pos ≤ length words.now) × (length weights.now ≡ width * length symbols.old) × (AreTotals 24 width (length symbols.old) (map ⟦<u32 as BitArray>⟧.number weights.now) → ⊥)) }
     ensures no_decoder { (decoder.old.pos ≤ length words.now) × (length weights.now ≡ width * length symbols.old) × AreTotals 24 width (length symbols.old) (map ⟦<u32 as BitArray>⟧.number weights.now) × (IsDecoderKept ⟦<u64 as BitArray>⟧.number 32 64 (large_decoder decoder.old) → ⊥) → IsErrOf (answer_of result 0) refusals.InvalidData }
@@ -318,6 +349,7 @@ pub extern "C" fn constriction_range_seek_u32(
     range: u64,
 ) -> u32
     ensures ok { OnOk (answer_of result 0) ((there : Run) → IsPosition 64 there pos (⟦<u64 as BitArray>⟧.number lower) (⟦<u64 as BitArray>⟧.number range) → StandsKept ⟦<u32 as BitArray>⟧.number ⟦<u64 as BitArray>⟧.number 32 64 words.now there (large_decoder decoder.new)) }
+    ensures within { OnOk (answer_of result 0) (decoder.new.pos ≤ length words.now) }
     ensures wrong_length { IsErrOf (answer_of result 0) refusals.WrongLength ↔ (length words.now < pos) }
     ensures invalid_data { IsErrOf (answer_of result 0) refusals.InvalidData ↔ ((pos ≤ length words.now) × (⟦<u64 as BitArray>⟧.number range < 2 ^ (64 - 32))) }
     ensures err { IfErr (answer_of result 0) OfPlace }

@@ -42,6 +42,7 @@ pub fn decode<Word: WordOf<State>, State: BitArray, P: WordOf<Word>, const PRECI
     ensures ok { IfOk result (λ now. (old : Run) → StandsKept Word.number State.number Word.BITS State.BITS words.now old parts → (last : Run)
         × FindsAll Word.BITS State.BITS (map Word.number words.now) (items_of (weights_model PRECISION (map P.number weights.now)) symbols.new) old last
         × StandsKept Word.number State.number Word.BITS State.BITS words.now last now) }
+    ensures within { IfOk result (λ now. now.pos ≤ length words.now) }
     ensures wrong_length { IsErrOf result refusals.WrongLength ↔ (length words.now < parts.pos) }
     ensures wrong_weights { IsErrOf result refusals.WrongWeights ↔ ((parts.pos ≤ length words.now) × (IsTotal PRECISION (map P.number weights.now) → ⊥)) }
     ensures no_decoder { (parts.pos ≤ length words.now) × IsTotal PRECISION (map P.number weights.now)
@@ -98,6 +99,7 @@ pub fn decode_each<Word: WordOf<State>, State: BitArray, P: WordOf<Word>, const 
     ensures ok { IfOk result (λ now. (old : Run) → StandsKept Word.number State.number Word.BITS State.BITS words.now old parts → (last : Run)
         × FindsAll Word.BITS State.BITS (map Word.number words.now) (row_items PRECISION width (map P.number weights.now) symbols.new) old last
         × StandsKept Word.number State.number Word.BITS State.BITS words.now last now) }
+    ensures within { IfOk result (λ now. now.pos ≤ length words.now) }
     ensures wrong_length { IsErrOf result refusals.WrongLength ↔ ((length words.now < parts.pos) ⊎ (length weights.now ≢ width * length symbols.old)) }
     ensures wrong_weights { IsErrOf result refusals.WrongWeights ↔ ((parts.pos ≤ length words.now) × (length weights.now ≡ width * length symbols.old)
         × (AreTotals PRECISION width (length symbols.old) (map P.number weights.now) → ⊥)) }

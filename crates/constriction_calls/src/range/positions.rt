@@ -33,6 +33,7 @@ pub fn seek<Word: WordOf<State>, State: BitArray>(
     requires { IsSizes Word.BITS State.BITS }
     ensures ok { IfOk result (λ now. (there : Run) → IsPosition State.BITS there pos (State.number lower) (State.number range) →
         StandsKept Word.number State.number Word.BITS State.BITS words.now there now) }
+    ensures within { IfOk result (λ now. now.pos ≤ length words.now) }
     ensures wrong_length { IsErrOf result refusals.WrongLength ↔ (length words.now < pos) }
     ensures err { IfErr result OfPlace }
     ensures invalid_data { IsErrOf result refusals.InvalidData ↔ ((pos ≤ length words.now) × (State.number range < 2 ^ (State.BITS - Word.BITS))) }

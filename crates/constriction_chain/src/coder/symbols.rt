@@ -6,7 +6,7 @@ ghost use Rattle.constriction_chain.specs.Steps.{DecodeCall, EncodeCall, Halted,
 ghost use Rattle.constriction_chain.specs.declared.errors.EncoderFrontendError.TheVariants.{ImpossibleSymbol};
 ghost use Rattle.constriction_stream.specs.Symbols.{EncodesSymbol, GoesOn, HasRoom};
 ghost use Rattle.std.specs.Bool.{OnFalse};
-ghost use Rattle.std.specs.Prelude.{[], ⊤, ◌≡◌};
+ghost use Rattle.std.specs.Prelude.{[], ⊤, ◌≡◌, ◌||◌};
 
 use crate::coder::ChainCoder;
 use crate::errors::{
@@ -35,7 +35,8 @@ impl<
     ghost decodes = { DecodeCall Word.number C.is_list C.words R.words C.reads R.write_fails R.room R.makes_room
         Word.BITS State.BITS };
 
-    ghost halts = { Halted Word.number C.is_list C.words R.words C.reads R.prepare_fails Word.BITS State.BITS PRECISION };
+    ghost halts = { Halted Word.number C.is_list C.words R.words C.reads R.prepare_fails R.room R.makes_room
+        Word.BITS State.BITS PRECISION };
 
     ghost has_data = { λ coder. C.is_list → C.words coder.compressed ≡ [] → ⊥ };
 
@@ -48,9 +49,9 @@ impl<
     ///
     /// # Errors
     ///
-    /// After each of them the heads are as before.
-    /// - `Frontend(OutOfCompressedData)` exactly where a word is needed, room for one was made among the
-    ///   remainders, and the read says that none is left. Nothing changed.
+    /// After each of them the heads are as before, and the remainders have the room that they had at least.
+    /// - `Frontend(OutOfCompressedData)` where a word is needed, the remainders didn't refuse the room for
+    ///   one, and the read says that no word is left. Nothing changed but that room.
     /// - `Backend(Compressed(error))` where a word is needed and its read answered that error. The words of
     ///   a backend that knows them are as before.
     /// - `Backend(Remainders(error))` where a word is needed and no room was made for one among the
@@ -85,7 +86,13 @@ impl<
 
     /// Whether the compressed words may have ended, or the remainders may be full.
     #[inline]
-    fn maybe_exhausted(&self) -> bool {
+    fn maybe_exhausted(&self) -> bool
+        ensures value { result ≡ C.seems_exhausted self.now.compressed || R.seems_full self.now.remainders }
+        ensures data { OnFalse result (⟦<ChainCoder<Word, State, C, R, PRECISION> as Decode<PRECISION>>⟧.has_data self.now) }
+        ensures goes_on { OnFalse result (GoesOn (⟦<ChainCoder<Word, State, C, R, PRECISION> as Decode<PRECISION>>⟧.decodes)
+            (⟦<ChainCoder<Word, State, C, R, PRECISION> as Decode<PRECISION>>⟧.halts)
+            (⟦<ChainCoder<Word, State, C, R, PRECISION> as Decode<PRECISION>>⟧.is_end_of_data) self.now) }
+    {
         self.compressed.maybe_exhausted() || self.remainders.maybe_full()
     }
 }
@@ -131,10 +138,10 @@ impl<
     ///
     /// # Errors
     ///
-    /// After each of them the heads are as before.
+    /// After each of them the heads are as before, and the compressed words have the room that they had at least.
     /// - `Frontend(ImpossibleSymbol)` exactly where the model doesn't know the symbol. Nothing changed.
     /// - `Frontend(OutOfRemainders)` where a word of the remainders is needed and the read says that none is
-    ///   left. Nothing changed.
+    ///   left. Nothing changed but the room that was asked for.
     /// - `Backend(Remainders(error))` where a word is needed and its read answered that error. The words of
     ///   a backend that knows them are as before.
     /// - `Backend(Compressed(error))` where a word had to be written, and no room was made for it, which
@@ -174,7 +181,12 @@ impl<
 
     /// Whether the remainders may have ended, or the compressed words may be full.
     #[inline]
-    fn maybe_full(&self) -> bool {
+    fn maybe_full(&self) -> bool
+        ensures value { result ≡ R.seems_exhausted self.now.remainders || C.seems_full self.now.compressed }
+        ensures room { OnFalse result (⟦<ChainCoder<Word, State, C, R, PRECISION> as Encode<PRECISION>>⟧.tells_room self.now
+            → HasRoom (⟦<ChainCoder<Word, State, C, R, PRECISION> as Encode<PRECISION>>⟧.encodes)
+            (⟦<ChainCoder<Word, State, C, R, PRECISION> as Encode<PRECISION>>⟧.is_lack_of_room) self.now) }
+    {
         self.remainders.maybe_exhausted() || self.compressed.maybe_full()
     }
 }

@@ -24,15 +24,15 @@ codewords_map f code [] all h = h
 codewords_map f code (x ∷ xs) all h = (h.0, h.1, h.2, h.3, codewords_map f code xs h.1 h.4)
 
 -- ---- writes
-module _ {C E A : Type 0} (bits : C → List Bool) (fails : C → E → Type 0) (wants : A → E → Type 0) (code : A → Option (List Bool)) where
+module _ {C E A : Type 0} (bits : C → List Bool) (puts : C → Bool → Result (Unit {0}) E → C → Type 0) (wants : A → E → Type 0) (code : A → Option (List Bool)) where
   -- a write that went well is that of a codeword
-  one_written : (form : List Bool → List Bool) (known : Option (List Bool)) (wanted : E → Type 0) (old new : C) → WritesCodeword bits fails wanted old (formed form known) (Ok tt) new
+  one_written : (form : List Bool → List Bool) (known : Option (List Bool)) (wanted : E → Type 0) (old new : C) → WritesCodeword bits puts wanted old (formed form known) (Ok tt) new
       → (first : List Bool) × (known ≡ Some first) × (bits new ≡ bits old ++ form first)
   one_written form None wanted old new (never, same) = absurd cc
-  one_written form (Some first) wanted old new is = (first, refl, is)
+  one_written form (Some first) wanted old new is = (first, refl, is.0)
 
   -- in the order of a queue
-  pub written_first : (xs : List A) (old new : C) → StepsAll {E = CoderError _ E} (λ before x answer after. WritesCodeword bits fails (wants x) before (formed (λ bs. bs) (code x)) answer after) old xs new
+  pub written_first : (xs : List A) (old new : C) → StepsAll {E = CoderError _ E} (λ before x answer after. WritesCodeword bits puts (wants x) before (formed (λ bs. bs) (code x)) answer after) old xs new
       → (all : List Bool) × AreCodewords code xs all × (bits new ≡ bits old ++ all)
   written_first [] old new h = ([], refl, ap bits h ∙ sym (append-nil (bits old)))
   written_first (x ∷ xs) old new h =
@@ -41,7 +41,7 @@ module _ {C E A : Type 0} (bits : C → List Bool) (fails : C → E → Type 0) 
       (first.0 ++ rest.0, (first.0, rest.0, first.1, refl, rest.1), rest.2 ∙ (ap (λ bs. bs ++ rest.0) first.2 ∙ append_assoc (bits old) first.0 rest.0))
 
   -- in the order of a stack, of which the last codeword is read first
-  pub written_last : (xs : List A) (old new : C) → StepsAll {E = CoderError _ E} (λ before x answer after. WritesCodeword bits fails (wants x) before (formed (λ bs. reverse bs) (code x)) answer after) old xs new
+  pub written_last : (xs : List A) (old new : C) → StepsAll {E = CoderError _ E} (λ before x answer after. WritesCodeword bits puts (wants x) before (formed (λ bs. reverse bs) (code x)) answer after) old xs new
       → (all : List Bool) × AreCodewords code (reverse xs) all × (reverse (bits new) ≡ all ++ reverse (bits old))
   written_last [] old new h = ([], refl, ap (λ c. reverse (bits c)) h)
   written_last (x ∷ xs) old new h =

@@ -29,7 +29,7 @@ module _ {S : Type 0} (w s : ℕ) where
       encodes_unique items j.0 new other ms.1 (subst (λ (r : Run). NarrowsAll w s items r new) same i.2) j.2
 
   -- only one symbol is read under a table
-  one_decode : (words : List ℕ) (model : Model S) (x y : S) (old a b : Run) → IsModel w model → Finds w s words model x old a → Finds w s words model y old b → (x ≡ y) × (a ≡ b)
+  pub one_decode : (words : List ℕ) (model : Model S) (x y : S) (old a b : Run) → IsModel w model → Finds w s words model x old a → Finds w s words model y old b → (x ≡ y) × (a ≡ b)
   one_decode words model x y old a b m i j =
       let q : ℕ = offset w s words old / (old.range / 2 ^ model.precision) in
       let same = one_at 0 (2 ^ model.precision) q model.table x y i.0 j.0 i.1 j.1 m.lawful.follow i.2 j.2 (i.3.0.from, i.3.0.below) (j.3.0.from, j.3.0.below) in

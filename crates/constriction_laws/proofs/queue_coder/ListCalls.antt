@@ -46,10 +46,10 @@ ReadTo w s words items old new = (last : Run) × FindsAll w s words items old la
 
 module _ {S W B E : Type 0} (F : Type 0) (number : W → ℕ) (held : B → List W) (is_list : Type 0) (reads : B → Result (Option W) E → B → Type 0) (w s : ℕ) (words : List ℕ) (known : is_list) where
   -- a step of the decoder that went well is a decode of the symbol
-  abbrev Given : Model S → S → Decoder B → Decoder B → Type 0
+  abbrev pub Given : Model S → S → Decoder B → Decoder B → Type 0
   Given model symbol old new = AtEntry model.precision model.table symbol (λ step. ByBackend {F = F} (calls.DecodeCall number held is_list reads w s) old step (Ok tt) new)
 
-  decode_of : (model : Model S) (symbol : S) (r : Run) (old new : Decoder B) → StandsAt w s words r old → Given model symbol old new
+  pub decode_of : (model : Model S) (symbol : S) (r : Run) (old new : Decoder B) → StandsAt w s words r old → Given model symbol old new
       → (last : Run) × Finds w s words model symbol r last × StandsAt w s words last new
   decode_of model symbol r old new at (left, p, has, (Ok u, d, is)) =
       let e : Step = record { precision = model.precision; left = left; p = p } in

@@ -47,7 +47,7 @@ module _ {S : Type 0} (w s : ℕ) (z : IsSizes w s) where
       subst (λ (r : Run). Within w s (sealed w s r) r) (run_is w s (item ∷ items) (start s) last h)
       ((law_reads w s (sealed w s r) z (sealed_words w s r) e es steps).0 (sealed_reads_alone w s (e ∷ es) z steps))
 
-  less_than_all : (item : Item S) (items : List (Item S)) (last : Run) → AreModels w (item ∷ items) → NarrowsAll w s (item ∷ items) (start s) last → last.range + 1 < 2 ^ s
+  pub less_than_all : (item : Item S) (items : List (Item S)) (last : Run) → AreModels w (item ∷ items) → NarrowsAll w s (item ∷ items) (start s) last → last.range + 1 < 2 ^ s
   less_than_all item items last ms h =
       let e : Step = record { precision = item.model.precision; left = h.1.0; p = h.1.1 } in
       let es : List Step = entries w s items h.0 last h.2 in
@@ -55,7 +55,7 @@ module _ {S : Type 0} (w s : ℕ) (z : IsSizes w s) where
       (less_after w s e es (start s) z (are_steps w s (item ∷ items) (start s) last h ms) (valid_start w s z))
 
 -- ---- where reading ends
-drop_all : (n : ℕ) (ws : List ℕ) → length ws ≤ n → drop n ws ≡ []
+pub drop_all : (n : ℕ) (ws : List ℕ) → length ws ≤ n → drop n ws ≡ []
 drop_all zero [] h = refl
 drop_all zero (x ∷ ws) h = absurd (omega arith)
 drop_all (suc n) [] h = refl

@@ -1,8 +1,8 @@
 //! Decoders that go to positions: how many words stand before, and the interval.
 
-ghost use Rattle.std.specs.Prelude.{◌≡◌, ◌⊎◌, ◌/◌, ◌^◌, ℕ, Err};
+ghost use Rattle.std.specs.Prelude.{◌≡◌, ◌⊎◌, ◌/◌, ◌^◌, ℕ};
 ghost use Rattle.constriction_queue.specs.States.{lower_of, range_of};
-ghost use Rattle.constriction_queue.specs.Decoder.{HasPoint, IsDecoder, ReadsPoint};
+ghost use Rattle.constriction_queue.specs.Decoder.{HasPoint, IsDecoder, ReadsPoint, RefusesPoint};
 
 use crate::decoder::RangeDecoder;
 use crate::reading::read_point;
@@ -25,7 +25,7 @@ where
 
     // The backend can't go there, or a read was refused there.
     ghost seek_fails = { λ decoder position. Backend.seek_fails decoder.bulk position.0
-        ⊎ ((moved last rest : Backend) × (e : Backend.ReadError) × Backend.sought decoder.bulk position.0 moved × Backend.reads last (Err e) rest) };
+        ⊎ ((moved rest : Backend) × (e : Backend.ReadError) × Backend.sought decoder.bulk position.0 moved × RefusesPoint Word.number Backend.reads Word.BITS State.BITS moved e rest) };
 
     ghost sought = { λ old position new. (new.lower ≡ lower_of position.1) × (new.range ≡ range_of position.1)
         × ((moved : Backend) × Backend.sought old.bulk position.0 moved
@@ -35,7 +35,7 @@ where
 
     ghost stays = { λ old position new. (new.lower ≡ old.lower) × (new.range ≡ old.range) × (new.point ≡ old.point)
         × (Backend.stays old.bulk position.0 new.bulk
-        ⊎ ((moved last : Backend) × (e : Backend.ReadError) × Backend.sought old.bulk position.0 moved × Backend.reads last (Err e) new.bulk)) };
+        ⊎ ((moved : Backend) × (e : Backend.ReadError) × Backend.sought old.bulk position.0 moved × RefusesPoint Word.number Backend.reads Word.BITS State.BITS moved e new.bulk)) };
 
     /// Goes to a position that an encoder recorded: the interval that was recorded, over the words that the
     /// backend holds at its position, of which it reads as many as a state has.
@@ -64,7 +64,7 @@ where
             Err(_) => return Err(()),
         };
         self.state = state;
-        self.point = point;
+        self.distance = point.wrapping_minus(state.lower());
         Ok(())
     }
 }

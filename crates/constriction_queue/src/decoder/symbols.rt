@@ -89,7 +89,7 @@ impl<
     {
         let precision = PRECISION as u32;
         let (lower, range) = (self.state.lower, self.state.range);
-        let quotient = quantile_at::<Word, State>(lower, range, self.point, precision);
+        let quotient = quantile_at::<Word, State>(range, self.distance, precision);
         if !quotient.shifted_right(precision).is_nothing() {
             return Err(CoderError::Frontend(DecoderFrontendError::InvalidData));
         }
@@ -97,10 +97,18 @@ impl<
         let (symbol, left, p) = model.quantile_function(quantile);
         let p = M::Probability::from_nonzero(p);
         let (left, p) = (left.widen().widen(), p.widen().widen());
-        match narrowed_by_reading(&mut self.bulk, lower, range, self.point, left, p, precision) {
+        match narrowed_by_reading(
+            &mut self.bulk,
+            lower,
+            range,
+            self.distance,
+            left,
+            p,
+            precision,
+        ) {
             Ok(now) => {
                 self.state = RangeCoderState::long(now.lower, now.range);
-                self.point = now.point;
+                self.distance = now.distance;
                 Ok(symbol)
             }
             Err(error) => Err(CoderError::Backend(error)),
@@ -117,6 +125,6 @@ impl<
             (⟦<RangeDecoder<Word, State, Backend> as Decode<PRECISION>>⟧.halts)
             (⟦<RangeDecoder<Word, State, Backend> as Decode<PRECISION>>⟧.is_end_of_data) self.now) }
     {
-        self.bulk.maybe_exhausted() && ends_here(self.state, self.point)
+        self.bulk.maybe_exhausted() && ends_here(self.state, self.distance)
     }
 }

@@ -1,13 +1,13 @@
 //! A decoder of words, and its parts.
 
-ghost use Rattle.std.specs.Prelude.{◌≡◌, ◌↔◌, ◌+◌, ◌-◌, ◌%◌, ◌<◌, ◌^◌, map, Err, IfOk, IfErr, IsOk};
+ghost use Rattle.std.specs.Prelude.{◌≡◌, ◌↔◌, ◌+◌, ◌-◌, ◌%◌, ◌<◌, ◌^◌, map, IfOk, IfErr, IsOk, IsTrue};
 ghost use Rattle.constriction_base.specs.Steps.{IsSizes};
 ghost use Rattle.constriction_queue.specs.Range.{IsAt, start};
 ghost use Rattle.constriction_queue.specs.States.{lower_of, range_of};
-ghost use Rattle.constriction_queue.specs.Decoder.{BeginsOver, IsDecoder, decoder_of, distance};
+ghost use Rattle.constriction_queue.specs.Decoder.{BeginsOver, IsDecoder, MayBeExhausted, RefusesPoint, decoder_of, distance};
 
 use crate::decoder::RangeDecoder;
-use crate::reading::read_point;
+use crate::reading::{ends_here, read_point};
 use crate::state::RangeCoderState;
 use constriction_base::backends::{AsReadWords, Holds, IntoReadWords, Queue, ReadWords};
 use constriction_words::{BitArray, WordOf};
@@ -29,14 +29,14 @@ impl<Word: WordOf<State>, State: BitArray, Backend: ReadWords<Word, Queue>> Rang
         requires { IsSizes Word.BITS State.BITS }
         ensures ok { Backend.is_list → IfOk result (λ d. IsAt Word.BITS State.BITS (map Word.number (Backend.words bulk)) (start State.BITS) d.lower d.range d.point d.words) }
         ensures reads { IfOk result (λ d. BeginsOver Word.number Backend.reads Word.BITS State.BITS bulk d) }
-        ensures err { IfErr result (λ e. (last rest : Backend) × Backend.reads last (Err e) rest) }
+        ensures err { IfErr result (λ e. (rest : Backend) × RefusesPoint Word.number Backend.reads Word.BITS State.BITS bulk e rest) }
         ensures coder { IfOk result (λ d. IsDecoder Word.number Backend.words Word.BITS State.BITS d) }
     {
         match read_point::<Word, State, Backend>(&mut bulk) {
             Ok(point) => Ok(RangeDecoder {
                 bulk,
                 state: RangeCoderState::start(),
-                point,
+                distance: point,
             }),
             Err(error) => Err(error),
         }
@@ -60,7 +60,7 @@ impl<Word: WordOf<State>, State: BitArray, Backend: ReadWords<Word, Queue>> Rang
         requires { IsSizes Word.BITS State.BITS }
         ensures ok { Backend.is_list → IfOk result (λ d. IsAt Word.BITS State.BITS (map Word.number (Buf.words compressed)) (start State.BITS) d.lower d.range d.point d.words) }
         ensures place { IfOk result (λ d. (first : Backend) × Buf.becomes compressed first × BeginsOver Word.number Backend.reads Word.BITS State.BITS first d) }
-        ensures err { IfErr result (λ e. (last rest : Backend) × Backend.reads last (Err e) rest) }
+        ensures err { IfErr result (λ e. (first rest : Backend) × Buf.becomes compressed first × RefusesPoint Word.number Backend.reads Word.BITS State.BITS first e rest) }
         ensures coder { IfOk result (λ d. IsDecoder Word.number Backend.words Word.BITS State.BITS d) }
     {
         Self::with_backend(compressed.into_read_words())
@@ -79,10 +79,18 @@ impl<Word: WordOf<State>, State: BitArray, Backend: ReadWords<Word, Queue>> Rang
         requires { IsSizes Word.BITS State.BITS }
         ensures ok { Backend.is_list → IfOk result (λ d. IsAt Word.BITS State.BITS (map Word.number (Buf.words compressed.now)) (start State.BITS) d.lower d.range d.point d.words) }
         ensures place { IfOk result (λ d. (first : Backend) × Buf.becomes compressed.now first × BeginsOver Word.number Backend.reads Word.BITS State.BITS first d) }
-        ensures err { IfErr result (λ e. (last rest : Backend) × Backend.reads last (Err e) rest) }
+        ensures err { IfErr result (λ e. (first rest : Backend) × Buf.becomes compressed.now first × RefusesPoint Word.number Backend.reads Word.BITS State.BITS first e rest) }
         ensures coder { IfOk result (λ d. IsDecoder Word.number Backend.words Word.BITS State.BITS d) }
     {
         Self::with_backend(compressed.as_read_words())
+    }
+
+    /// Whether the words may have ended: what `maybe_exhausted` of the trait `Decode` answers at each precision.
+    #[inline]
+    pub fn maybe_exhausted(&self) -> bool
+        ensures { IsTrue result ↔ MayBeExhausted Word.BITS State.BITS Backend.seems_exhausted self.now }
+    {
+        self.bulk.maybe_exhausted() && ends_here(self.state, self.distance)
     }
 }
 
@@ -108,10 +116,15 @@ impl<Word: WordOf<State>, State: BitArray, Backend: Holds<Word, Queue>> RangeDec
         ensures err { IfErr result (λ rest. rest ≡ bulk) }
         ensures coder { IfOk result (λ d. IsDecoder Word.number Backend.words Word.BITS State.BITS d) }
     {
-        if !point.wrapping_minus(state.lower()).is_below(state.length()) {
+        let distance = point.wrapping_minus(state.lower());
+        if !distance.is_below(state.length()) {
             return Err(bulk);
         }
-        Ok(RangeDecoder { bulk, state, point })
+        Ok(RangeDecoder {
+            bulk,
+            state,
+            distance,
+        })
     }
 
     /// The backend with the words that are left, the interval, and the point.
@@ -120,8 +133,12 @@ impl<Word: WordOf<State>, State: BitArray, Backend: Holds<Word, Queue>> RangeDec
         ensures parts { self ≡ decoder_of Word.number Backend.words (lower_of result.1) (range_of result.1) (State.number result.2) result.0 }
         ensures coder { IsDecoder Word.number Backend.words Word.BITS State.BITS self }
     {
-        let RangeDecoder { bulk, state, point } = self;
-        (bulk, state, point)
+        let RangeDecoder {
+            bulk,
+            state,
+            distance,
+        } = self;
+        (bulk, state, distance.wrapping_plus(state.lower()))
     }
 
     /// The backend, with the words that are left. Those of the point aren't among them.
@@ -149,7 +166,7 @@ impl<Word: WordOf<State>, State: BitArray, Backend: Holds<Word, Queue> + Clone> 
         Ok(RangeDecoder {
             bulk,
             state: self.state,
-            point: self.point,
+            distance: self.distance,
         })
     }
 }

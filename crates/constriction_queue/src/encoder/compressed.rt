@@ -1,12 +1,13 @@
 //! The words of an encoder, and how many they are.
 
 ghost use Rattle.std.specs.Prelude.{◌≡◌, ◌↔◌, ◌+◌, ◌*◌, ◌^◌, [], length, map, reverse, IsTrue, IfOk, IfErr};
-ghost use Rattle.constriction_queue.specs.Encoder.{IsEncoder, SizesFit, sealed_by};
-ghost use Rattle.constriction_queue.specs.Calls.{SealRefused};
+ghost use Rattle.constriction_queue.specs.Encoder.{IsEncoder, SizesFit, run_by, sealed_by};
+ghost use Rattle.constriction_queue.specs.SelfDelimiting.{SelfDelimits};
+ghost use Rattle.constriction_queue.specs.Calls.{SealRefused, SelfDelimitingRefused};
 
 use crate::encoder::RangeEncoder;
 use crate::seal::{Seal, sealing, without_first};
-use crate::writing::{owed_count, write_owed};
+use crate::writing::{owed_count, write_owed, write_owed_behind};
 use constriction_base::backends::{BoundedReadWords, Holds, Stack, Words, WriteWords};
 use constriction_words::{BitArray, WordOf};
 use std::marker::Model;
@@ -38,6 +39,51 @@ impl<Word: WordOf<State>, State: BitArray, Backend: WriteWords<Word>> RangeEncod
         } = self;
         let seal = sealing(state, situation);
         match write_owed(&mut bulk, seal.held, seal.point, seal.zero) {
+            Ok(()) => Ok(bulk),
+            Err(refusal) => Err(refusal),
+        }
+    }
+
+    /// Whether the backend may be full: what `maybe_full` of the trait `Encode` answers at each precision.
+    #[inline]
+    pub fn maybe_full(&self) -> bool
+        ensures { result ≡ Backend.seems_full self.now.bulk }
+    {
+        self.bulk.maybe_full()
+    }
+
+    /// The words of the encoder, sealed so that any words may follow them: those written and held, one word of the
+    /// seal, and then the least number of zero words, `State::BITS / Word::BITS - 1` at most, with which all that
+    /// begins with these words is read as the same symbols. It is nothing where no symbol was encoded. Where a state
+    /// is two words, they are the words of [`RangeEncoder::into_compressed`], which in a wider state hold only
+    /// where nothing follows them. It asks the backend for room for all that is missing before it writes.
+    ///
+    /// # Errors
+    ///
+    /// What the backend returns where it has no room for them, or refuses to write one. The encoder is gone
+    /// then.
+    ///
+    /// ```
+    /// let mut words = encoder.into_self_delimited()?; // of a `RangeEncoder<u8, u32>`: [2, 0, 0]
+    /// words.extend_from_slice(&[255, 7])?; // what a container puts behind them
+    /// let mut decoder = RangeDecoder::<u8, u32, _>::from_compressed(words)?;
+    /// decoder.decode_symbol(&table)?; // what was encoded first
+    /// ```
+    pub fn into_self_delimited(self) -> Result<Backend, Backend::WriteError>
+    where
+        Backend: Drop,
+        ensures ok { IfOk result (λ all. SelfDelimits Word.BITS State.BITS (run_by Word.BITS State.BITS self) (reverse (map Word.number (Backend.words all)))) }
+        ensures err { IfErr result (λ e. SelfDelimitingRefused Word.number Backend.words Word.BITS State.BITS
+            Backend.room Backend.makes_room Backend.prepare_fails Backend.write_fails self e) }
+        ensures coder { IsEncoder Word.number Backend.words Word.BITS State.BITS self }
+    {
+        let RangeEncoder {
+            mut bulk,
+            state,
+            situation,
+        } = self;
+        let seal = sealing(state, situation);
+        match write_owed_behind(&mut bulk, seal.held, seal.point, seal.zero, seal.behind) {
             Ok(()) => Ok(bulk),
             Err(refusal) => Err(refusal),
         }

@@ -5,7 +5,7 @@ ghost use Rattle.constriction_base.specs.declared.errors.ReadWriteError.TheVaria
 ghost use Rattle.constriction_queue.specs.Range.{IsAt, start};
 ghost use Rattle.constriction_queue.specs.Encoder.{sealed_by};
 ghost use Rattle.constriction_queue.specs.Decoder.{BeginsOver, IsDecoder};
-ghost use Rattle.constriction_queue.specs.Calls.{SealRefused, NoDecoder};
+ghost use Rattle.constriction_queue.specs.Calls.{SealRefused, NoDecoder, NotBegun};
 
 use crate::decoder::RangeDecoder;
 use crate::encoder::RangeEncoder;
@@ -43,7 +43,7 @@ impl<
         ensures coder { IfOk result (λ decoder. IsDecoder Word.number (⟦<Backend::IntoReadWords as Holds<Word, Queue>>⟧.words) Word.BITS State.BITS decoder) }
         ensures err { IfErr result (NoDecoder
             (SealRefused Word.number (⟦<Backend as Holds<Word, Stack>>⟧.words) Word.BITS State.BITS Backend.room Backend.makes_room Backend.prepare_fails Backend.write_fails self)
-            (⟦<Backend::IntoReadWords as ReadWords<Word, Queue>>⟧.reads)) }
+            (NotBegun Word.number (⟦<Backend as Holds<Word, Stack>>⟧.words) Backend.becomes (⟦<Backend::IntoReadWords as ReadWords<Word, Queue>>⟧.reads) Word.BITS State.BITS self)) }
     {
         let all = match self.into_compressed() {
             Ok(all) => all,
@@ -79,7 +79,7 @@ impl<
 
     ghost fails = { λ encoder error. NoDecoder
         (SealRefused Word.number (⟦<Backend as Holds<Word, Stack>>⟧.words) Word.BITS State.BITS Backend.room Backend.makes_room Backend.prepare_fails Backend.write_fails encoder)
-        (⟦<Backend::IntoReadWords as ReadWords<Word, Queue>>⟧.reads) error };
+        (NotBegun Word.number (⟦<Backend as Holds<Word, Stack>>⟧.words) Backend.becomes (⟦<Backend::IntoReadWords as ReadWords<Word, Queue>>⟧.reads) Word.BITS State.BITS encoder) error };
 
     /// A decoder of the sealed words.
     fn into_decoder(
@@ -111,9 +111,12 @@ impl<
     >;
 
     ghost try_from_gives = { λ encoder result. MatchResult result
-        (λ decoder. ⟦<Backend::IntoReadWords as Holds<Word, Queue>>⟧.is_list → IsAt Word.BITS State.BITS (sealed_by Word.BITS State.BITS encoder) (start State.BITS) decoder.lower decoder.range decoder.point decoder.words)
+        (λ decoder. IsDecoder Word.number (⟦<Backend::IntoReadWords as Holds<Word, Queue>>⟧.words) Word.BITS State.BITS decoder
+        × (⟦<Backend::IntoReadWords as Holds<Word, Queue>>⟧.is_list → IsAt Word.BITS State.BITS (sealed_by Word.BITS State.BITS encoder) (start State.BITS) decoder.lower decoder.range decoder.point decoder.words)
+        × ((all : Backend) × (reverse (map Word.number (⟦<Backend as Holds<Word, Stack>>⟧.words all)) ≡ sealed_by Word.BITS State.BITS encoder)
+        × (first : _) × Backend.becomes all first × BeginsOver Word.number (⟦<Backend::IntoReadWords as ReadWords<Word, Queue>>⟧.reads) Word.BITS State.BITS first decoder))
         (NoDecoder (SealRefused Word.number (⟦<Backend as Holds<Word, Stack>>⟧.words) Word.BITS State.BITS Backend.room Backend.makes_room Backend.prepare_fails Backend.write_fails encoder)
-        (⟦<Backend::IntoReadWords as ReadWords<Word, Queue>>⟧.reads)) };
+        (NotBegun Word.number (⟦<Backend as Holds<Word, Stack>>⟧.words) Backend.becomes (⟦<Backend::IntoReadWords as ReadWords<Word, Queue>>⟧.reads) Word.BITS State.BITS encoder)) };
 
     fn try_from(
         encoder: RangeEncoder<Word, State, Backend>,

@@ -84,6 +84,7 @@ impl<Word: WordOf<State>, State: BitArray, A: Allocator> RangeEncoder<Word, Stat
     >
         ensures same_reference { IfOk result (λ d. (lender d.bulk.buf).ghost_name ≡ self.entry.ghost_name) }
         ensures ok { IfOk result (λ d. IsAt Word.BITS State.BITS (sealed_by Word.BITS State.BITS self.old) (start State.BITS) d.lower d.range d.point d.words) }
+        ensures shows { IfOk result (λ d. reverse (lender d.bulk.buf).now.words ≡ sealed_by Word.BITS State.BITS self.old) }
         ensures back { IfOk result (λ d. drop (written d.bulk.buf) (lender d.bulk.buf).now.words ≡ self.old.words) }
         ensures heads { IfOk result (λ d. HasHeads self.old (lender d.bulk.buf).now) }
         ensures room { OnErr result (⟦<Vec<Word, A> as WriteWords<Word>>⟧.room self.old.bulk + length self.old.words
@@ -95,7 +96,7 @@ impl<Word: WordOf<State>, State: BitArray, A: Allocator> RangeEncoder<Word, Stat
             Ok(point) => Ok(RangeDecoder {
                 bulk,
                 state: RangeCoderState::start(),
-                point,
+                distance: point,
             }),
             Err(never) => match never {},
         }

@@ -1,7 +1,7 @@
 //! The same bits for reading.
 
-ghost use Rattle.constriction_symbol.specs.Bits.{PadsTo};
-ghost use Rattle.std.specs.Prelude.{IfErr, IfOk, [], ◌≡◌};
+ghost use Rattle.constriction_symbol.specs.Bits.{IsQueueWords, PadsTo, bits_of_words};
+ghost use Rattle.std.specs.Prelude.{IfErr, IfOk, [], map, reverse, ◌≡◌};
 
 use crate::coder::{QueueEncoder, StackCoder, SymbolCoder};
 use crate::queue::QueueDecoder;
@@ -23,6 +23,11 @@ impl<
     where
         B: Drop,
         ensures bits { IfOk result (λ decoder. PadsTo Word.BITS self.bits decoder.bits) }
+        ensures last { IfOk result (λ decoder. decoder.last ≡ []) }
+        ensures words { IfOk result (λ decoder. decoder.bits
+            ≡ bits_of_words Word.BITS (map Word.number (⟦<B::IntoReadWords as Holds<Word, Queue>>⟧.words decoder.backend))) }
+        ensures place { IfOk result (λ decoder. (all : B) × IsQueueWords Word.BITS self.bits (map Word.number (reverse (⟦<B as Holds<Word, Stack>>⟧.words all)))
+            × (self.last ≡ [] → all ≡ self.backend) × B.becomes all decoder.backend) }
         ensures err { IfErr result (λ e. (self.last ≡ [] → ⊥) × B.write_fails self.backend e) }
     {
         match self.into_compressed() {
@@ -41,6 +46,11 @@ impl<
     where
         B: Drop,
         ensures bits { IfOk result (λ decoder. PadsTo Word.BITS self.bits decoder.bits) }
+        ensures last { IfOk result (λ decoder. decoder.last ≡ []) }
+        ensures words { IfOk result (λ decoder. decoder.bits
+            ≡ bits_of_words Word.BITS (map Word.number (⟦<B::IntoReadWords as Holds<Word, Queue>>⟧.words decoder.backend))) }
+        ensures place { IfOk result (λ decoder. (all : B) × IsQueueWords Word.BITS self.bits (map Word.number (reverse (⟦<B as Holds<Word, Stack>>⟧.words all)))
+            × (self.last ≡ [] → all ≡ self.backend) × B.becomes all decoder.backend) }
         ensures err { IfErr result (λ e. (self.last ≡ [] → ⊥) × B.write_fails self.backend e) }
     {
         QueueEncoder::into_decoder(self)

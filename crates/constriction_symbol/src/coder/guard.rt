@@ -144,10 +144,11 @@ impl<Word: BitArray, A: Allocator> StackCoder<Word, Vec<Word, A>> {
         ensures shows { IfOk result (λ g. IsStackWords Word.BITS self.old.bits (map Word.number (lender g).now.backend.items)) }
         ensures back { IfOk result (λ g. bits_without Word.BITS Word.number (written g)
             (reverse (lender g).now.backend.items) (lender g).now.last ≡ self.old.bits) }
+        ensures last { IfOk result (λ g. (lender g).now.last ≡ self.old.last) }
         ensures err { OnErr result (LacksEnd Word.BITS self.old.last (vec_capacity self.old.backend - vec_len self.old.backend)) }
         ensures* left { sem 𝓛 (RestsIfErr (the_row Word.row order.the_row (vec.the_row Word.row A.row A.Allocator) Word.NonZero.row Word.BitArray (held.ghosts Word.row A.row Word.NonZero.row Word.BitArray held.no_dict Word.Clone held.no_dict Word.NonZero.Clone held.no_dict A.Allocator held.no_dict held.no_dict))
             self.entry (λ g. (lender g).ghost_name) result
-            (λ after. OnErr result (after.bits ≡ self.old.bits))) }
+            (λ after. OnErr result ((after.bits ≡ self.old.bits) × (after.last ≡ self.old.last)))) }
     {
         let count = self.put_end()?;
         Ok(CoderGuard { inner: self, count })
@@ -171,10 +172,11 @@ impl<Word: BitArray, A: Allocator> QueueEncoder<Word, Vec<Word, A>> {
         ensures shows { IfOk result (λ g. IsQueueWords Word.BITS self.old.bits (map Word.number (lender g).now.backend.items)) }
         ensures back { IfOk result (λ g. bits_without Word.BITS Word.number (written g)
             (reverse (lender g).now.backend.items) (lender g).now.last ≡ self.old.bits) }
+        ensures last { IfOk result (λ g. (lender g).now.last ≡ self.old.last) }
         ensures err { OnErr result ((self.old.last ≡ [] → ⊥) × (vec_capacity self.old.backend ≤ vec_len self.old.backend)) }
         ensures* left { sem 𝓛 (RestsIfErr (the_row Word.row order.the_row (vec.the_row Word.row A.row A.Allocator) Word.NonZero.row Word.BitArray (held.ghosts Word.row A.row Word.NonZero.row Word.BitArray held.no_dict Word.Clone held.no_dict Word.NonZero.Clone held.no_dict A.Allocator held.no_dict held.no_dict))
             self.entry (λ g. (lender g).ghost_name) result
-            (λ after. OnErr result (after.bits ≡ self.old.bits))) }
+            (λ after. OnErr result ((after.bits ≡ self.old.bits) × (after.last ≡ self.old.last)))) }
     {
         let count = self.put_rest()?;
         Ok(CoderGuard { inner: self, count })

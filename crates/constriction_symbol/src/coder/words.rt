@@ -22,7 +22,7 @@ impl<Word: BitArray, B: WriteWords<Word>> StackCoder<Word, B> {
     where
         B: Drop,
         ensures ok { IfOk result (λ all. IsStackWords Word.BITS self.bits (map Word.number (reverse (B.words all)))) }
-        ensures err { IfErr result (λ e. ClosingFails Word.BITS Word.number B.words B.write_fails self.last self.backend e) }
+        ensures err { IfErr result (λ e. ClosingFails Word.BITS Word.number B.words B.room B.write_fails self.last self.backend e) }
     {
         let SymbolCoder {
             mut backend,

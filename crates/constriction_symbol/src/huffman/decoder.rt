@@ -1,38 +1,45 @@
 //! Huffman trees for decoding: from the root to the symbols.
 
 ghost use Rattle.constriction_symbol.specs.Codewords.{BeginsTopBits, GivesBits, StopsWithin};
-ghost use Rattle.constriction_symbol.specs.DecoderTree.{HoldsTree, tree_of_pairs};
+ghost use Rattle.constriction_symbol.specs.Bits.{bits_of};
+ghost use Rattle.constriction_symbol.specs.DecoderTree.{HoldsTree, LeadsTo, tree_of_pairs};
 ghost use Rattle.constriction_symbol.specs.Huffman.{ReadsOnIn, leaves, path};
 ghost use Rattle.constriction_symbol.specs.HuffmanLaws.{inner_begins_none, path_prefix_free, same_path};
 ghost use Rattle.constriction_symbol.specs.Merging.{GivesWeights, LendsWeights, MakeNoTree, MakesTree, RefusesGiven, RefusesLent};
 ghost use Rattle.std.specs.Iterator.{IsFinite, IsFiniteIterable};
-ghost use Rattle.std.specs.Prelude.{Bool, IfErr, IfOk, IfSome, List, OnOk, Some, length, ◌-◌, ◌^◌, ◌≡◌, ◌≤◌};
+ghost use Rattle.std.specs.Prelude.{Bool, IfErr, IfOk, IfSome, List, OnOk, Some, length, reverse, ◌-◌, ◌/◌, ◌<◌, ◌^◌, ◌≡◌, ◌≤◌};
 
 use crate::codebooks::{Codebook, DecoderCodebook};
 use crate::huffman::collecting::{collect_given, collect_lent};
 use crate::huffman::error::HuffmanError;
+use crate::huffman::first_bits::{Place, place_of, places_of};
 use crate::huffman::merging::merged_pairs;
 use crate::taking::{Refusal, next_bit};
 use crate::top_bits::TopBits;
 use constriction_stream::encoding::Lent;
 use constriction_words::BitArray;
-use std::alloc::Global;
+use std::alloc::{AllocError, Global};
 use std::convert::Infallible;
 use std::marker::Model;
 
-/// A Huffman tree for decoding: the codewords of the symbols `0`, `1`, .. of least cost for their weights.
+/// A Huffman tree for decoding: codewords of the symbols `0`, `1`, .. that cost as little as any prefix-free ones for their weights.
 ///
 /// Contracts see it as a tree, whose leaves are the symbols. A symbol's codeword is the path to it from the root.
-#[derive(Debug, Clone, Drop)]
+#[derive(Debug, Drop)]
 pub struct DecoderHuffmanTree {
     /// The children of each node that is no leaf, the root last: a symbol, or the number of symbols and which node.
     nodes: Vec<[usize; 2]>,
+    /// Where the bits of each number below its highest one lead, the first one highest.
+    places: Vec<Place>,
+    /// How many bits have a place.
+    most: u32,
 }
 
 impl Model for DecoderHuffmanTree {
-    ghost use Rattle.constriction_symbol.specs.DecoderTree.{HoldsTree, tree_of_pairs};
+    ghost use Rattle.constriction_symbol.specs.DecoderTree.{HasPlaces, HoldsTree, tree_of_pairs};
     ghost use Rattle.constriction_symbol.specs.Huffman.{Tree};
     ghost use Rattle.constriction_symbol.specs.TreeCode.{tree_code};
+    ghost use Rattle.std.specs.Prelude.{length, ◌+◌, ◌<◌, ◌^◌, ◌≡◌, ◌≤◌};
 
     ghost Value = { Tree };
 
@@ -40,7 +47,25 @@ impl Model for DecoderHuffmanTree {
 
     ghost view = { λ t. tree_of_pairs t.nodes.items };
 
-    ghost invariant = { λ t. HoldsTree t.nodes.items (tree_of_pairs t.nodes.items) };
+    ghost invariant = { λ t. HoldsTree t.nodes.items (tree_of_pairs t.nodes.items) × HasPlaces t.nodes.items t.places.items
+        × (0 < t.most) × (t.most ≤ 9) × (length t.places.items ≡ 2 ^ (t.most + 1)) };
+}
+
+impl Clone for DecoderHuffmanTree {
+    ghost is_clone = { λ old new. new ≡ old };
+
+    ghost is_infallible = { λ _. ⊥ };
+
+    /// The same tree.
+    fn clone(&self) -> Result<Self, AllocError> {
+        let nodes = self.nodes.clone()?;
+        let places = self.places.clone()?;
+        Ok(DecoderHuffmanTree {
+            nodes,
+            places,
+            most: self.most,
+        })
+    }
 }
 
 /// The tree of these weights.
@@ -51,10 +76,13 @@ fn tree_of<P: BitArray, E>(
     ensures ok { IfOk result (λ tree. MakesTree P.number P.BITS (2 ^ 63 - 1) weights.now tree) }
     ensures err { IfErr result (λ e. MakeNoTree P.number P.BITS (2 ^ 63 - 1) weights.now e) }
 {
-    match merged_pairs(alloc, weights, usize::MAX / 2) {
-        Ok(nodes) => Ok(DecoderHuffmanTree { nodes }),
-        Err(error) => Err(error),
-    }
+    let nodes = merged_pairs(alloc, weights, usize::MAX / 2)?;
+    let (places, most) = places_of(alloc, &nodes)?;
+    Ok(DecoderHuffmanTree {
+        nodes,
+        places,
+        most,
+    })
 }
 
 impl DecoderHuffmanTree {
@@ -165,7 +193,14 @@ impl DecoderCodebook for DecoderHuffmanTree {
     /// The symbol whose codeword the highest bits of a word begin with, where it has some bits and fewer than `count`.
     #[inline]
     fn symbol_at_once<Word: BitArray>(&self, bits: Word, count: u32) -> Option<(usize, u32)> {
-        walk_at_once(&self.nodes, bits, count)
+        let place = place_of(&self.places, self.most, bits);
+        if place.taken == 0 || place.taken >= count {
+            return None;
+        }
+        if place.index <= self.nodes.len() {
+            return Some((place.index, place.taken));
+        }
+        walk_on(&self.nodes, bits, count, place)
     }
 }
 
@@ -193,33 +228,31 @@ fn walk<V, E, I: Iterator<Item = Result<bool, E>>>(
     Ok(index)
 }
 
-/// Takes the highest bits of a word from the root of a tree down to a symbol, and returns it with their count. `None` where
-/// there are none, or not fewer than `count`.
+/// Takes the highest bits of a word down to a symbol, from where the first of them lead, and returns it with their count.
+/// `None` where they are not fewer than `count`.
 #[inline]
-fn walk_at_once<Word: BitArray>(
+fn walk_on<Word: BitArray>(
     nodes: &[[usize; 2]],
     bits: Word,
     count: u32,
+    place: Place,
 ) -> Option<(usize, u32)>
     requires tree { HoldsTree nodes.now (tree_of_pairs nodes.now) }
     requires within { count ≤ Word.BITS }
+    requires some { 0 < place.taken }
+    requires part { place.taken < count }
+    requires place { LeadsTo nodes.now (reverse (bits_of place.taken (Word.number bits / 2 ^ (Word.BITS - place.taken)))) place.index }
     ensures { IfSome result (λ found. BeginsTopBits Word.BITS count (Word.number bits) (path (tree_of_pairs nodes.now) found.0) found.1) }
 {
-    if count == 0 {
-        return None;
-    }
     let symbols = nodes.len() + 1;
-    let mut index = 2 * nodes.len();
+    let mut index = place.index;
     let mut rest = TopBits::all(bits);
+    rest.drop_last(place.taken);
     'walk: while symbols <= index {
         if rest.room() >= count - 1 {
             return None;
         }
         index = nodes[index - symbols][rest.pop() as usize];
     }
-    let taken = rest.room();
-    if taken == 0 {
-        return None;
-    }
-    Some((index, taken))
+    Some((index, rest.room()))
 }

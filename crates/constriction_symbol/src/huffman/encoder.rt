@@ -22,7 +22,7 @@ use std::alloc::{AllocError, Global};
 use std::convert::Infallible;
 use std::marker::Model;
 
-/// A Huffman tree for encoding: the codewords of the symbols `0`, `1`, .. of least cost for their weights.
+/// A Huffman tree for encoding: codewords of the symbols `0`, `1`, .. that cost as little as any prefix-free ones for their weights.
 ///
 /// Contracts see it as a tree, whose leaves are the symbols. A symbol's codeword is the path to it from the root.
 #[derive(Debug, Clone, Drop)]

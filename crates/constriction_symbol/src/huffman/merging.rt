@@ -1,16 +1,16 @@
 //! Merging a set of weights, the two least at a time.
 
 ghost use Rattle.constriction_symbol.specs.Huffman.{IsPairLe, keys_from};
-ghost use Rattle.constriction_symbol.specs.Merging.{ArePairs, FitTree, MakeNoTree, set_of};
-ghost use Rattle.std.specs.BinaryHeap.{IsHeap, heap_items, heap_len};
-ghost use Rattle.std.specs.Prelude.{All, IfErr, IfNone, IfOk, IfSome, IsPermutation, IsTrue, OnOk, OnSome, length, map, sum_by, ◌*◌, ◌+◌, ◌<◌, ◌^◌, ◌↔◌, ◌∷◌, ◌≡◌, ◌≤◌};
+ghost use Rattle.constriction_symbol.specs.Merging.{ArePairs, FitTree, MakeNoTree, keys_of};
+ghost use Rattle.constriction_symbol.specs.Queues.{AreQueues, AreRising};
+ghost use Rattle.std.specs.VecDeque.{deque_len};
+ghost use Rattle.std.specs.Prelude.{All, IfErr, IfNone, IfOk, IfSome, IsPermutation, IsTrue, OnOk, OnSome, length, map, sum_by, ◌*◌, ◌+◌, ◌++◌, ◌<◌, ◌^◌, ◌↔◌, ◌∷◌, ◌≡◌, ◌≤◌};
 
 use crate::huffman::error::HuffmanError;
 use crate::huffman::weighed::Weighed;
 use constriction_words::BitArray;
 use std::alloc::{AllocError, Global};
-use std::cmp::Reverse;
-use std::collections::BinaryHeap;
+use std::collections::VecDeque;
 
 /// Whether the sum of the weights fits their type.
 fn total_fits<P: BitArray>(weights: &[P]) -> bool
@@ -26,55 +26,48 @@ fn total_fits<P: BitArray>(weights: &[P]) -> bool
     true
 }
 
-/// Takes out the least of a set.
-fn pop_least<P: BitArray>(set: &mut BinaryHeap<Reverse<Weighed<P>>>) -> Option<Weighed<P>>
-    requires { IsHeap ⟦<Reverse<Weighed<P>> as Ord>⟧.cmp (heap_items set.old) }
-    ensures heap { IsHeap ⟦<Reverse<Weighed<P>> as Ord>⟧.cmp (heap_items set.new) }
-    ensures none { IfNone result (heap_len set.old ≡ 0) }
-    ensures len { OnSome result (heap_len set.new + 1 ≡ heap_len set.old) }
-    ensures rest { IfSome result (λ x. IsPermutation (set_of P.number (heap_items set.old)) ((P.number x.weight, x.index) ∷ set_of P.number (heap_items set.new))) }
-    ensures least { IfSome result (λ x. All (IsPairLe (P.number x.weight, x.index)) (set_of P.number (heap_items set.old))) }
-{
-    match set.pop() {
-        Some(least) => Some(least.0),
-        None => None,
-    }
-}
-
-/// Puts one more into a set.
-fn put<P: BitArray>(
-    set: &mut BinaryHeap<Reverse<Weighed<P>>>,
-    weighed: Weighed<P>,
-) -> Result<(), AllocError>
-    requires { IsHeap ⟦<Reverse<Weighed<P>> as Ord>⟧.cmp (heap_items set.old) }
-    ensures heap { OnOk result (IsHeap ⟦<Reverse<Weighed<P>> as Ord>⟧.cmp (heap_items set.new)) }
-    ensures len { OnOk result (heap_len set.new ≡ heap_len set.old + 1) }
-    ensures rest { OnOk result (IsPermutation ((P.number weighed.weight, weighed.index) ∷ set_of P.number (heap_items set.old)) (set_of P.number (heap_items set.new))) }
-{
-    set.push(Reverse(weighed))?;
-    Ok(())
-}
-
-/// The set of the weights with their indices.
-fn set_from<P: BitArray>(
+/// The weights with their indices, in order.
+fn sorted_leaves<P: BitArray>(
     alloc: Global,
     weights: &[P],
-) -> Result<BinaryHeap<Reverse<Weighed<P>>>, AllocError>
-    ensures heap { IfOk result (λ set. IsHeap ⟦<Reverse<Weighed<P>> as Ord>⟧.cmp (heap_items set)) }
-    ensures len { IfOk result (λ set. heap_len set ≡ length weights.now) }
-    ensures items { IfOk result (λ set. IsPermutation (keys_from 0 (map P.number weights.now)) (set_of P.number (heap_items set))) }
+) -> Result<VecDeque<Weighed<P>>, AllocError>
+    ensures rise { IfOk result (λ leaves. AreRising (keys_of P.number leaves.items)) }
+    ensures items { IfOk result (λ leaves. IsPermutation (keys_from 0 (map P.number weights.now)) (keys_of P.number leaves.items)) }
 {
-    let mut set = BinaryHeap::with_capacity(alloc, weights.len())?;
+    let mut leaves = Vec::with_capacity(alloc, weights.len())?;
     for (index, weight) in weights.iter().enumerate() {
-        put(
-            &mut set,
-            Weighed {
-                weight: *weight,
-                index,
-            },
-        )?;
+        leaves.push(Weighed {
+            weight: *weight,
+            index,
+        })?;
     }
-    Ok(set)
+    leaves.sort_unstable();
+    Ok(VecDeque::from_vec(leaves))
+}
+
+/// Takes out the least of both queues. Where a leaf and a union weigh as much, it is the leaf.
+fn take_least<P: BitArray>(
+    leaves: &mut VecDeque<Weighed<P>>,
+    unions: &mut VecDeque<Weighed<P>>,
+) -> Option<Weighed<P>>
+    requires { (n : _) × AreQueues n (keys_of P.number leaves.old.items) (keys_of P.number unions.old.items) }
+    ensures queues { (n : _) → AreQueues n (keys_of P.number leaves.old.items) (keys_of P.number unions.old.items) → AreQueues n (keys_of P.number leaves.new.items) (keys_of P.number unions.new.items) }
+    ensures none { IfNone result (deque_len leaves.old + deque_len unions.old ≡ 0) }
+    ensures len { OnSome result (deque_len leaves.new + deque_len unions.new + 1 ≡ deque_len leaves.old + deque_len unions.old) }
+    ensures rest { IfSome result (λ x. IsPermutation (keys_of P.number leaves.old.items ++ keys_of P.number unions.old.items) ((P.number x.weight, x.index) ∷ (keys_of P.number leaves.new.items ++ keys_of P.number unions.new.items))) }
+    ensures least { IfSome result (λ x. All (IsPairLe (P.number x.weight, x.index)) (keys_of P.number leaves.old.items ++ keys_of P.number unions.old.items)) }
+{
+    let Some(leaf) = leaves.front() else {
+        return unions.pop_front();
+    };
+    let Some(union) = unions.front() else {
+        return leaves.pop_front();
+    };
+    if union.weight.is_below(leaf.weight) {
+        unions.pop_front()
+    } else {
+        leaves.pop_front()
+    }
 }
 
 /// The pairs of indices that merging these weights merges, in order, until one is left.
@@ -84,20 +77,18 @@ fn merge_all<P: BitArray>(alloc: Global, weights: &[P]) -> Result<Vec<[usize; 2]
     requires indices { 2 * length weights.now < 2 ^ 64 }
     ensures { IfOk result (λ pairs. ArePairs (map P.number weights.now) pairs.items) }
 {
-    let mut set = set_from(alloc, weights)?;
+    let mut leaves = sorted_leaves(alloc, weights)?;
+    let mut unions = VecDeque::with_capacity(alloc, weights.len() - 1)?;
     let mut pairs = Vec::with_capacity(alloc, weights.len() - 1)?;
     let mut next = weights.len();
-    while let Some(lesser) = pop_least(&mut set) {
-        let Some(other) = pop_least(&mut set) else {
+    while let Some(lesser) = take_least(&mut leaves, &mut unions) {
+        let Some(other) = take_least(&mut leaves, &mut unions) else {
             return Ok(pairs);
         };
-        put(
-            &mut set,
-            Weighed {
-                weight: lesser.weight.plus(other.weight),
-                index: next,
-            },
-        )?;
+        unions.push_back(Weighed {
+            weight: lesser.weight.plus(other.weight),
+            index: next,
+        })?;
         pairs.push([lesser.index, other.index])?;
         next += 1;
     }

@@ -3,6 +3,7 @@ use Rattle.std.proofs.lemmas.List.{length-map}
 use Rattle.constriction_base.specs.Windows.{IsInWindow}
 use Rattle.constriction_chain.specs.Chain.{least}
 use Rattle.constriction_chain.proofs.Chains.{coder_of, encode_of, state_same}
+use Rattle.constriction_chain.proofs.Moving.{none_left}
 use Rattle.constriction_chain.proofs.Sizes.{placed}
 use Rattle.constriction_chain.proofs.halves.give.Goals as goal
 
@@ -35,6 +36,7 @@ returns-in-Err g c =
         r = refl;
         compressed = words;
         why = inl (refused.1, state_same _ _ refl refl words refl, refl);
+        room_left = refused.2;
       };
     })
 
@@ -45,19 +47,22 @@ returns-in-Ok-None g c =
     let parts = c.requires in
     let refused = rw (c.in-Ok-None.field-0-is, c.widen-p.ensures) at c.in-Ok-None.ensures in
     let words = ap (λ (ws : List _). map number ws) c.prepare_for_quantile.ensures.words in
+    let asked = c.in_default.ensures.ok in
     (record {
       before = coder_of _ _ _ number law g.C.Holds.words g.R.Holds.words _ _ _ _ parts.sized parts.head (law _) parts.window;
       after = coder_of _ _ _ number law g.C.Holds.words g.R.Holds.words _ _ _ _ parts.sized parts.head (law _) parts.window;
-      outcome = (
-        refused.0,
-        refused.1,
-        record {
+      outcome = record {
+        short = refused.0;
+        answered = refused.1;
+        stays = record {
           h = refl;
           r = refl;
           others = words;
           all = λ list. state_same _ _ refl refl words (ap (λ (ws : List _). map number ws) (refused.2 list));
-        },
-      );
+        };
+        room_left = asked.3;
+        roomy = asked.0;
+      };
     })
 
 pub returns-in-Err-regain : goal.returns-in-Err-regain
@@ -67,19 +72,22 @@ returns-in-Err-regain g c =
     let parts = c.requires in
     let refused = rw (c.widen-p.ensures) at c.in-Err-regain.ensures in
     let words = ap (λ (ws : List _). map number ws) c.prepare_for_quantile.ensures.words in
+    let asked = c.in_default.ensures.ok in
     (record {
       before = coder_of _ _ _ number law g.C.Holds.words g.R.Holds.words _ _ _ _ parts.sized parts.head (law _) parts.window;
       after = coder_of _ _ _ number law g.C.Holds.words g.R.Holds.words _ _ _ _ parts.sized parts.head (law _) parts.window;
-      outcome = (
-        refused.0,
-        refused.1,
-        record {
+      outcome = record {
+        short = refused.0;
+        answered = refused.1;
+        stays = record {
           h = refl;
           r = refl;
           others = words;
           all = λ list. state_same _ _ refl refl words (ap (λ (ws : List _). map number ws) (refused.2 list));
-        },
-      );
+        };
+        room_left = asked.3;
+        roomy = asked.0;
+      };
     })
 
 pub returns-in-Ok : goal.returns-in-Ok
@@ -127,5 +135,6 @@ returns-in-Err-give_quantile g c =
         r = refl;
         compressed = ap (λ (ws : List _). map number ws) (c.in-Err-give_quantile.ensures.kept ∙ c.prepare_for_quantile.ensures.words);
         why = inr (λ m. g.met.C.WriteWords.room_law _ _ (asked.0 m refused.0) refused.1, asked.1 _ refused.1, (_, found.0));
+        room_left = (let none = none_left (g.C.WriteWords.room c.prepare_for_quantile.new.compressed) (λ some. g.met.C.WriteWords.room_law _ _ some refused.1) in omega (arith, none, asked.3));
       };
     })

@@ -4,9 +4,11 @@ use Rattle.constriction_chain.proofs.halves.keep.Goals as goal
 pub returns-in-Ok : goal.returns-in-Ok
 returns-in-Ok g c =
     let gain = rw (c.widen-t.ensures, c.minus.ensures, c.widen.ensures) at c.in-Ok.ensures.ok in
+    let untouched = rw (c.widen-t.ensures, c.minus.ensures, c.widen.ensures) at c.in-Ok.ensures.untouched in
     record {
       window = c.in-Ok.ensures.window;
       gain = gain;
+      untouched = untouched;
       room_used = rw (length-map, length-map) c.in-Ok.ensures.room;
     }
 

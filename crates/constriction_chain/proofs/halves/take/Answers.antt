@@ -11,5 +11,5 @@ returns g c =
     let after = coder_of _ _ _ number law g.C.Holds.words g.R.Holds.words _ _ c.take_quantile.new.compressed c.take_quantile.new.remainders parts.sized parts.some (law _) parts.window in
     mapped _ _ _ _ c.take_quantile.result
     (λ found taken. took_of number _ _ _ _ _ _ _ _ _ _ _ _ _ _ _ _ _ _ before taken)
-    (λ e halts. halted_of number _ _ _ _ _ _ _ _ _ _ _ _ _ _ e before after halts)
+    (λ e halts. halted_of number _ _ _ _ _ _ _ _ _ _ _ _ _ _ _ _ e before after halts)
     (rw parts.is at c.take_quantile.ensures)

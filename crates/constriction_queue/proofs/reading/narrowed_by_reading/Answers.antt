@@ -1,8 +1,9 @@
-use Rattle.std.proofs.Common.{arith, inl, inr}
+use Rattle.std.proofs.Common.{◌≡◌, ◌+◌, ◌%◌, ◌^◌, arith, inl, inr, pow_pos}
 use Rattle.constriction_queue.specs.Range.{cut}
 use Rattle.constriction_queue.proofs.Fits.{cut_wide}
 use Rattle.constriction_queue.proofs.Parts.{before_fits}
-use Rattle.constriction_queue.proofs.Pointing.{at_cut, part_fits}
+use Rattle.constriction_queue.proofs.Pointing.{at_cut, part_fits, scale_some}
+use Rattle.constriction_queue.proofs.Distances.{part_below, part_from, point_stays}
 use Rattle.constriction_queue.proofs.reading.narrowed_by_reading.Goals as goal
 
 pub refilled-requires-clause-wide : goal.refilled-requires-clause-wide
@@ -13,15 +14,23 @@ refilled-requires-clause-wide g c =
 pub returns-in-Ok-clause-list : goal.returns-in-Ok-clause-list
 returns-in-Ok-clause-list g c list ws r h =
     let scale = c.shifted_right-scale.ensures in
-    let lower = rw c.times.ensures at c.wrapping_plus-start.ensures in
-    c.in-Ok.ensures.list list ws (cut _ r) (at_cut _ _ _ _ _ ws r _ _ _ _ _ _ _ scale lower c.times-part.ensures h)
+    let lower = rw c.times-before.ensures at c.wrapping_plus-start.ensures in
+    let some = scale_some g.Word.BitArray.BITS g.State.BitArray.BITS c.args.precision _ c.requires.step.within_word c.requires.sizes.two_words c.requires.wide in
+    let before = part_from (g.State.BitArray.number c.args.distance) _ (g.State.BitArray.number c.args.left) some c.requires.from in
+    let stays : (g.State.BitArray.number c.minus.result + g.State.BitArray.number c.wrapping_plus-start.result) % 2 ^ g.State.BitArray.BITS ≡ (g.State.BitArray.number c.args.distance + g.State.BitArray.number c.args.lower) % 2 ^ g.State.BitArray.BITS =
+    rw (c.minus.ensures, lower, c.times-before.ensures, scale) (point_stays (g.State.BitArray.number c.args.distance) (g.State.BitArray.number c.args.lower) _ (2 ^ g.State.BitArray.BITS) (pow_pos g.State.BitArray.BITS) before) in
+    (rw stays at c.in-Ok.ensures.list) list ws (cut _ r) (at_cut _ _ _ _ _ ws r _ _ _ _ _ _ _ scale lower c.times-part.ensures h)
 
 pub returns-in-Ok-clause-reads : goal.returns-in-Ok-clause-reads
 returns-in-Ok-clause-reads g c =
     let scale = c.shifted_right-scale.ensures in
-    let lower = rw c.times.ensures at c.wrapping_plus-start.ensures in
+    let lower = rw c.times-before.ensures at c.wrapping_plus-start.ensures in
+    let some = scale_some g.Word.BitArray.BITS g.State.BitArray.BITS c.args.precision _ c.requires.step.within_word c.requires.sizes.two_words c.requires.wide in
+    let before = part_from (g.State.BitArray.number c.args.distance) _ (g.State.BitArray.number c.args.left) some c.requires.from in
+    let stays : (g.State.BitArray.number c.minus.result + g.State.BitArray.number c.wrapping_plus-start.result) % 2 ^ g.State.BitArray.BITS ≡ (g.State.BitArray.number c.args.distance + g.State.BitArray.number c.args.lower) % 2 ^ g.State.BitArray.BITS =
+    rw (c.minus.ensures, lower, c.times-before.ensures, scale) (point_stays (g.State.BitArray.number c.args.distance) (g.State.BitArray.number c.args.lower) _ (2 ^ g.State.BitArray.BITS) (pow_pos g.State.BitArray.BITS) before) in
     let range = rw scale at c.times-part.ensures in
-    let reads = c.in-Ok.ensures.reads in
+    let reads = rw stays at c.in-Ok.ensures.reads in
     elim reads [
       | inl read ↦ inl (
         rw range at read.0,
@@ -40,8 +49,8 @@ shifted_right-scale-requires g c = omega (arith, c.requires.step.within_word, c.
 pub times-part-requires : goal.times-part-requires
 times-part-requires g c = part_fits _ _ _ _ _ _ c.shifted_right-scale.ensures c.requires.step.inside (g.met.State.BitArray.number_law _)
 
-pub times-requires : goal.times-requires
-times-requires g c = before_fits _ _ _ _ _ _ c.shifted_right-scale.ensures c.requires.step.inside (g.met.State.BitArray.number_law _)
+pub times-before-requires : goal.times-before-requires
+times-before-requires g c = before_fits _ _ _ _ _ _ c.shifted_right-scale.ensures c.requires.step.inside (g.met.State.BitArray.number_law _)
 
 pub refilled-requires-clause-sized : goal.refilled-requires-clause-sized
 refilled-requires-clause-sized g c = c.requires.sizes.two_words
@@ -54,3 +63,13 @@ returns-in-Err-clause-kept g c = λ list. c.in-Err.ensures.kept list
 
 pub returns-in-Err-clause-err : goal.returns-in-Err-clause-err
 returns-in-Err-clause-err g c = (rw (c.times-part.ensures, c.shifted_right-scale.ensures) at c.in-Err.ensures.err.0, c.in-Err.ensures.err.1)
+
+pub minus-requires : goal.minus-requires
+minus-requires g c =
+    let some = scale_some g.Word.BitArray.BITS g.State.BitArray.BITS c.args.precision _ c.requires.step.within_word c.requires.sizes.two_words c.requires.wide in
+    rw (c.times-before.ensures, c.shifted_right-scale.ensures) (part_from (g.State.BitArray.number c.args.distance) _ (g.State.BitArray.number c.args.left) some c.requires.from)
+
+pub refilled-requires-clause-inside : goal.refilled-requires-clause-inside
+refilled-requires-clause-inside g c =
+    let some = scale_some g.Word.BitArray.BITS g.State.BitArray.BITS c.args.precision _ c.requires.step.within_word c.requires.sizes.two_words c.requires.wide in
+    rw (c.minus.ensures, c.times-before.ensures, c.times-part.ensures, c.shifted_right-scale.ensures) (part_below (g.State.BitArray.number c.args.distance) _ (g.State.BitArray.number c.args.left) (g.State.BitArray.number c.args.p) some c.requires.from c.requires.below)

@@ -1,7 +1,8 @@
-use Rattle.std.proofs.Common.{◌∷◌, arith, refl, ◌∙◌, sym, inl, inr}
+use Rattle.std.proofs.Common.{◌≡◌, ◌+◌, ◌-◌, ◌*◌, ◌%◌, ◌^◌, ◌∷◌, pow_pos, arith, refl, ◌∙◌, sym, inl, inr}
 use Rattle.constriction_base.proofs.Heads.{large_of_shr, small_of_shr}
 use Rattle.constriction_queue.proofs.Parts.{lower_fits, range_fits}
-use Rattle.constriction_queue.proofs.Pointing.{at_long, at_short, point_room}
+use Rattle.constriction_queue.proofs.Pointing.{at_long, at_short}
+use Rattle.constriction_queue.proofs.Distances.{point_shifted, room_for_word}
 use Rattle.constriction_queue.proofs.reading.refilled.Goals as goal
 
 pub returns-then-not-is_nothing-clause-wide : goal.returns-then-not-is_nothing-clause-wide
@@ -22,12 +23,17 @@ shifted_left-range-requires-clause-fits g c =
 
 pub shifted_left-requires-clause-fits : goal.shifted_left-requires-clause-fits
 shifted_left-requires-clause-fits g c =
-    rw (c.low_bits-2.ensures, c.BITS.ensures, c.BITS-2.ensures, c.BITS-5.ensures) (lower_fits _ _ _ (omega arith))
+    let is = rw (c.BITS.ensures, c.BITS-2.ensures) at c.shifted_right.ensures in
+    let short = small_of_shr _ _ (sym is ∙ c.if-not-is_nothing.ensures.0 refl) in
+    let room = room_for_word g.Word.BitArray.BITS g.State.BitArray.BITS (g.State.BitArray.number c.args.distance) 0 (omega arith) (omega (arith, short, c.requires.inside)) (pow_pos g.Word.BitArray.BITS) in
+    rw c.BITS-5.ensures (omega (arith, room))
 
-pub plus-point-requires : goal.plus-point-requires
-plus-point-requires g c =
-    rw (c.shifted_left.ensures, c.low_bits-2.ensures, c.BITS.ensures, c.BITS-2.ensures, c.BITS-5.ensures, c.widen.ensures)
-    (point_room g.Word.BitArray.BITS g.State.BitArray.BITS _ _ (omega arith) (g.met.Word.BitArray.number_law _))
+pub plus-distance-requires : goal.plus-distance-requires
+plus-distance-requires g c =
+    let is = rw (c.BITS.ensures, c.BITS-2.ensures) at c.shifted_right.ensures in
+    let short = small_of_shr _ _ (sym is ∙ c.if-not-is_nothing.ensures.0 refl) in
+    rw (c.shifted_left.ensures, c.BITS-5.ensures, c.widen.ensures)
+    (room_for_word g.Word.BitArray.BITS g.State.BitArray.BITS (g.State.BitArray.number c.args.distance) _ (omega arith) (omega (arith, short, c.requires.inside)) (g.met.Word.BitArray.number_law _))
 
 pub returns-then-not-is_nothing-clause-list : goal.returns-then-not-is_nothing-clause-list
 returns-then-not-is_nothing-clause-list g c list ws r h =
@@ -41,7 +47,10 @@ returns-clause-list g c list ws r h =
     let short = small_of_shr _ _ (sym is ∙ c.if-not-is_nothing.ensures.0 refl) in
     let lower = rw (c.low_bits.ensures, c.BITS.ensures, c.BITS-2.ensures, c.BITS-3.ensures) at c.shifted_left-lower.ensures in
     let range = rw c.BITS-4.ensures at c.shifted_left-range.ensures in
-    let point = rw (c.shifted_left.ensures, c.low_bits-2.ensures, c.BITS.ensures, c.BITS-2.ensures, c.BITS-5.ensures, c.widen.ensures) at c.plus-point.ensures in
+    let distance = rw (c.shifted_left.ensures, c.BITS-5.ensures, c.widen.ensures) at c.plus-distance.ensures in
+    let point : (g.State.BitArray.number c.plus-distance.result + g.State.BitArray.number c.shifted_left-lower.result) % 2 ^ g.State.BitArray.BITS
+    ≡ (g.State.BitArray.number c.args.distance + g.State.BitArray.number c.args.lower) % 2 ^ g.State.BitArray.BITS % 2 ^ (g.State.BitArray.BITS - g.Word.BitArray.BITS) * 2 ^ g.Word.BitArray.BITS + g.Word.BitArray.number c.in-Ok.word =
+    rw (distance, lower) (point_shifted g.Word.BitArray.BITS g.State.BitArray.BITS (g.State.BitArray.number c.args.distance) (g.State.BitArray.number c.args.lower) _ (omega arith) (g.met.Word.BitArray.number_law c.in-Ok.word)) in
     at_short _ _ ws r _ _ _ _ _ _ _ _ _ (omega arith) (g.met.Word.BitArray.number_law _) short lower range point (c.in-Ok.ensures.word list) (c.in-Ok.ensures.rest list) h
 
 pub returns-then-not-is_nothing-clause-reads : goal.returns-then-not-is_nothing-clause-reads
@@ -56,7 +65,10 @@ returns-clause-reads g c =
     let short = small_of_shr _ _ (sym is ∙ c.if-not-is_nothing.ensures.0 refl) in
     let lower = rw (c.low_bits.ensures, c.BITS.ensures, c.BITS-2.ensures, c.BITS-3.ensures) at c.shifted_left-lower.ensures in
     let range = rw c.BITS-4.ensures at c.shifted_left-range.ensures in
-    let point = rw (c.shifted_left.ensures, c.low_bits-2.ensures, c.BITS.ensures, c.BITS-2.ensures, c.BITS-5.ensures, c.widen.ensures) at c.plus-point.ensures in
+    let distance = rw (c.shifted_left.ensures, c.BITS-5.ensures, c.widen.ensures) at c.plus-distance.ensures in
+    let point : (g.State.BitArray.number c.plus-distance.result + g.State.BitArray.number c.shifted_left-lower.result) % 2 ^ g.State.BitArray.BITS
+    ≡ (g.State.BitArray.number c.args.distance + g.State.BitArray.number c.args.lower) % 2 ^ g.State.BitArray.BITS % 2 ^ (g.State.BitArray.BITS - g.Word.BitArray.BITS) * 2 ^ g.Word.BitArray.BITS + g.Word.BitArray.number c.in-Ok.word =
+    rw (distance, lower) (point_shifted g.Word.BitArray.BITS g.State.BitArray.BITS (g.State.BitArray.number c.args.distance) (g.State.BitArray.number c.args.lower) _ (omega arith) (g.met.Word.BitArray.number_law c.in-Ok.word)) in
     inl (
       short,
       (

@@ -13,6 +13,6 @@ returns g c =
     MatchResult-weaker c.encode_iid_symbols.result e.5
     (λ _ p.
     let all = items_from_drains e.2 (p.1.1.0, p.1.1.1, λ _. (p.1.0, p.1.1.2)) (YieldsList-from_slice c.args.symbols.now e.1.0) in
-    let written = written_first bits g.W.WriteBitStream.bit_fails _ (λ x. code x.now) e.2 c.args.stream.now e.3 e.4 in
+    let written = written_first bits g.W.WriteBitStream.puts _ (λ x. code x.now) e.2 c.args.stream.now e.3 e.4 in
     (written.0, subst (λ xs. AreCodewords code xs written.0) all (codewords_map (λ x. x.now) code e.2 written.0 written.1), sym (ap bits p.0) ∙ written.2))
     (λ _ _. tt)

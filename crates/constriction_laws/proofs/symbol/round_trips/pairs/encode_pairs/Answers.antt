@@ -20,6 +20,6 @@ returns g c =
     MatchResult-weaker c.encode_symbols.result e.5
     (λ _ p.
     let all = all_pairs e.0 e.2 p.1 ∙ ap₂ (λ xs ks. zip xs ks) first second in
-    let written = written_first bits g.W.WriteBitStream.bit_fails _ (λ q. codeword q.1.now q.0.now) e.2 c.args.stream.now e.3 e.4 in
+    let written = written_first bits g.W.WriteBitStream.puts _ (λ q. codeword q.1.now q.0.now) e.2 c.args.stream.now e.3 e.4 in
     (written.0, subst (λ ps. AreCodewords (λ q. codeword q.1 q.0) ps written.0) all (codewords_map both_now (λ q. codeword q.1 q.0) e.2 written.0 written.1), sym (ap bits p.0) ∙ written.2))
     (λ _ _. tt)

@@ -1,7 +1,7 @@
-use Rattle.std.proofs.Common.{refl}
+use Rattle.std.proofs.Common.{mod-lt, pow_pos, refl}
 use Rattle.constriction_queue.proofs.Decoders.{is_decoder}
 use Rattle.constriction_queue.proofs.decoder.symbols.RangeDecoderCode.state.Goals as goal
 
 pub returns : goal.returns
 returns g c =
-    rw (← c.self.view_is) (refl, refl, is_decoder g.Word.BitArray.number g.Backend.Holds.words _ _ _ _ _ _ c.self.invariant c.self.inside.state.wide (g.met.State.BitArray.number_law _) (g.met.State.BitArray.number_law _) (g.met.State.BitArray.number_law _))
+    rw (← c.self.view_is) (refl, refl, is_decoder g.Word.BitArray.number g.Backend.Holds.words _ _ _ _ _ _ c.self.invariant c.self.inside.state.wide (g.met.State.BitArray.number_law _) (g.met.State.BitArray.number_law _) (mod-lt _ (pow_pos g.State.BitArray.BITS)))

@@ -1,8 +1,9 @@
 use Rattle.std.specs.Prelude.{Ok, Err}
-use Rattle.std.proofs.Common.{arith, refl, ◌∙◌, sym, inl, inr}
+use Rattle.std.proofs.Common.{◌≡◌, ◌+◌, ◌-◌, ◌/◌, ◌%◌, ◌^◌, mod-lt, pow_pos, arith, refl, ◌∙◌, sym, inl, inr}
 use Rattle.constriction_base.proofs.Heads.{large_of_shr, small_of_shr}
 use Rattle.constriction_base.proofs.Entering.{entry_is_step}
 use Rattle.constriction_queue.proofs.Decoders.{is_decoder}
+use Rattle.constriction_queue.proofs.Distances.{distance_of}
 use Rattle.constriction_queue.proofs.Pointing.{low_in_word}
 use Rattle.constriction_queue.proofs.decoder.symbols.RangeDecoderDecode.decode_symbol.Goals as goal
 
@@ -16,19 +17,34 @@ narrowed_by_reading-requires-clause-step g c =
 
 pub returns-then-not-is_nothing-clause-step : goal.returns-then-not-is_nothing-clause-step
 returns-then-not-is_nothing-clause-step g c =
+    let d = g.State.BitArray.number c.self.inside.distance in
+    let l = g.State.BitArray.number c.self.inside.state.lower in
+    let m = 2 ^ g.State.BitArray.BITS in
+    let read : g.State.BitArray.number c.quantile_at-quotient.result ≡ ((d + l) % m + (m - l)) % m / (g.State.BitArray.number c.self.inside.state.range / 2 ^ g.row.PRECISION) =
+    rw (distance_of d l m (g.met.State.BitArray.number_law _) (g.met.State.BitArray.number_law _)) c.quantile_at-quotient.ensures in
     let large = large_of_shr _ _ (λ e. let off = c.if-not-is_nothing.ensures.1 (c.shifted_right.ensures ∙ e) in cc) in
-    rw (← c.self.view_is) (inl (refl, rw c.quantile_at-quotient.ensures at large, refl))
+    rw (← c.self.view_is) (inl (refl, rw read at large, refl))
 
 pub returns-then-not-is_nothing-clause-variant : goal.returns-then-not-is_nothing-clause-variant
 returns-then-not-is_nothing-clause-variant g c =
+    let d = g.State.BitArray.number c.self.inside.distance in
+    let l = g.State.BitArray.number c.self.inside.state.lower in
+    let m = 2 ^ g.State.BitArray.BITS in
+    let read : g.State.BitArray.number c.quantile_at-quotient.result ≡ ((d + l) % m + (m - l)) % m / (g.State.BitArray.number c.self.inside.state.range / 2 ^ g.row.PRECISION) =
+    rw (distance_of d l m (g.met.State.BitArray.number_law _) (g.met.State.BitArray.number_law _)) c.quantile_at-quotient.ensures in
     let large = large_of_shr _ _ (λ e. let off = c.if-not-is_nothing.ensures.1 (c.shifted_right.ensures ∙ e) in cc) in
-    rw (← c.self.view_is) (λ _. rw c.quantile_at-quotient.ensures at large, λ _. refl)
+    rw (← c.self.view_is) (λ _. rw read at large, λ _. refl)
 
 pub returns-in-Ok-clause-step : goal.returns-in-Ok-clause-step
 returns-in-Ok-clause-step g c =
+    let d = g.State.BitArray.number c.self.inside.distance in
+    let l = g.State.BitArray.number c.self.inside.state.lower in
+    let m = 2 ^ g.State.BitArray.BITS in
+    let read : g.State.BitArray.number c.quantile_at-quotient.result ≡ ((d + l) % m + (m - l)) % m / (g.State.BitArray.number c.self.inside.state.range / 2 ^ g.row.PRECISION) =
+    rw (distance_of d l m (g.met.State.BitArray.number_law _) (g.met.State.BitArray.number_law _)) c.quantile_at-quotient.ensures in
     let sized = g.met.M.EntropyModel.sized c.args.model in
     let small = small_of_shr _ _ (sym c.shifted_right.ensures ∙ c.if-not-is_nothing.ensures.0 refl) in
-    let quantile = (rw c.narrow.ensures at c.narrow-quantile.ensures) ∙ low_in_word _ _ _ _ small (omega (arith, sized.1, g.met.M.Probability.WordOf.width_law)) sized.1 ∙ c.quantile_at-quotient.ensures in
+    let quantile = (rw c.narrow.ensures at c.narrow-quantile.ensures) ∙ low_in_word _ _ _ _ small (omega (arith, sized.1, g.met.M.Probability.WordOf.width_law)) sized.1 ∙ read in
     let covers = c.quantile_function-symbol.ensures.covers in
     rw (← c.self.view_is, c.long-self-inside.ensures.lower, c.long-self-inside.ensures.range) (
       _,
@@ -37,8 +53,8 @@ returns-in-Ok-clause-step g c =
       (
         Ok tt,
         record {
-          before = is_decoder g.Word.BitArray.number g.Backend.Holds.words _ _ _ _ _ _ c.self.invariant c.self.inside.state.wide (g.met.State.BitArray.number_law _) (g.met.State.BitArray.number_law _) (g.met.State.BitArray.number_law _);
-          after = is_decoder g.Word.BitArray.number g.Backend.Holds.words _ _ _ _ _ _ c.self.invariant c.in-Ok.ensures.wide (g.met.State.BitArray.number_law _) (g.met.State.BitArray.number_law _) (g.met.State.BitArray.number_law _);
+          before = is_decoder g.Word.BitArray.number g.Backend.Holds.words _ _ _ _ _ _ c.self.invariant c.self.inside.state.wide (g.met.State.BitArray.number_law _) (g.met.State.BitArray.number_law _) (mod-lt _ (pow_pos g.State.BitArray.BITS));
+          after = is_decoder g.Word.BitArray.number g.Backend.Holds.words _ _ _ _ _ _ c.self.invariant c.in-Ok.ensures.wide (g.met.State.BitArray.number_law _) (g.met.State.BitArray.number_law _) (mod-lt _ (pow_pos g.State.BitArray.BITS));
           from = rw quantile at covers.0;
           below = rw quantile at covers.1;
           read = λ list. rw (c.widen-left.ensures, c.widen.ensures, c.widen-p.ensures, c.widen-2.ensures, c.from_nonzero-p.ensures) at c.in-Ok.ensures.list list;
@@ -55,14 +71,24 @@ returns-in-Ok-clause-step g c =
 
 pub returns-in-Ok-clause-variant : goal.returns-in-Ok-clause-variant
 returns-in-Ok-clause-variant g c =
-    let small = rw c.quantile_at-quotient.ensures at (small_of_shr _ _ (sym c.shifted_right.ensures ∙ c.if-not-is_nothing.ensures.0 refl)) in
+    let d = g.State.BitArray.number c.self.inside.distance in
+    let l = g.State.BitArray.number c.self.inside.state.lower in
+    let m = 2 ^ g.State.BitArray.BITS in
+    let read : g.State.BitArray.number c.quantile_at-quotient.result ≡ ((d + l) % m + (m - l)) % m / (g.State.BitArray.number c.self.inside.state.range / 2 ^ g.row.PRECISION) =
+    rw (distance_of d l m (g.met.State.BitArray.number_law _) (g.met.State.BitArray.number_law _)) c.quantile_at-quotient.ensures in
+    let small = rw read at (small_of_shr _ _ (sym c.shifted_right.ensures ∙ c.if-not-is_nothing.ensures.0 refl)) in
     rw (← c.self.view_is) (λ e. absurd (cc), λ h. absurd (omega arith))
 
 pub returns-clause-step : goal.returns-clause-step
 returns-clause-step g c =
+    let d = g.State.BitArray.number c.self.inside.distance in
+    let l = g.State.BitArray.number c.self.inside.state.lower in
+    let m = 2 ^ g.State.BitArray.BITS in
+    let read : g.State.BitArray.number c.quantile_at-quotient.result ≡ ((d + l) % m + (m - l)) % m / (g.State.BitArray.number c.self.inside.state.range / 2 ^ g.row.PRECISION) =
+    rw (distance_of d l m (g.met.State.BitArray.number_law _) (g.met.State.BitArray.number_law _)) c.quantile_at-quotient.ensures in
     let sized = g.met.M.EntropyModel.sized c.args.model in
     let small = small_of_shr _ _ (sym c.shifted_right.ensures ∙ c.if-not-is_nothing.ensures.0 refl) in
-    let quantile = (rw c.narrow.ensures at c.narrow-quantile.ensures) ∙ low_in_word _ _ _ _ small (omega (arith, sized.1, g.met.M.Probability.WordOf.width_law)) sized.1 ∙ c.quantile_at-quotient.ensures in
+    let quantile = (rw c.narrow.ensures at c.narrow-quantile.ensures) ∙ low_in_word _ _ _ _ small (omega (arith, sized.1, g.met.M.Probability.WordOf.width_law)) sized.1 ∙ read in
     let covers = c.quantile_function-symbol.ensures.covers in
     rw (← c.self.view_is) (inr (
       _,
@@ -73,8 +99,8 @@ returns-clause-step g c =
         (
           Err c.in-Err.error,
           record {
-            before = is_decoder g.Word.BitArray.number g.Backend.Holds.words _ _ _ _ _ _ c.self.invariant c.self.inside.state.wide (g.met.State.BitArray.number_law _) (g.met.State.BitArray.number_law _) (g.met.State.BitArray.number_law _);
-            after = is_decoder g.Word.BitArray.number g.Backend.Holds.words _ _ _ _ _ _ c.self.invariant c.self.inside.state.wide (g.met.State.BitArray.number_law _) (g.met.State.BitArray.number_law _) (g.met.State.BitArray.number_law _);
+            before = is_decoder g.Word.BitArray.number g.Backend.Holds.words _ _ _ _ _ _ c.self.invariant c.self.inside.state.wide (g.met.State.BitArray.number_law _) (g.met.State.BitArray.number_law _) (mod-lt _ (pow_pos g.State.BitArray.BITS));
+            after = is_decoder g.Word.BitArray.number g.Backend.Holds.words _ _ _ _ _ _ c.self.invariant c.self.inside.state.wide (g.met.State.BitArray.number_law _) (g.met.State.BitArray.number_law _) (mod-lt _ (pow_pos g.State.BitArray.BITS));
             from = rw quantile at covers.0;
             below = rw quantile at covers.1;
             read = tt;
@@ -92,5 +118,24 @@ returns-clause-step g c =
 
 pub returns-clause-variant : goal.returns-clause-variant
 returns-clause-variant g c =
-    let small = rw c.quantile_at-quotient.ensures at (small_of_shr _ _ (sym c.shifted_right.ensures ∙ c.if-not-is_nothing.ensures.0 refl)) in
+    let d = g.State.BitArray.number c.self.inside.distance in
+    let l = g.State.BitArray.number c.self.inside.state.lower in
+    let m = 2 ^ g.State.BitArray.BITS in
+    let read : g.State.BitArray.number c.quantile_at-quotient.result ≡ ((d + l) % m + (m - l)) % m / (g.State.BitArray.number c.self.inside.state.range / 2 ^ g.row.PRECISION) =
+    rw (distance_of d l m (g.met.State.BitArray.number_law _) (g.met.State.BitArray.number_law _)) c.quantile_at-quotient.ensures in
+    let small = rw read at (small_of_shr _ _ (sym c.shifted_right.ensures ∙ c.if-not-is_nothing.ensures.0 refl)) in
     rw (← c.self.view_is) (λ e. absurd (cc), λ h. absurd (omega arith))
+
+pub narrowed_by_reading-requires-clause-from : goal.narrowed_by_reading-requires-clause-from
+narrowed_by_reading-requires-clause-from g c =
+    let sized = g.met.M.EntropyModel.sized c.args.model in
+    let small = small_of_shr _ _ (sym c.shifted_right.ensures ∙ c.if-not-is_nothing.ensures.0 refl) in
+    let quantile = (rw c.narrow.ensures at c.narrow-quantile.ensures) ∙ low_in_word _ _ _ _ small (omega (arith, sized.1, g.met.M.Probability.WordOf.width_law)) sized.1 ∙ c.quantile_at-quotient.ensures in
+    rw (c.widen-left.ensures, c.widen.ensures) (rw quantile at c.quantile_function-symbol.ensures.covers.0)
+
+pub narrowed_by_reading-requires-clause-below : goal.narrowed_by_reading-requires-clause-below
+narrowed_by_reading-requires-clause-below g c =
+    let sized = g.met.M.EntropyModel.sized c.args.model in
+    let small = small_of_shr _ _ (sym c.shifted_right.ensures ∙ c.if-not-is_nothing.ensures.0 refl) in
+    let quantile = (rw c.narrow.ensures at c.narrow-quantile.ensures) ∙ low_in_word _ _ _ _ small (omega (arith, sized.1, g.met.M.Probability.WordOf.width_law)) sized.1 ∙ c.quantile_at-quotient.ensures in
+    rw (c.widen-left.ensures, c.widen.ensures, c.widen-p.ensures, c.widen-2.ensures, c.from_nonzero-p.ensures) (rw quantile at c.quantile_function-symbol.ensures.covers.1)

@@ -1,6 +1,7 @@
-use Rattle.std.proofs.Common.{reverse, ap, ◌∙◌, refl, sym}
+use Rattle.std.proofs.Common.{mod-lt, pow_pos, reverse, ap, ◌∙◌, refl, sym}
 use Rattle.std.proofs.lemmas.List.{reverse-reverse}
 use Rattle.constriction_queue.proofs.Beginning.{cursor_keeps, at_start}
+use Rattle.constriction_queue.proofs.Distances.{from_zero}
 use Rattle.constriction_queue.proofs.Showing.{queue_is}
 use Rattle.std.specs.declared.convert.Infallible.{Infallible}
 use Rattle.constriction_queue.specs.Guarded.{lent_by}
@@ -24,7 +25,7 @@ returns-clause-ok g c =
     let all = queue_is number (reverse items) (sym (reverse-reverse items)) sealed in
     let point = rw c.new_at_write_beginning-bulk.ensures at (c.in-Ok.ensures.point tt) in
     let rest = rw c.new_at_write_beginning-bulk.ensures at (c.in-Ok.ensures.rest tt) in
-    at_start _ _ _ _ _ _ _ c.start.ensures.lower c.start.ensures.range (g.met.State.BitArray.number_law _) (rw all at point) (rw all at rest)
+    at_start _ _ _ _ _ _ _ c.start.ensures.lower c.start.ensures.range (mod-lt _ (pow_pos g.State.BitArray.BITS)) (from_zero _ _ _ c.start.ensures.lower (g.met.State.BitArray.number_law _) ∙ (rw all at point)) (rw all at rest)
 
 pub returns-clause-back : goal.returns-clause-back
 returns-clause-back g c =
@@ -37,3 +38,9 @@ returns-clause-heads g c =
     let reads = c.in-Ok.ensures.reads in
     let buf = cursor_keeps Infallible g.Word.BitArray.number lent_by reads.0 c.new_at_write_beginning-bulk.result c.read_point.new.bulk reads.2 ∙ ap buffer c.new_at_write_beginning-bulk.ensures in
     rw buf c.put_seal.ensures.heads
+
+pub returns-clause-shows : goal.returns-clause-shows
+returns-clause-shows g c =
+    let reads = c.in-Ok.ensures.reads in
+    let buf = cursor_keeps Infallible g.Word.BitArray.number lent_by reads.0 c.new_at_write_beginning-bulk.result c.read_point.new.bulk reads.2 ∙ ap buffer c.new_at_write_beginning-bulk.ensures in
+    rw buf c.in_ok-count.ensures.shows

@@ -1,0 +1,2 @@
+-- The seal that any words may follow.
+pub use Rattle.constriction_queue.specs.SelfDelimiting.{AreEnough, AreLeast, SelfDelimits}

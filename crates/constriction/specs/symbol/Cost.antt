@@ -1,0 +1,2 @@
+-- What codewords cost under weights.
+pub use Rattle.constriction_laws.specs.symbol.Cost.{cost, AreLawful, AreCodewordsOf}

@@ -1,0 +1,101 @@
+//! Laws of the chain coder, and what its refused steps leave.
+
+ghost use Rattle.std.specs.Bool.{OnFalse};
+ghost use Rattle.std.specs.Prelude.{IfErr, IfNone, IfOk, IfSome, [], ◌≡◌, ◌≤◌};
+
+use constriction::backends::{Holds, ReadWords, WriteWords};
+use constriction::laws::chain::isolation::symbols_are_isolated;
+use constriction::stream::chain::{
+    BackendError, ChainCoder, DefaultChainCoder, EncoderError, EncoderFrontendError,
+};
+use constriction::stream::model::{DecoderModel, EncoderModel, EntropyModel};
+use constriction::stream::{Decode, Encode};
+use constriction::{CoderError, Stack, WordOf};
+
+/// The symbol after a change of the precision, where models of two types may stand before it.
+pub fn isolated_across_a_change<
+    A: DecoderModel<24, Symbol = usize, Probability = u32>,
+    B: DecoderModel<24, Symbol = usize, Probability = u32>,
+    M: DecoderModel<16, Symbol = usize, Probability = u16>,
+>(
+    coder: DefaultChainCoder,
+    first: &A,
+    same: DefaultChainCoder,
+    other: &B,
+    later: &M,
+) -> Option<(usize, usize)>
+    ensures isolated { coder.state.h ≡ same.state.h → coder.state.compressed ≡ same.state.compressed →
+        IfSome result (λ both. both.0 ≡ both.1) }
+{
+    let mut one = coder;
+    let Ok(_) = one.decode_symbol(first) else {
+        return None;
+    };
+    let Ok(mut changed) = one.change_precision::<16>() else {
+        return None;
+    };
+    let Ok(symbol) = changed.decode_symbol(later) else {
+        return None;
+    };
+    let mut two = same;
+    let Ok(_) = two.decode_symbol(other) else {
+        return None;
+    };
+    let Ok(mut altered) = two.change_precision::<16>() else {
+        return None;
+    };
+    let Ok(again) = altered.decode_symbol(later) else {
+        return None;
+    };
+    symbols_are_isolated::<usize>();
+    Some((symbol, again))
+}
+
+/// The next symbol, or `None` where no word is left. Over any backends a decode that gives no symbol loses no room
+/// among the remainders, and where the compressed words are known, `None` says that there are none.
+pub fn decode_to_the_end<
+    C: ReadWords<u32, Stack>,
+    R: WriteWords<u32>,
+    M: DecoderModel<PRECISION>,
+    const PRECISION: usize,
+>(
+    coder: &mut ChainCoder<u32, u64, C, R, PRECISION>,
+    model: &M,
+) -> Result<Option<M::Symbol>, BackendError<C::ReadError, R::WriteError>>
+where
+    M::Probability: WordOf<u32>,
+    ensures none_left { IfOk result (λ found. IfNone found (C.is_list → coder.old.state.compressed ≡ [])) }
+    ensures room_at_the_end { IfOk result (λ found. IfNone found (R.room coder.old.remainders ≤ R.room coder.new.remainders)) }
+    ensures room_at_an_error { IfErr result (λ _. R.room coder.old.remainders ≤ R.room coder.new.remainders) }
+{
+    match coder.decode_symbol(model) {
+        Ok(symbol) => Ok(Some(symbol)),
+        Err(CoderError::Frontend(_)) => Ok(None),
+        Err(CoderError::Backend(error)) => Err(error),
+    }
+}
+
+/// Whether the symbol was put back: it wasn't where no word of the remainders is left. An encode that is refused loses
+/// no room among the compressed words.
+pub fn encode_to_the_end<
+    C: WriteWords<u32>,
+    R: ReadWords<u32, Stack>,
+    M: EncoderModel<PRECISION>,
+    const PRECISION: usize,
+>(
+    coder: &mut ChainCoder<u32, u64, C, R, PRECISION>,
+    symbol: &M::Symbol,
+    model: &M,
+) -> Result<bool, EncoderError<C::WriteError, R::ReadError>>
+where
+    M::Probability: WordOf<u32>,
+    ensures none_left { IfOk result (λ put. OnFalse put (R.is_list → coder.old.state.remainders ≡ [])) }
+    ensures room_at_the_end { IfOk result (λ put. OnFalse put (C.room coder.old.compressed ≤ C.room coder.new.compressed)) }
+    ensures room_at_an_error { IfErr result (λ _. C.room coder.old.compressed ≤ C.room coder.new.compressed) }
+{
+    match coder.encode_symbol(symbol, model) {
+        Ok(()) => Ok(true),
+        Err(CoderError::Frontend(EncoderFrontendError::OutOfRemainders)) => Ok(false),
+        Err(error) => Err(error),
+    }
+}

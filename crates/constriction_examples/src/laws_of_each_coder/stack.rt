@@ -1,0 +1,18 @@
+//! A law of the stack coder.
+
+ghost use Rattle.constriction.specs.Bounds.{Acts, Decode, Encode, net_share, net_whole, product};
+ghost use Rattle.constriction.specs.Steps.{InTurn, IsStep, Step};
+ghost use Rattle.constriction.specs.stack.Ans.{AnsState, IsValid, exported};
+ghost use Rattle.std.specs.Prelude.{[], length, ◌*◌, ◌-◌, ◌<◌, ◌^◌, ◌∷◌, ◌≤◌};
+
+use constriction::laws::bounds::stack_net_bound;
+
+/// The words after one decode and one encode, as a bits-back scheme makes them, are few.
+pub fn words_of_an_exchange()
+    ensures { (taken put : Step) (old new : AnsState) → IsStep 32 taken → IsStep 32 put → IsValid 32 64 old →
+        2 ^ (64 - 32) ≤ old.head → InTurn (Acts 32 64) (Decode taken ∷ Encode put ∷ []) old new →
+        2 ^ (32 * (length (exported 32 new) - 1)) * product (net_share 32 64) (Decode taken ∷ Encode put ∷ [])
+        < 2 ^ (32 * length (exported 32 old)) * product (net_whole 32 64) (Decode taken ∷ Encode put ∷ []) }
+{
+    stack_net_bound()
+}

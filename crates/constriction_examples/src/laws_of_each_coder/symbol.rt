@@ -1,0 +1,14 @@
+//! A law of bit coders.
+
+ghost use Rattle.constriction.specs.symbol.Huffman.{Leaf, Node, huffman, merge};
+ghost use Rattle.std.specs.Prelude.{Bool, List, Some, [], false, ◌∷◌, ◌≡◌, ℕ};
+
+use constriction::laws::symbol::huffman::huffman_is_prefix_free;
+
+/// The tree of two equal weights, and that none of its codewords but the first symbol's begins with a zero.
+pub fn tree_of_two_weights()
+    ensures tree { merge (1 ∷ 1 ∷ []) ≡ Node (Leaf 0) (Leaf 1) ∷ [] }
+    ensures alone { (symbol : ℕ) (tail : List Bool) → huffman (1 ∷ 1 ∷ []) symbol ≡ Some (false ∷ tail) → 0 ≡ symbol }
+{
+    huffman_is_prefix_free()
+}

@@ -1,0 +1,5 @@
+pub mod Lengths
+pub mod Kraft
+pub mod Depths
+pub mod Least
+mod Rows

@@ -1,0 +1,94 @@
+//! Where the first bits of a codeword lead from the root of a tree for decoding, as a table of all first bits.
+
+ghost use Rattle.constriction_symbol.specs.DecoderTree.{HasPlaces, HoldsTree, IsPlace, LeadsTo, tree_of_pairs};
+ghost use Rattle.constriction_symbol.specs.EncoderTree.{HasBelowOne};
+ghost use Rattle.constriction_symbol.specs.Bits.{bits_of};
+ghost use Rattle.std.specs.Prelude.{Bool, IfOk, List, [], length, reverse, ◌%◌, ◌+◌, ◌++◌, ◌-◌, ◌/◌, ◌<◌, ◌==◌, ◌^◌, ◌∷◌, ◌≡◌, ◌≤◌, ℕ};
+
+use constriction_words::BitArray;
+use std::alloc::{AllocError, Global};
+
+/// How many of the first bits have a place at most: a table of as many takes 16 KiB.
+const MOST: u32 = 9;
+
+/// Where some bits lead: to a symbol, which takes so many of them, or by all of them to a node.
+#[derive(Debug, Clone, Copy)]
+pub struct Place {
+    pub index: usize,
+    pub taken: u32,
+}
+
+/// How many of the first bits have a place in the table of a tree of so many nodes: one more than the codewords of as many
+/// symbols of one weight have.
+fn most_of(nodes: usize) -> u32
+    ensures some { 0 < result }
+    ensures few { result ≤ 9 }
+{
+    let count = nodes.bit_length() + 1;
+    if count < MOST { count } else { MOST }
+}
+
+/// The place of one bit more.
+fn place_below(nodes: &[[usize; 2]], place: Place, bit: usize) -> Place
+    requires tree { HoldsTree nodes.now (tree_of_pairs nodes.now) }
+    requires place { (bits : List Bool) × (length bits < 32) × IsPlace nodes.now bits place }
+    requires bit { bit < 2 }
+    ensures { (bits : List Bool) → IsPlace nodes.now bits place → IsPlace nodes.now (bits ++ (bit == 1) ∷ []) result }
+{
+    let symbols = nodes.len() + 1;
+    if place.index < symbols {
+        return place;
+    }
+    Place {
+        index: nodes[place.index - symbols][bit],
+        taken: place.taken + 1,
+    }
+}
+
+/// Of each number up to a number of bits the place of the bits below the highest one that is set, and how many these are
+/// at most.
+pub fn places_of(alloc: Global, nodes: &[[usize; 2]]) -> Result<(Vec<Place>, u32), AllocError>
+    requires tree { HoldsTree nodes.now (tree_of_pairs nodes.now) }
+    ensures some { IfOk result (λ table. 0 < table.1) }
+    ensures len { IfOk result (λ table. length table.0.items ≡ 2 ^ (table.1 + 1)) }
+    ensures few { IfOk result (λ table. table.1 ≤ 9) }
+    ensures places { IfOk result (λ table. HasPlaces nodes.now table.0.items) }
+{
+    let most = most_of(nodes.len());
+    let count = 1usize << (most + 1);
+    let mut places = Vec::with_capacity(alloc, count)?;
+    let root = Place {
+        index: 2 * nodes.len(),
+        taken: 0,
+    };
+    places.push(root)?;
+    places.push(root)?;
+    for number in 2..count {
+        places.push(place_below(nodes, places[number / 2], number % 2))?;
+    }
+    Ok((places, most))
+}
+
+/// The lesser of two counts.
+#[inline]
+fn lesser(most: u32, all: u32) -> u32
+    ensures most { result ≤ most }
+    ensures all { result ≤ all }
+    ensures some { 0 < most → 0 < all → 0 < result }
+{
+    if most < all { most } else { all }
+}
+
+/// The place of the highest bits of a word.
+#[inline]
+pub fn place_of<Word: BitArray>(places: &[Place], most: u32, bits: Word) -> Place
+    requires some { 0 < most }
+    requires few { most ≤ 9 }
+    requires len { length places.now ≡ 2 ^ (most + 1) }
+    ensures { (nodes : List (List ℕ)) → HasPlaces nodes places.now →
+        (result.taken ≤ Word.BITS) × LeadsTo nodes (reverse (bits_of result.taken (Word.number bits / 2 ^ (Word.BITS - result.taken)))) result.index }
+{
+    let count = lesser(most, Word::BITS);
+    let first = bits.shifted_right(Word::BITS - count).to_index();
+    places[first + (1usize << count)]
+}

@@ -1,0 +1,39 @@
+"""What codebooks give to the coders of bits."""
+
+from __future__ import annotations
+
+from array import array
+from collections.abc import Callable
+from typing import Any
+
+from .._buffers import Numbers
+
+__all__ = ["Codebook"]
+
+
+class Codebook:
+    """Codewords, one at a time in Python, and whole lists by the C functions."""
+
+    def codeword(self, symbol: int) -> tuple[int, int]:
+        """A symbol's codeword as a number, its first bit the lowest, and its length. Raises :class:`ImpossibleSymbolError`."""
+        raise NotImplementedError
+
+    def read(self, bit: Callable[[], int]) -> int:
+        """The symbol of the codeword that these bits begin with."""
+        raise NotImplementedError
+
+    def longest(self) -> int:
+        """How long codewords can be."""
+        raise NotImplementedError
+
+    def encoded(self, symbols: array[Any], stack: bool) -> Numbers:
+        """The words of these symbols by a C function, in a queue or in a stack."""
+        raise NotImplementedError
+
+    def decoded(self, words: array[Any], count: int, stack: bool) -> Numbers:
+        """So many symbols by a C function, from the beginning of a queue or from the top of a stack."""
+        raise NotImplementedError
+
+    def symbols(self, symbols: Any) -> array[Any]:
+        """A list of symbols, or one alone, as the C functions take them."""
+        raise NotImplementedError

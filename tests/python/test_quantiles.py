@@ -1,0 +1,57 @@
+"""Decodes under parameters for each symbol: by the quantile, with the same symbols as by rows of weights, and no row is made."""
+
+from __future__ import annotations
+
+import random
+import time
+import unittest
+from array import array
+from unittest import mock
+
+from constriction import errors
+from constriction.stream.chain import ChainCoder
+from constriction.stream.model import Categorical, Model, QuantizedCauchy, QuantizedGaussian, QuantizedLaplace, WeightTable
+from constriction.stream.queue import RangeDecoder
+from constriction.stream.stack import AnsCoder
+
+
+class Quantiles(unittest.TestCase):
+    def test_the_same_symbols_as_by_rows(self) -> None:
+        dice = random.Random(13)
+        words = array("I", (dice.randrange(1, 1 << 31) for _ in range(500)))
+        for family in (QuantizedGaussian(-50, 50), QuantizedLaplace(-5, 50), QuantizedCauchy(0, 9), QuantizedGaussian(7, 7)):
+            given = [dice.gauss(0, 9) for _ in range(300)], [dice.uniform(0.01, 30) for _ in range(300)]
+            rows = [family._weights(it) for it in zip(*given)]
+            for make in (AnsCoder, RangeDecoder, ChainCoder):
+                one, other = make(words), make(words)
+                wanted = [it + family.first for it in other.decode(WeightTable(), rows)]
+                with mock.patch.object(Model, "_weights", side_effect=AssertionError("a row was made")):
+                    self.assertEqual(one.decode(family, *given), wanted)
+                self.assertEqual(one._plain(one._state), other._plain(other._state))
+
+    def test_refusals(self) -> None:
+        family, given = QuantizedGaussian(-9, 9), ([0.0] * 100, [1.0] * 100)
+        chain = ChainCoder([1, 2, 3, 4, 5])
+        before = chain.get_remainders()
+        with self.assertRaisesRegex(errors.OutOfDataError, r"^Out of compressed data\.$"):
+            chain.decode(family, *given)
+        self.assertEqual(chain.get_remainders(), before)
+        decoder = RangeDecoder([(1 << 32) - 1] * 4)
+        before = decoder._state.numbers
+        with self.assertRaises(errors.InvalidDataError):
+            decoder.decode(Categorical(), [[1.0, 1.0]] * 100)
+        self.assertEqual(decoder._state.numbers, before)
+
+    def test_wide_models_are_no_slower(self) -> None:
+        def seconds(width: int) -> float:
+            family, coder = QuantizedGaussian(-width, width), AnsCoder(range(1, 1001))
+            begin = time.perf_counter()
+            coder.decode(family, [0.5] * 1000, [9.0] * 1000)
+            return time.perf_counter() - begin
+
+        narrow = min(seconds(50) for _ in range(3))
+        self.assertLess(min(seconds(1000) for _ in range(3)), 4 * narrow)  # By rows it would be 13 times as much.
+
+
+if __name__ == "__main__":
+    unittest.main()

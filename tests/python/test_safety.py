@@ -1,0 +1,354 @@
+"""Copies, pickles, threads, want of memory, and what is no whole number: whatever a caller does, a coder is as before or done."""
+
+from __future__ import annotations
+
+import copy
+import os
+import pickle
+import random
+import subprocess
+import sys
+import threading
+import time
+import unittest
+from array import array
+from collections.abc import Callable
+from pathlib import Path
+from typing import Any
+from unittest import mock
+
+import definitions
+from constriction import _library, _words, errors
+from constriction.stream.chain import ChainCoder
+from constriction.stream.model import Bernoulli, Categorical, CustomModel, QuantizedGaussian, Uniform, WeightTable
+from constriction.stream.queue import RangeDecoder, RangeEncoder
+from constriction.stream.stack import AnsCoder
+from constriction.symbol import DecoderHuffmanTree, EncoderHuffmanTree, ExpGolomb, QueueDecoder, QueueEncoder, StackCoder
+
+PACKAGE = str(Path(_library.__file__).parents[1])
+HALVES = WeightTable([8388608, 8388608])
+COPIES: tuple[Callable[[Any], Any], ...] = (
+    copy.copy, copy.deepcopy, lambda it: it.clone(), lambda it: pickle.loads(pickle.dumps(it)),
+    lambda it: pickle.loads(pickle.dumps(it, protocol=0)),
+)  # fmt: skip
+
+
+def coders() -> dict[str, tuple[Any, Callable[[Any], Any], Callable[[Any], Any]]]:
+    """Each coder with something in it, what changes it, and what shows its state."""
+    golomb, family, given = ExpGolomb(), QuantizedGaussian(-9, 9), ([0.5] * 50, [2.0] * 50)
+    ans, encoder, queue, stack = AnsCoder(), RangeEncoder(), QueueEncoder(), StackCoder()
+    symbols = [i % 7 for i in range(300)]
+    ans.encode_reverse(symbols, Uniform(7)), encoder.encode(symbols, Uniform(7))
+    queue.encode(symbols, golomb), stack.encode_reverse(symbols, golomb)
+    words = array("I", range(1, 1001))
+    return {
+        "AnsCoder": (ans, lambda it: it.encode_reverse(symbols, Uniform(300)), lambda it: (it.pos(), it.get_compressed())),
+        "AnsCoder, decode": (AnsCoder(words), lambda it: it.decode(family, *given), lambda it: (it.pos(), it.get_compressed())),
+        "RangeEncoder": (encoder, lambda it: it.encode(symbols, Uniform(300)), lambda it: (it.pos(), it.get_compressed())),
+        "RangeDecoder": (RangeDecoder(words), lambda it: it.decode(family, *given), lambda it: it._state.numbers),
+        "ChainCoder": (ChainCoder(words), lambda it: it.decode(Uniform(7), 200), lambda it: it.get_remainders()),
+        "QueueEncoder": (queue, lambda it: it.encode(symbols * 9, golomb), lambda it: it.get_compressed()),
+        "QueueDecoder": (queue.get_decoder(), lambda it: it.decode(golomb, 100), lambda it: it._state.place),
+        "StackCoder": (stack, lambda it: it.encode_reverse(symbols * 9, golomb), lambda it: it.get_compressed()),
+        "StackCoder, decode": (stack.clone(), lambda it: it.decode(golomb, 100), lambda it: it.get_compressed()),
+    }
+
+
+class Copies(unittest.TestCase):
+    def test_coders(self) -> None:
+        for name, (coder, change, shown) in coders().items():
+            for make in COPIES:
+                with self.subTest(name):
+                    before = shown(coder)
+                    twin = make(coder)
+                    self.assertIs(type(twin), type(coder))
+                    self.assertEqual(shown(twin), before)
+                    self.assertEqual(repr(change(twin)), repr(change(make(coder))))
+                    self.assertNotEqual(shown(twin), before)
+                    self.assertEqual(shown(coder), before)
+
+    def test_originals_that_are_gone(self) -> None:
+        for name, (coder, change, shown) in coders().items():
+            twin, wanted = copy.deepcopy(coder), coder.clone()
+            del coder
+            array("Q", [-1 & (1 << 64) - 1]) * 100000
+            self.assertEqual((repr(change(twin)), shown(twin)), (repr(change(wanted)), shown(wanted)), name)
+
+    def test_fifty_deep_copies_of_one(self) -> None:
+        coder = AnsCoder()
+        coder.encode_reverse([i % 5 for i in range(5000)], Uniform(5))
+        twins = [copy.deepcopy(coder) for _ in range(50)]
+        for twin in twins:
+            self.assertEqual(twin.decode(Uniform(5), 5000), [i % 5 for i in range(5000)])
+
+    def test_a_cleared_long_coder(self) -> None:
+        coder = AnsCoder()
+        coder.encode_reverse([0, 1] * 50000, HALVES)
+        coder.clear()
+        twin = copy.deepcopy(coder)
+        twin.encode_reverse([0, 1] * 50000, HALVES)
+        self.assertEqual(twin.decode(HALVES, 100000), [0, 1] * 50000)
+
+    def test_models(self) -> None:
+        for make in COPIES[:2] + COPIES[3:]:
+            for model, given in (
+                (Categorical([0.1, 0.6, 0.3]), ()), (WeightTable(array("I", [5, 1 << 23, (1 << 23) - 5])), ()), (Uniform(3), ()),
+                (QuantizedGaussian(0, 2, 1.0, 1.0), ()), (QuantizedGaussian(0, 2), ([1.0] * 3, [2.0] * 3)), (Categorical(), ([[1, 2, 3]] * 3,)),
+                (Bernoulli(0.5), ()),
+            ):  # fmt: skip
+                symbols, coder = [1, 0, 1], AnsCoder()
+                coder.encode_reverse(symbols, model, *given)
+                twin = make(model)
+                del model
+                array("I", [7]) * 100000
+                self.assertEqual(coder.decode(twin, *(given or (3,))), symbols)
+            tree = EncoderHuffmanTree([2, 2, 4, 1, 1])
+            self.assertEqual(make(tree).codeword(3), tree.codeword(3))
+
+    def test_what_is_put_beside(self) -> None:
+        class Named(AnsCoder):
+            pass
+
+        coder = Named()
+        coder.names = ["one"]  # type: ignore[attr-defined]
+        self.assertIs(copy.copy(coder).names, coder.names)  # type: ignore[attr-defined]
+        self.assertIsNot(copy.deepcopy(coder).names, coder.names)  # type: ignore[attr-defined]
+        self.assertEqual([it.names for it in copy.deepcopy([coder, coder])], [["one"], ["one"]])  # type: ignore[attr-defined]
+
+    def test_weights_that_their_owner_changes(self) -> None:
+        weights = array("I", [8388608, 8388608])
+        model = WeightTable(weights)
+        weights[0] = 1
+        AnsCoder().encode_reverse([0, 1], model)
+
+
+class Threads(unittest.TestCase):
+    def together(self, *calls: Callable[[], None]) -> list[BaseException]:
+        """Runs calls in threads at once, and answers what was raised."""
+        raised: list[BaseException] = []
+
+        def run(call: Callable[[], None]) -> None:
+            try:
+                call()
+            except BaseException as it:
+                raised.append(it)
+
+        threads = [threading.Thread(target=run, args=(it,)) for it in calls]
+        before = sys.getswitchinterval()
+        sys.setswitchinterval(1e-5)
+        try:
+            for it in threads:
+                it.start()
+            for it in threads:
+                it.join()
+        finally:
+            sys.setswitchinterval(before)
+        return raised
+
+    def test_one_coder(self) -> None:
+        # Each list is wholly there, in one piece.
+        coder, encoder, queue, stack = AnsCoder(), RangeEncoder(), QueueEncoder(), StackCoder()
+        golomb = ExpGolomb()
+
+        def work(symbol: int) -> None:
+            for _ in range(60):
+                coder.encode_reverse([symbol] * 500, Uniform(4))
+                encoder.encode([symbol] * 500, Uniform(4))
+                queue.encode([symbol] * 100, golomb)
+                stack.encode_reverse([symbol] * 100, golomb)
+                len(encoder.get_compressed()), len(coder.get_compressed()), coder.clone(), pickle.dumps(encoder)
+
+        self.assertEqual(self.together(*(lambda it=it: work(it) for it in range(4))), [])  # type: ignore[misc]
+        for found, size in (
+            (coder.decode(Uniform(4), 120000), 500), (encoder.get_decoder().decode(Uniform(4), 120000), 500),
+            (queue.get_decoder().decode(golomb, 24000), 100), (stack.decode(golomb, 24000), 100),
+        ):  # fmt: skip
+            lists = [set(found[i : i + size]) for i in range(0, len(found), size)]
+            self.assertTrue(all(len(it) == 1 for it in lists))
+            self.assertEqual([lists.count({it}) for it in range(4)], [60] * 4)
+        self.assertTrue(coder.is_empty() and stack.is_empty())
+
+    def test_one_decoder(self) -> None:
+        encoder, found = RangeEncoder(), []
+        encoder.encode([i // 100 % 200 for i in range(40000)], Uniform(200))
+        decoder = encoder.get_decoder()
+
+        def work() -> None:
+            for _ in range(50):
+                found.append(decoder.decode(Uniform(200), 100)[:].tolist())
+                found.append(decoder.decode(Uniform(), [200] * 100).tolist())
+
+        self.assertEqual(self.together(*[work] * 4), [])
+        self.assertEqual(sorted(it for some in found for it in some), sorted(i // 100 % 200 for i in range(40000)))
+        self.assertTrue(all(len(set(it)) == 1 for it in found))
+
+    def test_different_coders_run_side_by_side(self) -> None:
+        # While one thread is inside a single call, another one runs Python: calls let go of the interpreter's lock.
+        model, ticks, stop = Uniform(1 << 22), [], threading.Event()
+        model.table()
+        symbols = array("q", range(1 << 20))
+
+        def spin() -> None:
+            while not stop.is_set():
+                ticks.append(time.perf_counter())
+
+        inside = []
+        original = _library._FUNCTIONS["ans_encode_reverse"]
+
+        def timed(*arguments: Any) -> int:
+            begin = time.perf_counter()
+            code: int = original(*arguments)
+            inside.append((begin, time.perf_counter()))
+            return code
+
+        thread = threading.Thread(target=spin)
+        thread.start()
+        try:
+            with mock.patch.dict(_library._FUNCTIONS, {"ans_encode_reverse": timed}):
+                AnsCoder().encode_reverse(symbols, model)
+        finally:
+            stop.set()
+            thread.join()
+        ((begin, end),) = inside
+        middle = [it for it in ticks if begin + (end - begin) / 10 < it < end - (end - begin) / 10]
+        self.assertGreater(len(middle), 100)
+
+    def test_a_model_that_calls_its_coder(self) -> None:
+        coder = AnsCoder(array("I", range(1, 100)))
+        before = coder.pos()
+
+        def cdf(x: float, k: float) -> float:
+            coder.decode(HALVES)
+            return 0.5
+
+        with self.assertRaises(RuntimeError):
+            coder.decode(CustomModel(cdf, None, 0, 9), [1.0, 2.0])
+        self.assertEqual(coder.pos(), before)
+        coder.decode(HALVES)
+
+
+class Memory(unittest.TestCase):
+    def refused(self, call: Callable[[], Any], shown: Callable[[], Any]) -> int:
+        """Refuses the first request for room, then the second, and so on, until the call is done; how many were refused."""
+        before = shown()
+        for place in range(1000):
+            seen = 0
+            original = definitions_room
+
+            def room(code: str, count: int) -> Any:
+                nonlocal seen
+                seen += 1
+                if seen == place + 1:
+                    raise MemoryError
+                return original(code, count)
+
+            with mock.patch.multiple(_words, room=room), patched(room):
+                try:
+                    call()
+                except MemoryError:
+                    pass
+            if seen <= place:
+                return place
+            self.assertEqual(shown(), before)
+        raise AssertionError("it is never done")
+
+    def test_each_growth(self) -> None:
+        for name, (coder, change, shown) in coders().items():
+            twin, wanted = coder.clone(), coder.clone()
+            change(wanted)
+            self.assertGreater(self.refused(lambda: change(twin), lambda: shown(twin)) + name.startswith("Queue") + name.startswith("Stack"), 0, name)
+            self.assertEqual(shown(twin), shown(wanted), name)
+
+    def test_exports(self) -> None:
+        for name, (coder, _, shown) in coders().items():
+            if "Decoder" not in name:
+                before = shown(coder)
+                self.assertGreater(self.refused(lambda: shown(coder), lambda: 0), 0, name)
+                self.assertEqual(shown(coder), before)
+
+    def test_growth_past_what_the_system_gives(self) -> None:
+        # A process that may have 400 MB, and whose list wants more.
+        program = """
+import resource
+from array import array
+from constriction.stream.model import WeightTable
+from constriction.stream.stack import AnsCoder
+model, coder, symbols = WeightTable([1, (1 << 24) - 1]), AnsCoder(), array("q", [0]) * 4000000
+coder.encode_reverse(symbols[:1000], model)
+have = int(open("/proc/self/statm").read().split()[0]) * resource.getpagesize()
+resource.setrlimit(resource.RLIMIT_AS, (have + (40 << 20),) * 2)
+before = coder.pos()
+words = len(coder.get_compressed())
+try:
+    coder.encode_reverse(symbols, model)
+    print("done")
+except MemoryError:
+    print("refused", coder.pos() == before, len(coder.get_compressed()) == words)
+coder.encode_reverse([1, 0], model)
+print(coder.decode(model, 1002) == [1, 0] + [0] * 1000)
+"""
+        path = {"PYTHONPATH": PACKAGE, "CONSTRICTION_LIBRARY": str(_library.PATH)}
+        ran = subprocess.run([sys.executable, "-c", program], env={**os.environ, **path}, capture_output=True, text=True)
+        self.assertEqual((ran.stdout, ran.stderr), ("refused True True\nTrue\n", ""))
+
+
+def patched(room: Any) -> Any:
+    """The same request for room in all modules that make it."""
+    from contextlib import ExitStack
+
+    stack = ExitStack()
+    for name, module in list(sys.modules.items()):
+        if name.startswith("constriction.") and getattr(module, "room", None) is definitions_room:
+            stack.enter_context(mock.patch.object(module, "room", room))
+    return stack
+
+
+from constriction._buffers import room as definitions_room  # noqa: E402
+
+
+class WholeNumbers(unittest.TestCase):
+    def test_floats_are_no_symbols(self) -> None:
+        family, fixed, tree = QuantizedGaussian(-9, 9), QuantizedGaussian(-9, 9, 0.0, 3.0), EncoderHuffmanTree([1, 1])
+        for call in (
+            lambda it: AnsCoder().encode_reverse(it, fixed), lambda it: RangeEncoder().encode(it, fixed),
+            lambda it: QueueEncoder().encode(it, tree), lambda it: StackCoder().encode_reverse(it, tree),
+            lambda it: QueueEncoder().encode(it, ExpGolomb()), lambda it: AnsCoder(it),
+            lambda it: ChainCoder([1, 2, 3]).encode_reverse(it, fixed),
+        ):  # fmt: skip
+            for wrong in ([1.9, -2.9], [1.0], array("d", [1.0]), array("f", [1.0])):
+                self.assertRaisesRegex(TypeError, "whole numbers are wanted", call, wrong)
+        for call in (AnsCoder().encode_reverse, RangeEncoder().encode):
+            for wrong in ([1.9, -2.9], array("d", [1.9, -2.9])):
+                self.assertRaisesRegex(TypeError, "whole numbers are wanted", call, wrong, family, [0.0, 0.0], [1.0, 1.0])
+            self.assertRaisesRegex(TypeError, "whole numbers are wanted", call, 1.0, family, 0.0, 1.0)
+            self.assertRaisesRegex(TypeError, "whole numbers are wanted", call, 1.0, fixed)
+        for call in (QueueEncoder().encode_symbol, StackCoder().encode_symbol):
+            self.assertRaisesRegex(TypeError, "whole numbers are wanted", call, 1.0, tree)
+        self.assertRaises(TypeError, AnsCoder([1]).decode, fixed, 1.0)
+        self.assertRaises(TypeError, QueueDecoder([1]).decode, ExpGolomb(), 1.0)
+        self.assertRaises(TypeError, AnsCoder([1]).seek, 0.0, 0)
+
+    def test_whole_numbers_of_a_class(self) -> None:
+        class Three:
+            def __index__(self) -> int:
+                return 3
+
+        coder = AnsCoder()
+        coder.encode_reverse([Three()], Uniform(5))
+        coder.encode_reverse(Three(), Uniform(5))  # type: ignore[arg-type]
+        self.assertEqual(coder.decode(Uniform(5), 2), [3, 3])
+        self.assertEqual(list(DecoderHuffmanTree([Three(), Three()])._weights), [3, 3])
+
+    def test_unknown_memory(self) -> None:
+        import ctypes
+
+        turned = (ctypes.c_uint32.__ctype_be__ * 2)(1, 0)
+        for call in (lambda: AnsCoder().encode_reverse(turned, HALVES), lambda: AnsCoder(turned)):
+            try:
+                call()
+            except (TypeError, errors.Refusal) as it:
+                self.assertNotIsInstance(it, NotImplementedError)
+
+
+if __name__ == "__main__":
+    unittest.main()

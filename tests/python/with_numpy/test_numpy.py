@@ -1,0 +1,140 @@
+"""Arrays of numpy in and out, of each type, byte order and shape."""
+
+from __future__ import annotations
+
+import copy
+import pickle
+import unittest
+from typing import Any
+
+from constriction import errors
+from constriction.stream.chain import ChainCoder
+from constriction.stream.model import Categorical, QuantizedGaussian, Uniform, WeightTable
+from constriction.stream.queue import RangeDecoder, RangeEncoder
+from constriction.stream.stack import AnsCoder
+from constriction.symbol import DecoderHuffmanTree, EncoderHuffmanTree, ExpGolomb, QueueDecoder, QueueEncoder, StackCoder
+
+numpy: Any
+try:
+    import numpy
+except ImportError:
+    raise unittest.SkipTest("numpy is not there") from None
+
+TEN, WEIGHTS, WORDS = [0, 1, 2, 0, 1, 2, 0, 0, 0, 1], [1, 2, 16777213], [0, 16777218, 2307, 16777218, 0, 64]
+WHOLE_KINDS = ("int64", "uint64", "int32", "uint8", ">i8", ">i4", "<i2", ">u2", "int8")
+
+
+class Numpy(unittest.TestCase):
+    def test_symbols_weights_and_words(self) -> None:
+        for kind in WHOLE_KINDS:
+            coder, model = AnsCoder(), WeightTable(numpy.array(WEIGHTS, dtype=numpy.uint32))
+            coder.encode_reverse(numpy.array(TEN, dtype=kind), model)
+            words = coder.get_compressed()
+            self.assertEqual((type(words), words.dtype, words.tolist()), (numpy.ndarray, numpy.uint32, WORDS))
+            words.flags.writeable = False
+            found = AnsCoder(words.astype(">u4")).decode(model, numpy.int64(10))
+            self.assertEqual((type(found), found.dtype, found.tolist()), (numpy.ndarray, numpy.int64, TEN))
+            found[0] = 7  # It is the caller's own.
+
+    def test_symbols_that_begin_elsewhere(self) -> None:
+        message, model = [-3, 0, 4, -9], QuantizedGaussian(-9, 9, 0.0, 3.0)
+        wanted = AnsCoder()
+        wanted.encode_reverse(message, model)
+        for kind in ("int64", "int32", ">i4", "int8"):
+            coder = AnsCoder()
+            coder.encode_reverse(numpy.array(message, dtype=kind), model)
+            self.assertEqual(coder.pos(), wanted.pos())
+        for wrong in ([1 << 63], [(1 << 64) - 1]):
+            with self.assertRaises(errors.ImpossibleSymbolError):
+                AnsCoder().encode_reverse(numpy.array(wrong, dtype="uint64"), model)
+        for wrong in ([-(1 << 63)], [(1 << 63) - 1]):
+            with self.assertRaises(errors.ImpossibleSymbolError):
+                AnsCoder().encode_reverse(numpy.array(wrong, dtype="int64"), model)
+
+    def test_floats_are_no_symbols(self) -> None:
+        family, fixed = QuantizedGaussian(-9, 9), QuantizedGaussian(-9, 9, 0.0, 3.0)
+        for symbols in (numpy.array([1.9, -2.9]), numpy.array([1.0, -2.0], dtype="float32"), numpy.float64(1.0)):
+            for model, given in ((fixed, ()), (family, ([0.0, 0.0], [1.0, 1.0])), (WeightTable(WEIGHTS), ())):
+                if symbols.ndim or not given:
+                    with self.assertRaisesRegex(TypeError, "astype"):
+                        AnsCoder().encode_reverse(symbols, model, *given)
+                    with self.assertRaisesRegex(TypeError, "astype"):
+                        RangeEncoder().encode(symbols, model, *given)
+        with self.assertRaisesRegex(TypeError, "astype"):
+            QueueEncoder().encode(numpy.array([1.0]), ExpGolomb())
+        with self.assertRaisesRegex(TypeError, "astype"):
+            AnsCoder(numpy.array([1.0]))
+
+    def test_parts_of_arrays(self) -> None:
+        every_other = numpy.repeat(numpy.array(TEN), 2)[::2]
+        for given in (every_other, numpy.array(TEN[::-1])[::-1]):
+            coder = AnsCoder()
+            coder.encode_reverse(given, WeightTable(WEIGHTS))
+            self.assertEqual(coder.get_compressed().tolist(), WORDS)
+
+    def test_parameters(self) -> None:
+        message, means, stds = numpy.arange(-20, 20), numpy.linspace(-9, 9, 40), numpy.linspace(1, 9, 40)
+        encoder, family, fixed = RangeEncoder(), QuantizedGaussian(-50, 50), QuantizedGaussian(-50, 50, 0.0, 9.0)
+        for kind in ("float64", "float32", "float16", ">f4", ">f8", "int32"):
+            encoder.encode(message, fixed)
+            encoder.encode(message, family, means.astype(kind), stds.astype(kind))
+        decoder = RangeDecoder(encoder.get_compressed())
+        for kind in ("float64", "float32", "float16", ">f4", ">f8", "int32"):
+            self.assertEqual(decoder.decode(fixed, 40).tolist(), message.tolist())
+            self.assertEqual(decoder.decode(family, means.astype(kind), stds.astype(kind)).tolist(), message.tolist())
+
+    def test_rows(self) -> None:
+        rows = numpy.tile(numpy.array(WEIGHTS, dtype=numpy.uint32), (10, 1))
+        coder = AnsCoder()
+        coder.encode_reverse(numpy.array(TEN), WeightTable(), rows)
+        self.assertEqual(coder.get_compressed().tolist(), WORDS)
+        self.assertEqual(coder.decode(WeightTable(), rows).tolist(), TEN)
+        chances = numpy.tile(numpy.array([0.25, 0.5, 0.25], dtype="float16"), (10, 1))
+        coder.encode_reverse(TEN, Categorical(), chances)
+        self.assertEqual(coder.decode(Categorical(), chances).tolist(), TEN)
+
+    def test_shapes(self) -> None:
+        table = numpy.zeros((2, 3), dtype="int64")
+        for call in (
+            lambda: AnsCoder().encode_reverse(table, WeightTable(WEIGHTS)), lambda: AnsCoder(table), lambda: ExpGolomb().symbols(table),
+            lambda: AnsCoder().encode_reverse([0, 1], QuantizedGaussian(-9, 9), table, table), lambda: WeightTable(table),
+            lambda: AnsCoder().decode(Categorical(), numpy.ones((2, 2, 2))), lambda: EncoderHuffmanTree(table),
+        ):  # fmt: skip
+            self.assertRaisesRegex(TypeError, "dimensions", call)
+        coder = AnsCoder()
+        coder.encode_reverse(numpy.array(1), WeightTable(WEIGHTS))
+        self.assertEqual(coder.decode(WeightTable(WEIGHTS)), 1)
+        coder.encode_reverse(numpy.array([]), WeightTable(WEIGHTS))
+        self.assertTrue(coder.is_empty())
+
+    def test_whole_weights_of_trees(self) -> None:
+        weights = [3, 2, 2000000000]
+        wanted = EncoderHuffmanTree(weights)
+        for given in (numpy.array(weights), [numpy.int64(it) for it in weights], numpy.array(weights, dtype="uint32")):
+            self.assertEqual(list(EncoderHuffmanTree(given)._weights), list(wanted._weights))
+        for given in ([3, 2, 4000000000], numpy.array([3, 2, 4000000000])):
+            self.assertEqual([EncoderHuffmanTree(given).codeword(i)[1] for i in range(3)], [2, 2, 1])
+            self.assertEqual(list(DecoderHuffmanTree(given)._weights), [3, 2, 4000000000])
+
+    def test_copies(self) -> None:
+        coder = AnsCoder(numpy.array(WORDS, dtype=numpy.uint32))
+        for twin in (copy.copy(coder), copy.deepcopy(coder), pickle.loads(pickle.dumps(coder))):
+            self.assertEqual(twin.decode(WeightTable(WEIGHTS), 10).tolist(), TEN)
+        model = WeightTable(numpy.array(WEIGHTS))
+        self.assertEqual(list(pickle.loads(pickle.dumps(model)).table()), WEIGHTS)
+
+    def test_answers_of_other_coders(self) -> None:
+        chain = ChainCoder(numpy.array([1, 2, 3, 4, 5, 6], dtype="uint32"))
+        symbols = chain.decode(Uniform(5), 3)
+        chain.encode_reverse(symbols, Uniform(5))
+        self.assertEqual(numpy.concatenate(chain.get_data()).tolist(), [1, 2, 3, 4, 5, 6])
+        queue, stack = QueueEncoder(), StackCoder()
+        queue.encode(numpy.arange(100, dtype="int16"), ExpGolomb())
+        stack.encode_reverse(numpy.arange(100, dtype="int16"), ExpGolomb())
+        for decoder in (QueueDecoder(queue.get_compressed()[0]), StackCoder(stack.get_compressed()[0])):
+            found = decoder.decode(ExpGolomb(), 100)
+            self.assertEqual((type(found), found.tolist()), (numpy.ndarray, list(range(100))))
+
+
+if __name__ == "__main__":
+    unittest.main()
