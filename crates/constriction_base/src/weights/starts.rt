@@ -6,7 +6,7 @@ ghost use Rattle.constriction_base.specs.Tables.{Sums, IsLastSymbol};
 use constriction_words::BitArray;
 use std::alloc::{AllocError, Global};
 
-/// The number of ones below a place.
+/// The number that so many ones are in binary.
 pub fn ones<Word: BitArray>(count: usize) -> Word
     requires { (1 ≤ count) × (count ≤ Word.BITS) }
     ensures { Word.number result + 1 ≡ 2 ^ count }

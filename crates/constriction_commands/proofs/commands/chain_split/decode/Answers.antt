@@ -22,7 +22,7 @@ returns-in-Err-Frontend-clause-err g c = elim (rw c.in-Err-Frontend.field-0-is a
     c.loop.invariant.decoded,
     omega (arith, c.loop.invariant.counted, c.loop-test.true),
     halted.why.0,
-    halted.before.compressed_are ∙ ap (map (λ x. x % 2 ^ 32)) halted.why.1.0.0,
+    halted.before.compressed_are ∙ ap (map (λ x. x % 2 ^ 32)) halted.why.1.0.0.0,
   )
   | inr entry ↦ absurd entry.1.3.outcome
 ]
