@@ -7,7 +7,7 @@ import os
 
 WEIGHTS = [2, 2, 4, 1, 1]
 LEAF, UNION, EDGE = "#cfe3f7", "#fbe3b5", "#555"
-MARGIN, COLUMN, ROW, RADIUS = 60, 120, 84, 24
+MARGIN, COLUMN, ROW, RADIUS = 60, 120, 88, 30
 
 
 def merged(weights):
@@ -53,7 +53,7 @@ def edge(above, below, bit):
     (x, y), (to_x, to_y) = at(above), at(below)
     side = -12 if to_x < x else 12
     line = f'<path d="M{x:g} {y:g} L{to_x:g} {to_y:g}" stroke="{EDGE}" fill="none"/>'
-    return [line, text((x + to_x) / 2 + side, (y + to_y) / 2 + 4, bit, 14, "bold")]
+    return [line, text((x + to_x) / 2 + side, (y + to_y) / 2 - 2, bit, 14, "bold")]
 
 
 def circle(place, index, weight, colour):
