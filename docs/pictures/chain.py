@@ -1,7 +1,7 @@
 #!/usr/bin/env python3
-"""Draws chain.svg beside this file: which bits of a word are the quantiles of two decodes of a chain coder, where these lie
-in the symbols' intervals, and how the number of the remainders takes in what the symbols don't tell. The numbers are those of
-docs/CHAIN.md, computed here from the definition of the walk."""
+"""Draws chain.svg beside this file: which bits of a word are the quantiles of two decodes of a chain coder, where these
+lie in the symbols' intervals, and how the number of the remainders takes in what the symbols don't tell. The numbers
+are those of docs/CHAIN.md, computed here from the definition of the walk."""
 
 import os
 
@@ -46,26 +46,30 @@ def word(y):
 
 
 def table(y):
-    """The quantiles below two to the precision, in the colours of their symbols; the two that were taken, in those of their decodes."""
+    """The quantiles in the colours of their symbols, and the two that were taken in those of their decodes."""
     drawn = []
     for quantile in range(2**PRECISION):
         symbol, _ = interval(quantile)
         colour = DECODES[quantiles().index(quantile)] if quantile in quantiles() else TABLE[symbol]
-        drawn += [box(MARGIN + CELL * quantile, y, CELL, colour), text(MARGIN + CELL * (quantile + 0.5), y + 23, quantile)]
+        x = MARGIN + CELL * quantile
+        drawn += [box(x, y, CELL, colour), text(x + CELL / 2, y + 23, quantile)]
     for symbol, length in enumerate(WEIGHTS):
         left = sum(WEIGHTS[:symbol])
-        drawn.append(text(MARGIN + CELL * (left + length / 2), y + HIGH + 18, f"symbol {symbol}: left {left}, p {length}", weight="bold"))
+        middle = MARGIN + CELL * (left + length / 2)
+        drawn.append(text(middle, y + HIGH + 18, f"symbol {symbol}: left {left}, p {length}", weight="bold"))
     return drawn
 
 
 def remainders(y):
     """How the number of the remainders grows, decode by decode."""
-    drawn, number, x = [text(MARGIN, y - 12, "the number of the remainders", anchor="start"), box(MARGIN, y, 90, "#fff")], REMAINDER, MARGIN
+    number, x = REMAINDER, MARGIN
+    drawn = [text(x, y - 12, "the number of the remainders", anchor="start"), box(x, y, 90, "#fff")]
     drawn.append(text(x + 45, y + 23, f"r = {number}"))
     for decode, quantile in enumerate(quantiles()):
         symbol, left = interval(quantile)
         place, length = quantile - left, WEIGHTS[symbol]
-        drawn += [text(x + 180, y + 15, f"symbol {symbol}, t = {quantile} - {left} = {place}", 11), text(x + 180, y + 31, f"{number} * {length} + {place} →", 13)]
+        drawn.append(text(x + 180, y + 15, f"symbol {symbol}, t = {quantile} - {left} = {place}", 11))
+        drawn.append(text(x + 180, y + 31, f"{number} * {length} + {place} →", 13))
         number, x = number * length + place, x + 270
         drawn += [box(x, y, 90, DECODES[decode]), text(x + 45, y + 23, f"r = {number}")]
     return drawn

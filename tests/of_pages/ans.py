@@ -1,0 +1,75 @@
+"""docs/ANS.md: the stack coder, with words of 8 bits, heads of 16 and a precision of 4."""
+
+from __future__ import annotations
+
+from judging import Page, bits_of_information, digits, entries, judge, listed, quantiles, series, symbol_at
+
+WEIGHTS, NAMES = [8, 5, 3], "abc"
+
+
+def pop(weights, head, words):
+    """The symbol, its quantile, and what a pop leaves by its definition: the head before a word moves in, the state."""
+    quantile = head % 16
+    symbol = symbol_at(weights, quantile)
+    left, length = entries(weights)[symbol]
+    head = low = head // 16 * length + quantile - left
+    if head < 2**8 and words:
+        head, words = head * 2**8 + words[-1], words[:-1]
+    return symbol, quantile, low, head, words
+
+
+def push(weights, symbol, head, words):
+    """The one state whose pop gives this symbol and this state: looked for among those with a word more and without."""
+    left, length = entries(weights)[symbol]
+    found = []
+    for moved in (0, 1):
+        low, below = (head % 2**8, head // 2**8) if moved else (None, head)
+        after = (below // length * 16 + left + below % length, words + [low] if moved else words)
+        valid = after[0] < 2**16 and (after[0] >= 2**8 or not after[1])
+        if valid and pop(weights, *after)[0] == symbol and pop(weights, *after)[3:] == (head, words):
+            found.append((moved, low, below, *after))
+    assert len(found) == 1
+    return found[0]
+
+
+def pushes(page, head, words):
+    """The four pushes, as rows; the state after them, and the states before each."""
+    before = []
+    for symbol in [2, 0, 1, 2]:
+        (left, length), old, top = entries(WEIGHTS)[symbol], head, head // 2**12
+        before.append((head, words))
+        moved, low, below, head, words = push(WEIGHTS, symbol, head, words)
+        room = f"{top} < {length} fails: {low} moves out, {below} is left" if moved else f"{top} < {length}"
+        judge(moved == (top >= length), "the room of a push")
+        after = f"{below} / {length} * 16 + {left} + {below} % {length} = {head}"
+        page.row(NAMES[symbol], old, room, after, series(words) or "none")
+    return head, words, before
+
+
+def pops(page, head, words, before):
+    """The four pops, which lead back through the states before."""
+    while before:
+        symbol, quantile, low, back, rest = pop(WEIGHTS, head, words)
+        left, length = entries(WEIGHTS)[symbol]
+        moves = ""
+        if len(rest) < len(words):
+            moves = f"below 256: {words[-1]} moves in, {low} * 256 + {words[-1]} = {back}"
+        page.row(head, quantile, NAMES[symbol], f"{head // 16} * {length} + {quantile - left} = {low}", moves)
+        head, words = back, rest
+        judge((head, words) == before.pop(), "a pop undoes a push")
+
+
+def test():
+    page = Page("docs/ANS.md")
+    for (left, length), name in zip(entries(WEIGHTS), NAMES):
+        page.row(name, left, length, quantiles(left, length), bits_of_information(length, 4))
+    head = 29 * 256 + 237
+    page.has(f"imports the words `[237, 29]`: its head is `29 * 256 + 237 = {head}`, and no words are below")
+    head, words, before = pushes(page, head, [])
+    export = words + list(reversed(digits(head, 2)))
+    page.has(f"`{listed(export)}`, since `{head} = {head // 256} * 256 + {head % 256}`")
+    pops(page, head, words, before)
+    page.has("`log2(16 / p)` bits")
+    page.has("at least 2^8 here, 2^32 in `DefaultAnsCoder`")
+    # Sizes, the quantile by 16, the steps of bits back, and the weights.
+    page.rest("0", "1", "2", "3", "4", "5", "8", "12", "16")

@@ -1,0 +1,130 @@
+"""docs/CHAIN.md: the chain coder, with words of 8 bits, numbers of 16 and a precision of 4."""
+
+from __future__ import annotations
+
+from math import log2
+from typing import NamedTuple, Optional
+
+from ans import pop
+from judging import Page, bits_of_information, entries, judge, listed, quantiles, series, symbol_at
+
+WEIGHTS, OTHER, WORDS = [5, 11], [13, 3], [171, 18]
+
+
+class Decode(NamedTuple):
+    """What a decode began with, what it took, and what it left."""
+
+    number: int
+    bits: str
+    read: Optional[int]
+    answer: str
+    symbol: int
+    place: int
+    length: int
+    left_over: str
+    grown: int
+
+    def way(self):
+        return f"{self.number} * {self.length} + {self.place} = {self.grown}"
+
+
+def walk(bits, words):
+    """A quantile from the bits left over or from a word, as bits; the bits left over then; the words; the word read."""
+    if len(bits) >= 4:
+        return bits[-4:], bits[:-4], words, None
+    word = format(words[-1], "08b")
+    return word[4:], bits + word[:4], words[:-1], words[-1]
+
+
+def decoded(tables, words):
+    """The decodes of a coder that is made of words, and the words that they leave."""
+    number, bits, words, decodes = words[-1], "", words[:-1], []
+    while number < 2**4:
+        number, words = number * 2**8 + words[-1], words[:-1]
+    for weights in tables:
+        answer, over, rest, read = walk(bits, words)
+        symbol = symbol_at(weights, int(answer, 2))
+        left, length = entries(weights)[symbol]
+        place = int(answer, 2) - left
+        grown = number * length + place
+        assert grown < 2**12
+        decodes.append(Decode(number, bits, read, answer, symbol, place, length, over, grown))
+        number, bits, words = grown, over, rest
+    return decodes, words
+
+
+def way_there(page):
+    """The two decodes; the number that they leave."""
+    decodes, words = decoded([WEIGHTS] * 2, WORDS)
+    page.row("", "", "", "", decodes[0].number)
+    for name, it in zip(["first", "second"], decodes):
+        spaced = None if it.read is None else f"{it.read:08b}"
+        word = "none" if spaced is None else f"{it.read}, which is {spaced[:4]} {spaced[4:]}"
+        quantile = int(it.answer, 2)
+        page.row(name, it.bits or "none", word, f"{it.answer}, which is {quantile}", it.left_over or "none")
+        page.row(name, quantile, it.symbol, it.place, it.way())
+    heads = [int("1" + bits, 2) for bits in ("", decodes[0].left_over, decodes[1].left_over)]
+    page.has(f"a 1 and then the bits: {heads[0]}, then {heads[1]} (1 {decodes[0].left_over}), then {heads[2]} again")
+    page.has("Where that is 2^12 or more, its low word moves out")
+    judge((decodes[-1].left_over, words) == ("", []), "no bits and no words are left")
+    high, low = divmod(decodes[-1].grown, 256)
+    page.has(f"`{decodes[-1].grown} = {high} * 256 + {low}`, so they are `{listed([low, high, heads[2]])}`")
+    return decodes[-1].grown
+
+
+def other_model(page):
+    """Both coders over the same words, under two models for the first symbol."""
+    head = WORDS[1] * 256 + WORDS[0]
+    page.has(f"The first symbol under the weights {series(OTHER)} in place of {series(WEIGHTS)}")
+    ways = []
+    for first in (WEIGHTS, OTHER):
+        decodes, _ = decoded([first, WEIGHTS], WORDS)
+        taken, symbols = series(int(it.answer, 2) for it in decodes), series(it.symbol for it in decodes)
+        page.row("chain coder", series(first), taken, symbols)
+        one, quantile, left, then, rest = pop(first, head, [])
+        two, following, _, _, _ = pop(WEIGHTS, then, rest)
+        page.row("stack coder", series(first), f"{quantile}, {following}", f"{one}, {two}")
+        begins, length = entries(first)[one]
+        ways.append(f"{head // 16} * {length} + {quantile - begins} = {left}")
+    page.has(f"the chain coder's `r` is {decodes[0].way()} and then {decodes[1].way()}")
+    page.has(f"has the head {head} at first. Its first pop leaves {ways[0]} or {ways[1]}")
+
+
+def way_back(page, number):
+    """Two encodes of symbol 1, which give the words back."""
+    bits, (left, length) = "", entries(WEIGHTS)[1]
+    for _ in range(2):
+        judge(number >= length * 2**4, "no word of the remainders moves in")
+        old, place = number, number % length
+        quantile, number, word = left + place, number // length, "none"
+        if len(bits) < 4:
+            bits += f"{quantile:04b}"
+        else:
+            bits, word = bits[:-4], int(f"{bits[-4:]}{quantile:04b}", 2)
+        page.row(1, old, place, quantile, number, bits or "none", word)
+    judge((number, bits, word) == (WORDS[1], "", WORDS[0]), "the words come back")
+    page.has("Where `r` is below `p * 2^4`")
+    page.has(f"`into_compressed` gives `{listed(WORDS)}`")
+
+
+def test():
+    page = Page("docs/CHAIN.md")
+    page.has(f"With 4 bits of precision and the weights {series(WEIGHTS)}")
+    for symbol, (left, length) in enumerate(entries(WEIGHTS)):
+        page.row(symbol, left, length, quantiles(left, length), bits_of_information(length, 4))
+    page.has(f"imports the words `{listed(WORDS)}`, the last one first: words are read until `r` is at least 2^4")
+    page.has(f"So `r` is {WORDS[1]}, the word {WORDS[0]} is left")
+    page.has(f"The word {WORDS[0]} as eight bits: the low four are the first quantile, the high four the second one")
+    number = way_there(page)
+    other_model(page)
+    way_back(page, number)
+    carried = 2 * (4 - log2(11))
+    page.has(f"Two quantiles took 8 bits. The symbols carry {carried:.2f} bits under their model, and the other")
+    page.has(f"{8 - carried:.2f} are in the remainders")
+    page.has("`r` is at least 2^4 and below 2^12 at 4 bits of precision, and at 8 bits at least 1 and below 2^8")
+    high, low = divmod(number, 256)
+    judge(1 <= high < 2**8 <= number, "a change of the precision moves one word")
+    page.has(f"`increase_precision::<8>` writes the word {low} and leaves `r = {high}`")
+    page.has("and `decrease_precision::<4>` takes it back")
+    # Sizes, and the symbol's length.
+    page.rest("1", "2", "4", "8", "11", "16")

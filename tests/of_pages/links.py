@@ -1,0 +1,33 @@
+"""Each link of a page leads to a file, and to a heading where it names one."""
+
+from __future__ import annotations
+
+import os
+import re
+
+from judging import TOP, judge, read
+
+
+def pages():
+    docs = [f"docs/{it}" for it in sorted(os.listdir(f"{TOP}/docs")) if it.endswith(".md")]
+    return ["README.md", *docs, "edits/README.md", "python/README.md", "examples/c/README.md", "bench/README.md"]
+
+
+def anchors(path):
+    """The names of a page's headings, as they are named where pages are shown."""
+    for head in re.findall(r"^#+ (.*)$", read(path), flags=re.M):
+        yield re.sub(r"[^\w -]", "", re.sub(r"\]\([^)]*\)", "]", head).lower()).replace(" ", "-")
+
+
+def leads(page, link):
+    path, _, anchor = link.partition("#")
+    target = os.path.normpath(f"{os.path.dirname(page)}/{path}") if path else page
+    return os.path.exists(f"{TOP}/{target}") and (not anchor or anchor in anchors(target))
+
+
+def test():
+    for page in pages():
+        text = re.sub(r"```.*?```", "", read(page), flags=re.S)
+        for link in re.findall(r"\]\(([^)\s]+)\)", text):
+            if not re.match(r"[a-z]+:", link):
+                judge(leads(page, link.lstrip("/")), f"{page}: the link {link} leads nowhere")

@@ -1,0 +1,72 @@
+"""Code that a page says is of a file stands in that file, and examples print what the definitions give."""
+
+from __future__ import annotations
+
+import re
+
+import definitions as by
+from judging import Page, judge, listed, read
+
+EXAMPLES, FLAT = "crates/constriction_examples", "crates/constriction_bench/src/flat.rt"
+
+
+def blocks(name):
+    """The code of a page, each with the text above it up to the code or the heading before."""
+    parts = re.split(r"^```(\w*)\n(.*?)^```$", read(name), flags=re.M | re.S)
+    for above, language, code in zip(parts[0::3], parts[1::3], parts[2::3]):
+        yield re.split(r"^#", above, flags=re.M)[-1], language, code
+
+
+def in_file(name, path, code, begins):
+    """Each item of the code stands in the file, but for its comments."""
+    source = read(path)
+    for item in re.split(rf"\n\n(?={begins})", code.strip()):
+        judge(item in source, f"{name}: not the text of {path}: {item.splitlines()[0]}")
+
+
+def body(code, function):
+    """What stands between a function's braces, the allocator under one name."""
+    found = re.search(rf"^(?:pub )?fn {function}\(.*?\{{\n(.*?)^\}}$", code, flags=re.M | re.S)
+    return found and found[1].replace("rt.alloc()", "alloc").replace("    let alloc = alloc;\n", "")
+
+
+def calling():
+    """Functions are of `uses`; other code is of the file that is named above it."""
+    name = "docs/CALLING.md"
+    for above, language, text in blocks(name):
+        named = re.findall(r"`((?:specs|proofs)/[\w/]+\.antt)`", above)
+        if named:
+            in_file(name, f"{EXAMPLES}/{named[-1]}", text, "pub ")
+        elif language == "rust":
+            in_file(name, f"{EXAMPLES}/src/uses.rt", text, "pub ")
+
+
+def programs():
+    """A program that is `run` of a file is named so above it."""
+    name = "docs/EXAMPLES.md"
+    for above, _, text in blocks(name):
+        for path in re.findall(r"It is `run` of `([\w/]+\.rt)`", above):
+            ours = body(text, "main")
+            judge(ours and ours == body(read(path), "run"), f"{name}: not `run` of {path}")
+
+
+def prints():
+    """What the programs print, as far as it is computed."""
+    page, words = Page("docs/EXAMPLES.md"), [1, 2, 0x9ABCDEF0, 0x12345678, 256]
+    page.has(f"let words = [1, 2, 0x{words[2]:x}, 0x{words[3]:x}, 256]")
+    page.has("&[8388608, 4194304, 4194304]")
+    symbols, left, _ = by.chain_split([[8388608, 4194304, 4194304]] * 2, words)
+    page.has(f'println!(rt; "{{symbols:?}}")?; // {listed(symbols)}')
+    page.has(f'println!(rt; "{{prefix:?}} {{exported:?}}")?; // {listed(left)} {listed(words[len(left):])}')
+    codewords = [by.golomb_codeword(number) for number in (0, 5, 7)]
+    page.has(f"0 is {codewords[0]}, 5 is {codewords[1]}, 7 is {codewords[2]}")
+    codewords = by.huffman_codewords([2, 2, 4, 1, 1])
+    page.has(f"The codewords {', '.join(codewords[:-1])} and {codewords[-1]}")
+
+
+def test():
+    calling()
+    programs()
+    prints()
+    for _, _, text in blocks("docs/ADDING_A_MODEL.md"):
+        in_file("docs/ADDING_A_MODEL.md", FLAT, text, "impl")

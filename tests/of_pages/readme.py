@@ -1,0 +1,84 @@
+"""README.md: what its commands print, its table of speed, the gate's multiple, and how long it is."""
+
+from __future__ import annotations
+
+import re
+from math import log2
+
+import definitions as by
+from judging import Page, judge, read
+
+HALVES = [[8388608, 8388608]]
+
+
+def times():
+    """The ratio of each case of docs/TIMES.md, which is that of its two times."""
+    row = r"^\| (\w+) \| [A-Z] \| ([\d.]+) \| ([\d.]+) \| \**([\d.]+)\** \|$"
+    rows = re.findall(row, read("docs/TIMES.md"), flags=re.M)
+    judge(len(rows) >= 40 and len({case for case, *_ in rows}) == len(rows), "docs/TIMES.md: each case once")
+    for case, ours, theirs, ratio in rows:
+        exact = float(ours) / float(theirs)
+        judge(abs(exact - float(ratio)) < 0.0101, f"docs/TIMES.md: {case}: {exact:.3f} is not {ratio}")
+    return {case: ratio for case, _, _, ratio in rows}
+
+
+def speed(page):
+    """The table of speed has the ratios of docs/TIMES.md."""
+    ratios = times()
+
+    def of(pattern):
+        found = sorted(ratio for case, ratio in ratios.items() if re.fullmatch(pattern, case))
+        return ", ".join(found) if len(found) <= 2 else f"{found[0]} to {found[-1]}"
+
+    for coder, name in (("stack coder (ANS)", "ans"), ("range coder", "range"), ("chain coder", "chain")):
+        others = of(f"{name}_decode_.*_(bucket|lookup|flat)")
+        page.row(coder, of(f"{name}_encode_.*"), of(f"{name}_decode_.*_table"), others)
+    encodes, decodes = of("golomb_encode_.*"), of("golomb_decode_.*")
+    page.row("Exp-Golomb; single bits", f"{encodes}; {of('bits_write_.*')}", "", f"{decodes}; {of('bits_read_.*')}")
+    encodes = f"{of('huffman_encode_.*')}; {of('huffman_make_encoder_.*')}"
+    decodes = f"{of('huffman_decode_.*')}; {of('huffman_make_decoder_.*')}"
+    page.row("Huffman trees; their making", encodes, "", decodes)
+
+
+def gate():
+    """The multiple is that of the minutes and of the seconds beside it."""
+    said = r"\*\*(\d+) times the proof of\s+`constriction_words`\*\* \((\d+) processor minutes.*?; (\d+) s\)"
+    found = re.search(said, read("docs/TIMES.md"), flags=re.S)
+    judge(found and int(found[1]) == round(60 * int(found[2]) / int(found[3])), "docs/TIMES.md: the gate's multiple")
+
+
+def commands(page):
+    """The program's commands, by the coders' definitions."""
+
+    def prints(command, text, answer):
+        page.has(f"printf '{text}\\n' | ./constriction {command} # {answer}")
+
+    def shown(numbers):
+        return " ".join(map(str, numbers))
+
+    page.has(f"first 0 becomes 3, and a second time 3 becomes {3 // 2 * 2**24 + 3 + 3 % 2}")
+    words = shown(by.ans_words([[3, 2, 16777211]] * 2, [1, 1]))
+    prints("ans-encode", "3 2 16777211\\n1 1", f"prints {words}")
+    prints("ans-decode", f"3 2 16777211\\n2 {words}", "prints 1 1")
+    words = shown(by.range_words(HALVES, [1]))
+    prints("range-encode", "8388608 8388608\\n1", f"{words}: the upper half of the interval")
+    prints("range-decode", f"8388608 8388608\\n1 {words}", "1")
+    symbols, left, remainders = by.chain_split(HALVES, [287454020, 256])
+    judge(not left, "the words left of a chain coder")
+    answer = f"{shown(symbols)}; no words left; the remainders {shown(remainders)}"
+    prints("chain-split", "8388608 8388608\\n1 287454020 256", answer)
+    codewords = [by.golomb_codeword(number) for number in (0, 5, 7)]
+    answer = f"{shown(codewords)}, and their bits as words: {shown(by.queue_words(''.join(codewords)))}"
+    prints("golomb", "0 5 7", answer)
+    prints("huffman", "2 2 4 1 1", f"{shown(by.huffman_codewords([2, 2, 4, 1, 1]))}: a codeword for each weight")
+
+
+def test():
+    page = Page("README.md")
+    commands(page)
+    speed(page)
+    gate()
+    rounding = f"{log2(1 + 2 ** -(64 - 32 - 24)):.4f}"
+    page.has(f"bits a step for rounding ({rounding} at 24 bits, words of 32 and states of 64), and a state's bits")
+    count = len(read("README.md").splitlines())
+    judge(count <= 150, f"README.md has {count} lines")
