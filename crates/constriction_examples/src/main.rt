@@ -1,11 +1,12 @@
 //! Worked examples, which list the facade alone: [`uses`] for a crate whose own contracts say that symbols come back,
-//! [`bits_back`] for bits-back coding, and [`isolation`] for what the chain coder is for. The program runs the three in turn.
-//! [`laws_of_each_coder`] applies one law of each coder, and is not run.
+//! [`bits_back`] for bits-back coding, [`isolation`] for what the chain coder is for, and [`programs`] for each other coder a small
+//! one. The program runs them in turn. [`laws_of_each_coder`] applies one law of each coder, and is not run.
 #![tactic(auto)]
 
 mod bits_back;
 mod isolation;
 mod laws_of_each_coder;
+mod programs;
 mod uses;
 
 use anyhow::Result;
@@ -15,5 +16,9 @@ fn main(rt: HostRuntime) -> Result<()> {
     uses::run(&rt, alloc)?;
     bits_back::run(&rt, alloc)?;
     isolation::run(&rt, alloc)?;
+    programs::range::run(&rt, alloc)?;
+    programs::chain::run(&rt, alloc)?;
+    programs::bits::run(&rt, alloc)?;
+    programs::huffman::run(&rt, alloc)?;
     Ok(())
 }

@@ -1,0 +1,25 @@
+//! Codewords of weights, by the trees of an encoder and a decoder.
+
+use anyhow::Result;
+use constriction::symbol::huffman::{DecoderHuffmanTree, EncoderHuffmanTree};
+use constriction::symbol::{DefaultQueueEncoder, ReadBitStream, WriteBitStream};
+use std::alloc::Global;
+
+/// Writes three symbols as codewords of a tree, and prints them as they come back.
+pub fn run(rt: &impl Print, alloc: Global) -> Result<()> {
+    // The codewords 00, 01, 11, 100 and 101.
+    let weights = [2u32, 2, 4, 1, 1];
+    let tree = EncoderHuffmanTree::from_probabilities(alloc, weights.as_slice())?;
+
+    let mut encoder = DefaultQueueEncoder::new(alloc);
+    encoder.encode_iid_symbols([3usize, 2, 0].as_slice(), &tree)?;
+
+    // The decoder's tree is made of the same weights.
+    let tree = DecoderHuffmanTree::from_probabilities(alloc, weights.as_slice())?;
+    let mut decoder = encoder.into_decoder()?;
+    for _ in 0..3 {
+        let symbol = decoder.decode_symbol(&tree)?;
+        println!(rt; "{symbol}")?; // 3, 2, 0
+    }
+    Ok(())
+}

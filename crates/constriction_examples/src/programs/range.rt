@@ -1,0 +1,24 @@
+//! Range coding: symbols come back in the order in which they were encoded.
+
+use anyhow::Result;
+use constriction::stream::model::WeightTable;
+use constriction::stream::queue::DefaultRangeEncoder;
+use constriction::stream::{Decode, Encode};
+use std::alloc::Global;
+
+/// Encodes three symbols, and prints them as they come back.
+pub fn run(rt: &impl Print, alloc: Global) -> Result<()> {
+    let table = WeightTable::<u32, 24>::new(alloc, &[3, 2, 16777211])?;
+
+    // What is encoded first is decoded first.
+    let mut encoder = DefaultRangeEncoder::new(alloc);
+    encoder.encode_symbol(&1, &table)?;
+    encoder.encode_iid_symbols([0usize, 2].as_slice(), &table)?;
+
+    let mut decoder = encoder.into_decoder()?;
+    for _ in 0..3 {
+        let symbol = decoder.decode_symbol(&table)?;
+        println!(rt; "{symbol}")?; // 1, 0, 2
+    }
+    Ok(())
+}
