@@ -1,0 +1,10 @@
+pub mod Cuts
+pub mod Quantized
+pub mod Interpolation
+pub mod Rules
+pub mod Normal
+pub mod Laplace
+pub mod Logistic
+pub mod Quantizers
+pub mod Counts
+pub mod laws
