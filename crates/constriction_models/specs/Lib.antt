@@ -5,6 +5,9 @@ pub mod Rules
 pub mod Normal
 pub mod Laplace
 pub mod Logistic
+pub mod Uniform
+pub mod Bernoulli
+pub mod Lookup
 pub mod Quantizers
 pub mod Counts
 pub mod laws

@@ -10,14 +10,22 @@
 //!   the model that it makes.
 //! - [`location_scale`]: `LocationScale`, a distribution by the table of a standard one, a location and a scale.
 //! - [`gaussian`], [`laplace`], [`logistic`]: `Gaussian`, `Laplace`, `Logistic`.
+//! - [`uniform`], [`bernoulli`]: `UniformModel` and `BernoulliModel`, of equal symbols and of two.
 //! - [`counts`]: `weights_of_counts`, weights in proportion to counts.
+//! - [`lookup`]: `ContiguousLookupDecoderModel`, a model that lists the symbol of each quantile.
+//! - [`errors`]: `SupportError`, why so many symbols make no model.
 #![tactic(auto)]
 
+pub mod bernoulli;
 pub mod counts;
 pub mod distribution;
+pub mod errors;
 pub mod gaussian;
 mod interpolation;
+mod intervals;
 pub mod laplace;
 pub mod location_scale;
 pub mod logistic;
+pub mod lookup;
 pub mod quantizer;
+pub mod uniform;

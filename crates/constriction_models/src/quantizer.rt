@@ -5,21 +5,11 @@ ghost use Rattle.constriction_models.specs.Quantized.{symbol_of, below_edge, sta
 ghost use Rattle.constriction_models.specs.laws.Quantizing.{quantized_is_table, quantized_two};
 
 use crate::distribution::CumulativeDistribution;
+use crate::errors::SupportError;
+use crate::intervals::interval;
 use constriction_base::model::{DecoderModel, EncoderModel, EntropyModel};
 use constriction_words::{BitArray, WordOf};
 use std::marker::PhantomData;
-use thiserror::Error;
-
-/// Why a range of symbols can't be quantized.
-#[derive(Debug, Clone, Copy, PartialEq, Eq, Hash, Error)]
-pub enum QuantizerError {
-    /// There are fewer than two symbols.
-    #[error("fewer than two symbols")]
-    TooFew,
-    /// There are more symbols than two to the precision.
-    #[error("more symbols than two to the precision")]
-    TooMany,
-}
 
 /// A range of symbols, which cuts distributions at half symbols: every symbol of the range gets a weight above 0, however
 /// unlikely it is (the cut leaks to all of them), and no other symbol does.
@@ -53,19 +43,19 @@ impl<Probability: WordOf<u32>, const PRECISION: usize> LeakyQuantizer<Probabilit
     /// # Errors
     ///
     /// `TooFew` where `max` isn't above `min`, and `TooMany` where there are more symbols than two to the precision.
-    pub fn new(min: i32, max: i32) -> Result<Self, QuantizerError>
+    pub fn new(min: i32, max: i32) -> Result<Self, SupportError>
         requires { (1 ≤ PRECISION) × (PRECISION ≤ Probability.BITS) }
         ensures first { IfOk result (λ q. first_symbol q ≡ min) }
         ensures count { IfOk result (λ q. (min +ℤ pos (count_of q)) ≡ (max +ℤ pos 1)) }
-        ensures few { IsErrOf result QuantizerError.TooFew ↔ (max ≤ℤ min) }
-        ensures many { IsErrOf result QuantizerError.TooMany ↔ ((min +ℤ pos (2 ^ PRECISION)) ≤ℤ max) }
+        ensures few { IsErrOf result SupportError.TooFew ↔ (max ≤ℤ min) }
+        ensures many { IsErrOf result SupportError.TooMany ↔ ((min +ℤ pos (2 ^ PRECISION)) ≤ℤ max) }
     {
         if max <= min {
-            return Err(QuantizerError::TooFew);
+            return Err(SupportError::TooFew);
         }
         let count = (max as i64 - min as i64) as u64 + 1;
         if count > 1u64 << PRECISION as u32 {
-            return Err(QuantizerError::TooMany);
+            return Err(SupportError::TooMany);
         }
         Ok(LeakyQuantizer {
             min,
@@ -274,24 +264,4 @@ fn doubled(width: u64) -> u64
     ensures { result < 4294967296 }
 {
     if width < 1073741824 { 2 * width + 1 } else { 1 }
-}
-
-/// Where an interval begins, and how long it is.
-#[inline(always)]
-fn interval<Probability: WordOf<u32>>(
-    left: u64,
-    end: u64,
-) -> (Probability, <Probability as BitArray>::NonZero)
-    requires some { left < end }
-    requires low { left < 2 ^ Probability.BITS }
-    requires long { end - left < 2 ^ Probability.BITS }
-    ensures left { Probability.number result.0 ≡ left }
-    ensures long { Probability.nonzero_number result.1 ≡ end - left }
-{
-    (
-        Probability::narrow(left as u32),
-        Probability::narrow((end - left) as u32)
-            .to_nonzero()
-            .unwrap(),
-    )
 }
