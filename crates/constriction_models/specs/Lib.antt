@@ -1,0 +1,13 @@
+pub mod Cuts
+pub mod Quantized
+pub mod Interpolation
+pub mod Rules
+pub mod Normal
+pub mod Laplace
+pub mod Logistic
+pub mod Uniform
+pub mod Bernoulli
+pub mod Lookup
+pub mod Quantizers
+pub mod Counts
+pub mod laws

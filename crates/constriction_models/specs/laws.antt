@@ -1,0 +1,5 @@
+pub mod Cutting
+pub mod Quantizing
+pub mod Interpolating
+pub mod Even
+pub mod Bernoulli

@@ -1,0 +1,102 @@
+//! Two symbols, one of which comes with a probability.
+
+ghost use Rattle.std.specs.Prelude.{◌≡◌, ℕ, ◌-◌, ◌^◌, ◌<◌, ◌≤◌, ◌⊎◌, ◌↔◌, IfSome, IsNone};
+ghost use Rattle.constriction_base.specs.Tables.{Has};
+ghost use Rattle.constriction_models.specs.Bernoulli.{bernoulli};
+ghost use Rattle.constriction_models.specs.laws.Bernoulli.{bernoulli_is_table, bernoulli_two};
+
+use crate::intervals::interval;
+use constriction_base::model::{DecoderModel, EncoderModel, EntropyModel};
+use constriction_words::{BitArray, WordOf};
+use std::marker::PhantomData;
+
+/// A model of the symbols `false` and `true`, in this order.
+///
+/// # Examples
+///
+/// ```
+/// // `true` comes with a probability of 3 in 256.
+/// if let Some(model) = BernoulliModel::<u8, 8>::new(3) { .. }
+/// ```
+#[derive(Drop)]
+pub struct BernoulliModel<Probability: WordOf<u32>, const PRECISION: usize> {
+    /// The weight of `true`.
+    weight: u64,
+    of: PhantomData<Probability>,
+    ghost some: { 0 < weight },
+    ghost less: { weight < 2 ^ PRECISION },
+    ghost positive: { 1 ≤ PRECISION },
+    ghost fits: { PRECISION ≤ Probability.BITS },
+}
+
+impl<Probability: WordOf<u32>, const PRECISION: usize> BernoulliModel<Probability, PRECISION> {
+    /// The model in which `true` has this weight and `false` what is left of two to the precision; `None` where either
+    /// has nothing.
+    pub fn new(weight: Probability) -> Option<Self>
+        requires { (1 ≤ PRECISION) × (PRECISION ≤ Probability.BITS) }
+        ensures some { IfSome result (λ m. ⟦<BernoulliModel<Probability, PRECISION> as EntropyModel<PRECISION>>⟧.table m ≡ bernoulli PRECISION (Probability.number weight)) }
+        ensures none { IsNone result ↔ ((Probability.number weight ≡ 0) ⊎ (2 ^ PRECISION ≤ Probability.number weight)) }
+    {
+        let weight = weight.widen() as u64;
+        if weight == 0 || weight >= 1u64 << PRECISION as u32 {
+            return None;
+        }
+        Some(BernoulliModel {
+            weight,
+            of: PhantomData,
+        })
+    }
+
+    /// The interval of a symbol.
+    #[inline(always)]
+    fn interval_of(&self, symbol: bool) -> (Probability, <Probability as BitArray>::NonZero)
+        ensures { Has (bernoulli PRECISION self.now.weight) symbol (Probability.number result.0) (Probability.nonzero_number result.1) }
+    {
+        let all = 1u64 << PRECISION as u32;
+        let rest = all - self.weight;
+        if symbol {
+            return interval(rest, all);
+        }
+        interval(0, rest)
+    }
+}
+
+impl<Probability: WordOf<u32>, const PRECISION: usize> EntropyModel<PRECISION>
+    for BernoulliModel<Probability, PRECISION> {
+    type Symbol = bool;
+
+    type Probability = Probability;
+
+    ghost table = { λ m. bernoulli PRECISION m.weight };
+
+    ghost lawful = { λ m. bernoulli_is_table PRECISION m.weight m.some m.less };
+
+    ghost sized = { λ m. (m.positive, m.fits) };
+
+    ghost two_symbols = { λ m _. bernoulli_two PRECISION m.weight };
+}
+
+impl<Probability: WordOf<u32>, const PRECISION: usize> EncoderModel<PRECISION>
+    for BernoulliModel<Probability, PRECISION> {
+    #[inline(always)]
+    fn left_cumulative_and_probability(
+        &self,
+        symbol: &bool,
+    ) -> Option<(Probability, <Probability as BitArray>::NonZero)> {
+        Some(self.interval_of(*symbol))
+    }
+}
+
+impl<Probability: WordOf<u32>, const PRECISION: usize> DecoderModel<PRECISION>
+    for BernoulliModel<Probability, PRECISION> {
+    #[inline(always)]
+    fn quantile_function(
+        &self,
+        quantile: Probability,
+    ) -> (bool, Probability, <Probability as BitArray>::NonZero) {
+        let rest = (1u64 << PRECISION as u32) - self.weight;
+        let symbol = quantile.widen() as u64 >= rest;
+        let (left, p) = self.interval_of(symbol);
+        (symbol, left, p)
+    }
+}

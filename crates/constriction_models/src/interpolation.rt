@@ -1,0 +1,75 @@
+//! Functions by a table of values, between which they go straight.
+
+ghost use Rattle.std.specs.Prelude.{◌≡◌, ◌+◌, ◌-◌, ◌*◌, ◌/◌, ◌<◌, ◌≤◌, length, ℤ, pos, ◌+ℤ◌, ◌-ℤ◌};
+ghost use Rattle.constriction_models.specs.Interpolation.{AreValues, value_at, value_above, located};
+ghost use Rattle.constriction_models.specs.laws.Interpolating.{Fits};
+
+/// The value at a place, in 65536ths of a step.
+#[inline(always)]
+fn value_at(values: &[u64], place: u64) -> u64
+    requires values { AreValues values.now }
+    requires inside { place < 134217728 }
+    ensures { result ≡ value_at values.now place }
+{
+    let step = (place / 65536) as usize;
+    let low = values[step];
+    let long = values[step + 1] - low;
+    low + long * (place % 65536) / 65536
+}
+
+/// How far a place lies above the beginning of a table so wide, whose middle lies at another.
+#[inline(always)]
+fn far_above(wide: u64, middle: i64, place: i64) -> i128
+    ensures { result ≡ place -ℤ middle +ℤ pos (wide / 2) }
+{
+    place as i128 - middle as i128 + (wide / 2) as i128
+}
+
+/// The value at a place, where the middle of the table lies at another and the table is so wide.
+#[inline(always)]
+pub fn located(values: &[u64], wide: u64, rate: u64, middle: i64, place: i64) -> u64
+    requires values { AreValues values.now }
+    requires fits { Fits wide rate }
+    ensures { result ≡ located values.now wide rate middle place }
+{
+    let far = far_above(wide, middle, place);
+    if far < 0 {
+        return 0;
+    }
+    if far >= wide as i128 {
+        return 4294967296;
+    }
+    value_at(values, far as u64 * rate / 68719476736)
+}
+
+/// About where the value of the table is so much, in 65536ths of a step.
+#[inline(always)]
+fn place_of(places: &[u32], below: u64) -> u64
+    requires { length places.now ≡ 1025 }
+    ensures { result < 134217728 }
+{
+    let part = (below / 4194304 % 1024) as usize;
+    let low = places[part] as u64;
+    let high = places[part + 1] as u64;
+    if high < low || high >= 134217728 {
+        return 0;
+    }
+    low + (high - low) * (below % 4194304) / 4194304
+}
+
+/// About which place has so much below it, where the middle of the table lies at another and the table is so wide.
+#[inline(always)]
+pub fn guessed(places: &[u32], wide: u64, middle: i64, below: u64) -> i64
+    requires long { length places.now ≡ 1025 }
+    requires fits { wide ≤ 274877906944 }
+{
+    let far = place_of(places, below) / 4 * wide / 33554432;
+    let from = middle as i128 + far as i128 - (wide / 2) as i128;
+    if from > 2251799813685248 {
+        2251799813685248
+    } else if from < -2251799813685248 {
+        -2251799813685248
+    } else {
+        from as i64
+    }
+}

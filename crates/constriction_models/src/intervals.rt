@@ -1,0 +1,25 @@
+//! Intervals as words.
+
+ghost use Rattle.std.specs.Prelude.{◌≡◌, ◌-◌, ◌^◌, ◌<◌};
+
+use constriction_words::{BitArray, WordOf};
+
+/// Where an interval begins, and how long it is.
+#[inline(always)]
+pub fn interval<Probability: WordOf<u32>>(
+    left: u64,
+    end: u64,
+) -> (Probability, <Probability as BitArray>::NonZero)
+    requires some { left < end }
+    requires low { left < 2 ^ Probability.BITS }
+    requires long { end - left < 2 ^ Probability.BITS }
+    ensures left { Probability.number result.0 ≡ left }
+    ensures long { Probability.nonzero_number result.1 ≡ end - left }
+{
+    (
+        Probability::narrow(left as u32),
+        Probability::narrow((end - left) as u32)
+            .to_nonzero()
+            .unwrap(),
+    )
+}

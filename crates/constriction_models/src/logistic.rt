@@ -1,0 +1,38 @@
+//! The logistic distribution.
+
+mod table;
+
+ghost use Rattle.constriction_models.specs.Logistic.{logistic_values, logistic_are_values};
+ghost use Rattle.std.proofs.Common.{rules};
+
+use crate::location_scale::{LocationScale, StandardDistribution};
+use crate::logistic::table::{GUESSES, VALUES};
+
+/// The logistic distribution of location 0 and scale 1, cut off at 32 scales on either side.
+#[derive(Clone, Copy)]
+pub struct StandardLogistic;
+
+/// The logistic distribution of a location and a scale: `1 / (1 + exp(-(x - location) / scale))` lies below `x`.
+pub type Logistic = LocationScale<StandardLogistic>;
+
+impl StandardDistribution for StandardLogistic {
+    ghost values = { logistic_values };
+
+    ghost WIDTH = { 64 };
+
+    const WIDTH: u64 = 64;
+
+    ghost are_values = { logistic_are_values };
+
+    ghost width_law = { (Prim.search rules, Prim.search rules) };
+
+    #[inline(always)]
+    fn table() -> &'static [u64] {
+        &VALUES
+    }
+
+    #[inline(always)]
+    fn guesses() -> &'static [u32] {
+        &GUESSES
+    }
+}

@@ -1,0 +1,267 @@
+//! Distributions cut at half symbols.
+
+ghost use Rattle.std.specs.Prelude.{◌≡◌, ℕ, pos, ◌+◌, ◌-◌, ◌*◌, ◌^◌, ◌<◌, ◌≤◌, ◌+ℤ◌, ◌-ℤ◌, ◌≤ℤ◌, ◌<ℤ◌, ◌↔◌, IfOk, IsErrOf, MatchOption, IsSome};
+ghost use Rattle.constriction_models.specs.Quantized.{symbol_of, below_edge, start_of, quantized};
+ghost use Rattle.constriction_models.specs.laws.Quantizing.{quantized_is_table, quantized_two};
+
+use crate::distribution::CumulativeDistribution;
+use crate::errors::SupportError;
+use crate::intervals::interval;
+use constriction_base::model::{DecoderModel, EncoderModel, EntropyModel};
+use constriction_words::{BitArray, WordOf};
+use std::marker::PhantomData;
+
+/// A range of symbols, which cuts distributions at half symbols: every symbol of the range gets a weight above 0, however
+/// unlikely it is (the cut leaks to all of them), and no other symbol does.
+///
+/// # Examples
+///
+/// ```
+/// let quantizer = LeakyQuantizer::<u32, 24>::new(-100, 100)?;
+/// if let Some(gaussian) = Gaussian::new(229376, 147456) {
+///     // Of mean 3.5 and deviation 2.25, in 65536ths.
+///     coder.encode_symbol(&7, quantizer.quantize(gaussian))?;
+/// }
+/// ```
+#[derive(Drop)]
+pub struct LeakyQuantizer<Probability: WordOf<u32>, const PRECISION: usize> {
+    min: i32,
+    count: u64,
+    of: PhantomData<Probability>,
+    ghost some: { 2 ≤ count },
+    ghost room: { count ≤ 2 ^ PRECISION },
+    ghost ends: { (min +ℤ pos count) ≤ℤ pos 2147483648 },
+    ghost positive: { 1 ≤ PRECISION },
+    ghost fits: { PRECISION ≤ Probability.BITS },
+}
+
+impl<Probability: WordOf<u32>, const PRECISION: usize> LeakyQuantizer<Probability, PRECISION> {
+    ghost use Rattle.constriction_models.specs.Quantizers.{first_symbol, count_of};
+
+    /// The quantizer of the symbols from `min` to `max`, of which there are two at least.
+    ///
+    /// # Errors
+    ///
+    /// `TooFew` where `max` isn't above `min`, and `TooMany` where there are more symbols than two to the precision.
+    pub fn new(min: i32, max: i32) -> Result<Self, SupportError>
+        requires { (1 ≤ PRECISION) × (PRECISION ≤ Probability.BITS) }
+        ensures first { IfOk result (λ q. first_symbol q ≡ min) }
+        ensures count { IfOk result (λ q. (min +ℤ pos (count_of q)) ≡ (max +ℤ pos 1)) }
+        ensures few { IsErrOf result SupportError.TooFew ↔ (max ≤ℤ min) }
+        ensures many { IsErrOf result SupportError.TooMany ↔ ((min +ℤ pos (2 ^ PRECISION)) ≤ℤ max) }
+    {
+        if max <= min {
+            return Err(SupportError::TooFew);
+        }
+        let count = (max as i64 - min as i64) as u64 + 1;
+        if count > 1u64 << PRECISION as u32 {
+            return Err(SupportError::TooMany);
+        }
+        Ok(LeakyQuantizer {
+            min,
+            count,
+            of: PhantomData,
+        })
+    }
+
+    /// The model of a distribution, cut at half symbols.
+    pub fn quantize<D: CumulativeDistribution>(
+        &self,
+        distribution: D,
+    ) -> LeakilyQuantizedDistribution<D, Probability, PRECISION>
+        ensures table { ⟦<LeakilyQuantizedDistribution<D, Probability, PRECISION> as EntropyModel<PRECISION>>⟧.table result ≡ quantized PRECISION (D.below distribution) (first_symbol self.now) (count_of self.now) }
+    {
+        LeakilyQuantizedDistribution {
+            distribution,
+            quantizer: LeakyQuantizer {
+                min: self.min,
+                count: self.count,
+                of: PhantomData,
+            },
+        }
+    }
+}
+
+/// A distribution, cut at half symbols: a model of each symbol of a range.
+///
+/// Of `2^P` each of `n` symbols gets 1, and the rest is shared out as the distribution says: the `k`th symbol begins
+/// at `floor((2^P - n) * F / 2^32) + k`, where `F` is how much of `2^32` lies below the half before it, nothing below
+/// the first symbol, and all below the end.
+#[derive(Drop)]
+pub struct LeakilyQuantizedDistribution<
+    D: CumulativeDistribution,
+    Probability: WordOf<u32>,
+    const PRECISION: usize,
+> {
+    distribution: D,
+    quantizer: LeakyQuantizer<Probability, PRECISION>,
+}
+
+impl<
+    D: CumulativeDistribution,
+    Probability: WordOf<u32>,
+    const PRECISION: usize,
+> LeakilyQuantizedDistribution<D, Probability, PRECISION> {
+    /// How much of `2^32` lies below the `k`th symbol, or below the end.
+    #[inline(always)]
+    fn below(&self, k: u64) -> u64
+        requires { k ≤ self.now.quantizer.count }
+        ensures { result ≡ below_edge (D.below self.now.distribution) self.now.quantizer.min self.now.quantizer.count k }
+    {
+        if k == 0 {
+            return 0;
+        }
+        if k >= self.quantizer.count {
+            return 4294967296;
+        }
+        self.distribution
+            .cumulative((self.quantizer.min as i64 + k as i64) * 65536 - 32768)
+    }
+
+    /// What is left of two to the precision after 1 for each symbol.
+    #[inline(always)]
+    fn free(&self) -> u64
+        ensures { result ≡ 2 ^ PRECISION - self.now.quantizer.count }
+    {
+        (1u64 << PRECISION as u32) - self.quantizer.count
+    }
+
+    /// Where the interval of the `k`th symbol begins, or where the last ends.
+    #[inline(always)]
+    fn start(&self, k: u64) -> u64
+        requires { k ≤ self.now.quantizer.count }
+        ensures { result ≡ start_of PRECISION (D.below self.now.distribution) self.now.quantizer.min self.now.quantizer.count k }
+    {
+        self.free() * self.below(k) / 4294967296 + k
+    }
+
+    /// The symbol so far above the first.
+    #[inline(always)]
+    fn symbol(&self, k: u64) -> i32
+        requires { k < self.now.quantizer.count }
+        ensures { result ≡ symbol_of self.now.quantizer.min k }
+    {
+        (self.quantizer.min as i64 + k as i64) as i32
+    }
+
+    /// About how far above the first the symbol of a quantile is.
+    #[inline(always)]
+    fn near(&self, quantile: u64) -> u64
+        requires { quantile < 2 ^ PRECISION }
+        ensures { result < 4294967296 }
+    {
+        let below = quantile << (32 - PRECISION as u32);
+        let place = self.distribution.guess(below);
+        if place > 281474976710656 || place < -281474976710656 {
+            return 0;
+        }
+        let symbol = (place + 32768) / 65536 - self.quantizer.min as i64;
+        if symbol < 0 || symbol > 4294967295 {
+            return 0;
+        }
+        symbol as u64
+    }
+
+    /// How far above the first a symbol is, if it is one of the range.
+    #[inline(always)]
+    fn place(&self, symbol: i32) -> Option<u64>
+        ensures { MatchOption result ((k : ℕ) → k < self.now.quantizer.count → symbol_of self.now.quantizer.min k ≡ symbol → ⊥) (λ k. (k < self.now.quantizer.count) × (symbol ≡ symbol_of self.now.quantizer.min k)) }
+    {
+        let from = symbol as i64 - self.quantizer.min as i64;
+        if from < 0 || from as u64 >= self.quantizer.count {
+            return None;
+        }
+        Some(from as u64)
+    }
+}
+
+impl<D: CumulativeDistribution, Probability: WordOf<u32>, const PRECISION: usize> EntropyModel<
+    PRECISION,
+> for LeakilyQuantizedDistribution<D, Probability, PRECISION> {
+    type Symbol = i32;
+
+    type Probability = Probability;
+
+    ghost table = { λ m. quantized PRECISION (D.below m.distribution) m.quantizer.min m.quantizer.count };
+
+    ghost lawful = { λ m. quantized_is_table PRECISION (D.below m.distribution) m.quantizer.min m.quantizer.count (D.never_falls m.distribution) m.quantizer.some m.quantizer.room };
+
+    ghost sized = { λ m. (m.quantizer.positive, m.quantizer.fits) };
+
+    ghost two_symbols = { λ m _. quantized_two PRECISION (D.below m.distribution) m.quantizer.min m.quantizer.count m.quantizer.some };
+}
+
+impl<D: CumulativeDistribution, Probability: WordOf<u32>, const PRECISION: usize> EncoderModel<
+    PRECISION,
+> for LeakilyQuantizedDistribution<D, Probability, PRECISION> {
+    #[inline(always)]
+    fn left_cumulative_and_probability(
+        &self,
+        symbol: &i32,
+    ) -> Option<(Probability, <Probability as BitArray>::NonZero)> {
+        match self.place(*symbol) {
+            None => None,
+            Some(k) => {
+                let left = self.start(k);
+                let end = self.start(k + 1);
+                Some(interval(left, end))
+            }
+        }
+    }
+}
+
+impl<D: CumulativeDistribution, Probability: WordOf<u32>, const PRECISION: usize> DecoderModel<
+    PRECISION,
+> for LeakilyQuantizedDistribution<D, Probability, PRECISION> {
+    #[inline(always)]
+    fn quantile_function(
+        &self,
+        quantile: Probability,
+    ) -> (i32, Probability, <Probability as BitArray>::NonZero) {
+        let quantile = quantile.widen() as u64;
+        let mut low = 0;
+        let mut left = 0;
+        let mut high = self.quantizer.count;
+        let mut end = 1u64 << PRECISION as u32;
+        let mut probe = self.near(quantile);
+        let mut width = 0u64;
+        while high - low > 1 {
+            let middle = between(low, high, probe);
+            let start = self.start(middle);
+            width = doubled(width);
+            if quantile < start {
+                high = middle;
+                end = start;
+                probe = middle.saturating_sub(width);
+            } else {
+                low = middle;
+                left = start;
+                probe = middle + width;
+            }
+        }
+        let (left, p) = interval(left, end);
+        (self.symbol(low), left, p)
+    }
+}
+
+/// A place between two others: the wanted one where it lies there.
+#[inline(always)]
+fn between(low: u64, high: u64, wanted: u64) -> u64
+    requires { low + 1 < high }
+    ensures above { low < result }
+    ensures below { result < high }
+{
+    if wanted > low && wanted < high {
+        wanted
+    } else {
+        low + (high - low) / 2
+    }
+}
+
+/// More than twice as much, up to a bound.
+#[inline(always)]
+fn doubled(width: u64) -> u64
+    ensures { result < 4294967296 }
+{
+    if width < 1073741824 { 2 * width + 1 } else { 1 }
+}

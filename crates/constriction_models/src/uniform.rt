@@ -1,0 +1,132 @@
+//! Symbols that are all as likely.
+
+ghost use Rattle.std.specs.Prelude.{◌≡◌, ◌+◌, ◌/◌, ◌^◌, ◌<◌, ◌≤◌, ◌↔◌, IfOk, IsErrOf};
+ghost use Rattle.constriction_models.specs.Uniform.{even_start, uniform};
+ghost use Rattle.constriction_models.specs.laws.Even.{uniform_is_table, uniform_two};
+
+use crate::errors::SupportError;
+use crate::intervals::interval;
+use constriction_base::model::{DecoderModel, EncoderModel, EntropyModel};
+use constriction_words::{BitArray, WordOf};
+use std::marker::PhantomData;
+
+/// A model of the symbols `0`, `1`, .. of equal weights: each has the whole part of its share of two to the precision,
+/// and the last one what is left over besides.
+///
+/// # Examples
+///
+/// ```
+/// let model = UniformModel::<u8, 8>::new(10)?; // weights of 25, and the last one 31
+/// ```
+#[derive(Drop)]
+pub struct UniformModel<Probability: WordOf<u32>, const PRECISION: usize> {
+    count: u64,
+    /// The weight of each symbol but the last.
+    weight: u64,
+    of: PhantomData<Probability>,
+    ghost some: { 2 ≤ count },
+    ghost room: { count ≤ 2 ^ PRECISION },
+    ghost share: { weight ≡ 2 ^ PRECISION / count },
+    ghost positive: { 1 ≤ PRECISION },
+    ghost fits: { PRECISION ≤ Probability.BITS },
+}
+
+impl<Probability: WordOf<u32>, const PRECISION: usize> UniformModel<Probability, PRECISION> {
+    /// The model of so many symbols.
+    ///
+    /// # Errors
+    ///
+    /// `TooFew` where there are fewer than two, and `TooMany` where there are more than two to the precision.
+    pub fn new(count: usize) -> Result<Self, SupportError>
+        requires { (1 ≤ PRECISION) × (PRECISION ≤ Probability.BITS) }
+        ensures ok { IfOk result (λ m. ⟦<UniformModel<Probability, PRECISION> as EntropyModel<PRECISION>>⟧.table m ≡ uniform PRECISION count) }
+        ensures few { IsErrOf result SupportError.TooFew ↔ (count < 2) }
+        ensures many { IsErrOf result SupportError.TooMany ↔ (2 ^ PRECISION < count) }
+    {
+        if count < 2 {
+            return Err(SupportError::TooFew);
+        }
+        let all = 1u64 << PRECISION as u32;
+        let count = count as u64;
+        if count > all {
+            return Err(SupportError::TooMany);
+        }
+        Ok(UniformModel {
+            count,
+            weight: all / count,
+            of: PhantomData,
+        })
+    }
+
+    /// Where the interval of a symbol begins, or where the last ends.
+    #[inline(always)]
+    fn start(&self, symbol: u64) -> u64
+        requires { symbol ≤ self.now.count }
+        ensures { result ≡ even_start (2 ^ PRECISION) self.now.count symbol }
+    {
+        if symbol < self.count {
+            return symbol * self.weight;
+        }
+        1u64 << PRECISION as u32
+    }
+
+    /// The symbol whose interval holds a quantile.
+    #[inline(always)]
+    fn symbol_at(&self, quantile: u64) -> u64
+        requires { quantile < 2 ^ PRECISION }
+        ensures known { result < self.now.count }
+        ensures low { even_start (2 ^ PRECISION) self.now.count result ≤ quantile }
+        ensures high { quantile < even_start (2 ^ PRECISION) self.now.count (result + 1) }
+    {
+        let symbol = quantile / self.weight;
+        if symbol < self.count {
+            return symbol;
+        }
+        self.count - 1
+    }
+}
+
+impl<Probability: WordOf<u32>, const PRECISION: usize> EntropyModel<PRECISION>
+    for UniformModel<Probability, PRECISION> {
+    type Symbol = usize;
+
+    type Probability = Probability;
+
+    ghost table = { λ m. uniform PRECISION m.count };
+
+    ghost lawful = { λ m. uniform_is_table PRECISION m.count m.some m.room };
+
+    ghost sized = { λ m. (m.positive, m.fits) };
+
+    ghost two_symbols = { λ m _. uniform_two PRECISION m.count m.some };
+}
+
+impl<Probability: WordOf<u32>, const PRECISION: usize> EncoderModel<PRECISION>
+    for UniformModel<Probability, PRECISION> {
+    #[inline(always)]
+    fn left_cumulative_and_probability(
+        &self,
+        symbol: &usize,
+    ) -> Option<(Probability, <Probability as BitArray>::NonZero)> {
+        let symbol = *symbol as u64;
+        if symbol >= self.count {
+            return None;
+        }
+        let left = self.start(symbol);
+        let end = self.start(symbol + 1);
+        Some(interval(left, end))
+    }
+}
+
+impl<Probability: WordOf<u32>, const PRECISION: usize> DecoderModel<PRECISION>
+    for UniformModel<Probability, PRECISION> {
+    #[inline(always)]
+    fn quantile_function(
+        &self,
+        quantile: Probability,
+    ) -> (usize, Probability, <Probability as BitArray>::NonZero) {
+        let symbol = self.symbol_at(quantile.widen() as u64);
+        let (left, p) = interval(self.start(symbol), self.start(symbol + 1));
+        (symbol as usize, left, p)
+    }
+}
