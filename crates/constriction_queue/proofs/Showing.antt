@@ -1,7 +1,7 @@
 -- The words of an encoder in the order in which they are shown, the first one first.
 use Rattle.std.specs.Prelude.{replicate}
 use Rattle.std.proofs.Common.{◌≡◌, ℕ, zero, suc, ◌-◌, ◌<◌, List, [], ◌∷◌, ◌++◌, Option, None, Some, map, reverse, drop, length, refl, sym, ap, ◌∙◌, arith, append_assoc}
-use Rattle.std.proofs.lemmas.List.{map-append, reverse-append, reverse-reverse}
+use Rattle.std.proofs.lemmas.List.{length-reverse, map-append, reverse-append, reverse-reverse}
 use Rattle.std.specs.Int.NonZero.{non_zero_usize_get}
 use Rattle.constriction_queue.specs.declared.situation.HeldWords.{HeldWords}
 use Rattle.constriction_queue.specs.Encoder.{first_held, first_owed, owed_of, released_of, word_of}
@@ -80,3 +80,12 @@ drop_owed (x ∷ owed) words = drop_owed owed words
 -- what was written, as a queue
 pub queue_is : {Word : Type 0} (number : Word → ℕ) {queue : List Word} (stack : List Word) {all : List ℕ} → queue ≡ reverse stack → reverse (map number stack) ≡ all → map number queue ≡ all
 queue_is number stack is sealed_is = ap (map number) is ∙ map_reversed number stack ∙ sealed_is
+
+-- behind the words written stands in the sealed ones what is owed
+pub behind_written : {Word : Type 0} (number : Word → ℕ) (held : Option (HeldWords Word)) (top last : Option Word) (ws all : List ℕ)
+    → reverse (owed_of number held top last ++ ws) ≡ all → first_owed number held top last ≡ drop (length ws) all
+behind_written number held top last ws all is =
+    sym (turned_owed number held top last)
+    ∙ sym (drop_owed (reverse ws) (reverse (owed_of number held top last)))
+    ∙ ap (λ (l : List ℕ). drop (length (reverse ws)) l) (sym (reverse-append (owed_of number held top last) ws) ∙ is)
+    ∙ ap (λ n. drop n all) (length-reverse ws)

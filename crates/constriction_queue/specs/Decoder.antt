@@ -1,5 +1,5 @@
 -- What a range decoder holds, and which quantile it reads.
-use Rattle.std.specs.Prelude.{◌≡◌, ℕ, ◌+◌, ◌-◌, ◌*◌, ◌/◌, ◌%◌, ◌<◌, ◌≤◌, ◌^◌, ◌⊎◌, Bool, IsTrue, List, [], ◌∷◌, ◌++◌, Option, Some, None, Result, Ok, Err, map, drop, length}
+use Rattle.std.specs.Prelude.{◌≡◌, ℕ, ◌+◌, ◌-◌, ◌*◌, ◌/◌, ◌%◌, ◌<◌, ◌≤◌, ◌^◌, ◌⊎◌, Bool, true, false, IsTrue, List, [], ◌∷◌, ◌++◌, Option, Some, None, Result, Ok, Err, map, drop, length}
 use Rattle.constriction_base.specs.Steps.{Step, IsSizes}
 use Rattle.constriction_queue.specs.Range.{Run, IsAt, number_of_first}
 
@@ -44,10 +44,18 @@ OwesRead w s e range = range / 2 ^ e.precision * e.p < 2 ^ (s - w)
 abbrev pub TakesWord : {Word E B : Type 0} → (Word → ℕ) → (B → Result (Option Word) E → B → Type 0) → B → ℕ → B → Type 0
 TakesWord {Word} number reads old x new = ((word : Word) × reads old (Ok (Some word)) new × (x ≡ number word)) ⊎ (reads old (Ok None) new × (x ≡ 0))
 
--- these were, one after another
+-- these words were, one after another, and each read gave one
 abbrev pub TakesWords : {Word E B : Type 0} → (Word → ℕ) → (B → Result (Option Word) E → B → Type 0) → B → List ℕ → B → Type 0
 TakesWords number reads old [] new = new ≡ old
-TakesWords {B = B} number reads old (x ∷ xs) new = (between : B) × TakesWord number reads old x between × TakesWords number reads between xs new
+TakesWords {Word} {B = B} number reads old (x ∷ xs) new =
+    (word : Word) × (between : B) × reads old (Ok (Some word)) between × (x ≡ number word) × TakesWords number reads between xs new
+
+-- the next word of a point, and whether none is left: it is 0 then, and where that was known no read is made
+abbrev pub TakesNext : {Word E B : Type 0} → (Word → ℕ) → (B → Result (Option Word) E → B → Type 0) → B → Bool → ℕ → Bool → B → Type 0
+TakesNext {Word} number reads old false x false new = (word : Word) × reads old (Ok (Some word)) new × (x ≡ number word)
+TakesNext number reads old true x false new = ⊥
+TakesNext number reads old false x true new = reads old (Ok None) new × (x ≡ 0)
+TakesNext number reads old true x true new = (new ≡ old) × (x ≡ 0)
 
 -- the point is the number of a backend's first words, as many as a state has, with zeros past their end; the others are
 -- left
@@ -55,12 +63,14 @@ abbrev pub HasPoint : {Word B : Type 0} → (Word → ℕ) → (B → List Word)
 HasPoint number words_in w s old point new =
     (point ≡ number_of_first (2 ^ w) (s / w) (map number (words_in old))) × (map number (words_in new) ≡ drop (s / w) (map number (words_in old)))
 
--- the same by the reads: just as many words were read
+-- the same by the reads: as many words were read; or fewer, behind which one read more found none, and that was the last
 abbrev pub ReadsPoint : {Word E B : Type 0} → (Word → ℕ) → (B → Result (Option Word) E → B → Type 0) → ℕ → ℕ → B → ℕ → B → Type 0
-ReadsPoint number reads w s old point new =
-    (xs : List ℕ) × (length xs ≡ s / w) × TakesWords number reads old xs new × (point ≡ number_of_first (2 ^ w) (s / w) xs)
+ReadsPoint {B = B} number reads w s old point new =
+    (xs : List ℕ) × (((length xs ≡ s / w) × TakesWords number reads old xs new)
+    ⊎ ((length xs < s / w) × ((end : B) × TakesWords number reads old xs end × reads end (Ok None) new)))
+    × (point ≡ number_of_first (2 ^ w) (s / w) xs)
 
--- a read was refused, of the words that a point needs: fewer of them were read before, and just these
+-- a read was refused, of the words that a point needs: fewer reads were made before, just these, and each gave a word
 abbrev pub RefusesPoint : {Word E B : Type 0} → (Word → ℕ) → (B → Result (Option Word) E → B → Type 0) → ℕ → ℕ → B → E → B → Type 0
 RefusesPoint {B = B} number reads w s old e new =
     (xs : List ℕ) × (length xs < s / w) × ((before : B) × TakesWords number reads old xs before × reads before (Err e) new)

@@ -17,8 +17,8 @@ number_of b (w ∷ ws) = number_of b ws * b + w
 abbrev pub words_held : ℕ → ℕ → ℕ → List ℕ
 words_held others count first = replicate (count - 1) others ++ first ∷ []
 
--- the words that are held back: the first of them, and then words of all ones (the outstanding words of carry-less range
--- coders, which a carry may still turn into others)
+-- the words that are held back: the first of them, and then words of all ones (the outstanding words of range coders,
+-- which a carry may still turn into others)
 abbrev pub held_of : {Word : Type 0} → (Word → ℕ) → ℕ → EncoderSituation Word → List ℕ
 held_of number w Normal = []
 held_of number w (Inverted count first) = words_held (2 ^ w - 1) (non_zero_usize_get count) (number first)

@@ -1,5 +1,6 @@
 -- Range coding as one growing number. All definitions speak of numbers and lists; w and s are the numbers of bits of a
--- word and of a state. No word is held back point, nothing wraps, and no carry is passed on.
+-- word and of a state. A run holds no word back, wraps nowhere and passes no carry on; what a coder's states show of its
+-- numbers is their rest modulo 2 ^ s.
 use Rattle.std.specs.Prelude.{◌≡◌, ℕ, zero, suc, ◌+◌, ◌-◌, ◌*◌, ◌/◌, ◌%◌, ◌<◌, ◌≤◌, ◌^◌, ◌==◌, List, [], ◌∷◌, ◌++◌, nat_lt, if◌then◌else◌, slice_index, drop, ⊤}
 use Rattle.constriction_base.specs.Steps.{Step}
 use Rattle.constriction_base.specs.Digits.{fixed_digits}

@@ -3,6 +3,7 @@
 //! - [`symbols`]: the step, `encode_symbol`.
 //! - [`compressed`]: the words of an encoder, and how many they are.
 //! - [`guard`]: its words as a vector, for as long as they are looked at.
+//! - [`lending`]: its words, lent to a function.
 //! - [`through_guard`]: a decoder of what an encoder holds, which keeps it.
 //! - [`decoders`]: a decoder of what an encoder holds.
 //! - [`positions`]: where an encoder stands.
@@ -10,6 +11,7 @@
 pub mod compressed;
 pub mod decoders;
 pub mod guard;
+pub mod lending;
 pub mod positions;
 pub mod symbols;
 pub mod through_guard;

@@ -21,17 +21,18 @@
 //! The modules:
 //! - [`encoder`]: the encoder, its step, its words, and what else can be asked of it.
 //! - [`decoder`]: the decoder, its step, and going to positions.
+//! - [`as_written`]: backends that lend their words in the order in which they were written.
 //! - [`state`], [`situation`]: the interval, and whether words are held back.
 //! - `step`, `seal`: what a step and a seal write and leave, as functions of numbers.
 //! - `reading`: what a decoder reads, and which quantile that is.
 //! - `writing`: words that are owed to a backend.
 //!
-//! Contracts cite the definitions of `specs/Range.antt` (the run, its seal, and reading), where no word is held
-//! back, nothing wraps and no carry is passed on, and of `specs/Calls.antt` (what a call over a backend may answer
-//! and leave). `specs/Encoder.antt` and `specs/Decoder.antt` say which run and which moment of reading a coder
+//! Contracts cite the definitions of `specs/Range.antt` (the run, which holds no word back, wraps nowhere and passes
+//! no carry on, its seal, and reading), and of `specs/Calls.antt` (what a call over a backend may answer and leave). `specs/Encoder.antt` and `specs/Decoder.antt` say which run and which moment of reading a coder
 //! stands for.
 #![tactic(auto)]
 
+pub mod as_written;
 pub mod decoder;
 pub mod encoder;
 mod reading;
@@ -41,6 +42,7 @@ pub mod state;
 mod step;
 mod writing;
 
+pub use crate::as_written::LendsAsWritten;
 pub use crate::decoder::symbols::DecoderFrontendError;
 pub use crate::decoder::{DefaultRangeDecoder, RangeDecoder, SmallRangeDecoder};
 pub use crate::encoder::compressed::RangeCompressedIter;

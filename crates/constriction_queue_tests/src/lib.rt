@@ -16,13 +16,19 @@
 #![tactic(auto)]
 
 #[cfg(test)]
+mod callers;
+#[cfg(test)]
 mod coders;
 #[cfg(test)]
 mod cursors;
 #[cfg(test)]
+mod ending;
+#[cfg(test)]
 mod expect;
 #[cfg(test)]
 mod guards;
+#[cfg(test)]
+mod lending;
 #[cfg(test)]
 mod lists;
 #[cfg(test)]

@@ -159,7 +159,13 @@ fn lends(encoder: &mut HeapEncoder<'_>) -> bool {
     }
 }
 
-/// Neither a guard nor a decoder that borrows the encoder finds memory.
+/// Whether a function is lent these words, where there is memory.
+fn is_lent(encoder: &mut HeapEncoder<'_>, sealed: &[u8]) -> Result<bool, AllocError> {
+    encoder.with_compressed(|words| words == sealed)
+}
+
+/// Neither a guard nor a decoder that borrows the encoder finds memory, nor does a function to which its words
+/// are lent.
 fn refuses_a_guard(heap: &LocalHeap) -> bool {
     let at = At {
         written: &[],
@@ -175,9 +181,12 @@ fn refuses_a_guard(heap: &LocalHeap) -> bool {
     let are_refused = filler.is_some()
         && matches!(shows(&mut encoder, at.sealed), Err(AllocError))
         && !lends(&mut encoder)
+        && matches!(is_lent(&mut encoder, at.sealed), Err(AllocError))
         && is_there(&encoder, 1, (33024, 65280), &[]);
     drop(filler);
-    let goes = matches!(shows(&mut encoder, at.sealed), Ok(true)) && lends(&mut encoder);
+    let goes = matches!(shows(&mut encoder, at.sealed), Ok(true))
+        && lends(&mut encoder)
+        && matches!(is_lent(&mut encoder, at.sealed), Ok(true));
     are_refused & goes & is_of(encoder, &at)
 }
 

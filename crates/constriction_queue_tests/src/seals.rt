@@ -1,5 +1,7 @@
 //! Both seals: that of words which nothing follows, and that of words which any may follow.
 
+ghost use Rattle.constriction_base.specs.Steps.{IsSizes};
+
 use crate::coders::{HeapEncoder, encoder_with, inverted};
 use crate::expect::exports_words;
 use crate::put::puts;
@@ -136,6 +138,7 @@ fn with_state<Word, State>(
 where
     Word: WordOf<State>,
     State: BitArray,
+    requires { IsSizes Word.BITS State.BITS }
 {
     let Ok(state) = RangeCoderState::<Word, State>::new(lower, range) else {
         return None;
@@ -150,14 +153,16 @@ where
 /// interval begins that much above `before`, and is `range` long.
 fn reaches<Word, State>(
     alloc: Global,
-    (before, range, gap): (State, State, State),
+    interval: (State, State, State),
     short: &[Word],
     long: &[Word],
 ) -> bool
 where
     Word: WordOf<State> + PartialEq,
     State: BitArray,
+    requires { IsSizes Word.BITS State.BITS }
 {
+    let (before, range, gap) = interval;
     let lower = before.wrapping_plus(gap);
     match (
         with_state(alloc, lower, range, EncoderSituation::Normal),

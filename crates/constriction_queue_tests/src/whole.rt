@@ -3,6 +3,7 @@
 
 use crate::coders::{Coder, INVERTING, new_encoder, table_of};
 use crate::expect::{At, exports_words, has_parts, stands_at};
+use crate::lending::lends;
 use crate::put::puts;
 use constriction_base::backends::{BoundedReadWords, Stack};
 use constriction_base::weights::WeightTable;
@@ -75,7 +76,10 @@ where
     Word: WordOf<State> + PartialEq,
     State: BitArray + PartialEq,
 {
-    if !shows(encoder, at.sealed, at.written) || !iterates(encoder, at.sealed) {
+    if !shows(encoder, at.sealed, at.written)
+        || !lends(encoder, at.sealed, at.written)
+        || !iterates(encoder, at.sealed)
+    {
         return false;
     }
     match (copy_of(encoder), copy_of(encoder)) {

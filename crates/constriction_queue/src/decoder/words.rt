@@ -18,7 +18,8 @@ impl<Word: WordOf<State>, State: BitArray, Backend: ReadWords<Word, Queue>> Rang
     State,
     Backend,
 > {
-    /// A decoder of a backend's words. It reads as many of them as a state has.
+    /// A decoder of a backend's words. It reads as many of them as a state has. Where fewer are there, the read
+    /// that finds none left is the last, and zeros stand for those that are missing.
     ///
     /// # Errors
     ///

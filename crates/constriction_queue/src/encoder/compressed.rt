@@ -1,6 +1,6 @@
 //! The words of an encoder, and how many they are.
 
-ghost use Rattle.std.specs.Prelude.{◌≡◌, ◌↔◌, ◌+◌, ◌*◌, ◌^◌, [], length, map, reverse, IsTrue, IfOk, IfErr};
+ghost use Rattle.std.specs.Prelude.{◌≡◌, ◌↔◌, ◌+◌, ◌*◌, ◌^◌, ◌++◌, [], drop, length, map, reverse, IsTrue, IfOk, IfErr};
 ghost use Rattle.constriction_queue.specs.Encoder.{IsEncoder, SizesFit, run_by, sealed_by};
 ghost use Rattle.constriction_queue.specs.SelfDelimiting.{SelfDelimits};
 ghost use Rattle.constriction_queue.specs.Calls.{SealRefused, SelfDelimitingRefused};
@@ -183,7 +183,9 @@ impl<Word: WordOf<State>, State: BitArray, Backend: Holds<Word, Stack> + Words<W
     /// The words that [`RangeEncoder::into_compressed`] would give, the first one first: those that the
     /// backend lends, those held, and the seal. The encoder stays as it is.
     pub fn iter_compressed(&self) -> RangeCompressedIter<'_, Word>
-        // The backend lends its words in the order in which they were written.
+        // The words that the backend lends, and then what the sealed words have behind those written.
+        ensures lent { result ≡ map Word.number (Backend.lent self.now.bulk) ++ drop (length self.now.words) (sealed_by Word.BITS State.BITS self.now) }
+        // The backend lends its words in the order in which they were written, as all of `LendsAsWritten` do.
         ensures words { Backend.words self.now.bulk ≡ reverse (Backend.lent self.now.bulk) →
             result ≡ sealed_by Word.BITS State.BITS self.now }
     {

@@ -63,7 +63,8 @@ impl<Word: WordOf<State>, State: BitArray, A: Allocator> RangeEncoder<Word, Stat
     ghost use Rattle.constriction_queue.specs.Guarded.{lender, written};
 
     /// A decoder of the words that [`RangeEncoder::into_compressed`] would give, through a guard. When the
-    /// decoder is dropped, the encoder is as before.
+    /// decoder is dropped, the encoder is as before. No clause here says so, nor what is left where memory is
+    /// refused: those of [`RangeEncoder::with_compressed`] say both.
     ///
     /// # Errors
     ///

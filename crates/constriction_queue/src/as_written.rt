@@ -1,0 +1,34 @@
+//! Backends that lend their words in the order in which they were written.
+
+ghost use Rattle.std.specs.Prelude.{◌≡◌, reverse};
+
+use constriction_base::backends::{Holds, Stack, Words};
+use constriction_words::BitArray;
+use std::alloc::Allocator;
+
+/// Lends its words in the order in which they were written, the last one last.
+///
+/// It gives code that is generic over a backend what [`crate::RangeEncoder::iter_compressed`] asks for. An
+/// implementation chooses nothing here: the law ties what is lent to what is held.
+pub trait LendsAsWritten<Word>: Holds<Word, Stack> + Words<Word> {
+    // The stack is what is lent, turned round.
+    ghost written_law: { (b : Self) → ⟦<Self as Holds<Word, Stack>>⟧.words b ≡ reverse (⟦<Self as Words<Word>>⟧.lent b) };
+}
+
+impl<Word: BitArray, A: Allocator> LendsAsWritten<Word> for Vec<Word, A> {
+    ghost use Rattle.std.proofs.Common.{refl};
+
+    ghost written_law = { λ v. refl };
+}
+
+impl<'a, Word: BitArray + 'a, A: Allocator + 'a> LendsAsWritten<Word> for &'a Vec<Word, A> {
+    ghost use Rattle.std.proofs.Common.{refl};
+
+    ghost written_law = { λ v. refl };
+}
+
+impl<'a, Word: BitArray + 'a> LendsAsWritten<Word> for &'a [Word] {
+    ghost use Rattle.std.proofs.Common.{refl};
+
+    ghost written_law = { λ s. refl };
+}

@@ -1,0 +1,44 @@
+//! The words of an encoder, lent to a function.
+
+ghost use Rattle.std.specs.Prelude.{◌≡◌, ◌+◌, ◌<◌, List, length, map, IfOk, OnErr};
+ghost use Rattle.std.specs.Fn.{FnOnceReturnsAt, FnOnceTakesAt};
+ghost use Rattle.constriction_queue.specs.Encoder.{HasHeads, IsEncoder, sealed_by};
+
+use crate::encoder::RangeEncoder;
+use constriction_base::backends::{Holds, Stack, WriteWords, take_back};
+use constriction_words::{BitArray, WordOf};
+use std::alloc::{AllocError, Allocator};
+
+impl<Word: WordOf<State>, State: BitArray, A: Allocator> RangeEncoder<Word, State, Vec<Word, A>> {
+    /// Lends a function the words that [`RangeEncoder::into_compressed`] would give, and returns what it
+    /// answers. The encoder is as before then.
+    ///
+    /// # Errors
+    ///
+    /// Want of memory, where the vector had to grow. The function isn't called, and the encoder is as before.
+    ///
+    /// ```
+    /// let symbol = encoder.with_compressed(|words| {
+    ///     let mut decoder = DefaultRangeDecoder::from_compressed(words)?;
+    ///     decoder.decode_symbol(&table) // what was encoded first
+    /// })?;
+    /// encoder.encode_symbol(&2, &table)?; // goes on behind what was encoded last
+    /// ```
+    pub fn with_compressed<R, F: FnOnce(&[Word]) -> R>(&mut self, f: F) -> Result<R, AllocError>
+        requires { (lent : List Word) → map Word.number lent ≡ sealed_by Word.BITS State.BITS self.old → FnOnceTakesAt F.FnOnce f lent }
+        ensures called { IfOk result (λ answer. (lent : List Word) × (map Word.number lent ≡ sealed_by Word.BITS State.BITS self.old) × FnOnceReturnsAt F.FnOnce f lent answer) }
+        ensures heads { HasHeads self.old self.new }
+        ensures words { self.new.words ≡ self.old.words }
+        ensures coder { IsEncoder Word.number (⟦<Vec<Word, A> as Holds<Word, Stack>>⟧.words) Word.BITS State.BITS self.new }
+        ensures room { OnErr result (⟦<Vec<Word, A> as WriteWords<Word>>⟧.room self.old.bulk + length self.old.words
+            < length (sealed_by Word.BITS State.BITS self.old)) }
+    {
+        let count = match self.put_seal() {
+            Ok(count) => count,
+            Err(error) => return Err(error),
+        };
+        let answer = f(self.bulk.as_slice());
+        take_back::<Word, Vec<Word, A>>(&mut self.bulk, count);
+        Ok(answer)
+    }
+}
