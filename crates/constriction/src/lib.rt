@@ -124,6 +124,7 @@
 //!   laws of sealed words, of lists of symbols, and of recorded positions; the others are of guards and room.
 //! - [`laws::symbol`]: bit coders and codebooks: lists of symbols come back from queues and from stacks,
 //!   under mixed codebooks too, and no codeword of Exp-Golomb or of a Huffman tree begins another.
+//!   [`laws::symbol::costs`] and [`laws::symbol::huffman`]: a Huffman tree costs at most what any other codebook does.
 //! - [`laws::stack`]: the stack coder. [`laws::stack::round_trips`] are whole lists there and back, by
 //!   the coder's own calls; [`laws::stack::steps`], [`laws::stack::lists`] and [`laws::stack::words`] are
 //!   the laws of one symbol, of lists, and of words that are exported and imported; the others are of
@@ -466,6 +467,10 @@ pub mod laws {
     pub mod symbol {
         pub mod codewords {
             pub use constriction_laws::symbol::codewords::suffix_turns_prefix;
+        }
+
+        pub mod costs {
+            pub use constriction_laws::symbol::costs::{cost_of, costs_beside, tree_of_least_cost};
         }
 
         pub mod golomb {

@@ -2,4 +2,5 @@ pub mod Lengths
 pub mod Kraft
 pub mod Depths
 pub mod Least
+pub mod Books
 mod Rows

@@ -1,9 +1,11 @@
-//! The round trips under Huffman trees, and their laws.
+//! The round trips under Huffman trees, their laws, and what their codewords cost.
 
+use constriction_laws::symbol::costs::{costs_beside, tree_of_least_cost};
 use constriction_laws::symbol::huffman;
 use constriction_laws::symbol::round_trips::trees::{
     list_through_queue_by_trees, list_through_stack_by_trees,
 };
+use constriction_symbol::exp_golomb::ExpGolomb;
 use std::alloc::Global;
 use std::test::Fail;
 
@@ -42,5 +44,28 @@ fn each_law_of_trees_is_a_call(_rt: HostRuntime) -> Result<(), Fail> {
     huffman::huffman_knows_its_symbols();
     huffman::huffman_has_codewords();
     huffman::least_cost();
+    Ok(())
+}
+
+/// What the tree of the weights 1, 1, 2, 3, 5 costs, and these numbers by Exp-Golomb.
+fn costs_of(alloc: Global, numbers: &[u16]) -> Option<(u128, u128)> {
+    costs_beside(alloc, &[1, 1, 2, 3, 5], &ExpGolomb::<u16>::new(), numbers)
+}
+
+/// How many symbols the tree of some weights has, beside any numbers of 16 bits.
+fn symbols_of(alloc: Global, weights: &[u8]) -> Option<usize> {
+    match tree_of_least_cost::<u8, ExpGolomb<u16>>(alloc, weights) {
+        Ok(tree) => Some(tree.num_symbols()),
+        Err(_) => None,
+    }
+}
+
+#[test]
+fn trees_cost_least(rt: HostRuntime) -> Result<(), Fail> {
+    assert!(rt; costs_of(rt.alloc(), &[4, 3, 2, 1, 0]) == Some((25, 30)));
+    assert!(rt; costs_of(rt.alloc(), &[0, 1, 2, 3, 4]) == Some((25, 50)));
+    assert!(rt; costs_of(rt.alloc(), &[4, 3, 2, 1]).is_none());
+    assert!(rt; symbols_of(rt.alloc(), &WEIGHTS) == Some(5));
+    assert!(rt; symbols_of(rt.alloc(), &[]).is_none());
     Ok(())
 }

@@ -1,4 +1,5 @@
-//! Huffman trees: worked lines, refusals, all short lists of small weights beside a plain merge, and texts.
+//! Huffman trees: worked lines, refusals, all short lists of small weights beside a plain merge and beside merges in every
+//! order, and texts.
 
 ghost use Rattle.std.specs.Prelude.{◌≤◌};
 
@@ -61,7 +62,7 @@ fn is_code(tree: &EncoderHuffmanTree, symbol: usize, code: u32, count: u32) -> b
 }
 
 /// Whether a symbol comes back from a stack, and leaves no bit.
-fn comes_back(
+pub fn comes_back(
     coder: &mut StackCoder<u8>,
     encoder: &EncoderHuffmanTree,
     decoder: &DecoderHuffmanTree,
@@ -89,7 +90,7 @@ fn decoder_of(
 }
 
 /// Whether two trees have these codewords, each as its bits and how many they are, and no others, and both agree.
-fn have_codes(
+pub fn have_codes(
     alloc: Global,
     encoder: &EncoderHuffmanTree,
     decoder: &DecoderHuffmanTree,
@@ -168,8 +169,72 @@ fn merge_plainly(weights: &[u8]) -> [(u32, u32); 5] {
     codes
 }
 
-/// Whether all lists of so many weights below five agree with the plain merge; `lists` says how many they are.
-fn all_agree(alloc: Global, count: usize, lists: u32) -> bool
+/// What codewords cost: the sum of weight times length.
+fn cost_of_codes(weights: &[u8], codes: &[(u32, u32)]) -> u32 {
+    let mut cost = 0u32;
+    for (weight, code) in weights.iter().zip(codes.iter()) {
+        cost = cost.wrapping_add((*weight as u32).wrapping_mul(code.1));
+    }
+    cost
+}
+
+/// Pairs of places: of the first two places one, of the first three 3, of four 6, of five 10.
+const PAIRS: [(usize, usize); 10] = [
+    (0, 1),
+    (0, 2),
+    (1, 2),
+    (0, 3),
+    (1, 3),
+    (2, 3),
+    (0, 4),
+    (1, 4),
+    (2, 4),
+    (3, 4),
+];
+
+/// Puts the union of two weights at the lesser place, and the last weight at the other one. Returns what the union weighs.
+fn unite(slots: &mut [u32; 5], lesser: usize, other: usize, last: usize) -> u32 {
+    if lesser >= 5 || other >= 5 || last >= 5 {
+        return 0;
+    }
+    let union = slots[lesser].wrapping_add(slots[other]);
+    slots[lesser] = union;
+    slots[other] = slots[last];
+    union
+}
+
+/// What merging at most five weights costs in one order: `order` says which two each union takes.
+fn cost_of_order(weights: &[u8], order: u32) -> u32 {
+    let mut slots = [0u32; 5];
+    for (slot, weight) in slots.iter_mut().zip(weights.iter()) {
+        *slot = *weight as u32;
+    }
+    let mut rest = order;
+    let mut cost = 0u32;
+    for (last, pairs) in [(4usize, 10u32), (3, 6), (2, 3), (1, 1)] {
+        if last < weights.len() {
+            let pick = rest.checked_rem(pairs).unwrap_or(0);
+            rest = rest.checked_div(pairs).unwrap_or(0);
+            if let Some((lesser, other)) = PAIRS.get(pick as usize) {
+                cost = cost.wrapping_add(unite(&mut slots, *lesser, *other, last));
+            }
+        }
+    }
+    cost
+}
+
+/// The least that merging costs in any of so many orders.
+fn least_over_orders(weights: &[u8], orders: u32) -> u32 {
+    let mut least = u32::MAX;
+    for order in 0..orders {
+        least = least.min(cost_of_order(weights, order));
+    }
+    least
+}
+
+/// Whether all lists of so many weights below five agree with the plain merge, and cost the least; `lists` says how many they
+/// are, and `orders` in how many orders each can be merged.
+fn all_agree(alloc: Global, count: usize, lists: u32, orders: u32) -> bool
     requires { count ≤ 5 }
 {
     for number in 0..lists {
@@ -180,7 +245,10 @@ fn all_agree(alloc: Global, count: usize, lists: u32) -> bool
             rest /= 5;
         }
         let codes = merge_plainly(&weights[..count]);
-        if !are_codes(alloc, &weights[..count], &codes[..count]) {
+        let cost = cost_of_codes(&weights[..count], &codes[..count]);
+        if cost != least_over_orders(&weights[..count], orders)
+            || !are_codes(alloc, &weights[..count], &codes[..count])
+        {
             return false;
         }
     }
@@ -190,11 +258,39 @@ fn all_agree(alloc: Global, count: usize, lists: u32) -> bool
 #[test]
 fn all_short_lists(rt: HostRuntime) {
     assert!(rt;
-        all_agree(rt.alloc(), 1, 5)
-            && all_agree(rt.alloc(), 2, 25)
-            && all_agree(rt.alloc(), 3, 125)
-            && all_agree(rt.alloc(), 4, 625)
-            && all_agree(rt.alloc(), 5, 3125)
+        all_agree(rt.alloc(), 1, 5, 1)
+            && all_agree(rt.alloc(), 2, 25, 1)
+            && all_agree(rt.alloc(), 3, 125, 3)
+            && all_agree(rt.alloc(), 4, 625, 18)
+            && all_agree(rt.alloc(), 5, 3125, 180)
+    );
+}
+
+/// Of equal weights the leaf goes before the union, and of two leaves the first: `10 11 0`.
+#[test]
+fn huffman_ties(rt: HostRuntime) {
+    assert!(rt;
+        are_codes(rt.alloc(), &[1, 1, 2], &[(2, 2), (3, 2), (0, 1)])
+            && are_codes(rt.alloc(), &[0, 0, 0], &[(2, 2), (3, 2), (0, 1)])
+    );
+}
+
+const DEEP: [(u32, u32); 5] = [(14, 4), (15, 4), (6, 3), (2, 2), (0, 1)];
+
+/// The codewords `1110 1111 110 10 0`, which cost 25. Codewords of about equal length cost 26, and some orders 41.
+#[test]
+fn huffman_deep(rt: HostRuntime) {
+    let weights = [1u8, 1, 2, 3, 5];
+    let level = [(0u32, 3u32), (1, 3), (1, 2), (2, 2), (3, 2)];
+    let mut most = 0;
+    for order in 0..180 {
+        most = most.max(cost_of_order(&weights, order));
+    }
+    assert!(rt;
+        are_codes(rt.alloc(), &weights, &DEEP)
+            && cost_of_codes(&weights, &DEEP) == 25
+            && cost_of_codes(&weights, &level) == 26
+            && most == 41
     );
 }
 

@@ -42,4 +42,6 @@ mod rows;
 #[cfg(test)]
 mod texts;
 #[cfg(test)]
+mod trees;
+#[cfg(test)]
 mod widths;
