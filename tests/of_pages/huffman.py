@@ -6,6 +6,7 @@ import heapq
 from fractions import Fraction
 from math import log2
 
+import definitions as by
 from judging import Page, bits_of_information, judge, series
 
 WEIGHTS = [2, 2, 4, 1, 1]
@@ -91,6 +92,30 @@ def fibonacci(page):
     page.has(f"With the Fibonacci numbers {series(numbers[:6])}, .. as weights")
 
 
+def least(page):
+    """What codewords cost under other weights."""
+    weights = [1, 1, 2, 3, 5]
+    ways = ways_of(weights)
+    tree = [ways[symbol] for symbol in range(len(weights))]
+    golomb = [by.golomb_codeword(number) for number in range(len(weights))][::-1]
+    others = {
+        "of about equal length": ["000", "001", "01", "10", "11"],
+        "Exp-Golomb, the shortest to the greatest weight": golomb,
+        "of a tree that always takes the two greatest": ["1", "01", "001", "0001", "0000"],
+    }
+    page.has(f"With the weights {series(weights)}:")
+    terms = " + ".join(f"{weight}*{len(codeword)}" for weight, codeword in zip(weights, tree))
+    page.row(f"of the tree: {series(tree)}", f"{terms} = {cost(weights, tree)}")
+    judge(cost(weights, tree) == least_cost(weights), "no codewords of these weights cost less")
+    for name, codewords in others.items():
+        judge(not any(a != b and b.startswith(a) for a in codewords for b in codewords), f"{name}: one begins another")
+        page.row(f"{name}: {series(codewords)}", cost(weights, codewords))
+
+
+def cost(weights, codewords):
+    return sum(weight * len(codeword) for weight, codeword in zip(weights, codewords))
+
+
 def test():
     page, steps, ways = Page("docs/HUFFMAN.md"), merged(WEIGHTS), ways_of(WEIGHTS)
     page.has(f"With the weights {series(WEIGHTS)}:")
@@ -101,5 +126,6 @@ def test():
     codewords(page, ways)
     nodes(page, steps, ways)
     fibonacci(page)
-    # Symbols, and the greatest number of first bits in the table.
-    page.rest("0", "1", "2", "3", "5", "9")
+    least(page)
+    # Symbols, the greatest number of first bits in the table, and the points of a list.
+    page.rest("0", "1", "2", "3", "4", "5", "9")

@@ -153,12 +153,37 @@ def following(page):
     page.has("Where a state is two words, `t` is 0 or 1")
 
 
+def joined(page):
+    """Two lists one behind the other, with states of 32 bits."""
+    tables, symbols = [WEIGHTS] * 2, [1, 3]
+    other, later = [129, 127], [0, 1, 1]
+    first, second = self_delimited(tables, symbols), self_delimited([other] * 3, later)
+    page.has(f"With states of 32 bits the symbols {series(symbols)} under the weights {series(WEIGHTS)} have the words `{listed(first)}`")
+    page.has(f"and the symbols {series(later)} under {series(other)} the word `{listed(second)}`")
+    words = first + second
+    judge(found(tables, words, 32)[0] == symbols and found([other] * 3, words[len(first) :], 32)[0] == later, "both lists come back")
+    page.has(f"In `{listed(words)}` the second list begins at place {len(first)}")
+    judge(len(words) == 4, "the fourth word")
+    page.has(f"A decoder at place 0 reads {words[3]} as its fourth word, and {symbols[0]} and {symbols[1]} come all the same")
+    page.has(f"one at place {len(first)} reads {words[3]} and then zeros")
+
+
+def self_delimited(tables, symbols, state=32):
+    """The words of symbols that any words may follow."""
+    run = start(state)
+    for weights, symbol in zip(tables, symbols):
+        run, _ = narrowed(weights, symbol, *run, state)
+    low, length, moves = run
+    return digits(-(-low // 2 ** (state - 8)), moves + 1) + [0] * zero_words(low, length, state)
+
+
 def test():
     page = Page("docs/RANGE.md")
     runs, words = growing(page)
     waiting(page, runs, words)
     reading(page, runs, words)
     following(page)
+    joined(page)
     judge(2 ** (64 - 32 - 24) == 2**8, "the default coder's least scale")
     # Sizes: words of 8 bits, states of 16, 256 of either, the weights; and the default coder's precision.
     page.rest("0", "1", "2", "8", "16", "24", "255", "256", "127")

@@ -1,4 +1,5 @@
 pub mod Calls
+pub mod Concatenated
 pub mod Decoder
 pub mod Encoder
 pub mod Guarded
@@ -6,4 +7,5 @@ pub mod Range
 pub mod SelfDelimiting
 pub mod States
 pub mod Symbols
+pub mod Told
 pub mod Writing

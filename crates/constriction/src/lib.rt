@@ -172,8 +172,8 @@ pub mod stream {
     pub mod queue {
         pub use constriction_queue::{
             DecoderFrontendError, DefaultRangeDecoder, DefaultRangeEncoder, EncoderGuard,
-            EncoderSituation, RangeCoderState, RangeCompressedIter, RangeDecoder,
-            RangeEncoder, SmallRangeDecoder, SmallRangeEncoder,
+            EncoderSituation, RangeCoderState, RangeCompressedIter, RangeDecoder, RangeEncoder,
+            SmallRangeDecoder, SmallRangeEncoder,
         };
     }
 
@@ -283,14 +283,21 @@ pub mod laws {
     }
 
     pub mod queue {
+        pub mod concatenated {
+            pub use constriction_laws::queue::concatenated::{
+                DecodeError, EncodeError, list_at_place, list_whatever_follows,
+                pairs_whatever_follows, two_lists_through_words, words_of_list, words_of_two_lists,
+            };
+        }
+
         pub mod guards {
             pub use constriction_laws::queue::guards::{shown_words_are_exported, shown_words_go};
         }
 
         pub mod following {
             pub use constriction_laws::queue::following::{
-                fewer_zero_words_hold_less, list_whatever_follows, self_delimiting_words,
-                self_delimiting_words_are_read, symbols_come_back_whatever_follows,
+                fewer_zero_words_hold_less, self_delimiting_words, self_delimiting_words_are_read,
+                symbols_come_back_whatever_follows,
             };
         }
 
@@ -339,6 +346,10 @@ pub mod laws {
                 pub use constriction_laws::queue::round_trips::shown::{
                     copy_shown_words, words_shown_and_given,
                 };
+            }
+
+            pub mod told {
+                pub use constriction_laws::queue::round_trips::told::{Stopped, decode_list_told};
             }
 
             pub mod words {

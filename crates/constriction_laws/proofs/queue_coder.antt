@@ -6,3 +6,5 @@ pub mod ComingBack
 pub mod ListCalls
 pub mod Pairs
 pub mod Following
+pub mod Told
+pub mod Concatenated

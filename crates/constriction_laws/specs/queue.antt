@@ -1,2 +1,4 @@
+pub mod Concatenated
 pub mod Symbols
+pub mod Told
 pub mod Undone

@@ -4,10 +4,12 @@
 //! - [`lists`]: lists of symbols come back from the sealed words, the first one first.
 //! - [`positions`]: a recorded position leads to the symbols that were encoded after it.
 //! - [`following`]: words that hold whatever follows them.
+//! - [`concatenated`]: lists in words that stand one behind the other, each decoded from its place.
 //! - [`guards`]: the words that a guard shows are those of the export, and go again.
 //! - [`refusals`]: when a step isn't refused.
 //! - [`round_trips`]: whole lists there and back, by the coder's own calls.
 
+pub mod concatenated;
 pub mod following;
 pub mod guards;
 pub mod lists;

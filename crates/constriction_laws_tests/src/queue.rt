@@ -4,9 +4,13 @@ use constriction_base::cursor::Cursor;
 use constriction_base::weights::WeightTable;
 use constriction_laws::bounds;
 use constriction_laws::lists::lists_undo;
+use constriction_laws::queue::concatenated::{
+    DecodeError, EncodeError, list_at_place, list_whatever_follows, pairs_whatever_follows,
+    two_lists_through_words, words_of_list, words_of_two_lists,
+};
 use constriction_laws::queue::following::{
-    fewer_zero_words_hold_less, list_whatever_follows, self_delimiting_words,
-    self_delimiting_words_are_read, symbols_come_back_whatever_follows,
+    fewer_zero_words_hold_less, self_delimiting_words, self_delimiting_words_are_read,
+    symbols_come_back_whatever_follows,
 };
 use constriction_laws::queue::lists::Encoding;
 use constriction_laws::queue::round_trips::coding::encode_list;
@@ -158,11 +162,49 @@ fn each_law_is_a_call(_rt: HostRuntime) -> Result<(), Fail> {
     Ok(())
 }
 
+/// The words of a list at states of four words.
+fn words_of(
+    alloc: Global,
+    table: &WeightTable<u8, 8>,
+    symbols: &[usize],
+) -> Result<Vec<u8>, EncodeError> {
+    words_of_list::<u8, u32, _, 8>(alloc, symbols, table)
+}
+
+/// So many symbols from a place in words.
+fn at_place(
+    alloc: Global,
+    table: &WeightTable<u8, 8>,
+    (words, place): (&[u8], usize),
+    amt: usize,
+) -> Result<Vec<usize>, DecodeError> {
+    list_at_place::<u8, u32, _, 8>(alloc, words, place, amt, table)
+}
+
+fn has_words(made: Result<Vec<u8>, EncodeError>, words: &[u8]) -> bool {
+    match made {
+        Ok(all) => all.as_slice() == words,
+        Err(_) => false,
+    }
+}
+
+fn has_symbols(read: Result<Vec<usize>, DecodeError>, symbols: &[usize]) -> bool {
+    match read {
+        Ok(again) => again.as_slice() == symbols,
+        Err(_) => false,
+    }
+}
+
 /// Symbols of words with these others behind them.
-fn whatever_follows(alloc: Global, table: &WeightTable<u8, 8>, others: &[u8]) -> bool {
+fn whatever_follows(
+    alloc: Global,
+    table: &WeightTable<u8, 8>,
+    others: &[u8],
+    words: &[u8],
+) -> bool {
     match list_whatever_follows::<u8, u32, _, 8>(alloc, &SYMBOLS, others, table) {
-        Some(again) => is_list(&again),
-        None => false,
+        Ok((all, again)) => is_list(&again) && all.as_slice() == words,
+        Err(_) => false,
     }
 }
 
@@ -170,9 +212,111 @@ fn whatever_follows(alloc: Global, table: &WeightTable<u8, 8>, others: &[u8]) ->
 fn symbols_come_back_whatever_words_follow(rt: HostRuntime) -> Result<(), Fail> {
     let table = WeightTable::<u8, 8>::new(rt.alloc(), &[127, 1, 127, 1])?;
     assert!(rt;
-        whatever_follows(rt.alloc(), &table, &[])
-            && whatever_follows(rt.alloc(), &table, &[255, 255, 255, 255, 255])
-            && whatever_follows(rt.alloc(), &table, &[0, 1])
+        whatever_follows(rt.alloc(), &table, &[], &[127, 255, 0])
+            && whatever_follows(
+                rt.alloc(),
+                &table,
+                &[255, 255, 255],
+                &[127, 255, 0, 255, 255, 255]
+            )
+            && whatever_follows(rt.alloc(), &table, &[0, 1], &[127, 255, 0, 0, 1])
     );
+    Ok(())
+}
+
+#[test]
+fn a_list_has_words_or_a_reason(rt: HostRuntime) -> Result<(), Fail> {
+    let table = WeightTable::<u8, 8>::new(rt.alloc(), &[127, 1, 127, 1])?;
+    assert!(rt;
+        has_words(words_of(rt.alloc(), &table, &SYMBOLS), &[127, 255, 0])
+            && has_words(words_of(rt.alloc(), &table, &[]), &[])
+            && matches!(
+                words_of(rt.alloc(), &table, &[1, 4, 3]),
+                Err(EncodeError::ImpossibleSymbol)
+            )
+    );
+    Ok(())
+}
+
+#[test]
+fn a_place_has_a_list_or_a_reason(rt: HostRuntime) -> Result<(), Fail> {
+    let table = WeightTable::<u8, 8>::new(rt.alloc(), &[127, 1, 127, 1])?;
+    let words = [9, 9, 127, 255, 0, 255, 255, 255, 255];
+    let alloc = rt.alloc();
+    assert!(rt;
+        has_symbols(at_place(alloc, &table, (&words, 2), 2), &SYMBOLS)
+            && has_symbols(at_place(alloc, &table, (&words, 9), 0), &[])
+            && matches!(
+                at_place(alloc, &table, (&words, 5), 1),
+                Err(DecodeError::InvalidData)
+            )
+            && matches!(
+                at_place(alloc, &table, (&words, 10), 0),
+                Err(DecodeError::NoSuchPlace)
+            )
+    );
+    Ok(())
+}
+
+/// The words of two lists under two tables, and where the second's begin.
+fn joins(
+    alloc: Global,
+    first: &WeightTable<u8, 8>,
+    second: &WeightTable<u8, 8>,
+    (words, place): (&[u8], usize),
+) -> bool {
+    match words_of_two_lists::<u8, u32, _, 8>(alloc, &SYMBOLS, first, &[0, 1, 1], second) {
+        Ok((all, begins)) => all.as_slice() == words && begins == place,
+        Err(_) => false,
+    }
+}
+
+/// Both come back from these words.
+fn come_back(
+    alloc: Global,
+    first: &WeightTable<u8, 8>,
+    second: &WeightTable<u8, 8>,
+    words: &[u8],
+) -> bool {
+    match two_lists_through_words::<u8, u32, _, 8>(alloc, &SYMBOLS, first, &[0, 1, 1], second) {
+        Ok((all, again, later)) => {
+            all.as_slice() == words
+                && is_list(&again)
+                && later.as_slice() == [0usize, 1, 1].as_slice()
+        }
+        Err(_) => false,
+    }
+}
+
+#[test]
+fn two_lists_come_back(rt: HostRuntime) -> Result<(), Fail> {
+    let first = WeightTable::<u8, 8>::new(rt.alloc(), &[127, 1, 127, 1])?;
+    let second = WeightTable::<u8, 8>::new(rt.alloc(), &[129, 127])?;
+    assert!(rt;
+        joins(rt.alloc(), &first, &second, (&[127, 255, 0, 98], 3))
+            && come_back(rt.alloc(), &first, &second, &[127, 255, 0, 98])
+    );
+    Ok(())
+}
+
+/// The row whose words need two zero words behind the digits. With one fewer the words 255, 255 behind them would be read
+/// as another third symbol.
+#[test]
+fn pairs_come_back_whatever_words_follow(rt: HostRuntime) -> Result<(), Fail> {
+    let tables = [
+        WeightTable::<u8, 8>::new(rt.alloc(), &[27, 229])?,
+        WeightTable::<u8, 8>::new(rt.alloc(), &[19, 237])?,
+        WeightTable::<u8, 8>::new(rt.alloc(), &[128, 128])?,
+    ];
+    let Some((words, again)) = pairs_whatever_follows::<u8, u32, WeightTable<u8, 8>, 8>(
+        rt.alloc(),
+        &[0, 0, 1],
+        &tables,
+        &[255, 255],
+    ) else {
+        return Err(Fail::from("refused"));
+    };
+    assert_eq!(rt; words.as_slice(), [2u8, 0, 0, 255, 255].as_slice());
+    assert_eq!(rt; again.as_slice(), [0usize, 0, 1].as_slice());
     Ok(())
 }

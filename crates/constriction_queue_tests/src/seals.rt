@@ -289,19 +289,23 @@ fn filled(buf: &mut [u8]) -> Result<usize, Option<BoundedWriteError>> {
     }
 }
 
-/// A cursor with no room, with room for all but one, and with room for all words.
+/// Cursors with room for none of the words up to all of them: each write of the four is refused once, and those before it
+/// are made.
 #[test]
 fn zero_words_over_a_full_cursor(rt: HostRuntime) {
     let mut none = [9u8; 0];
+    let mut one = [9u8; 1];
+    let mut two = [9u8; 2];
     let mut three = [9u8; 3];
     let mut four = [9u8; 4];
     assert!(rt;
         matches!(filled(&mut none), Err(Some(BoundedWriteError::OutOfSpace)))
+            && matches!(filled(&mut one), Err(Some(BoundedWriteError::OutOfSpace)))
+            && matches!(filled(&mut two), Err(Some(BoundedWriteError::OutOfSpace)))
             && matches!(filled(&mut three), Err(Some(BoundedWriteError::OutOfSpace)))
             && matches!(filled(&mut four), Ok(4))
-            && three == [5u8, 0, 0]
-            && four == [5u8, 0, 0, 0]
     );
+    assert!(rt; one == [5u8] && two == [5u8, 0] && three == [5u8, 0, 0] && four == [5u8, 0, 0, 0]);
 }
 
 /// Whether the words of the seal are these, where there is memory.
@@ -335,5 +339,57 @@ fn refuses(heap: &LocalHeap) -> bool {
 fn a_full_heap_refuses_zero_words(rt: HostRuntime) -> Result<(), Fail> {
     let heap = LocalHeap::new(rt.alloc(), 512)?;
     assert!(rt; refuses(&heap));
+    Ok(())
+}
+
+/// An encoder over words in a heap, whose states are four words.
+type WideHeapEncoder<'a> = RangeEncoder<u8, u32, Vec<u8, &'a LocalHeap>>;
+
+/// The encoder whose seals are two words and four.
+fn wide_there(heap: &LocalHeap) -> Option<WideHeapEncoder<'_>> {
+    let Ok(state) = RangeCoderState::<u8, u32>::new((4 << 24) + 1, 1 << 24) else {
+        return None;
+    };
+    if !WideHeapEncoder::parts_fit(state, EncoderSituation::Normal) {
+        return None;
+    }
+    Some(RangeEncoder::from_raw_parts(Vec::new(heap), state, EncoderSituation::Normal))
+}
+
+/// Whether the words of a seal are these, where there is memory.
+fn is_sealed_there(
+    encoder: WideHeapEncoder<'_>,
+    is_long: bool,
+    words: &[u8],
+) -> Result<bool, AllocError> {
+    let sealed = if is_long {
+        encoder.into_self_delimited()
+    } else {
+        encoder.into_compressed()
+    };
+    match sealed {
+        Ok(all) => Ok(all.as_slice() == words),
+        Err(error) => Err(error),
+    }
+}
+
+/// A seal asks for memory once, for all of its words.
+fn refuses_all_words(heap: &LocalHeap, is_long: bool, words: &[u8]) -> bool {
+    let filler: Option<Vec<u8, &LocalHeap>> = Vec::with_capacity(heap, 512).ok();
+    let (Some(first), Some(second)) = (wide_there(heap), wide_there(heap)) else {
+        return false;
+    };
+    let is_refused = filler.is_some()
+        & matches!(is_sealed_there(first, is_long, words), Err(AllocError));
+    drop(filler);
+    is_refused & matches!(is_sealed_there(second, is_long, words), Ok(true))
+}
+
+#[test]
+fn a_full_heap_refuses_wide_seals(rt: HostRuntime) -> Result<(), Fail> {
+    let heap = LocalHeap::new(rt.alloc(), 512)?;
+    assert!(rt;
+        refuses_all_words(&heap, false, &[5, 0]) && refuses_all_words(&heap, true, &[5, 0, 0, 0])
+    );
     Ok(())
 }

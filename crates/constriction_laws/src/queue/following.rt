@@ -1,6 +1,6 @@
 //! Words that hold whatever follows them, for states of any number of words.
 
-ghost use Rattle.std.specs.Prelude.{◌≡◌, ◌/◌, ◌<◌, ◌^◌, ◌++◌, ◌∷◌, suc, ℕ, List, IfSome, replicate};
+ghost use Rattle.std.specs.Prelude.{◌≡◌, ◌/◌, ◌<◌, ◌^◌, ◌++◌, ◌∷◌, suc, ℕ, List, replicate};
 ghost use Rattle.constriction_base.specs.Digits.{fixed_digits};
 ghost use Rattle.constriction_base.specs.Models.{Item, AreModels};
 ghost use Rattle.constriction_base.specs.Steps.{Step, IsSizes, AreSteps, AreWords};
@@ -9,13 +9,6 @@ ghost use Rattle.constriction_queue.specs.SelfDelimiting.{AreLeast, SelfDelimits
 ghost use Rattle.constriction_laws.specs.queue.Symbols.{NarrowsAll, FindsAll, MayEnd};
 
 use crate::queue::lists::decodes_undo_encodes;
-use crate::queue::round_trips::coding::{decode_list, encode_list};
-use constriction_base::backends::Holds;
-use constriction_base::cursor::Cursor;
-use constriction_base::model::{DecoderModel, EncoderModel, EntropyModel};
-use constriction_queue::{RangeDecoder, RangeEncoder};
-use constriction_words::{BitArray, WordOf};
-use std::alloc::Global;
 
 /// What the words are: one list for each run, of words; where a state is two words it is that of the sealed words;
 /// and reading them ends where the symbols do.
@@ -55,34 +48,3 @@ pub fn fewer_zero_words_hold_less<Symbol>()
         (rest : List ℕ) × AreWords w rest × ((end : Run) →
         FindsAll w s ((fixed_digits (2 ^ w) (suc last.moves) (seal_number w s last) ++ replicate fewer 0) ++ rest) (first ∷ others) (start s) end → ⊥) }
 {}
-
-/// Symbols that are put on a new encoder come back from its words and others behind them: `encode_iid_symbols`,
-/// `into_self_delimited`, `extend_from_slice`, `from_compressed`, `decode_iid_symbols`.
-pub fn list_whatever_follows<
-    Word: WordOf<State>,
-    State: BitArray,
-    M: EncoderModel<PRECISION> + DecoderModel<PRECISION>,
-    const PRECISION: usize,
->(alloc: Global, symbols: &[M::Symbol], others: &[Word], model: &M) -> Option<Vec<M::Symbol>>
-where
-    M::Probability: WordOf<Word>,
-    requires { IsSizes Word.BITS State.BITS }
-    ensures { IfSome result (λ again. again.items ≡ symbols.now) }
-{
-    let mut encoder: RangeEncoder<Word, State, Vec<Word>> = RangeEncoder::new(alloc);
-    encode_list(&mut encoder, symbols, model)?;
-    let Ok(mut words) = encoder.into_self_delimited() else {
-        return None;
-    };
-    let Ok(()) = words.extend_from_slice(others) else {
-        return None;
-    };
-    let Ok(mut decoder) = RangeDecoder::<Word, State, Cursor<Word, Vec<Word>>>::from_compressed(
-        words,
-    ) else {
-        return None;
-    };
-    let again = decode_list(alloc, &mut decoder, symbols.len(), model)?;
-    symbols_come_back_whatever_follows::<M::Symbol>();
-    Some(again)
-}

@@ -11,6 +11,7 @@
 //! - [`pairs`]: symbols that have a model each.
 //! - [`positions`]: symbols that come back from a recorded position.
 //! - [`shown`]: words that an encoder shows and keeps, and those that it then gives.
+//! - [`told`]: lists of decodes that tell why they ended early.
 //! - [`words`]: symbols that come back from exported words.
 
 pub mod coding;
@@ -19,4 +20,5 @@ pub mod lent_words;
 pub mod pairs;
 pub mod positions;
 pub mod shown;
+pub mod told;
 pub mod words;
