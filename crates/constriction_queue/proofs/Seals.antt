@@ -1,6 +1,6 @@
 -- Sealed words as digits. Lists of words have the last word first.
-use Rattle.std.proofs.Common.{◌≡◌, ◌↔◌, ℕ, zero, suc, ◌+◌, ◌-◌, ◌*◌, ◌/◌, ◌%◌, ◌^◌, ◌<◌, ◌≤◌, ◌==◌, Bool, true, false, IsTrue, if◌then◌else◌, List, [], ◌∷◌, ◌++◌, map, replicate, reverse, length, refl, sym, ap, ◌∙◌, arith, inl, inr, append_assoc, pow_pos, mod-lt, mod-eq_of_lt, div-lt_iff_lt-mul, le-div_iff_mul-le, div-mul-le_self, mul-le-mul_left, mul-le-mul_right, eq-eqb, ne_eqb, append-nil, mul-div_cancel, length-append}
-use native.Mathlib.Nat.{add-mul-div_right, lt-div-mul-add}
+use Rattle.std.proofs.Common.{◌≡◌, ◌↔◌, ℕ, zero, suc, ◌+◌, ◌-◌, ◌*◌, ◌/◌, ◌%◌, ◌^◌, ◌<◌, ◌≤◌, ◌==◌, Bool, true, false, IsTrue, if◌then◌else◌, List, [], ◌∷◌, ◌++◌, map, replicate, reverse, length, refl, sym, ap, ◌∙◌, arith, inl, inr, append_assoc, pow_pos, mod-eq_of_lt, div-lt_iff_lt-mul, le-div_iff_mul-le, mul-le-mul_left, mul-le-mul_right, eq-eqb, ne_eqb, append-nil, mul-div_cancel, length-append}
+use native.Mathlib.Nat.{add-mul-div_right}
 use Rattle.std.proofs.lemmas.Bool.{cases_lt}
 use Rattle.std.proofs.lemmas.List.{reverse-append, length-reverse, length-map}
 use Rattle.std.proofs.lemmas.Nat.{div-mul-add, mod-mul-add}
@@ -13,8 +13,7 @@ use Rattle.constriction_queue.specs.declared.situation.EncoderSituation.TheVaria
 use Rattle.constriction_queue.specs.Encoder.{number_of, words_held, run_of, IsCarried, held_of, PartsFit, CanCarry}
 use Rattle.constriction_queue.proofs.Begun.{held_few}
 use Rattle.constriction_queue.proofs.Fits.{pow-split}
-use Rattle.constriction_queue.proofs.Carry.{carry_held, length-held, not_less, less, wraps, pred_times}
-use Rattle.constriction_queue.proofs.Parts.{top_is}
+use Rattle.constriction_queue.proofs.Carry.{carry_held, length-held, not_less, less, pred_times}
 
 -- ---- words below the base
 pub words_of_numbers : {X : Type 0} (number : X → ℕ) (w : ℕ) (law : (x : X) → number x < 2 ^ w) (xs : List X) → AreWords w (map number xs)

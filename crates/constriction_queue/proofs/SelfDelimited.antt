@@ -1,12 +1,12 @@
 -- Words that hold whatever follows: they are read as the steps, no smaller number of zero words does that, and where a state is two
 -- words they are the sealed words.
-use Rattle.std.proofs.Common.{◌≡◌, ℕ, zero, suc, ◌+◌, ◌-◌, ◌*◌, ◌/◌, ◌^◌, ◌<◌, ◌≤◌, List, [], ◌∷◌, ◌++◌, get_or, length, replicate, if◌then◌else◌, ◌==◌, refl, sym, ap, ◌∙◌, inl, inr, arith, pow_pos, append_assoc, eq-eqb, ne_eqb, div-add-mod', div-lt_iff_lt-mul, le-div_iff_mul-le, length-append}
+use Rattle.std.proofs.Common.{◌≡◌, ℕ, zero, suc, ◌+◌, ◌-◌, ◌*◌, ◌/◌, ◌^◌, ◌<◌, ◌≤◌, List, [], ◌∷◌, ◌++◌, get_or, length, replicate, refl, sym, ap, ◌∙◌, inl, inr, arith, pow_pos, append_assoc, eq-eqb, ne_eqb, div-add-mod', length-append}
 use native.Mathlib.Nat.{pow-suc, pow-zero, lt-div-mul-add}
 use Rattle.std.proofs.lemmas.Bool.{cases_lt}
 use Rattle.std.proofs.lemmas.List.{length-replicate}
 use Rattle.constriction_base.specs.Digits.{fixed_digits}
 use Rattle.constriction_base.specs.Steps.{Step, AreSteps, AreWords, IsSizes}
-use Rattle.constriction_base.proofs.Sizes.{Facts, facts, pow-mul}
+use Rattle.constriction_base.proofs.Sizes.{pow-mul}
 use Rattle.constriction_queue.specs.Range.{Run, IsInterval, ReadAs, Within, number_of_first, number_read, run, seal_number, sealed, start}
 use Rattle.constriction_queue.specs.SelfDelimiting.{AreEnough, AreLeast, SelfDelimits}
 use Rattle.constriction_queue.proofs.Narrowing.{valid_run, valid_start}

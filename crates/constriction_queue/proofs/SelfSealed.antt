@@ -1,13 +1,13 @@
 -- A seal by the gap between the point's top word and the interval's end: how many zero words are enough.
-use Rattle.std.proofs.Common.{◌≡◌, ◌↔◌, ℕ, zero, suc, ◌+◌, ◌-◌, ◌*◌, ◌/◌, ◌%◌, ◌^◌, ◌<◌, ◌≤◌, ◌==◌, Bool, true, false, IsTrue, if◌then◌else◌, List, [], ◌∷◌, ◌++◌, replicate, reverse, length, refl, sym, ap, ◌∙◌, arith, inl, inr, append_assoc, append-nil, pow_pos, mod-lt, mod-eq_of_lt, div-add-mod', div-lt_iff_lt-mul, le-div_iff_mul-le, div-mul-le_self, mul-le-mul_left, mul-le-mul_right, eq-eqb, ne_eqb, pow-add, mul-div_cancel, nat_lt, lt-ltb}
+use Rattle.std.proofs.Common.{◌≡◌, ◌↔◌, ℕ, zero, suc, ◌+◌, ◌-◌, ◌*◌, ◌/◌, ◌%◌, ◌^◌, ◌<◌, ◌≤◌, ◌==◌, Bool, true, false, IsTrue, if◌then◌else◌, List, [], ◌∷◌, ◌++◌, replicate, reverse, length, refl, sym, ap, ◌∙◌, arith, inl, inr, append_assoc, pow_pos, mod-lt, mod-eq_of_lt, div-add-mod', div-lt_iff_lt-mul, le-div_iff_mul-le, div-mul-le_self, mul-le-mul_left, mul-le-mul_right, ne_eqb, pow-add, mul-div_cancel, nat_lt, lt-ltb}
 use native.Mathlib.Nat.{add-mul-mod_self_right, lt-div-mul-add}
 use Rattle.std.proofs.lemmas.Bool.{cases_lt, ltb-true}
 use Rattle.std.proofs.lemmas.List.{reverse-append}
 use Rattle.constriction_base.specs.Digits.{fixed_digits}
 use Rattle.constriction_base.specs.Steps.{AreWords, IsSizes}
 use Rattle.constriction_base.proofs.Sizes.{pow_le}
-use Rattle.constriction_queue.specs.Range.{Run, seal_number, sealed}
-use Rattle.constriction_queue.specs.SelfDelimiting.{AreEnough, AreLeast, SelfDelimits}
+use Rattle.constriction_queue.specs.Range.{seal_number, sealed}
+use Rattle.constriction_queue.specs.SelfDelimiting.{SelfDelimits}
 use Rattle.constriction_queue.specs.Encoder.{number_of, run_of, IsCarried}
 use Rattle.constriction_queue.proofs.Fits.{pow-split}
 use Rattle.constriction_queue.proofs.Carry.{wraps}

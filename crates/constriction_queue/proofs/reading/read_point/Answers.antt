@@ -1,6 +1,6 @@
 use Rattle.std.specs.Prelude.{◌≡◌, ◌^◌, List, ℕ, map, drop}
 use Rattle.std.proofs.Common.{refl, arith, ap, ◌∙◌, add-one, get_or, pow_pos}
-use Rattle.constriction_queue.proofs.Beginning.{next_below, all_asked, asked_next, next_fits, next_refused}
+use Rattle.constriction_queue.proofs.Beginning.{next_below, asked_next, next_fits}
 use Rattle.constriction_queue.proofs.Pointing.{drop_one, first_of}
 use Rattle.constriction_queue.proofs.reading.read_point.Goals as goal
 

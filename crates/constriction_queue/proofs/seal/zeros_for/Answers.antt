@@ -1,4 +1,3 @@
-use Rattle.std.proofs.Common.{arith}
 use Rattle.constriction_queue.proofs.SelfSealed.{zeros_enough, zeros_few, zeros_least, zeros_most}
 use Rattle.constriction_queue.proofs.seal.zeros_for.Goals as goal
 

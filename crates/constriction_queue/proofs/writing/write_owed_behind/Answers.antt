@@ -1,4 +1,4 @@
-use Rattle.std.proofs.Common.{◌≡◌, ◌+◌, ◌++◌, map, arith, ap, ◌∙◌, length, length-append}
+use Rattle.std.proofs.Common.{◌≡◌, ◌++◌, map, arith, ap, ◌∙◌, length-append}
 use Rattle.constriction_queue.specs.Encoder.{owed_of, released_of}
 use Rattle.constriction_queue.proofs.Begun.{none_begun, part_begun}
 use Rattle.constriction_queue.proofs.Owed.{last_begun, last_untouched}

@@ -1,5 +1,4 @@
-use Rattle.std.proofs.Common.{◌≡◌, ◌+◌, ◌-◌, ◌*◌, ◌%◌, ◌^◌, ◌<◌, ◌⊎◌, IsTrue, sym}
-use Rattle.constriction_queue.specs.Decoder.{MayBeExhausted}
+use Rattle.std.proofs.Common.{◌^◌, sym}
 use Rattle.constriction_queue.proofs.Distances.{distance_of}
 use Rattle.constriction_queue.proofs.decoder.RangeDecoder.maybe_exhausted.Goals as goal
 

@@ -1,6 +1,5 @@
-use Rattle.std.proofs.Common.{◌≡◌, ◌+◌, ◌-◌, ◌*◌, ◌%◌, ◌^◌, ◌<◌, ◌↔◌, ◌⊎◌, ◌∙◌, Bool, true, false, IsTrue, refl, sym}
+use Rattle.std.proofs.Common.{◌^◌, Bool, true, false, IsTrue, sym}
 use Rattle.std.specs.Bool.{OnFalse}
-use Rattle.constriction_queue.specs.Decoder.{MayBeExhausted}
 use Rattle.constriction_queue.proofs.Distances.{distance_of}
 use Rattle.constriction_queue.proofs.decoder.symbols.RangeDecoderDecode.maybe_exhausted.Goals as goal
 
