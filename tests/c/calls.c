@@ -235,6 +235,18 @@ static void refused_memory(const char *about, call *run, const struct world *sta
     CHECK(about, 0);
 }
 
+/* With each request for memory refused in turn: this refusal all the same, and nothing changed. */
+static void refuses_without_memory(const char *about, call *run, const struct world *start, uint32_t wanted) {
+    for (unsigned long n = 1; n < 1000; n++) {
+        struct world w = *start;
+        requests = 0, refused_request = n;
+        refuses(about, run, &w, wanted);
+        refused_request = 0;
+        if (requests < n) return;
+    }
+    CHECK(about, 0);
+}
+
 /* Two calls do the same. */
 static void same(const char *about, call *one, call *another, const struct world *start) {
     struct world a = *start, b = *start;
@@ -420,6 +432,11 @@ static void range(size_t count) {
 
     if (count) {
         refuses_symbols("range: encode refuses", range_encode, range_encode_each, range_encode_pairs, &start);
+        size_t kept = in.symbols[0];
+        in.symbols[0] = KINDS;
+        refuses_without_memory("range: an impossible symbol, memory", range_encode, &start, CONSTRICTION_IMPOSSIBLE_SYMBOL);
+        refuses_without_memory("range: an impossible symbol under rows, memory", range_encode_each, &start, CONSTRICTION_IMPOSSIBLE_SYMBOL);
+        in.symbols[0] = kept;
         w = fresh();
         in.weights[0]++;
         refuses("range: decode refuses", range_decode, &w, CONSTRICTION_WRONG_WEIGHTS);

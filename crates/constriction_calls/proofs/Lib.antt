@@ -4,6 +4,7 @@ pub mod ChainFrame
 pub mod ChainRows
 pub mod ChainSteps
 pub mod IntervalRows
+pub mod KnownRows
 pub mod RangeEncoded
 pub mod RangeEnding
 pub mod RangeFollowed

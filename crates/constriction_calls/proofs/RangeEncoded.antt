@@ -1,6 +1,6 @@
 -- What encodes over a scratch vector mean for the caller's whole encoder.
-use Rattle.std.proofs.Common.{◌≡◌, ℕ, ◌+◌, ◌<◌, ◌≤◌, ◌^◌, ◌⊎◌, List, [], ◌∷◌, ◌++◌, length, map, take, refl, sym, ap, ◌∙◌, subst, inl, inr, arith, Result, Ok, Err}
-use Rattle.std.specs.Prelude.{reverse, IfOk, IsErrOf}
+use Rattle.std.proofs.Common.{◌≡◌, ℕ, ◌+◌, ◌<◌, ◌≤◌, ◌^◌, ◌⊎◌, List, [], ◌∷◌, ◌++◌, length, map, take, refl, sym, ap, ◌∙◌, subst, inl, inr, arith, Option, Result, Ok, Err}
+use Rattle.std.specs.Prelude.{reverse, IfOk, IfSome, IsErrOf}
 use Rattle.std.proofs.lemmas.List.{length-append, length-take, reverse-append}
 use Rattle.constriction_base.specs.Models.{Item, AreKnown}
 use Rattle.constriction_queue.specs.Range.{Run}
@@ -81,6 +81,11 @@ pub no_space_is : {T : Type 0} (refusal : Refusal) (n cap needed : ℕ)
 no_space_is {T} refusal n cap needed err full is = no_space_of {T = T} (Err refusal) n cap needed err full is
 
 -- ---- the same of other names of the items
+pub narrowed_same : {S M : Type 0} (w s : ℕ) (items others : List (Item S)) (r : Option M) (old new : M → List ℕ → Run) → items ≡ others
+    → IfSome r (λ made. (below : List ℕ) → NarrowsAll w s items (old made below) (new made below)) → IfSome r (λ made. (below : List ℕ) → NarrowsAll w s others (old made below) (new made below))
+narrowed_same {S} w s items others r old new same all =
+    subst (λ (is : List (Item S)). IfSome r (λ made. (below : List ℕ) → NarrowsAll w s is (old made below) (new made below))) same all
+
 pub same_rows : {P : Type 0} (number : P → ℕ) (precision : ℕ) (lent rows : List P) (lent_symbols symbols : List ℕ) → lent ≡ rows → lent_symbols ≡ symbols
     → row_items precision 3 (map number lent) lent_symbols ≡ row_items precision 3 (map number rows) symbols
 same_rows number precision lent rows lent_symbols symbols first second = rw (first, second) refl

@@ -5,7 +5,7 @@ use Rattle.std.proofs.lemmas.List.{length-drop, length-map}
 use Rattle.constriction_base.specs.declared.errors.CoderError.{CoderError}
 use Rattle.constriction_base.specs.Steps.{IsSizes, AreWords}
 use Rattle.constriction_base.specs.Tables.{AtEntry}
-use Rattle.constriction_base.specs.Models.{Model, Item, IsModel, AreKnown, item_of, items_of, pairs_of}
+use Rattle.constriction_base.specs.Models.{Model, Item, IsModel, item_of, items_of, pairs_of}
 use Rattle.constriction_base.proofs.Entering.{entry_is_step}
 use Rattle.constriction_base.proofs.InTurn.{InTurn-append}
 use Rattle.constriction_stream.specs.Symbols.{ByBackend}
@@ -17,7 +17,7 @@ use Rattle.constriction_queue.proofs.Sought.{sought_is_at}
 use Rattle.constriction_queue.proofs.WordsRead.{first_point}
 use Rattle.constriction_calls.specs.Weights.{row_items, row_tables}
 use Rattle.constriction_calls.proofs.RowItems.{rows_are_items}
-use Rattle.constriction_laws.specs.queue.Symbols.{Finds, FindsAll, MayEnd, NarrowsAll, StandsAt}
+use Rattle.constriction_laws.specs.queue.Symbols.{Finds, FindsAll, MayEnd, StandsAt}
 use Rattle.constriction_laws.proofs.queue_coder.ComingBack.{decodes_unique}
 use Rattle.constriction_laws.proofs.queue_coder.ListCalls.{decodes_of, distance_is, ended_of}
 
@@ -149,9 +149,6 @@ pub stands_by : (w s : ℕ) (words rest : List ℕ) (r : Run) (lower range point
 stands_by w s words rest r lower range point l g p left at l_is g_is p_is left_is =
     record { lower_is = l_is ∙ at.lower_is; range_is = g_is ∙ at.range_is; point_is = p_is ∙ at.point_is; rest_is = left_is ∙ at.rest_is }
 
-pub yes_no : {b : Bool} → b ≡ false → IsTrue b → ⊥
-yes_no off on = false_true (sym off ∙ on)
-
 -- there are as many rows as symbols
 pub rows_counted : {M : Type 0} (table : M → List (ℕ × ℕ × ℕ)) (width count : ℕ) (weights : List ℕ) (rows : List M) → map table rows ≡ row_tables width count weights → length rows ≡ count
 rows_counted table width zero weights rows is = sym (length-map rows table) ∙ ap length is
@@ -168,14 +165,8 @@ pairs_are_rows precision width table weights symbols lent rows same is =
 pub lent_counted : {M : Type 0} (table : M → List (ℕ × ℕ × ℕ)) (width count : ℕ) (weights : List ℕ) (lent rows : List M) → lent ≡ rows → map table rows ≡ row_tables width count weights → length lent ≡ count
 lent_counted table width count weights lent rows same is = ap length same ∙ rows_counted table width count weights rows is
 
-pub narrows_same : {S : Type 0} (w s : ℕ) (items others : List (Item S)) (old new : Run) → items ≡ others → NarrowsAll w s items old new → NarrowsAll w s others old new
-narrows_same {S} w s items others old new same all = subst (λ (is : List (Item S)). NarrowsAll w s is old new) same all
-
 pub finds_same : {S : Type 0} (w s : ℕ) (words : List ℕ) (items others : List (Item S)) (old new : Run) → items ≡ others → FindsAll w s words items old new → FindsAll w s words others old new
 finds_same {S} w s words items others old new same all = subst (λ (is : List (Item S)). FindsAll w s words is old new) same all
-
-pub known_same : {S : Type 0} (items others : List (Item S)) → items ≡ others → AreKnown others → AreKnown items
-known_same items others same all = subst AreKnown (sym same) all
 
 pub pairs_are_counted : {M : Type 0} (precision width count : ℕ) (table : M → List (ℕ × ℕ × ℕ)) (weights symbols : List ℕ) (lent rows : List M) → length symbols ≡ count → lent ≡ rows → map table rows ≡ row_tables width count weights
     → pairs_of precision table symbols lent ≡ row_items precision width weights symbols

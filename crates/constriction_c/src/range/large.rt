@@ -164,7 +164,10 @@ pub extern "C" fn constriction_range_encode_each_u32(
     ensures wrong_length { IsErrOf (answer_of result needed.new) refusals.WrongLength ↔ ((length words.old < len.old) ⊎ (length weights.now ≢ width * length symbols.now)) }
     ensures wrong_weights { IsErrOf (answer_of result needed.new) refusals.WrongWeights ↔ ((len.old ≤ length words.old) × (length weights.now ≡ width * length symbols.now) × (AreTotals 24 width (length symbols.now) (map ⟦<u32 as BitArray>⟧.number weights.now) → ⊥)) }
     ensures invalid_data { IsErrOf (answer_of result needed.new) refusals.InvalidData ↔ ((len.old ≤ length words.old) × (length weights.now ≡ width * length symbols.now) × AreTotals 24 width (length symbols.now) (map ⟦<u32 as BitArray>⟧.number weights.now) × (CanEncode ⟦<u32 as BitArray>⟧.number ⟦<u64 as BitArray>⟧.number 32 64 (large_encoder encoder.old) (length symbols.now) → ⊥)) }
-    ensures impossible { IsErrOf (answer_of result needed.new) refusals.ImpossibleSymbol → AreKnown (row_items 24 width (map ⟦<u32 as BitArray>⟧.number weights.now) symbols.now) → ⊥ }
+    ensures impossible { IsErrOf (answer_of result needed.new) refusals.ImpossibleSymbol ↔ ((len.old ≤ length words.old) × (length weights.now ≡ width * length symbols.now)
+        × AreTotals 24 width (length symbols.now) (map ⟦<u32 as BitArray>⟧.number weights.now)
+        × CanEncode ⟦<u32 as BitArray>⟧.number ⟦<u64 as BitArray>⟧.number 32 64 (large_encoder encoder.old) (length symbols.now)
+        × (AreKnown (row_items 24 width (map ⟦<u32 as BitArray>⟧.number weights.now) symbols.now) → ⊥)) }
     ensures valid { OnOk (answer_of result needed.new) (CanEncode ⟦<u32 as BitArray>⟧.number ⟦<u64 as BitArray>⟧.number 32 64 (large_encoder encoder.old) (length symbols.now)) }
     ensures err { IfErr (answer_of result needed.new) OfWeights }
     ensures no_space { NeedsSpace (answer_of result needed.new) (LacksRoom ⟦<u32 as BitArray>⟧.number ⟦<u64 as BitArray>⟧.number 32 64 (row_items 24 width (map ⟦<u32 as BitArray>⟧.number weights.now) symbols.now) (large_encoder encoder.old) words.old len.old) }
@@ -331,8 +334,8 @@ pub extern "C" fn constriction_range_decode_each_u32(
     ensures kept { OnErr (answer_of result 0) ((decoder.new ≡ decoder.old) × (symbols.new ≡ symbols.old)) }
 {
     match decode_each::<u32, u64, u32, 24>(alloc, decoder.parts(), words, weights, width, symbols) {
-        Ok(now) => {
-            *decoder = RangeDecoderU32::of(now);
+        Ok(last) => {
+            *decoder = RangeDecoderU32::of(last);
             0
         }
         Err(refusal) => code_without_space(Err(refusal)),
@@ -356,8 +359,8 @@ pub extern "C" fn constriction_range_seek_u32(
     ensures kept { OnErr (answer_of result 0) (decoder.new ≡ decoder.old) }
 {
     match seek::<u32, u64>(words, pos, lower, range) {
-        Ok(now) => {
-            *decoder = RangeDecoderU32::of(now);
+        Ok(there) => {
+            *decoder = RangeDecoderU32::of(there);
             0
         }
         Err(refusal) => code_without_space(Err(refusal)),

@@ -129,9 +129,9 @@ pub fn decode_each<Word: WordOf<State>, State: BitArray, P: WordOf<Word>, const 
         return Err(Refusal::NoMemory);
     };
     match take_pairs(alloc, decoder, &rows) {
-        Ok((again, decoder)) => {
+        Ok((again, last)) => {
             symbols.copy_from_slice(&again);
-            Ok(decoder_parts(decoder, words.len()))
+            Ok(decoder_parts(last, words.len()))
         }
         Err(refusal) => Err(refusal),
     }

@@ -14,7 +14,7 @@ ghost use Rattle.constriction_calls.specs.declared.refusal.Refusal.TheVariants a
 
 use crate::buffers::append;
 use crate::intervals::rows_by_intervals;
-use crate::known::{all_known, all_known_by};
+use crate::known::{all_known, all_known_in_rows};
 use crate::range::parts::EncoderParts;
 use crate::range::scratch::{encoder_for, put_list, put_pairs};
 use crate::refusal::Refusal;
@@ -110,11 +110,8 @@ pub fn encode<Word: WordOf<State>, State: BitArray, P: WordOf<Word>, const PRECI
     }
 }
 
-/// The words that encodes by rows of weights write, and the encoder then, whatever words stand below.
-///
-/// # Errors
-///
-/// `ImpossibleSymbol` only where a row doesn't know its symbol, and else `NoMemory`.
+/// The words that encodes by rows of weights write, and the encoder then, whatever words stand below. `None` says that a
+/// row doesn't know its symbol, or that memory is missing.
 fn put_by_rows<Word: WordOf<State>, State: BitArray, P: WordOf<Word>, const PRECISION: usize>(
     alloc: Global,
     state: RangeCoderState<Word, State>,
@@ -122,29 +119,21 @@ fn put_by_rows<Word: WordOf<State>, State: BitArray, P: WordOf<Word>, const PREC
     weights: &[P],
     width: usize,
     symbols: &[usize],
-) -> Result<(Vec<Word>, EncoderParts<Word, State>), Refusal>
+) -> Option<(Vec<Word>, EncoderParts<Word, State>)>
     requires sizes { IsSizes Word.BITS State.BITS }
     requires precision { (1 ≤ PRECISION) × (PRECISION ≤ P.BITS) }
     requires fit { PartsFit Word.number Word.BITS State.BITS situation (lower_of state) (range_of state) }
-    ensures coder { IfOk result (λ made. IsEncoderKept Word.number State.number Word.BITS State.BITS made.1) }
-    ensures narrowed { IfOk result (λ made. (below : List ℕ) → NarrowsAll Word.BITS State.BITS
+    ensures coder { IfSome result (λ made. IsEncoderKept Word.number State.number Word.BITS State.BITS made.1) }
+    ensures narrowed { IfSome result (λ made. (below : List ℕ) → NarrowsAll Word.BITS State.BITS
         (row_items PRECISION width (map P.number weights.now) symbols.now)
         (run_of Word.BITS State.BITS (held_of Word.number Word.BITS situation ++ below) (lower_of state) (range_of state))
         (run_of Word.BITS State.BITS (kept_words Word.BITS made.1.held (Word.number made.1.first) ++ (map Word.number (reverse made.0.items) ++ below))
         (State.number made.1.lower) (State.number made.1.range))) }
-    ensures impossible { IsErrOf result refusals.ImpossibleSymbol → AreKnown (row_items PRECISION width (map P.number weights.now) symbols.now) → ⊥ }
-    ensures err { IfErr result (λ e. (e ≡ refusals.ImpossibleSymbol) ⊎ (e ≡ refusals.NoMemory)) }
 {
     let Ok(rows) = rows_of::<P, PRECISION>(alloc, weights, width, symbols.len()) else {
-        return Err(Refusal::NoMemory);
+        return None;
     };
-    if let Some(made) = put_pairs(alloc, state, situation, symbols, &rows) {
-        return Ok(made);
-    }
-    if all_known_by::<PRECISION, _>(&rows, symbols) {
-        return Err(Refusal::NoMemory);
-    }
-    Err(Refusal::ImpossibleSymbol)
+    put_pairs(alloc, state, situation, symbols, &rows)
 }
 
 /// Puts symbols behind the others, each by a row of `width` weights of its own, which add up to two to the precision.
@@ -155,7 +144,7 @@ fn put_by_rows<Word: WordOf<State>, State: BitArray, P: WordOf<Word>, const PREC
 /// - `WrongLength` exactly where `len` is past the buffer's end, or the weights aren't `width` for each symbol.
 /// - `WrongWeights` exactly where those of a row don't add up to two to the precision.
 /// - `InvalidData` exactly where the numbers are those of no encoder, or of one that can't count so many symbols more.
-/// - `ImpossibleSymbol` only where a row doesn't know its symbol.
+/// - `ImpossibleSymbol` exactly where the weight of a symbol in its row is 0, or there is none.
 /// - `NoSpace` only where the buffer ends before all words, and tells how many there would be.
 /// - `NoMemory` where memory is missing.
 pub fn encode_each<Word: WordOf<State>, State: BitArray, P: WordOf<Word>, const PRECISION: usize>(
@@ -177,7 +166,10 @@ pub fn encode_each<Word: WordOf<State>, State: BitArray, P: WordOf<Word>, const 
     ensures invalid_data { IsErrOf result refusals.InvalidData ↔ ((len.old ≤ length buffer.old) × (length weights.now ≡ width * length symbols.now)
         × AreTotals PRECISION width (length symbols.now) (map P.number weights.now)
         × (CanEncode Word.number State.number Word.BITS State.BITS parts (length symbols.now) → ⊥)) }
-    ensures impossible { IsErrOf result refusals.ImpossibleSymbol → AreKnown (row_items PRECISION width (map P.number weights.now) symbols.now) → ⊥ }
+    ensures impossible { IsErrOf result refusals.ImpossibleSymbol ↔ ((len.old ≤ length buffer.old) × (length weights.now ≡ width * length symbols.now)
+        × AreTotals PRECISION width (length symbols.now) (map P.number weights.now)
+        × CanEncode Word.number State.number Word.BITS State.BITS parts (length symbols.now)
+        × (AreKnown (row_items PRECISION width (map P.number weights.now) symbols.now) → ⊥)) }
     ensures valid { OnOk result (CanEncode Word.number State.number Word.BITS State.BITS parts (length symbols.now)) }
     ensures err { IfErr result OfWeights }
     ensures no_space { NeedsSpace result (LacksRoom Word.number State.number Word.BITS State.BITS
@@ -196,13 +188,16 @@ pub fn encode_each<Word: WordOf<State>, State: BitArray, P: WordOf<Word>, const 
     let Some((state, situation)) = encoder_for(parts, symbols.len()) else {
         return Err(Refusal::InvalidData);
     };
-    match put_by_rows::<Word, State, P, PRECISION>(
+    let Some((words, now)) = put_by_rows::<Word, State, P, PRECISION>(
         alloc, state, situation, weights, width, symbols,
-    ) {
-        Ok((words, now)) => match append(&words, buffer, len) {
-            Ok(()) => Ok(now),
-            Err(refusal) => Err(refusal),
-        },
+    ) else {
+        if all_known_in_rows::<P, PRECISION>(weights, width, symbols) {
+            return Err(Refusal::NoMemory);
+        }
+        return Err(Refusal::ImpossibleSymbol);
+    };
+    match append(&words, buffer, len) {
+        Ok(()) => Ok(now),
         Err(refusal) => Err(refusal),
     }
 }

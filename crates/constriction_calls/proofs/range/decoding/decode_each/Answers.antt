@@ -30,7 +30,7 @@ returns-in-Ok-take_pairs-clause-ok g c = λ old at.
     let s = g.State.BitArray.BITS in
     let words = map number c.args.words.now in
     let weights = map g.P.BitArray.number c.args.weights.now in
-    let d = c.in-Ok-take_pairs.decoder in
+    let d = c.in-Ok-take_pairs.last in
     let stands = stands_by w s words _ old _ _ _ _ _ _ _ at c.in-Some.ensures.lower c.in-Some.ensures.range c.in-Some.ensures.point
     (c.in-Some.ensures.words ∙ map-drop number c.args.parts.pos c.args.words.now) in
     let got = c.in-Ok-take_pairs.ensures.decoded words old stands in

@@ -34,4 +34,4 @@ returns-in-Ok-clause-err g c =
     subst (λ (is : List (Item ℕ)). AreKnown is) (sym items) (intervals_known P lefts ps made.ensures.intervals.1) in
     of_intervals c.encode_each.result c.encode_each.ensures.err
     (λ is. (c.encode_each.ensures.wrong_weights.0 is).2 totals)
-    (λ is. c.encode_each.ensures.impossible is known)
+    (λ is. (c.encode_each.ensures.impossible.0 is).4 known)
