@@ -4,7 +4,7 @@ use Rattle.constriction.specs.chain.Runs.{Event, Decode, Change, IsRun}
 use Rattle.constriction_examples.proofs.laws_of_each_coder.chain.isolated_across_a_change.Goals as goal
 
 pub returns : goal.returns
-returns g c = λ h compressed.
+returns g c = record { isolated = λ h compressed.
     let a = c.in-Ok.ensures.step in
     let x = c.in-Ok-decode_symbol.ensures.step in
     let b = c.in-Ok-decode_symbol-2.ensures.step in
@@ -44,4 +44,4 @@ returns g c = λ h compressed.
       ),
     ) in
     let iso = c.symbols_are_isolated.ensures 32 64 c.args.coder.state c.args.same.state last last' es es' h compressed one two in
-    ((iso refl).1 refl).0 refl
+    ((iso refl).1 refl).0 refl }
