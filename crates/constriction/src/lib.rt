@@ -85,7 +85,7 @@
 //!   [`stream::queue::SmallRangeDecoder`]; [`stream::queue::DecoderFrontendError`] says that no symbol has
 //!   the quantile that was read.
 //! - [`stream::queue::RangeCompressedIter`], [`stream::queue::EncoderGuard`]: the sealed words of an encoder
-//!   that stays as it is.
+//!   that stays as it is; [`stream::queue::LendsAsWritten`]: backends that lend their words as they were written.
 //!
 //! ## [`stream::chain`]: symbols that don't depend on one another's models
 //!
@@ -172,8 +172,8 @@ pub mod stream {
     pub mod queue {
         pub use constriction_queue::{
             DecoderFrontendError, DefaultRangeDecoder, DefaultRangeEncoder, EncoderGuard,
-            EncoderSituation, RangeCoderState, RangeCompressedIter, RangeDecoder, RangeEncoder,
-            SmallRangeDecoder, SmallRangeEncoder,
+            EncoderSituation, LendsAsWritten, RangeCoderState, RangeCompressedIter, RangeDecoder,
+            RangeEncoder, SmallRangeDecoder, SmallRangeEncoder,
         };
     }
 

@@ -12,7 +12,8 @@ use std::alloc::Allocator;
 /// implementation chooses nothing here: the law ties what is lent to what is held.
 pub trait LendsAsWritten<Word>: Holds<Word, Stack> + Words<Word> {
     // The stack is what is lent, turned round.
-    ghost written_law: { (b : Self) → ⟦<Self as Holds<Word, Stack>>⟧.words b ≡ reverse (⟦<Self as Words<Word>>⟧.lent b) };
+    ghost written_law: { (b : Self) →
+        ⟦<Self as Holds<Word, Stack>>⟧.words b ≡ reverse (⟦<Self as Words<Word>>⟧.lent b) };
 }
 
 impl<Word: BitArray, A: Allocator> LendsAsWritten<Word> for Vec<Word, A> {

@@ -27,8 +27,9 @@
 //! - `reading`: what a decoder reads, and which quantile that is.
 //! - `writing`: words that are owed to a backend.
 //!
-//! Contracts cite the definitions of `specs/Range.antt` (the run, which holds no word back, wraps nowhere and passes
-//! no carry on, its seal, and reading), and of `specs/Calls.antt` (what a call over a backend may answer and leave). `specs/Encoder.antt` and `specs/Decoder.antt` say which run and which moment of reading a coder
+//! Contracts cite the definitions of `specs/Range.antt` (the run, which holds no word back, wraps nowhere and
+//! passes no carry on, its seal, and reading), and of `specs/Calls.antt` (what a call over a backend may answer
+//! and leave). `specs/Encoder.antt` and `specs/Decoder.antt` say which run and which moment of reading a coder
 //! stands for.
 #![tactic(auto)]
 

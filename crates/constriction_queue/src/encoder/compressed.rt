@@ -184,7 +184,8 @@ impl<Word: WordOf<State>, State: BitArray, Backend: Holds<Word, Stack> + Words<W
     /// backend lends, those held, and the seal. The encoder stays as it is.
     pub fn iter_compressed(&self) -> RangeCompressedIter<'_, Word>
         // The words that the backend lends, and then what the sealed words have behind those written.
-        ensures lent { result ≡ map Word.number (Backend.lent self.now.bulk) ++ drop (length self.now.words) (sealed_by Word.BITS State.BITS self.now) }
+        ensures lent { result ≡ map Word.number (Backend.lent self.now.bulk)
+            ++ drop (length self.now.words) (sealed_by Word.BITS State.BITS self.now) }
         // The backend lends its words in the order in which they were written, as all of `LendsAsWritten` do.
         ensures words { Backend.words self.now.bulk ≡ reverse (Backend.lent self.now.bulk) →
             result ≡ sealed_by Word.BITS State.BITS self.now }

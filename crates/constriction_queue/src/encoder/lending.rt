@@ -11,25 +11,28 @@ use std::alloc::{AllocError, Allocator};
 
 impl<Word: WordOf<State>, State: BitArray, A: Allocator> RangeEncoder<Word, State, Vec<Word, A>> {
     /// Lends a function the words that [`RangeEncoder::into_compressed`] would give, and returns what it
-    /// answers. The encoder is as before then.
+    /// answers. The encoder is as before then. [`RangeDecoder::from_compressed`] makes a decoder of the words.
+    ///
+    /// [`RangeDecoder::from_compressed`]: crate::RangeDecoder::from_compressed
     ///
     /// # Errors
     ///
     /// Want of memory, where the vector had to grow. The function isn't called, and the encoder is as before.
     ///
     /// ```
-    /// let symbol = encoder.with_compressed(|words| {
-    ///     let mut decoder = DefaultRangeDecoder::from_compressed(words)?;
-    ///     decoder.decode_symbol(&table) // what was encoded first
-    /// })?;
+    /// encoder.with_compressed(|words| send(words))?;
     /// encoder.encode_symbol(&2, &table)?; // goes on behind what was encoded last
     /// ```
     pub fn with_compressed<R, F: FnOnce(&[Word]) -> R>(&mut self, f: F) -> Result<R, AllocError>
-        requires { (lent : List Word) → map Word.number lent ≡ sealed_by Word.BITS State.BITS self.old → FnOnceTakesAt F.FnOnce f lent }
-        ensures called { IfOk result (λ answer. (lent : List Word) × (map Word.number lent ≡ sealed_by Word.BITS State.BITS self.old) × FnOnceReturnsAt F.FnOnce f lent answer) }
+        requires { (lent : List Word) → map Word.number lent ≡ sealed_by Word.BITS State.BITS self.old
+            → FnOnceTakesAt F.FnOnce f lent }
+        ensures called { IfOk result (λ answer. (lent : List Word)
+            × (map Word.number lent ≡ sealed_by Word.BITS State.BITS self.old)
+            × FnOnceReturnsAt F.FnOnce f lent answer) }
         ensures heads { HasHeads self.old self.new }
         ensures words { self.new.words ≡ self.old.words }
-        ensures coder { IsEncoder Word.number (⟦<Vec<Word, A> as Holds<Word, Stack>>⟧.words) Word.BITS State.BITS self.new }
+        ensures coder { IsEncoder Word.number (⟦<Vec<Word, A> as Holds<Word, Stack>>⟧.words)
+            Word.BITS State.BITS self.new }
         ensures room { OnErr result (⟦<Vec<Word, A> as WriteWords<Word>>⟧.room self.old.bulk + length self.old.words
             < length (sealed_by Word.BITS State.BITS self.old)) }
     {
