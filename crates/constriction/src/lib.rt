@@ -172,8 +172,8 @@ pub mod stream {
     pub mod queue {
         pub use constriction_queue::{
             DecoderFrontendError, DefaultRangeDecoder, DefaultRangeEncoder, EncoderGuard,
-            EncoderSituation, RangeCoderState, RangeCompressedIter, RangeDecoder,
-            RangeEncoder, SmallRangeDecoder, SmallRangeEncoder,
+            EncoderSituation, RangeCoderState, RangeCompressedIter, RangeDecoder, RangeEncoder,
+            SmallRangeDecoder, SmallRangeEncoder,
         };
     }
 
