@@ -11,7 +11,9 @@ use std::alloc::{AllocError, Global};
 
 /// The next of a list of numbers that are as good as random.
 fn next_random(state: &mut u64) -> u32 {
-    *state = state.wrapping_mul(6364136223846793005).wrapping_add(1442695040888963407);
+    *state = state
+        .wrapping_mul(6364136223846793005)
+        .wrapping_add(1442695040888963407);
     (*state >> 33) as u32
 }
 
@@ -51,7 +53,10 @@ fn put_bit(places: &mut [usize], codes: &mut [(u32, u32)], tree: usize, bit: u32
     for (place, code) in places.iter_mut().zip(codes.iter_mut()) {
         if *place == tree {
             *place = union;
-            *code = (code.0.wrapping_add(bit.wrapping_shl(code.1)), code.1.wrapping_add(1));
+            *code = (
+                code.0.wrapping_add(bit.wrapping_shl(code.1)),
+                code.1.wrapping_add(1),
+            );
         }
     }
 }
@@ -72,8 +77,20 @@ fn merge_by_list(alloc: Global, weights: &[u32]) -> Result<Vec<(u32, u32)>, Allo
         let Some(other) = list.pop() else {
             return Ok(codes);
         };
-        put_bit(places.as_mut_slice(), codes.as_mut_slice(), lesser.1, 0, union);
-        put_bit(places.as_mut_slice(), codes.as_mut_slice(), other.1, 1, union);
+        put_bit(
+            places.as_mut_slice(),
+            codes.as_mut_slice(),
+            lesser.1,
+            0,
+            union,
+        );
+        put_bit(
+            places.as_mut_slice(),
+            codes.as_mut_slice(),
+            other.1,
+            1,
+            union,
+        );
         put_in(&mut list, lesser.0.wrapping_add(other.0), union)?;
     }
     Ok(codes)
