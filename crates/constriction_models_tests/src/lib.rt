@@ -18,6 +18,8 @@ mod lists;
 #[cfg(test)]
 mod lookups;
 #[cfg(test)]
+mod own;
+#[cfg(test)]
 mod ranges;
 #[cfg(test)]
 mod small;
