@@ -32,7 +32,7 @@ fn write_stack(alloc: Global, bits: &[bool]) -> Option<Vec<u32>> {
     coder.into_compressed().ok()
 }
 
-/// Reads a bit for each place of `bits`, the first first, as long as there are bits.
+/// Reads a bit for each place of `bits`, in their order, as long as there are bits.
 #[inline(never)]
 fn read_queue(words: Vec<u32>, bits: &mut [bool]) -> bool {
     let mut decoder = DefaultQueueDecoder::from_compressed(Cursor::new_at_write_beginning(words));

@@ -11,7 +11,7 @@ use constriction_stream::decoding::Decode;
 use constriction_stream::encoding::Encode;
 use constriction_words::{BitArray, WordOf};
 
-/// Decodes a symbol for each place of `symbols`, the first first. It returns whether there are so many.
+/// Decodes a symbol for each place of `symbols`, in their order. It returns whether there are so many.
 #[inline(always)]
 pub fn decode_each<
     Word: WordOf<State>,

@@ -47,7 +47,7 @@ fn encode_stack<C: EncoderCodebook>(
     coder.into_compressed().ok()
 }
 
-/// Decodes a symbol for each place of `symbols`, the first first, as long as there are codewords.
+/// Decodes a symbol for each place of `symbols`, in their order, as long as there are codewords.
 #[inline(never)]
 fn decode_queue<C: DecoderCodebook>(
     words: Vec<u32>,
@@ -68,7 +68,7 @@ where
     true
 }
 
-/// Decodes a symbol for each place of `symbols`, the first first, as long as there are codewords.
+/// Decodes a symbol for each place of `symbols`, in their order, as long as there are codewords.
 #[inline(never)]
 fn decode_stack<C: DecoderCodebook>(
     words: Vec<u32>,

@@ -14,7 +14,7 @@ use constriction_stream::encoding::Encode;
 use constriction_words::{BitArray, WordOf};
 use std::alloc::Global;
 
-/// Encodes symbols by a new encoder, the first first, and gives the encoder's words. There are none
+/// Encodes symbols by a new encoder, in their order, and gives the encoder's words. There are none
 /// where a symbol isn't the model's or memory is missing.
 #[inline(never)]
 fn encode_range<
@@ -36,7 +36,7 @@ where
     encoder.into_compressed().ok()
 }
 
-/// Decodes a symbol for each place of `symbols`, the first first. It returns whether the words hold so
+/// Decodes a symbol for each place of `symbols`, in their order. It returns whether the words hold so
 /// many symbols of the model.
 #[inline(never)]
 fn decode_range<

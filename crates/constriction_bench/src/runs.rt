@@ -36,7 +36,7 @@ where
     coder.into_compressed().ok()
 }
 
-/// Decodes a symbol for each place of `symbols`, the first first. It returns whether the words are
+/// Decodes a symbol for each place of `symbols`, in their order. It returns whether the words are
 /// a coder's, whose last is not zero.
 #[inline(never)]
 pub fn decode_all<

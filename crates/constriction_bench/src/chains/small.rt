@@ -40,7 +40,7 @@ fn give_words(coder: SmallChainCoder, out: &mut [u16]) -> usize {
     }
 }
 
-/// Decodes a symbol for each place of `symbols`, the first first, and gives the remainders out. It returns how
+/// Decodes a symbol for each place of `symbols`, in their order, and gives the remainders out. It returns how
 /// many words they are, 0 where there are none.
 #[inline(never)]
 fn decode_out<M: DecoderModel<12, Symbol = usize>>(

@@ -134,7 +134,7 @@ where
     decode_list(alloc, &mut decoder, amt, model)
 }
 
-/// Symbols from words that an iterator gives, the one that is read first first:
+/// Symbols from words that an iterator gives, in the order in which they are read:
 /// `from_reversed_compressed_iter`. Those whose words they are come back, the last one first.
 pub fn list_from_items<
     Word: WordOf<State>,
