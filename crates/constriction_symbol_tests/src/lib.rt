@@ -30,6 +30,8 @@ mod guards;
 #[cfg(test)]
 mod huffman;
 #[cfg(test)]
+mod lent_items;
+#[cfg(test)]
 mod lists;
 #[cfg(test)]
 mod memory;

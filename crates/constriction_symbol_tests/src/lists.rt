@@ -30,7 +30,7 @@ fn pairs_of<'a>(
 }
 
 /// The answer of a list.
-fn answer_of(answer: Result<(), DefaultEncoderError<AllocError>>) -> Put {
+pub fn answer_of(answer: Result<(), DefaultEncoderError<AllocError>>) -> Put {
     match answer {
         Ok(()) => Put::Done,
         Err(CoderError::Frontend(_)) => Put::Unknown,
