@@ -9,6 +9,7 @@ pub mod Steps
 pub mod Symbols
 pub mod Tables
 pub mod chain
+pub mod model
 pub mod queue
 pub mod stack
 pub mod symbol

@@ -67,6 +67,16 @@
 //!   a table of symbols, each with an interval of the numbers below two to the precision.
 //! - [`stream::model::WeightTable`]: the table of a list of weights;
 //!   [`stream::model::TableError`] says why weights make none.
+//! - [`stream::model::LeakyQuantizer`]: cuts a distribution at half symbols, in whole numbers, so that the table
+//!   ([`stream::model::LeakilyQuantizedDistribution`]) is the same on every machine.
+//! - [`stream::model::Gaussian`], [`stream::model::Laplace`], [`stream::model::Logistic`]: distributions of a location
+//!   and a scale ([`stream::model::LocationScale`]); [`stream::model::CumulativeDistribution`] is what others have to be.
+//! - [`stream::model::UniformModel`], [`stream::model::BernoulliModel`]: equal symbols, and two symbols;
+//!   [`stream::model::SupportError`] says why so many symbols make no model.
+//! - [`stream::model::weights_of_counts`]: the weights of a histogram; [`stream::model::CountsError`] says why counts make
+//!   none.
+//! - [`stream::model::ContiguousLookupDecoderModel`]: a model with the symbol of each quantile in a list;
+//!   [`stream::model::LookupError`] says why a model makes none.
 //!
 //! ## [`stream::stack`]: asymmetric numeral systems, the last symbol first
 //!
@@ -159,6 +169,17 @@ pub mod stream {
     pub mod model {
         pub use constriction_base::model::{DecoderModel, EncoderModel, EntropyModel};
         pub use constriction_base::weights::{TableError, WeightTable};
+        pub use constriction_models::bernoulli::BernoulliModel;
+        pub use constriction_models::counts::{CountsError, weights_of_counts};
+        pub use constriction_models::distribution::CumulativeDistribution;
+        pub use constriction_models::errors::SupportError;
+        pub use constriction_models::gaussian::{Gaussian, StandardNormal};
+        pub use constriction_models::laplace::{Laplace, StandardLaplace};
+        pub use constriction_models::location_scale::{LocationScale, StandardDistribution};
+        pub use constriction_models::logistic::{Logistic, StandardLogistic};
+        pub use constriction_models::lookup::{ContiguousLookupDecoderModel, LookupError};
+        pub use constriction_models::quantizer::{LeakilyQuantizedDistribution, LeakyQuantizer};
+        pub use constriction_models::uniform::UniformModel;
     }
 
     pub mod stack {

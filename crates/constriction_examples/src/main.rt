@@ -20,5 +20,6 @@ fn main(rt: HostRuntime) -> Result<()> {
     programs::chain::run(&rt, alloc)?;
     programs::bits::run(&rt, alloc)?;
     programs::huffman::run(&rt, alloc)?;
+    programs::models::run(&rt, alloc)?;
     Ok(())
 }

@@ -1,6 +1,6 @@
 -- The table of Laplace's distribution function.
-use Rattle.std.specs.Prelude.{ℕ, ◌^◌, List, map}
-use Rattle.std.proofs.Common.{refl}
+use Rattle.std.specs.Prelude.{ℕ, ◌≤◌, ◌^◌, List, map}
+use Rattle.std.proofs.Common.{refl, arith}
 use Rattle.constriction_models.specs.Interpolation.{AreValues, rises_from}
 use Rattle.constriction_models.specs.Rules.{powers, mirrored, rounded, decay, exponential}
 
@@ -11,3 +11,7 @@ laplace_values = mirrored 4294967296 (map (λ p. rounded 2147483648 p (2 ^ 160))
 pub laplace_are_values : AreValues laplace_values
 unfolding rises_from laplace_values powers mirrored rounded decay exponential
 laplace_are_values = record { len = refl; rises = refl; last = refl }
+
+-- the table is so many scales wide
+pub laplace_is_wide : (1 ≤ 64) × (64 ≤ 64)
+laplace_is_wide = (omega arith, omega arith)

@@ -1,6 +1,6 @@
 -- The table of the logistic distribution function.
-use Rattle.std.specs.Prelude.{ℕ, ◌+◌, ◌^◌, List, map}
-use Rattle.std.proofs.Common.{refl}
+use Rattle.std.specs.Prelude.{ℕ, ◌≤◌, ◌+◌, ◌^◌, List, map}
+use Rattle.std.proofs.Common.{refl, arith}
 use Rattle.constriction_models.specs.Interpolation.{AreValues, rises_from}
 use Rattle.constriction_models.specs.Rules.{powers, mirrored, rounded, decay, exponential}
 
@@ -11,3 +11,7 @@ logistic_values = mirrored 4294967296 (map (λ p. rounded 4294967296 p (2 ^ 160 
 pub logistic_are_values : AreValues logistic_values
 unfolding rises_from logistic_values powers mirrored rounded decay exponential
 logistic_are_values = record { len = refl; rises = refl; last = refl }
+
+-- the table is so many scales wide
+pub logistic_is_wide : (1 ≤ 64) × (64 ≤ 64)
+logistic_is_wide = (omega arith, omega arith)

@@ -1,6 +1,6 @@
 -- The table of the normal distribution function.
-use Rattle.std.specs.Prelude.{ℕ, zero, suc, ◌+◌, ◌-◌, ◌*◌, ◌/◌, ◌^◌, List, [], ◌∷◌, map, slice_index}
-use Rattle.std.proofs.Common.{refl}
+use Rattle.std.specs.Prelude.{ℕ, ◌≤◌, zero, suc, ◌+◌, ◌-◌, ◌*◌, ◌/◌, ◌^◌, List, [], ◌∷◌, map, slice_index}
+use Rattle.std.proofs.Common.{refl, arith}
 use Rattle.constriction_models.specs.Interpolation.{AreValues, rises_from}
 use Rattle.constriction_models.specs.Rules.{mirrored, rounded, decay, exponential}
 
@@ -32,3 +32,7 @@ normal_values = normal_by (2 ^ 160) (decay (2 ^ 160) 32768)
 pub normal_are_values : AreValues normal_values
 unfolding rises_from normal_values normal_by normal_from as_parts integrals series mirrored rounded decay exponential
 normal_are_values = record { len = refl; rises = refl; last = refl }
+
+-- the table is so many scales wide
+pub normal_is_wide : (1 ≤ 16) × (16 ≤ 64)
+normal_is_wide = (omega arith, omega arith)

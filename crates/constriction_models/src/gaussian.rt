@@ -2,8 +2,7 @@
 
 mod table;
 
-ghost use Rattle.constriction_models.specs.Normal.{normal_values, normal_are_values};
-ghost use Rattle.std.proofs.Common.{rules};
+ghost use Rattle.constriction_models.specs.Normal.{normal_values, normal_are_values, normal_is_wide};
 
 use crate::gaussian::table::{GUESSES, VALUES};
 use crate::location_scale::{LocationScale, StandardDistribution};
@@ -24,7 +23,7 @@ impl StandardDistribution for StandardNormal {
 
     ghost are_values = { normal_are_values };
 
-    ghost width_law = { (Prim.search rules, Prim.search rules) };
+    ghost width_law = { normal_is_wide };
 
     #[inline(always)]
     fn table() -> &'static [u64] {

@@ -2,8 +2,7 @@
 
 mod table;
 
-ghost use Rattle.constriction_models.specs.Laplace.{laplace_values, laplace_are_values};
-ghost use Rattle.std.proofs.Common.{rules};
+ghost use Rattle.constriction_models.specs.Laplace.{laplace_values, laplace_are_values, laplace_is_wide};
 
 use crate::laplace::table::{GUESSES, VALUES};
 use crate::location_scale::{LocationScale, StandardDistribution};
@@ -24,7 +23,7 @@ impl StandardDistribution for StandardLaplace {
 
     ghost are_values = { laplace_are_values };
 
-    ghost width_law = { (Prim.search rules, Prim.search rules) };
+    ghost width_law = { laplace_is_wide };
 
     #[inline(always)]
     fn table() -> &'static [u64] {

@@ -2,8 +2,7 @@
 
 mod table;
 
-ghost use Rattle.constriction_models.specs.Logistic.{logistic_values, logistic_are_values};
-ghost use Rattle.std.proofs.Common.{rules};
+ghost use Rattle.constriction_models.specs.Logistic.{logistic_values, logistic_are_values, logistic_is_wide};
 
 use crate::location_scale::{LocationScale, StandardDistribution};
 use crate::logistic::table::{GUESSES, VALUES};
@@ -24,7 +23,7 @@ impl StandardDistribution for StandardLogistic {
 
     ghost are_values = { logistic_are_values };
 
-    ghost width_law = { (Prim.search rules, Prim.search rules) };
+    ghost width_law = { logistic_is_wide };
 
     #[inline(always)]
     fn table() -> &'static [u64] {

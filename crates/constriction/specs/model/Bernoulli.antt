@@ -1,0 +1,2 @@
+-- The table of two symbols.
+pub use Rattle.constriction_models.specs.Bernoulli.{bernoulli}
