@@ -54,12 +54,10 @@ class Library:
         self._functions = ctypes.CDLL(path)
 
     def call(self, name: str, *arguments: Any) -> None:
-        """Calls the function of this name. Raises Refused where the data is refused, and else a RuntimeError."""
+        """Calls the function of this name. Raises Refused where it doesn't give CONSTRICTION_DONE."""
         code = getattr(self._functions, f"constriction_{name}_u{self.bits}")(*arguments)
-        if code in REFUSALS:
-            raise Refused(REFUSALS[code])
         if code:
-            raise RuntimeError(f"constriction_{name}_u{self.bits} gives {code}")
+            raise Refused(REFUSALS.get(code, f"code {code} of {name}"))
 
     def read(self, words: list[int]) -> tuple[Any, c_size_t]:
         """A list of words that a call reads."""
