@@ -31,14 +31,21 @@ def tables(dice: random.Random, many: int, precision: int) -> list[list[int]]:
 
 
 def symbols(dice: random.Random, under: list[list[int]], many: int) -> list[int]:
-    """A symbol under each table; once in a while one that its table doesn't know."""
-    drawn = []
+    """A symbol under each table; once in a while one that its table may not know."""
     known = [[i for i, weight in enumerate(table) if weight] for table in under]
-    for i in range(many):
-        drawn.append(dice.choice(known[i % len(known)]))
-        if dice.randrange(400) == 0:
-            drawn[i] = dice.randrange(len(under[0]) + 1)
+    drawn = [dice.choice(known[i % len(known)]) for i in range(many)]
+    if drawn and dice.randrange(10) == 0:
+        drawn[dice.randrange(many)] = dice.randrange(len(under[0]) + 1)
     return drawn
+
+
+def behind_unknown(under: list[list[int]], symbols: list[int]) -> int:
+    """Where the symbols begin behind the last one that its table doesn't know."""
+    for i in reversed(range(len(symbols))):
+        table = under[i % len(under)]
+        if symbols[i] >= len(table) or not table[symbols[i]]:
+            return i + 1
+    return 0
 
 
 def held(dice: random.Random, many: int, bits: int, precision: int) -> tuple[list[list[int]], list[int]]:

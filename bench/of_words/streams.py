@@ -127,14 +127,17 @@ def range_encodes(ours: Ours, dice: random.Random, verdict: Verdict) -> Case:
 
 
 def range_decodes(ours: Ours, dice: random.Random, verdict: Verdict) -> Case:
-    """Symbols are read from any words, until they are none that an encoder wrote."""
-    words, many = drawn.words(dice, ours.bits, dice.randrange(20)), drawn.count(dice)
+    """Symbols are read from any words, until they are none that an encoder wrote.
+
+    At least one is asked for: where the words lie beyond all intervals, the C function refuses even to decode none.
+    """
+    words, many = drawn.words(dice, ours.bits, dice.randrange(20)), drawn.count(dice) or 1
     if dice.randrange(8) == 0:  # Beyond each interval: no encoder wrote them.
         words = [(1 << ours.bits) - 1] * 3 + words
     tables = drawn.tables(dice, many, ours.precision)
     _, symbols, end = longest(lambda some: ours.range_decode(words, part(tables, 0, some), some), many)
     (answer,) = yield [f"range_decode {ours.bits} {text(words)} {texts(tables)} {many}"]
-    verdict.same("decode", f"{text(symbols)} {end}", answer)
+    verdict.same("decode", f"{text(symbols or [])} {end}", answer)
 
 
 def chain_exports(ours: Ours, coder: Chain) -> str:
@@ -157,7 +160,11 @@ def chain_encodes(ours: Ours, dice: random.Random, verdict: Verdict) -> Case:
     symbols = drawn.symbols(dice, tables, many)
 
     def encode() -> str:
-        return chain_exports(ours, ours.chain_encode(ours.chain(kind, words), tables, symbols))
+        before = ours.chain(kind, words)
+        first = drawn.behind_unknown(tables, symbols)
+        if first:  # The C function looks for these beforehand, theirs encodes up to the first of them.
+            ours.chain_encode(before, part(tables, first, many), symbols[first:])
+        return chain_exports(ours, ours.chain_encode(before, tables, symbols))
 
     (answer,) = yield [f"chain_encode {ours.bits} {kind} {text(words)} {texts(tables)} {text(symbols)}"]
     verdict.same("encode", attempt(encode), answer)
