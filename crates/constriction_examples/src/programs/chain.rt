@@ -1,7 +1,7 @@
 //! Symbols out of any words by a chain coder, and the words again from symbols and remainders.
 
 use anyhow::{Result, bail};
-use constriction::stream::{Decode, EncodeReverse};
+use constriction::stream::{Decode, Encode};
 use constriction::stream::chain::DefaultChainCoder;
 use constriction::stream::model::WeightTable;
 use std::alloc::Global;
@@ -28,7 +28,9 @@ pub fn run(rt: &impl Print, alloc: Global) -> Result<()> {
     let Ok(mut coder) = DefaultChainCoder::from_remainders(alloc, suffix) else {
         bail!("no coder's remainders");
     };
-    coder.encode_iid_symbols_reverse(symbols.as_slice(), &table)?;
+    for symbol in symbols.iter().rev() {
+        coder.encode_symbol(symbol, &table)?;
+    }
     let Ok((_, exported)) = coder.into_compressed() else {
         bail!("bits are left over");
     };
