@@ -266,6 +266,28 @@ class Memory(unittest.TestCase):
                 self.assertGreater(self.refused(lambda: shown(coder), lambda: 0), 0, name)
                 self.assertEqual(shown(coder), before)
 
+    def test_bits_that_find_no_room(self) -> None:
+        class Full(bytearray):
+            def __setitem__(self, place: Any, value: Any) -> None:
+                raise MemoryError
+
+        tree = EncoderHuffmanTree([2, 2, 4, 1, 1])
+        queue, stack = QueueEncoder(), StackCoder()
+        calls: list[tuple[Any, Callable[[Any], Any]]] = [(queue, queue.encode), (stack, stack.encode_reverse)]
+        for coder, encode in calls:
+            encode([3, 0, 2], tree)
+            before, wanted = coder.get_compressed(), coder.clone()
+            coder._state = coder._state._replace(memory=Full(coder._state.memory))
+            for symbols in (4, [4, 1], [4, 1] * 50):
+                with self.assertRaises(MemoryError):
+                    encode(symbols, tree)
+                self.assertEqual(coder.get_compressed(), before)
+            coder._state = coder._state._replace(memory=bytearray(coder._state.memory))
+            encode([4, 1], tree)
+            again = wanted.encode if coder is queue else wanted.encode_reverse
+            again([4, 1], tree)
+            self.assertEqual(coder.get_compressed(), wanted.get_compressed())
+
     def test_growth_past_what_the_system_gives(self) -> None:
         # A process that may have 400 MB, and whose list wants more.
         program = """
