@@ -1,9 +1,9 @@
 //! Symbols out of any words by a chain coder, and the words again from symbols and remainders.
 
 use anyhow::{Result, bail};
-use constriction::stream::{Decode, Encode};
 use constriction::stream::chain::DefaultChainCoder;
 use constriction::stream::model::WeightTable;
+use constriction::stream::{Decode, Encode};
 use std::alloc::Global;
 
 /// Decodes two symbols from words, and encodes them back into what is left.

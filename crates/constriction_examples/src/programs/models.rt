@@ -11,7 +11,10 @@ pub fn run(rt: &impl Print, alloc: Global) -> Result<()> {
     let quantizer = LeakyQuantizer::<u32, 24>::new(-100, 100)?;
 
     // Means of 3.5 and -20, deviations of 2.25 and 0.5, in 65536ths.
-    let (Some(wide), Some(narrow)) = (Gaussian::new(229376, 147456), Gaussian::new(-1310720, 32768)) else {
+    let (Some(wide), Some(narrow)) = (
+        Gaussian::new(229376, 147456),
+        Gaussian::new(-1310720, 32768),
+    ) else {
         bail!("a deviation of 0");
     };
 
