@@ -56,7 +56,7 @@ class BesideTheProgram(unittest.TestCase):
         encoder.encode(numbers, ExpGolomb())
         said = " ".join(map(str, numbers)) + "\n"
         ran = subprocess.run([PROGRAM, "golomb"], input=said, capture_output=True, text=True, check=True)
-        self.assertEqual(list(encoder.get_compressed()), list(map(int, ran.stdout.splitlines()[1].split())))
+        self.assertEqual(encoder.get_compressed()[0], list(map(int, ran.stdout.splitlines()[1].split())))
 
 
 if __name__ == "__main__":
