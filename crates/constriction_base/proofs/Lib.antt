@@ -11,4 +11,5 @@ pub mod Heads
 pub mod Sizes
 pub mod Exporting
 pub mod Guards
+pub mod Made
 mod Results

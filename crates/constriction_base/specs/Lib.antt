@@ -4,6 +4,7 @@ pub mod Steps
 pub mod Tables
 pub mod Models
 pub mod Hints
+pub mod Reciprocals
 pub mod Windows
 pub mod WeightTables
 pub mod Digits

@@ -9,6 +9,10 @@ use Rattle.constriction_base.specs.declared.weights.WeightTable.{WeightTable}
 abbrev pub entries : {Probability NonZero : Type 0} {precision : ℕ} {word : _} → WeightTable Probability precision NonZero word → List (ℕ × ℕ × ℕ)
 entries {precision = precision} {word = word} t = table_of (weights_between (map word.number t.starts.items) (2 ^ precision))
 
+-- it keeps a reciprocal of each weight, so that no encoder divides
+abbrev pub KeepsReciprocals : {Probability NonZero : Type 0} {precision : ℕ} {word : _} → WeightTable Probability precision NonZero word → Type 0
+KeepsReciprocals t = length t.reciprocals.items ≡ length t.starts.items
+
 -- the table as a model
 abbrev pub model_of : {Probability NonZero : Type 0} {precision : ℕ} {word : _} → WeightTable Probability precision NonZero word → Model ℕ
 model_of {precision = precision} t = record { precision = precision; table = entries t }

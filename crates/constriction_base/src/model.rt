@@ -7,8 +7,9 @@
 
 ghost use Rattle.std.specs.Prelude.{◌≡◌, ℕ, ◌^◌, ◌<◌, ◌≤◌, List, length, IfSome, IfNone};
 ghost use Rattle.constriction_base.specs.Tables.{Has, Impossible, IsTable, Covers};
+ghost use Rattle.constriction_words.specs.Reciprocals.{IsReciprocalOf};
 
-use constriction_words::BitArray;
+use constriction_words::{BitArray, Reciprocal};
 
 /// A table of symbols, each with an interval of the numbers below two to the precision: a quantized
 /// probability mass function.
@@ -54,6 +55,30 @@ pub trait EncoderModel<const PRECISION: usize>: EntropyModel<PRECISION> {
     ) -> Option<(Self::Probability, <Self::Probability as BitArray>::NonZero)>
         ensures found { IfSome result (λ found. Has (Self.table self.now) symbol.now (Self.Probability.number found.0) (Self.Probability.nonzero_number found.1)) }
         ensures impossible { IfNone result (Impossible (Self.table self.now) symbol.now) };
+
+    /// The same, and the reciprocal of how long the interval is, where the model has one.
+    ///
+    /// An encoder that divides by it then takes a product in place of the division. A model that keeps no reciprocals has none,
+    /// and needs no such method of its own.
+    fn left_cumulative_and_reciprocal(
+        &self,
+        symbol: &Self::Symbol,
+    ) -> Option<
+        (
+            Self::Probability,
+            <Self::Probability as BitArray>::NonZero,
+            Option<Reciprocal>,
+        ),
+    >
+        ensures found { IfSome result (λ found. Has (Self.table self.now) symbol.now (Self.Probability.number found.0) (Self.Probability.nonzero_number found.1)) }
+        ensures reciprocal { IfSome result (λ found. IfSome found.2 (λ r. IsReciprocalOf r (Self.Probability.nonzero_number found.1))) }
+        ensures impossible { IfNone result (Impossible (Self.table self.now) symbol.now) }
+    {
+        match self.left_cumulative_and_probability(symbol) {
+            None => None,
+            Some((left, p)) => Some((left, p, None)),
+        }
+    }
 }
 
 /// A model that a decoder can use.
@@ -96,6 +121,19 @@ impl<const PRECISION: usize, M: EncoderModel<PRECISION>> EncoderModel<PRECISION>
         symbol: &M::Symbol,
     ) -> Option<(M::Probability, <M::Probability as BitArray>::NonZero)> {
         (**self).left_cumulative_and_probability(symbol)
+    }
+
+    fn left_cumulative_and_reciprocal(
+        &self,
+        symbol: &M::Symbol,
+    ) -> Option<
+        (
+            M::Probability,
+            <M::Probability as BitArray>::NonZero,
+            Option<Reciprocal>,
+        ),
+    > {
+        (**self).left_cumulative_and_reciprocal(symbol)
     }
 }
 

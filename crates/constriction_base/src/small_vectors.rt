@@ -5,7 +5,7 @@
 //! keeps the capacity. Any allocator serves.
 
 ghost use Rattle.std.specs.Prelude.{◌≡◌, ◌+◌, ◌-◌, false, ◌<◌, ◌≤◌, ◌==◌, Option, Result, Ok, Err, length, reverse};
-ghost use Rattle.constriction_base.specs.Backends.{Reads};
+ghost use Rattle.constriction_base.specs.Backends.{Reads, Writes};
 ghost use Rattle.constriction_base.specs.laws.Room.{no_room_left, room_for};
 
 use crate::backends::{BoundedReadWords, Holds, ReadWords, Stack, WriteWords};
@@ -48,6 +48,8 @@ impl<A: Allocator + Copy> BoundedReadWords<usize, Stack> for SmallVec<usize, 1, 
 
 impl<A: Allocator + Copy> WriteWords<usize> for SmallVec<usize, 1, A> {
     type WriteError = AllocError;
+
+    ghost writes = { λ old word r new. Writes (reverse old.items) word r (reverse new.items) × (old.capacity ≤ new.capacity) };
 
     ghost write_fails = { λ v _. (v.capacity ≤ length v.items) × (1 ≤ length v.items) };
 

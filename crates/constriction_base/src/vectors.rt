@@ -4,7 +4,7 @@
 //! memory and keeps the capacity. Any allocator serves.
 
 ghost use Rattle.std.specs.Prelude.{◌≡◌, ◌+◌, ◌-◌, false, ◌<◌, ◌≤◌, ◌==◌, Option, Result, Ok, Err, reverse, vec_len, vec_capacity, take};
-ghost use Rattle.constriction_base.specs.Backends.{Reads};
+ghost use Rattle.constriction_base.specs.Backends.{Reads, Writes};
 ghost use Rattle.constriction_base.specs.laws.Room.{no_room_left, room_for, at_length, within, words_counted};
 ghost use Rattle.std.proofs.Common.{sym};
 ghost use Rattle.std.proofs.lemmas.List.{reverse-reverse};
@@ -61,6 +61,8 @@ impl<Word: BitArray, A: Allocator> BoundedReadWords<Word, Stack> for Vec<Word, A
 
 impl<Word: BitArray, A: Allocator> WriteWords<Word> for Vec<Word, A> {
     type WriteError = AllocError;
+
+    ghost writes = { λ old word r new. Writes (reverse old.items) word r (reverse new.items) × (vec_capacity old ≤ vec_capacity new) };
 
     ghost write_fails = { λ v _. vec_capacity v ≤ vec_len v };
 

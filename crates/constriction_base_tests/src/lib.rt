@@ -25,6 +25,8 @@ mod laws;
 #[cfg(test)]
 mod models;
 #[cfg(test)]
+mod reciprocals;
+#[cfg(test)]
 mod small_vectors;
 #[cfg(test)]
 mod tables;

@@ -64,8 +64,8 @@ fn knows<Probability: BitArray + PartialEq, const PRECISION: usize>(
 
 /// Makes so many lists, and then a table, which is right or is refused for want of memory.
 ///
-/// A table is two allocations. `tests/refused-memory` has the third allocation of each of the next tests
-/// refused, so that it is the table's first, its second, and none of its own.
+/// A table is three allocations. `tests/refused-memory` has the third allocation of each of the next tests
+/// refused, so that it is the table's third, its second, and its first; and the fourth of the first test, which is none.
 fn a_table_after(alloc: Global, lists: usize) -> Result<(), Fail> {
     for _ in 0..lists {
         let list = [7u8].to_vec(alloc)?;

@@ -6,14 +6,15 @@ ghost use Rattle.constriction_base.specs.Tables.{Covers};
 ghost use Rattle.constriction_base.specs.Windows.{IsInWindow};
 ghost use Rattle.constriction_chain.specs.Chain.{ChainValue, IsSized, least, value_of};
 ghost use Rattle.constriction_chain.specs.Steps.{EncodeCall, Halted, Kept, NotKept, Took};
-ghost use Rattle.std.specs.Prelude.{Err, MatchResult, Ok, ◌+◌, ◌<◌, ◌^◌, ◌≡◌, ◌≤◌};
+ghost use Rattle.constriction_words.specs.Reciprocals.{IsReciprocalOf};
+ghost use Rattle.std.specs.Prelude.{Err, IfSome, MatchResult, Ok, ◌%◌, ◌+◌, ◌/◌, ◌<◌, ◌^◌, ◌≡◌, ◌≤◌};
 
 use crate::errors::{BackendError, DecoderError, EncoderError, EncoderFrontendError};
 use crate::heads::ChainCoderHeads;
 use crate::steps::{gain, give_quantile, prepare_for_quantile, regain, take_quantile};
 use constriction_base::backends::{Holds, ReadWords, Stack, WriteWords};
 use constriction_base::errors::CoderError;
-use constriction_words::{BitArray, WordOf};
+use constriction_words::{BitArray, Reciprocal, WordOf};
 
 /// The next quantile, and the head of the compressed words without it.
 #[inline]
@@ -70,6 +71,27 @@ pub fn keep<Word: WordOf<State>, State: BitArray, R: WriteWords<Word>>(
     }
 }
 
+/// The quotient by the length of an interval, and what it leaves: by a product where there is a reciprocal.
+#[inline]
+fn divided<State: BitArray>(
+    number: State,
+    p: State,
+    reciprocal: Option<Reciprocal>,
+) -> (State, State)
+    requires some { 0 < State.number p }
+    requires inverse { IfSome reciprocal (λ r. IsReciprocalOf r (State.number p)) }
+    ensures quotient { State.number result.0 ≡ State.number number / State.number p }
+    ensures rest { State.number result.1 ≡ State.number number % State.number p }
+{
+    match reciprocal {
+        Some(reciprocal) => {
+            let quotient = number.quotient_by(p, reciprocal);
+            (quotient, number.minus(quotient.times(p)))
+        }
+        None => (number.quotient(p), number.remainder(p)),
+    }
+}
+
 /// Puts a quantile of an interval back, that which the remainders tell. Returns both heads after it.
 #[inline]
 pub fn give<Word: WordOf<State>, State: BitArray, C: WriteWords<Word>, R: ReadWords<Word, Stack>>(
@@ -78,12 +100,14 @@ pub fn give<Word: WordOf<State>, State: BitArray, C: WriteWords<Word>, R: ReadWo
     heads: (Word, State),
     left: Word,
     p: Word,
+    reciprocal: Option<Reciprocal>,
     precision: u32,
 ) -> Result<(Word, State), EncoderError<C::WriteError, R::ReadError>>
     requires sized { IsSized Word.BITS State.BITS precision }
     requires head { 0 < Word.number heads.0 }
     requires window { IsInWindow Word.BITS (least Word.BITS State.BITS precision) (State.number heads.1) }
     requires some { 0 < Word.number p }
+    requires inverse { IfSome reciprocal (λ r. IsReciprocalOf r (Word.number p)) }
     requires total { Word.number left + Word.number p ≤ 2 ^ precision }
     ensures { MatchResult result
         (λ new. EncodeCall Word.number R.is_list C.words R.words R.reads C.prepare_fails C.write_fails C.room C.makes_room
@@ -107,9 +131,10 @@ pub fn give<Word: WordOf<State>, State: BitArray, C: WriteWords<Word>, R: ReadWo
         Ok(None) => return Err(CoderError::Frontend(EncoderFrontendError::OutOfRemainders)),
         Err(error) => return Err(CoderError::Backend(BackendError::Remainders(error))),
     };
-    let quantile = left.plus(Word::narrow(v.remainder(p)));
+    let (quotient, rest) = divided(v, p, reciprocal);
+    let quantile = left.plus(Word::narrow(rest));
     match give_quantile(compressed, h, quantile, precision) {
-        Ok(h) => Ok((h, v.quotient(p))),
+        Ok(h) => Ok((h, quotient)),
         Err(error) => Err(CoderError::Backend(BackendError::Compressed(error))),
     }
 }

@@ -11,3 +11,4 @@ pub mod Errors
 pub mod Buffers
 pub mod FirstReads
 mod BinaryRows
+pub mod ByProduct

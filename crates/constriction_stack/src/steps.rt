@@ -1,11 +1,12 @@
 //! The steps of a coder on its head and its backend.
 
-ghost use Rattle.std.specs.Prelude.{◌≡◌, ◌+◌, ◌-◌, ◌*◌, ◌/◌, ◌%◌, ◌^◌, ◌<◌, ◌≤◌, map, MatchResult, Ok, Err};
+ghost use Rattle.std.specs.Prelude.{◌≡◌, ◌+◌, ◌-◌, ◌*◌, ◌/◌, ◌%◌, ◌^◌, ◌<◌, ◌≤◌, map, IfSome, MatchResult, Ok, Err};
 ghost use Rattle.constriction_base.specs.Steps.{IsStep, IsSizes};
+ghost use Rattle.constriction_words.specs.Reciprocals.{IsReciprocalOf};
 ghost use Rattle.constriction_stack.specs.Ans.{RefillsBy, refilled, value_of, EncodeCall};
 
 use constriction_base::backends::{Holds, ReadWords, Stack, WriteWords};
-use constriction_words::{BitArray, WordOf};
+use constriction_words::{BitArray, Reciprocal, WordOf};
 
 /// What a pop leaves of a head, before a word moves in.
 #[inline]
@@ -48,15 +49,17 @@ pub fn refilled<Word: WordOf<State>, State: BitArray, Backend: ReadWords<Word, S
 }
 
 /// A head after a push, whose low word is written where there is no room for it.
-#[inline]
+#[inline(always)]
 pub fn pushed_onto<Word: WordOf<State>, State: BitArray, Backend: WriteWords<Word>>(
     bulk: &mut Backend,
     head: State,
     left: State,
     p: State,
+    reciprocal: Option<Reciprocal>,
     precision: u32,
 ) -> Result<State, Backend::WriteError>
     requires sizes { IsSizes Word.BITS State.BITS }
+    requires inverse { IfSome reciprocal (λ r. IsReciprocalOf r (State.number p)) }
     requires step { IsStep Word.BITS record { precision = precision; left = State.number left; p = State.number p } }
     ensures { MatchResult result
         (λ new. EncodeCall Word.number Backend.words Word.BITS State.BITS Backend.room Backend.makes_room Backend.prepare_fails Backend.write_fails
@@ -69,7 +72,7 @@ pub fn pushed_onto<Word: WordOf<State>, State: BitArray, Backend: WriteWords<Wor
         (value_of Word.number Backend.words (State.number head) bulk.new)) }
 {
     if head.shifted_right(State::BITS - precision).is_below(p) {
-        return Ok(pushed(head, left, p, precision));
+        return Ok(pushed(head, left, p, reciprocal, precision));
     }
     match bulk.prepare(1) {
         Ok(()) => {}
@@ -79,20 +82,45 @@ pub fn pushed_onto<Word: WordOf<State>, State: BitArray, Backend: WriteWords<Wor
         Ok(()) => {}
         Err(refusal) => return Err(refusal),
     }
-    Ok(pushed(head.shifted_right(Word::BITS), left, p, precision))
+    Ok(pushed(
+        head.shifted_right(Word::BITS),
+        left,
+        p,
+        reciprocal,
+        precision,
+    ))
 }
 
 /// What a push makes of a head with room.
+///
+/// By a reciprocal it is the head and `left`, and for each whole `p` in the head what a table has beside it: so only the
+/// quotient waits for the head.
 #[inline]
-fn pushed<State: BitArray>(head: State, left: State, p: State, precision: u32) -> State
+fn pushed<State: BitArray>(
+    head: State,
+    left: State,
+    p: State,
+    reciprocal: Option<Reciprocal>,
+    precision: u32,
+) -> State
     requires within { precision < State.BITS }
     requires some { 0 < State.number p }
+    requires inverse { IfSome reciprocal (λ r. IsReciprocalOf r (State.number p)) }
     requires total { State.number left + State.number p ≤ 2 ^ precision }
     requires room { State.number head < State.number p * 2 ^ (State.BITS - precision) }
     ensures { State.number result
         ≡ State.number head / State.number p * 2 ^ precision
         + (State.number left + State.number head % State.number p) }
 {
-    let prefix = head.quotient(p).shifted_left(precision);
-    prefix.plus(left.plus(head.remainder(p)))
+    match reciprocal {
+        Some(reciprocal) => {
+            let beside = State::unit().shifted_left(precision).minus(p);
+            let quotient = head.quotient_by(p, reciprocal);
+            quotient.times(beside).plus(head.plus(left))
+        }
+        None => {
+            let prefix = head.quotient(p).shifted_left(precision);
+            prefix.plus(left.plus(head.remainder(p)))
+        }
+    }
 }

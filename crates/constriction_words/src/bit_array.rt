@@ -1,6 +1,9 @@
 //! `BitArray`: whole numbers of a fixed number of bits, and exact arithmetic on them.
 
 ghost use Rattle.std.specs.Prelude.{◌≡◌, ◌↔◌, ◌+◌, ◌-◌, ◌*◌, ◌/◌, ◌%◌, ◌^◌, ◌<◌, ◌≤◌, ℕ, IsTrue, MatchOption};
+ghost use Rattle.constriction_words.specs.Reciprocals.{IsReciprocalOf};
+
+use crate::reciprocal::Reciprocal;
 
 mod of_u128;
 mod of_u16;
@@ -77,6 +80,17 @@ pub trait BitArray: Copy + Drop {
     fn quotient(self, other: Self) -> Self
         requires { 0 < number other }
         ensures { number result ≡ number self / number other };
+
+    /// The quotient by `other`, rounded down, by means of the reciprocal of `other`.
+    ///
+    /// The words of this crate take a product and a shift in place of a division, except for `u128`. A word that doesn't
+    /// have this method divides.
+    fn quotient_by(self, other: Self, reciprocal: Reciprocal) -> Self
+        requires { IsReciprocalOf reciprocal (number other) }
+        ensures { number result ≡ number self / number other }
+    {
+        self.quotient(other)
+    }
 
     /// What the quotient by `other`, which is above 0, leaves: a number below `other`.
     fn remainder(self, other: Self) -> Self

@@ -2,6 +2,7 @@
 //!
 //! - [`bit_array`]: `BitArray`, what a word is and the exact arithmetic on it, and its six impls,
 //!   for `u8`, `u16`, `u32`, `u64`, `u128` and `usize`.
+//! - [`reciprocal`]: `Reciprocal`, by which a number is divided by another one without a division.
 //! - [`word_of`]: `WordOf<T>`, by which a word widens to a `T` and a `T` narrows to a word, and its
 //!   eighteen impls.
 //!
@@ -25,7 +26,9 @@
 #![tactic(auto)]
 
 pub mod bit_array;
+pub mod reciprocal;
 pub mod word_of;
 
 pub use crate::bit_array::BitArray;
+pub use crate::reciprocal::Reciprocal;
 pub use crate::word_of::WordOf;

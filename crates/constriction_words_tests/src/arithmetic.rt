@@ -2,7 +2,7 @@
 
 ghost use Rattle.std.specs.Prelude.{◌≡◌, ◌+◌, ◌-◌, ◌*◌, ◌/◌, ◌%◌, ◌^◌, ◌<◌, ◌≤◌, MatchOption};
 
-use constriction_words::BitArray;
+use constriction_words::{BitArray, Reciprocal};
 
 /// The sum, if it fits.
 pub fn sum<W: BitArray>(first: W, second: W) -> Option<W>
@@ -40,6 +40,19 @@ pub fn quotient<W: BitArray>(first: W, second: W) -> Option<W> {
         return None;
     }
     Some(first.quotient(second))
+}
+
+/// The quotient by means of a reciprocal, where the second number has at most 64 bits.
+#[tactic(auto, using(crate::proofs::Fitting::fits_by_length))]
+pub fn quotient_by<W: BitArray>(first: W, second: W) -> Option<W> {
+    if second.is_nothing() {
+        return None;
+    }
+    if second.bit_length() > usize::BITS {
+        return Some(first.quotient(second));
+    }
+    let reciprocal = Reciprocal::new(second.to_index() as u64);
+    Some(first.quotient_by(second, reciprocal))
 }
 
 /// The remainder, unless the second number is 0.

@@ -15,6 +15,8 @@ mod callers;
 #[cfg(test)]
 mod pairs;
 #[cfg(test)]
+mod reciprocals;
+#[cfg(test)]
 mod singles;
 #[cfg(test)]
 mod widths;

@@ -1,6 +1,6 @@
 //! Two words at a time, at each type.
 
-use crate::arithmetic::{difference, product, quotient, remainder, sum};
+use crate::arithmetic::{difference, product, quotient, quotient_by, remainder, sum};
 use constriction_words::BitArray;
 
 /// Two words, and what the methods return of them.
@@ -20,6 +20,7 @@ fn is_pair<W: BitArray + PartialEq>(pair: &Pair<W>) -> bool {
         && difference(first, second) == pair.exact.1
         && product(first, second) == pair.exact.2
         && quotient(first, second) == pair.exact.3
+        && quotient_by(first, second) == pair.exact.3
         && remainder(first, second) == pair.exact.4
         && first.is_below(second) == pair.is_below
         && first.wrapping_plus(second) == pair.wrapping.0

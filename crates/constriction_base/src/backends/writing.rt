@@ -9,12 +9,17 @@ use crate::backends::semantics::Stack;
 ///
 /// Which error a call may return is a function of what the backend holds at the moment of the call.
 ///
-/// An implementation chooses freely which errors these are, how many writes are sure to succeed (it
-/// may name none), whether `prepare` makes room, which errors are lack of room and when it seems full. The
-/// laws tie these choices to one another, and the clauses tie them to the calls.
+/// An implementation chooses freely what a write leaves of its value, which errors these are, how many writes are
+/// sure to succeed (it may name none), whether `prepare` makes room, which errors are lack of room and when it seems
+/// full. The laws tie these choices to one another, and the clauses tie them to the calls.
 pub trait WriteWords<Word>: Holds<Word, Stack> {
     /// Why a word could not be written: want of memory for a vector, want of room for a cursor.
     type WriteError;
+
+    /// What the next write of the word may return, and what it leaves: of the whole value, as the place and the capacity,
+    /// where `words` and `room` tell a part of it. So calls that write several words say by it that each is a write
+    /// to what the one before left.
+    ghost writes: { Self → Word → Result (Unit {0}) Self.WriteError → Self → Type 0 };
 
     /// Which error the next write may return.
     ghost write_fails: { Self → Self.WriteError → Type 0 };
@@ -40,6 +45,7 @@ pub trait WriteWords<Word>: Holds<Word, Stack> {
     ///
     /// What `write_fails` says of the backend as it was. The words stay.
     fn write(&mut self, word: Word) -> Result<(), Self::WriteError>
+        ensures writes { writes self.old word result self.new }
         ensures ok { OnOk result (Self.words self.new ≡ word ∷ Self.words self.old) }
         ensures room { OnOk result (room self.old ≤ room self.new + 1) }
         ensures kept { OnErr result (Self.words self.new ≡ Self.words self.old) }

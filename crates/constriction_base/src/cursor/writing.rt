@@ -12,6 +12,9 @@ use constriction_words::BitArray;
 impl<Word: BitArray, Buf: WordsMut<Word> + Drop> WriteWords<Word> for Cursor<Word, Buf> {
     type WriteError = BoundedWriteError;
 
+    ghost writes = { λ old word r new. OnOk r (Buf.lent new.buf ≡ slice_set (Buf.lent old.buf) old.pos word)
+        × OnOk r (new.pos ≡ old.pos + 1) × OnErr r (new ≡ old) };
+
     ghost write_fails = { λ c e. (e ≡ OutOfSpace) × (c.pos ≡ length (Buf.lent c.buf)) };
 
     ghost prepare_fails = { λ _ _ _. ⊥ };

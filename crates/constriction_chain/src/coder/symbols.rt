@@ -157,7 +157,7 @@ impl<
         M: EncoderModel<PRECISION>,
         M::Probability: WordOf<Word>,
     {
-        let Some((left, p)) = model.left_cumulative_and_probability(symbol) else {
+        let Some((left, p, reciprocal)) = model.left_cumulative_and_reciprocal(symbol) else {
             return Err(CoderError::Frontend(EncoderFrontendError::ImpossibleSymbol));
         };
         let (left, p) = (left.widen(), M::Probability::from_nonzero(p).widen());
@@ -168,6 +168,7 @@ impl<
             heads,
             left,
             p,
+            reciprocal,
             precision,
         ) {
             Ok((h, r)) => {

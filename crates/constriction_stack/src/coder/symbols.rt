@@ -91,12 +91,19 @@ impl<
         ensures fewer_left { ⟦<AnsCoder<Word, State, Backend> as Encode<PRECISION>>⟧.symbols_left self.old
             ≤ ⟦<AnsCoder<Word, State, Backend> as Encode<PRECISION>>⟧.symbols_left self.new + 1 }
     {
-        let Some((left, p)) = model.left_cumulative_and_probability(symbol) else {
+        let Some((left, p, reciprocal)) = model.left_cumulative_and_reciprocal(symbol) else {
             return Err(CoderError::Frontend(DefaultEncoderFrontendError::ImpossibleSymbol));
         };
         let p = M::Probability::from_nonzero(p);
         let (left, p) = (left.widen().widen(), p.widen().widen());
-        match pushed_onto(&mut self.bulk, self.state, left, p, PRECISION as u32) {
+        match pushed_onto(
+            &mut self.bulk,
+            self.state,
+            left,
+            p,
+            reciprocal,
+            PRECISION as u32,
+        ) {
             Ok(pushed) => {
                 self.state = pushed;
                 Ok(())

@@ -6,6 +6,7 @@ ghost use Rattle.std.specs.Int.NonZero.{non_zero_u16_get};
 ghost use Rattle.constriction_words.specs.Numbers.{above_zero, below_power};
 
 use super::BitArray;
+use crate::reciprocal::Reciprocal;
 use num_traits::{PrimInt, WrappingAdd, WrappingSub};
 use std::num::NonZero;
 
@@ -54,6 +55,10 @@ impl BitArray for u16 {
 
     fn quotient(self, other: u16) -> u16 {
         self / other
+    }
+
+    fn quotient_by(self, _other: u16, reciprocal: Reciprocal) -> u16 {
+        reciprocal.quotient(self as u64) as u16
     }
 
     fn remainder(self, other: u16) -> u16 {

@@ -6,6 +6,7 @@ ghost use Rattle.std.specs.Int.NonZero.{non_zero_u32_get};
 ghost use Rattle.constriction_words.specs.Numbers.{above_zero, below_power};
 
 use super::BitArray;
+use crate::reciprocal::Reciprocal;
 use num_traits::{PrimInt, WrappingAdd, WrappingSub};
 use std::num::NonZero;
 
@@ -54,6 +55,10 @@ impl BitArray for u32 {
 
     fn quotient(self, other: u32) -> u32 {
         self / other
+    }
+
+    fn quotient_by(self, _other: u32, reciprocal: Reciprocal) -> u32 {
+        reciprocal.quotient(self as u64) as u32
     }
 
     fn remainder(self, other: u32) -> u32 {

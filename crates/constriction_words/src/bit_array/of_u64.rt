@@ -6,6 +6,7 @@ ghost use Rattle.std.specs.Int.NonZero.{non_zero_u64_get};
 ghost use Rattle.constriction_words.specs.Numbers.{above_zero, below_power};
 
 use super::BitArray;
+use crate::reciprocal::Reciprocal;
 use num_traits::{PrimInt, WrappingAdd, WrappingSub};
 use std::num::NonZero;
 
@@ -54,6 +55,10 @@ impl BitArray for u64 {
 
     fn quotient(self, other: u64) -> u64 {
         self / other
+    }
+
+    fn quotient_by(self, _other: u64, reciprocal: Reciprocal) -> u64 {
+        reciprocal.quotient(self)
     }
 
     fn remainder(self, other: u64) -> u64 {

@@ -6,6 +6,7 @@ ghost use Rattle.std.specs.Int.NonZero.{non_zero_u8_get};
 ghost use Rattle.constriction_words.specs.Numbers.{above_zero, below_power};
 
 use super::BitArray;
+use crate::reciprocal::Reciprocal;
 use num_traits::{PrimInt, WrappingAdd, WrappingSub};
 use std::num::NonZero;
 
@@ -54,6 +55,10 @@ impl BitArray for u8 {
 
     fn quotient(self, other: u8) -> u8 {
         self / other
+    }
+
+    fn quotient_by(self, _other: u8, reciprocal: Reciprocal) -> u8 {
+        reciprocal.quotient(self as u64) as u8
     }
 
     fn remainder(self, other: u8) -> u8 {

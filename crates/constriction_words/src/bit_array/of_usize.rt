@@ -6,6 +6,7 @@ ghost use Rattle.std.specs.Int.NonZero.{non_zero_usize_get};
 ghost use Rattle.constriction_words.specs.Numbers.{above_zero, below_power};
 
 use super::BitArray;
+use crate::reciprocal::Reciprocal;
 use num_traits::{PrimInt, WrappingAdd, WrappingSub};
 use std::num::NonZero;
 
@@ -54,6 +55,10 @@ impl BitArray for usize {
 
     fn quotient(self, other: usize) -> usize {
         self / other
+    }
+
+    fn quotient_by(self, _other: usize, reciprocal: Reciprocal) -> usize {
+        reciprocal.quotient(self as u64) as usize
     }
 
     fn remainder(self, other: usize) -> usize {

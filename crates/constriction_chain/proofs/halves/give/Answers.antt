@@ -13,12 +13,12 @@ regain-requires-clause-few g c = rw c.widen-p.ensures (omega (arith, c.requires.
 pub plus-quantile-requires : goal.plus-quantile-requires
 plus-quantile-requires g c =
     let place = placed _ g.Word.BitArray.BITS _ _ (g.State.BitArray.number c.in-Ok-Some.v) c.requires.sized.within_word c.requires.some c.requires.total in
-    rw (c.narrow.ensures, c.remainder.ensures, c.widen-p.ensures, place.0) place.2
+    rw (c.narrow.ensures, c.divided-quotient.ensures.rest, c.widen-p.ensures, place.0) place.2
 
 pub give_quantile-requires-clause-below : goal.give_quantile-requires-clause-below
 give_quantile-requires-clause-below g c =
     let place = placed _ g.Word.BitArray.BITS _ _ (g.State.BitArray.number c.in-Ok-Some.v) c.requires.sized.within_word c.requires.some c.requires.total in
-    rw (c.plus-quantile.ensures, c.narrow.ensures, c.remainder.ensures, c.widen-p.ensures, place.0) place.1
+    rw (c.plus-quantile.ensures, c.narrow.ensures, c.divided-quotient.ensures.rest, c.widen-p.ensures, place.0) place.1
 
 pub returns-in-Err : goal.returns-in-Err
 returns-in-Err g c =
@@ -97,12 +97,12 @@ returns-in-Ok g c =
     let parts = c.requires in
     let v = g.State.BitArray.number c.in-Ok-Some.v in
     let place = placed _ g.Word.BitArray.BITS _ _ v parts.sized.within_word c.requires.some c.requires.total in
-    let quantile = rw (c.narrow.ensures, c.remainder.ensures, c.widen-p.ensures, place.0) at c.plus-quantile.ensures in
-    let quotient = rw c.widen-p.ensures at c.quotient.ensures in
+    let quantile = rw (c.narrow.ensures, c.divided-quotient.ensures.rest, c.widen-p.ensures, place.0) at c.plus-quantile.ensures in
+    let quotient = rw c.widen-p.ensures at c.divided-quotient.ensures.quotient in
     let found = rw (c.in-Ok-Some.field-0-is, c.widen-p.ensures) at c.in-Ok-Some.ensures in
     let given = rw (c.prepare_for_quantile.ensures.words, quantile) at c.in-Ok.ensures.ok in
     let asked = c.in_default.ensures.ok in
-    let window : IsInWindow g.Word.BitArray.BITS (least g.Word.BitArray.BITS g.State.BitArray.BITS c.args.precision) (g.State.BitArray.number c.quotient.result) = rw quotient found.2 in
+    let window : IsInWindow g.Word.BitArray.BITS (least g.Word.BitArray.BITS g.State.BitArray.BITS c.args.precision) (g.State.BitArray.number c.divided-quotient.result.0) = rw quotient found.2 in
     let after = coder_of _ _ _ number law g.C.Holds.words g.R.Holds.words _ _ c.give_quantile.new.compressed c.regain.new.remainders parts.sized c.in-Ok.ensures.some (law _) window in
     (record {
       before = coder_of _ _ _ number law g.C.Holds.words g.R.Holds.words _ _ _ _ parts.sized parts.head (law _) parts.window;

@@ -21,3 +21,6 @@ pub returns-clause-step : goal.returns-clause-step
 returns-clause-step g c =
     let call = rw (c.widen-left.ensures, c.widen-p.ensures, c.from_nonzero.ensures, c.parts-heads.ensures.is) at c.in-Err.ensures in
     rw (← c.self.view_is) (inl (_, _, c.in-Some.ensures.found, call))
+
+pub give-requires-clause-inverse : goal.give-requires-clause-inverse
+give-requires-clause-inverse g c = rw (c.widen-p.ensures, c.from_nonzero.ensures) c.in-Some.ensures.reciprocal

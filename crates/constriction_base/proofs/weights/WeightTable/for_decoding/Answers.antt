@@ -5,7 +5,7 @@ use Rattle.std.proofs.lemmas.List.{length-take-le, length-map, take-take}
 use Rattle.constriction_base.specs.Tables.{Sums, IsLastSymbol}
 use Rattle.constriction_base.proofs.Sums.{sums_of_numbers, last_of_numbers, sums_rise, same_table}
 use Rattle.constriction_base.proofs.Results.{none_made, either_way}
-use Rattle.constriction_base.proofs.weights.WeightTable.new.Goals as goal
+use Rattle.constriction_base.proofs.weights.WeightTable.for_decoding.Goals as goal
 
 pub starts_of-requires-clause-total : goal.starts_of-requires-clause-total
 starts_of-requires-clause-total g c = omega (arith, c.in-Some.ensures.some.less, pow_mono c.requires.1)

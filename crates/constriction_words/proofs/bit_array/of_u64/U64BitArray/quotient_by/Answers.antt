@@ -1,0 +1,5 @@
+use Rattle.constriction_words.proofs.Reciprocals.{quotient_fits}
+use Rattle.constriction_words.proofs.bit_array.of_u64.U64BitArray.quotient_by.Goals as goal
+
+pub returns : goal.returns
+returns c = quotient_fits 64 c.args.self _ c.quotient.result c.ranges.self.fits (c.quotient.ensures _ c.requires)
