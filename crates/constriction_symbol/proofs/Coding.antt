@@ -5,7 +5,8 @@ use Rattle.std.proofs.lemmas.List.Concat.{flat_map-append}
 use native.Mathlib.Nat.{pow-zero}
 use Rattle.std.proofs.lemmas.Nat.{mod_below}
 use Rattle.std.proofs.Math.Nat.{mod-eq_of_lt, add-mul-mod_self_right}
-use Rattle.constriction_symbol.specs.Bits.{bits_of, bits_of_words, bits_above, bits_behind, AreZeros, PutsLast, PutsBit, ClosingFails, IsQueueWords, IsStackWords, TopWord, HasStackWords}
+use Rattle.constriction_base.specs.Backends.{IsWrite}
+use Rattle.constriction_symbol.specs.Bits.{bits_of, bits_of_words, bits_above, bits_behind, AreZeros, PadsTo, PutsLast, PutsBit, IsQueueWords, IsStackWords, TopWord, HasStackWords}
 use Rattle.constriction_symbol.proofs.BitLemmas.{pow_next, set_above}
 
 pub length_bits : (k n : ℕ) → length (bits_of k n) ≡ k
@@ -152,15 +153,14 @@ top_word w n count (suc k) low some high least within is rest =
         omega (arith, same, low_bound)
 
 -- after a bit was put, the last word has one
-pub put_some : {W B E : Type 0} (w : ℕ) (number : W → ℕ) (words : B → List W) (room : B → ℕ) (fails : B → E → Type 0) (last last' : List Bool) (backend backend' : B) (bit : Bool) → PutsLast w number words room fails last backend bit (Ok tt) last' backend' → 0 < length last'
-put_some w number words room fails last last' backend backend' bit (inl (within, more, same)) = rw more (omega (arith, length-append last (bit ∷ [])))
-put_some w number words room fails last last' backend backend' bit (inr (full, more, follows, left)) = rw more (omega arith)
+pub put_some : {W B E : Type 0} (w : ℕ) (number : W → ℕ) (write : B → W → Result (Unit {0}) E → B → Type 0) (last last' : List Bool) (backend backend' : B) (bit : Bool) → PutsLast w number write last backend bit (Ok tt) last' backend' → 0 < length last'
+put_some w number write last last' backend backend' bit (inl (within, more, same)) = rw more (omega (arith, length-append last (bit ∷ [])))
+put_some w number write last last' backend backend' bit (inr (full, more, written)) = rw more (omega arith)
 
--- a refused write after a bit was put
-pub closing_fails : {W B E : Type 0} (w : ℕ) (number : W → ℕ) (words : B → List W) (room : B → ℕ) (fails : B → E → Type 0) (last last' : List Bool) (backend backend' : B) (bit : Bool) (e : E) → PutsLast {E = E} w number words room fails last backend bit (Ok tt) last' backend' → fails backend' e
-    → ClosingFails w number words room fails last backend e
-closing_fails w number words room fails last last' backend backend' bit e (inl (within, more, same)) refused = inl (rw same at refused)
-closing_fails w number words room fails last last' backend backend' bit e (inr (full, more, follows, left)) refused = inr (full, backend', refused, follows, left)
+-- a whole word begins with the bits that it was given
+pub word_padded : (w : ℕ) (last : List Bool) (n : ℕ) → bits_of (length last) n ≡ last → n < 2 ^ length last → length last ≤ w → 0 < length last → PadsTo w last (bits_of w n)
+word_padded w last n has small within some =
+    (w - length last, omega (arith, within, some), filled_up w (length last) n within small ∙ ap (λ bs. bs ++ replicate (w - length last) false) has)
 
 -- the full last word was written, and a bit begins the next
 pub bit_after_flush : (w : ℕ) {W : Type 0} (number : W → ℕ) (words words' : List W) (full : W) (last last' : List Bool) (bit : Bool) → bits_of w (number full) ≡ last → last' ≡ bit ∷ [] → words' ≡ full ∷ words
@@ -168,13 +168,13 @@ pub bit_after_flush : (w : ℕ) {W : Type 0} (number : W → ℕ) (words words' 
 bit_after_flush w number words words' full last last' bit has begun more = rw (begun, more, words_more w number words full, has) refl
 
 -- what putting a bit into the last word makes of all bits
-pub puts_bits : {W B E : Type 0} (w : ℕ) (number : W → ℕ) (words : B → List W) (room : B → ℕ) (fails : B → E → Type 0) (last last' : List Bool) (backend backend' : B) (bit : Bool) (r : Result (Unit {0}) E)
-    → PutsLast w number words room fails last backend bit r last' backend' → PutsBit (bits_above w number (words backend) last) bit r (bits_above w number (words backend') last')
-puts_bits w number words room fails last last' backend backend' bit (Ok _) (inl (within, more, same)) =
+pub puts_bits : {W B E : Type 0} (w : ℕ) (number : W → ℕ) (words : B → List W) (room : B → ℕ) (writes : B → W → Result (Unit {0}) E → B → Type 0) (fails : B → E → Type 0) (last last' : List Bool) (backend backend' : B) (bit : Bool) (r : Result (Unit {0}) E)
+    → PutsLast w number (IsWrite words room writes fails) last backend bit r last' backend' → PutsBit (bits_above w number (words backend) last) bit r (bits_above w number (words backend') last')
+puts_bits w number words room writes fails last last' backend backend' bit (Ok _) (inl (within, more, same)) =
     rw (more, same) (sym (append_assoc (bits_of_words w (map number (reverse (words backend)))) last (bit ∷ [])))
-puts_bits w number words room fails last last' backend backend' bit (Ok _) (inr (full, more, follows, left)) =
-    rw (more, follows.1, words_more w number (words backend) follows.0, follows.2) refl
-puts_bits w number words room fails last last' backend backend' bit (Err e) (full, refused, same, held) = rw (same, held) refl
+puts_bits w number words room writes fails last last' backend backend' bit (Ok _) (inr (full, more, (word, has, (follows, left, by)))) =
+    rw (more, follows, words_more w number (words backend) word, has) refl
+puts_bits w number words room writes fails last last' backend backend' bit (Err e) (full, same, (word, has, (held, refused, by))) = rw (same, held) refl
 
 -- all bits of a number are zeros exactly where it is 0
 no_bit_set : (k n : ℕ) → n < 2 ^ k → bits_of k n ≡ replicate k false → n ≡ 0

@@ -1,5 +1,6 @@
 -- Bits that are put at once, as what a stream of bits owes of a codeword: as if they were put one by one.
 use Rattle.std.proofs.Common.{◌≡◌, ◌<◌, ◌≤◌, ◌+◌, ℕ, zero, suc, ◌/◌, ◌%◌, ◌==◌, Bool, List, [], ◌∷◌, ◌++◌, length, map, reverse, Option, Some, Result, Ok, Err, ap, sym, subst, refl, inl, inr, ◌∙◌, arith, append-nil, append_assoc, length-append}
+use Rattle.constriction_base.specs.Backends.{IsWrite}
 use Rattle.constriction_base.specs.declared.errors.CoderError.TheVariants.{Backend}
 use Rattle.constriction_base.proofs.InTurn.{InTurn-append}
 use Rattle.constriction_stream.specs.Lists.{StepsAll}
@@ -13,7 +14,7 @@ pub first_bit : (k x : ℕ) → 0 < k → (bit : Bool) × (back : List Bool) × 
 first_bit zero x some = absurd (omega (arith, some))
 first_bit (suc k) x some = (x % 2 == 1, bits_of k (x / 2), refl, omega (arith, length_bits k (x / 2)))
 
-module _ {W B E : Type 0} (w : ℕ) (number : W → ℕ) (words : B → List W) (room : B → ℕ) (write_fails : B → E → Type 0) (wants : E → Type 0) where
+module _ {W B E : Type 0} (w : ℕ) (number : W → ℕ) (words : B → List W) (room : B → ℕ) (writes : B → W → Result (Unit {0}) E → B → Type 0) (write_fails : B → E → Type 0) (wants : E → Type 0) where
   abbrev pub coder_of : List Bool → B → BitsValue B
   coder_of last backend = record { bits = bits_above w number (words backend) last; last = last; backend = backend }
 
@@ -21,7 +22,7 @@ module _ {W B E : Type 0} (w : ℕ) (number : W → ℕ) (words : B → List W) 
   bits_in c = c.bits
 
   abbrev pub puts_in : BitsValue B → Bool → Result (Unit {0}) E → BitsValue B → Type 0
-  puts_in = PutsOnto w number words room write_fails
+  puts_in = PutsOnto w number (IsWrite words room writes write_fails)
 
   -- bits for which the last word has room
   room_steps : (bits last : List Bool) (backend : B) → length last + length bits ≤ w → StepsAll puts_in (coder_of last backend) bits (coder_of (last ++ bits) backend)
@@ -34,15 +35,15 @@ module _ {W B E : Type 0} (w : ℕ) (number : W → ℕ) (words : B → List W) 
       )
 
   -- bits that were put are steps, and stand behind the others
-  put_steps : (bits last last' : List Bool) (backend backend' : B) → PutsBits {E = E} w number words room write_fails last backend bits (Ok tt) last' backend'
+  put_steps : (bits last last' : List Bool) (backend backend' : B) → PutsBits w number (IsWrite words room writes write_fails) last backend bits (Ok tt) last' backend'
       → (bits_above w number (words backend') last' ≡ bits_above w number (words backend) last ++ bits) × StepsAll puts_in (coder_of last backend) bits (coder_of last' backend')
   put_steps bits last last' backend backend' (inl (fits, more, same)) =
       rw (more, same) (sym (append_assoc (bits_of_words w (map number (reverse (words backend)))) last bits), room_steps bits last backend fits)
-  put_steps bits last last' backend backend' (inr (front, bit, back, parts, full, short, begun, (word, more, has), left)) =
+  put_steps bits last last' backend backend' (inr (front, bit, back, parts, full, short, begun, (word, has, (more, left, by)))) =
       let whole : bits_of (length (last ++ front)) (number word) ≡ last ++ front = ap (λ k. bits_of k (number word)) full ∙ has in
       let filled : StepsAll puts_in (coder_of last backend) front (coder_of (last ++ front) backend) = room_steps front last backend (omega (arith, full, length-append last front)) in
       let next : StepsAll puts_in (coder_of (last ++ front) backend) (bit ∷ back) (coder_of (bit ∷ back) backend') =
-      (coder_of (bit ∷ []) backend', inr (full, refl, (word, more, has), left), room_steps back (bit ∷ []) backend' (omega (arith, short))) in
+      (coder_of (bit ∷ []) backend', inr (full, refl, (word, has, (more, left, by))), room_steps back (bit ∷ []) backend' (omega (arith, short))) in
       let all : StepsAll puts_in (coder_of last backend) (front ++ bit ∷ back) (coder_of (bit ∷ back) backend') =
       InTurn-append (λ b before after. puts_in before b (Ok tt) after) front (bit ∷ back) (coder_of last backend) (coder_of (last ++ front) backend) (coder_of (bit ∷ back) backend') filled next in (
         across w number (words backend) (words backend') word last (last ++ front) last' front (bit ∷ back) bits more whole full refl begun parts,
@@ -50,16 +51,16 @@ module _ {W B E : Type 0} (w : ℕ) (number : W → ℕ) (words : B → List W) 
       )
 
   pub put_ok : (form : List Bool → List Bool) (codeword : Option (List Bool)) (code bits last last' : List Bool) (backend backend' : B) → codeword ≡ Some code → bits ≡ form code
-      → PutsBits {E = E} w number words room write_fails last backend bits (Ok tt) last' backend'
+      → PutsBits w number (IsWrite words room writes write_fails) last backend bits (Ok tt) last' backend'
       → WritesCodeword bits_in puts_in wants (coder_of last backend) (formed form codeword) (Ok tt) (coder_of last' backend')
   put_ok form codeword code bits last last' backend backend' known is put =
       let all = put_steps bits last last' backend backend' put in
       rw known (all.0 ∙ ap (λ bs. bits_above w number (words backend) last ++ bs) is, subst (λ bs. StepsAll puts_in (coder_of last backend) bs (coder_of last' backend')) is all.1)
 
   pub put_err : (form : List Bool → List Bool) (codeword : Option (List Bool)) (code bits last last' : List Bool) (backend backend' : B) (e : E) → codeword ≡ Some code → bits ≡ form code
-      → PutsBits w number words room write_fails last backend bits (Err e) last' backend'
+      → PutsBits w number (IsWrite words room writes write_fails) last backend bits (Err e) last' backend'
       → WritesCodeword bits_in puts_in wants (coder_of last backend) (formed form codeword) (Err (Backend e)) (coder_of last' backend')
-  put_err form codeword code bits last last' backend backend' e known is (front, bit, back, parts, full, more, refused, kept) =
+  put_err form codeword code bits last last' backend backend' e known is (front, bit, back, parts, full, more, (word, has, (kept, refused, by))) =
       let before = bits_of_words w (map number (reverse (words backend))) in
       let same : bits_above w number (words backend') last' ≡ bits_above w number (words backend) last' = ap (λ ws. bits_above w number ws last') kept in
       let begun : bits_above w number (words backend) last' ≡ bits_above w number (words backend) last ++ front =
@@ -71,6 +72,6 @@ module _ {W B E : Type 0} (w : ℕ) (number : W → ℕ) (words : B → List W) 
         whole = sym is ∙ parts;
         mid = coder_of (last ++ front) backend;
         before = room_steps front last backend (omega (arith, full, length-append last front));
-        refused = (full, refused, more, kept);
+        refused = (full, more, (word, has, (kept, refused, by)));
         begun = same ∙ begun;
       }))

@@ -4,6 +4,7 @@ use Rattle.std.specs.Prelude.{OnErr, IfErr, MatchOption}
 use Rattle.std.proofs.lemmas.List.{length-reverse, reverse-append, reverse-reverse}
 use Rattle.std.specs.Fn.{Mut}
 use Rattle.constriction_base.specs.declared.errors.CoderError.TheVariants.{Frontend, Backend}
+use Rattle.constriction_base.specs.Backends.{IsWrite}
 use Rattle.constriction_base.specs.Iterators.{item_of_answer}
 use Rattle.constriction_base.proofs.Ends.{reverse_empty}
 use Rattle.constriction_symbol.specs.Bits.{GivesBit, PutsLast, bits_above}
@@ -13,17 +14,17 @@ use Rattle.constriction_symbol.proofs.Emitted.{PutsBits, put_all}
 use Rattle.constriction_symbol.proofs.Lengths.{length_above}
 
 -- a bit is refused where the last word is full
-pub refused_full : {W B E : Type 0} (w : ℕ) (number : W → ℕ) (words : B → List W) (room : B → ℕ) (fails : B → E → Type 0) (last last' : List Bool) (backend backend' : B) (bit : Bool) (r : Result (Unit {0}) E)
-    → PutsLast w number words room fails last backend bit r last' backend'
+pub refused_full : {W B E : Type 0} (w : ℕ) (number : W → ℕ) (words : B → List W) (room : B → ℕ) (writes : B → W → Result (Unit {0}) E → B → Type 0) (fails : B → E → Type 0) (last last' : List Bool) (backend backend' : B) (bit : Bool) (r : Result (Unit {0}) E)
+    → PutsLast w number (IsWrite words room writes fails) last backend bit r last' backend'
     → OnErr r (length (bits_above w number (words backend) last) ≡ length (words backend) * w + w)
-refused_full w number words room fails last last' backend backend' bit (Ok _) puts = tt
-refused_full w number words room fails last last' backend backend' bit (Err e) (full, refused, same, kept) =
+refused_full w number words room writes fails last last' backend backend' bit (Ok _) puts = tt
+refused_full w number words room writes fails last last' backend backend' bit (Err e) (full, same, tried) =
     omega (arith, length_above w number (words backend) last, full)
 
-pub refused_by : {W B E : Type 0} (w : ℕ) (number : W → ℕ) (words : B → List W) (room : B → ℕ) (fails : B → E → Type 0) (last last' : List Bool) (backend backend' : B) (bit : Bool) (r : Result (Unit {0}) E)
-    → PutsLast w number words room fails last backend bit r last' backend' → IfErr r (λ e. fails backend e)
-refused_by w number words room fails last last' backend backend' bit (Ok _) puts = tt
-refused_by w number words room fails last last' backend backend' bit (Err e) (full, refused, same, kept) = refused
+pub refused_by : {W B E : Type 0} (w : ℕ) (number : W → ℕ) (words : B → List W) (room : B → ℕ) (writes : B → W → Result (Unit {0}) E → B → Type 0) (fails : B → E → Type 0) (last last' : List Bool) (backend backend' : B) (bit : Bool) (r : Result (Unit {0}) E)
+    → PutsLast w number (IsWrite words room writes fails) last backend bit r last' backend' → IfErr r (λ e. fails backend e)
+refused_by w number words room writes fails last last' backend backend' bit (Ok _) puts = tt
+refused_by w number words room writes fails last last' backend backend' bit (Err e) (full, same, (word, has, (kept, refused, by))) = refused
 
 -- with one word at least in the backend, there are two words of bits
 pub two_words : {W E : Type 0} (items : List W) (count capacity : ℕ) (r : Result (Unit {0}) E)

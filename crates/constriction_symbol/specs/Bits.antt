@@ -47,22 +47,22 @@ bits_above w number words last = bits_of_words w (map number (reverse words)) ++
 abbrev pub bits_behind : {W : Type 0} → ℕ → (W → ℕ) → List Bool → List W → List Bool
 bits_behind w number last words = last ++ bits_of_words w (map number words)
 
--- one word more was written: the one of these bits
-abbrev pub Follows : {W : Type 0} → (W → ℕ) → ℕ → List Bool → List W → List W → Type 0
-Follows {W} number w last old new = (word : W) × (new ≡ word ∷ old) × (bits_of w (number word) ≡ last)
+-- a word of just these bits is written: `write` is what a write of the backend answers and leaves
+abbrev pub WritesBits : {W B E : Type 0} → ℕ → (W → ℕ) → (B → W → Result (Unit {0}) E → B → Type 0) → List Bool → B → Result (Unit {0}) E → B → Type 0
+WritesBits {W} w number write bits backend r backend' = (word : W) × (bits_of w (number word) ≡ bits) × write backend word r backend'
 
 -- a bit is put behind those of the last word; where that is full, it is written first and the bit begins the
--- next, and that write took room for one word at most; or an error of that write, which leaves all words
-abbrev pub PutsLast : {W B E : Type 0} → ℕ → (W → ℕ) → (B → List W) → (B → ℕ) → (B → E → Type 0) → List Bool → B → Bool → Result (Unit {0}) E → List Bool → B → Type 0
-PutsLast w number words room write_fails last backend bit (Ok _) last' backend' =
+-- next; or that write is refused, and the last word stays
+abbrev pub PutsLast : {W B E : Type 0} → ℕ → (W → ℕ) → (B → W → Result (Unit {0}) E → B → Type 0) → List Bool → B → Bool → Result (Unit {0}) E → List Bool → B → Type 0
+PutsLast w number write last backend bit (Ok _) last' backend' =
     ((length last < w) × (last' ≡ last ++ bit ∷ []) × (backend' ≡ backend))
-    ⊎ ((length last ≡ w) × (last' ≡ bit ∷ []) × Follows number w last (words backend) (words backend') × (room backend ≤ room backend' + 1))
-PutsLast w number words room write_fails last backend bit (Err e) last' backend' =
-    (length last ≡ w) × write_fails backend e × (last' ≡ last) × (words backend' ≡ words backend)
+    ⊎ ((length last ≡ w) × (last' ≡ bit ∷ []) × WritesBits w number write last backend (Ok tt) backend')
+PutsLast w number write last backend bit (Err e) last' backend' =
+    (length last ≡ w) × (last' ≡ last) × WritesBits w number write last backend (Err e) backend'
 
 -- a bit is put onto all that a coder holds: its last word and its backend
-abbrev pub PutsOnto : {W B E : Type 0} → ℕ → (W → ℕ) → (B → List W) → (B → ℕ) → (B → E → Type 0) → BitsValue B → Bool → Result (Unit {0}) E → BitsValue B → Type 0
-PutsOnto w number words room write_fails old bit r new = PutsLast w number words room write_fails old.last old.backend bit r new.last new.backend
+abbrev pub PutsOnto : {W B E : Type 0} → ℕ → (W → ℕ) → (B → W → Result (Unit {0}) E → B → Type 0) → BitsValue B → Bool → Result (Unit {0}) E → BitsValue B → Type 0
+PutsOnto w number write old bit r new = PutsLast w number write old.last old.backend bit r new.last new.backend
 
 -- a bit is put behind the others, or all are as before
 abbrev pub PutsBit : {E : Type 0} → List Bool → Bool → Result (Unit {0}) E → List Bool → Type 0
@@ -86,16 +86,16 @@ TakesFirst {W} w number reads last backend (Some (Ok bit)) last' backend' =
 TakesFirst w number reads last backend None last' backend' = (last ≡ []) × (last' ≡ []) × reads backend (Ok None) backend'
 TakesFirst w number reads last backend (Some (Err e)) last' backend' = (last ≡ []) × (last' ≡ []) × reads backend (Err e) backend'
 
--- bits are put behind those of the last word, which has room for all; or the first of them fill it, it is written, which took
--- room for one word at most, and the others, one at least, begin the next; or that write is refused, and the first of them stay
-abbrev pub PutsBits : {W B E : Type 0} → ℕ → (W → ℕ) → (B → List W) → (B → ℕ) → (B → E → Type 0) → List Bool → B → List Bool → Result (Unit {0}) E → List Bool → B → Type 0
-PutsBits w number words room write_fails last backend bits (Ok _) last' backend' =
+-- bits are put behind those of the last word, which has room for all; or the first of them fill it, it is written, and the
+-- others, one at least, begin the next; or that write is refused, and the first of them stay
+abbrev pub PutsBits : {W B E : Type 0} → ℕ → (W → ℕ) → (B → W → Result (Unit {0}) E → B → Type 0) → List Bool → B → List Bool → Result (Unit {0}) E → List Bool → B → Type 0
+PutsBits w number write last backend bits (Ok _) last' backend' =
     ((length last + length bits ≤ w) × (last' ≡ last ++ bits) × (backend' ≡ backend))
     ⊎ ((front : List Bool) × (bit : Bool) × (back : List Bool) × (bits ≡ front ++ bit ∷ back) × (length (last ++ front) ≡ w) × (length back < w)
-    × (last' ≡ bit ∷ back) × Follows number w (last ++ front) (words backend) (words backend') × (room backend ≤ room backend' + 1))
-PutsBits w number words room write_fails last backend bits (Err e) last' backend' =
+    × (last' ≡ bit ∷ back) × WritesBits w number write (last ++ front) backend (Ok tt) backend')
+PutsBits w number write last backend bits (Err e) last' backend' =
     (front : List Bool) × (bit : Bool) × (back : List Bool) × (bits ≡ front ++ bit ∷ back) × (length (last ++ front) ≡ w)
-    × (last' ≡ last ++ front) × write_fails backend e × (words backend' ≡ words backend)
+    × (last' ≡ last ++ front) × WritesBits w number write (last ++ front) backend (Err e) backend'
 
 -- the next of the bits is given, or there is none; an error leaves them
 abbrev pub GivesBit : {E : Type 0} → List Bool → Option (Result Bool E) → List Bool → Type 0
@@ -115,12 +115,6 @@ TakesBit w number is_list reads old item new =
     TakesFirst w number reads old.last old.backend item new.last new.backend
     × (is_list → GivesBit old.bits item new.bits)
 
--- a write to the backend is refused; or one more, after the full last word was written, which took room for one word at most
-abbrev pub ClosingFails : {W B E : Type 0} → ℕ → (W → ℕ) → (B → List W) → (B → ℕ) → (B → E → Type 0) → List Bool → B → E → Type 0
-ClosingFails {B = B} w number words room write_fails last backend e =
-    write_fails backend e
-    ⊎ ((length last ≡ w) × (between : B) × write_fails between e × Follows number w last (words backend) (words between) × (room backend ≤ room between + 1))
-
 -- no bit of the list is set
 abbrev pub AreZeros : List Bool → Type 0
 AreZeros bits = bits ≡ replicate (length bits) false
@@ -128,3 +122,21 @@ AreZeros bits = bits ≡ replicate (length bits) false
 -- bits, and then fewer zeros than a word has
 abbrev pub PadsTo : ℕ → List Bool → List Bool → Type 0
 PadsTo w bits padded = (zeros : ℕ) × (zeros < w) × (padded ≡ bits ++ replicate zeros false)
+
+-- a word is written that begins with these bits, and then has zeros
+abbrev pub WritesPadded : {W B E : Type 0} → ℕ → (W → ℕ) → (B → W → Result (Unit {0}) E → B → Type 0) → List Bool → B → Result (Unit {0}) E → B → Type 0
+WritesPadded {W} w number write bits backend r backend' = (word : W) × PadsTo w bits (bits_of w (number word)) × write backend word r backend'
+
+-- a stack of bits is ended: a bit that is set is put behind the others, and what is then the last word is written; the first
+-- refused write answers its error
+abbrev pub ClosesStack : {W B E : Type 0} → ℕ → (W → ℕ) → (B → W → Result (Unit {0}) E → B → Type 0) → List Bool → B → Result B E → Type 0
+ClosesStack {B = B} w number write last backend (Ok all) =
+    (top : List Bool) × (between : B) × PutsLast w number write last backend true (Ok tt) top between × WritesPadded w number write top between (Ok tt) all
+ClosesStack {B = B} w number write last backend (Err e) =
+    ((left : B) × PutsLast w number write last backend true (Err e) last left)
+    ⊎ ((top : List Bool) × (between left : B) × PutsLast w number write last backend true (Ok tt) top between × WritesPadded w number write top between (Err e) left)
+
+-- a queue of bits is ended: its last word is written, if it has bits; a refused write answers its error
+abbrev pub ClosesQueue : {W B E : Type 0} → ℕ → (W → ℕ) → (B → W → Result (Unit {0}) E → B → Type 0) → List Bool → B → Result B E → Type 0
+ClosesQueue w number write last backend (Ok all) = ((last ≡ []) × (all ≡ backend)) ⊎ ((last ≡ [] → ⊥) × WritesPadded w number write last backend (Ok tt) all)
+ClosesQueue {B = B} w number write last backend (Err e) = (last ≡ [] → ⊥) × (left : B) × WritesPadded w number write last backend (Err e) left

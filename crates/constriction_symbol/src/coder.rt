@@ -11,6 +11,7 @@ mod equality;
 pub mod guard;
 pub mod words;
 
+ghost use Rattle.constriction_base.specs.Backends.{IsWrite};
 ghost use Rattle.constriction_base.specs.Iterators.{item_of_answer};
 ghost use Rattle.constriction_symbol.specs.Bits.{BitsValue, PopsBit, PutsBit, PutsLast, bits_above};
 ghost use Rattle.std.specs.Prelude.{IfErr, IfOk, IsOk, IsTrue, List, OnErr, OnOk, Result, [], length, reverse, vec_capacity, ℕ, ◌*◌, ◌+◌, ◌<◌, ◌↔◌, ◌≡◌, ◌≤◌};
@@ -168,7 +169,8 @@ impl<Word: BitArray, S: Semantics, B: WriteWords<Word>> SymbolCoder<Word, S, B> 
     /// Where the backend refuses that write. The bits are as before.
     #[inline]
     pub fn write_bit(&mut self, bit: bool) -> Result<(), B::WriteError>
-        ensures puts { PutsLast Word.BITS Word.number B.words B.room B.write_fails self.old.last self.old.backend bit result self.new.last self.new.backend }
+        ensures puts { PutsLast Word.BITS Word.number (IsWrite B.words B.room B.writes B.write_fails)
+            self.old.last self.old.backend bit result self.new.last self.new.backend }
         ensures bits { PutsBit self.old.bits bit result self.new.bits }
     {
         put_last(&mut self.backend, &mut self.last, bit)

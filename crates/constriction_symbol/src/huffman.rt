@@ -14,3 +14,4 @@ mod weighed;
 pub use decoder::DecoderHuffmanTree;
 pub use encoder::EncoderHuffmanTree;
 pub use error::HuffmanError;
+pub use merging::total_fits;

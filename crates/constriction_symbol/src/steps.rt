@@ -1,5 +1,6 @@
 //! A bit more and a bit less in words, of which those of one lie outside the backend.
 
+ghost use Rattle.constriction_base.specs.Backends.{IsWrite};
 ghost use Rattle.constriction_base.specs.Iterators.{item_of_answer};
 ghost use Rattle.constriction_symbol.specs.Bits.{GivesBit, PutsBits, PutsLast, TakesFirst, TakesLast, bits_above, bits_behind, bits_of};
 ghost use Rattle.std.specs.Prelude.{length, reverse, ◌+◌, ◌<◌, ◌^◌};
@@ -16,7 +17,8 @@ pub fn put_last<Word: BitArray, B: WriteWords<Word>>(
     last: &mut TopBits<Word>,
     bit: bool,
 ) -> Result<(), B::WriteError>
-    ensures { PutsLast Word.BITS Word.number B.words B.room B.write_fails last.old backend.old bit result last.new backend.new }
+    ensures { PutsLast Word.BITS Word.number (IsWrite B.words B.room B.writes B.write_fails)
+        last.old backend.old bit result last.new backend.new }
 {
     if last.is_full() {
         match backend.write(last.word()) {
@@ -43,7 +45,8 @@ pub fn put_bits<Word: BitArray, B: WriteWords<Word>>(
     requires some { 0 < count }
     requires part { count < Word.BITS }
     requires small { Word.number bits < 2 ^ count }
-    ensures { PutsBits Word.BITS Word.number B.words B.room B.write_fails last.old backend.old (bits_of count (Word.number bits)) result last.new backend.new }
+    ensures { PutsBits Word.BITS Word.number (IsWrite B.words B.room B.writes B.write_fails)
+        last.old backend.old (bits_of count (Word.number bits)) result last.new backend.new }
 {
     if count <= last.room() {
         last.push_all(bits, count);
@@ -63,7 +66,8 @@ fn put_across<Word: BitArray, B: WriteWords<Word>>(
     requires across { Word.BITS < length last.old + count }
     requires part { count < Word.BITS }
     requires small { Word.number bits < 2 ^ count }
-    ensures { PutsBits Word.BITS Word.number B.words B.room B.write_fails last.old backend.old (bits_of count (Word.number bits)) result last.new backend.new }
+    ensures { PutsBits Word.BITS Word.number (IsWrite B.words B.room B.writes B.write_fails)
+        last.old backend.old (bits_of count (Word.number bits)) result last.new backend.new }
 {
     let room = last.room();
     last.fill(bits);

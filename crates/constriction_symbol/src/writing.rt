@@ -1,5 +1,6 @@
 //! Streams of bits, to which the codewords of symbols are written.
 
+ghost use Rattle.constriction_base.specs.Backends.{IsWrite};
 ghost use Rattle.constriction_symbol.specs.Bits.{PutsBit, PutsOnto};
 ghost use Rattle.constriction_stream.specs.Lists.{StepsUntilFault};
 ghost use Rattle.constriction_symbol.specs.Codewords.{WritesCodeword, WritesPair, WritesSymbol, formed};
@@ -150,7 +151,7 @@ where
 
     ghost bits = { λ c. c.bits };
 
-    ghost puts = { PutsOnto Word.BITS Word.number B.words B.room B.write_fails };
+    ghost puts = { PutsOnto Word.BITS Word.number (IsWrite B.words B.room B.writes B.write_fails) };
 
     #[inline]
     fn put_bit(&mut self, bit: bool) -> Result<(), B::WriteError> {
@@ -181,7 +182,7 @@ where
 
     ghost bits = { λ c. c.bits };
 
-    ghost puts = { PutsOnto Word.BITS Word.number B.words B.room B.write_fails };
+    ghost puts = { PutsOnto Word.BITS Word.number (IsWrite B.words B.room B.writes B.write_fails) };
 
     /// Puts a bit behind the others. Only where the last word is full it writes a word to the backend.
     #[inline]

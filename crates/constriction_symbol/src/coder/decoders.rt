@@ -1,7 +1,8 @@
 //! The same bits for reading.
 
-ghost use Rattle.constriction_symbol.specs.Bits.{IsQueueWords, PadsTo, bits_of_words};
-ghost use Rattle.std.specs.Prelude.{IfErr, IfOk, [], map, reverse, ◌≡◌};
+ghost use Rattle.constriction_base.specs.Backends.{IsWrite};
+ghost use Rattle.constriction_symbol.specs.Bits.{ClosesQueue, IsQueueWords, PadsTo, bits_of_words};
+ghost use Rattle.std.specs.Prelude.{IfErr, IfOk, Ok, [], map, reverse, ◌≡◌};
 
 use crate::coder::{QueueEncoder, StackCoder, SymbolCoder};
 use crate::queue::QueueDecoder;
@@ -27,6 +28,8 @@ impl<
         ensures words { IfOk result (λ decoder. decoder.bits
             ≡ bits_of_words Word.BITS (map Word.number (⟦<B::IntoReadWords as Holds<Word, Queue>>⟧.words decoder.backend))) }
         ensures place { IfOk result (λ decoder. (all : B) × IsQueueWords Word.BITS self.bits (map Word.number (reverse (⟦<B as Holds<Word, Stack>>⟧.words all)))
+            × ClosesQueue Word.BITS Word.number (IsWrite (⟦<B as Holds<Word, Stack>>⟧.words) B.room B.writes B.write_fails)
+            self.last self.backend (Ok all)
             × (self.last ≡ [] → all ≡ self.backend) × B.becomes all decoder.backend) }
         ensures err { IfErr result (λ e. (self.last ≡ [] → ⊥) × B.write_fails self.backend e) }
     {
@@ -50,6 +53,8 @@ impl<
         ensures words { IfOk result (λ decoder. decoder.bits
             ≡ bits_of_words Word.BITS (map Word.number (⟦<B::IntoReadWords as Holds<Word, Queue>>⟧.words decoder.backend))) }
         ensures place { IfOk result (λ decoder. (all : B) × IsQueueWords Word.BITS self.bits (map Word.number (reverse (⟦<B as Holds<Word, Stack>>⟧.words all)))
+            × ClosesQueue Word.BITS Word.number (IsWrite (⟦<B as Holds<Word, Stack>>⟧.words) B.room B.writes B.write_fails)
+            self.last self.backend (Ok all)
             × (self.last ≡ [] → all ≡ self.backend) × B.becomes all decoder.backend) }
         ensures err { IfErr result (λ e. (self.last ≡ [] → ⊥) × B.write_fails self.backend e) }
     {

@@ -1,7 +1,8 @@
 //! Words from a coder, and a coder from words.
 
+ghost use Rattle.constriction_base.specs.Backends.{IsWrite};
 ghost use Rattle.constriction_base.specs.declared.errors.CoderError.TheVariants as coder_error;
-ghost use Rattle.constriction_symbol.specs.Bits.{ClosingFails, HasStackWords, IsQueueWords, IsStackWords, TopWord, bits_of_words};
+ghost use Rattle.constriction_symbol.specs.Bits.{ClosesQueue, ClosesStack, HasStackWords, IsQueueWords, IsStackWords, TopWord, bits_of_words};
 ghost use Rattle.std.specs.Prelude.{Err, IfErr, IfOk, None, Ok, Some, [], map, reverse, ◌∷◌, ◌≡◌, ◌⊎◌};
 
 use crate::coder::{QueueEncoder, StackCoder, SymbolCoder};
@@ -22,7 +23,8 @@ impl<Word: BitArray, B: WriteWords<Word>> StackCoder<Word, B> {
     where
         B: Drop,
         ensures ok { IfOk result (λ all. IsStackWords Word.BITS self.bits (map Word.number (reverse (B.words all)))) }
-        ensures err { IfErr result (λ e. ClosingFails Word.BITS Word.number B.words B.room B.write_fails self.last self.backend e) }
+        ensures closes { ClosesStack Word.BITS Word.number (IsWrite B.words B.room B.writes B.write_fails)
+            self.last self.backend result }
     {
         let SymbolCoder {
             mut backend,
@@ -90,6 +92,8 @@ impl<Word: BitArray, B: WriteWords<Word>> QueueEncoder<Word, B> {
     where
         B: Drop,
         ensures ok { IfOk result (λ all. IsQueueWords Word.BITS self.bits (map Word.number (reverse (B.words all)))) }
+        ensures closes { ClosesQueue Word.BITS Word.number (IsWrite B.words B.room B.writes B.write_fails)
+            self.last self.backend result }
         ensures whole { self.last ≡ [] → result ≡ Ok self.backend }
         ensures err { IfErr result (λ e. (self.last ≡ [] → ⊥) × B.write_fails self.backend e) }
     {

@@ -12,8 +12,8 @@ use constriction_words::BitArray;
 use std::alloc::{AllocError, Global};
 use std::collections::VecDeque;
 
-/// Whether the sum of the weights fits their type.
-fn total_fits<P: BitArray>(weights: &[P]) -> bool
+/// Whether the sum of the weights fits their type, as that of a Huffman tree's weights has to.
+pub fn total_fits<P: BitArray>(weights: &[P]) -> bool
     ensures { IsTrue result ↔ (sum_by P.number weights.now < 2 ^ P.BITS) }
 {
     let mut total = P::nothing();

@@ -12,15 +12,15 @@ returns-in-Err g c =
     let whole : c.room-room.result + (c.args.count - c.room-room.result) ≡ c.args.count = omega (arith, c.room-room.ensures, c.requires.across) in
     let full = filled_length g.Word.BitArray.BITS c.args.last.now c.fill.new.self n c.room-room.result c.room-room.ensures c.fill.ensures in
     let rest = first_bit (c.args.count - c.room-room.result) (n / 2 ^ c.room-room.result) (omega (arith, c.room-room.ensures, c.requires.across)) in
-    let filled : c.fill.new.self ≡ c.args.last.now ++ bits_of c.room-room.result n = rw room at c.fill.ensures in (
+    let filled : c.fill.new.self ≡ c.args.last.now ++ bits_of c.room-room.result n = rw room at c.fill.ensures in
+    let has : bits_of g.Word.BitArray.BITS (g.Word.BitArray.number c.word.result) ≡ c.fill.new.self = ap (λ k. bits_of k (g.Word.BitArray.number c.word.result)) (sym full) ∙ c.word.ensures.bits in (
       bits_of c.room-room.result n,
       rest.0,
       rest.1,
       ap (λ k. bits_of k n) (sym whole) ∙ (bits_split c.room-room.result (c.args.count - c.room-room.result) n ∙ ap (λ bs. bits_of c.room-room.result n ++ bs) rest.2),
       ap length (sym filled) ∙ full,
       filled,
-      c.in-Err.ensures.err,
-      c.in-Err.ensures.kept,
+      (c.word.result, has ∙ filled, (c.in-Err.ensures.kept, c.in-Err.ensures.err, c.in-Err.ensures.writes)),
     )
 
 pub push_all-requires-clause-small : goal.push_all-requires-clause-small
@@ -46,6 +46,5 @@ returns g c =
       ap length (sym filled) ∙ full,
       omega (arith, rest.3, c.requires.part),
       begun ∙ rest.2,
-      (c.word.result, c.in-Ok.ensures.ok, has ∙ filled),
-      c.in-Ok.ensures.room,
+      (c.word.result, has ∙ filled, (c.in-Ok.ensures.ok, c.in-Ok.ensures.room, c.in-Ok.ensures.writes)),
     )

@@ -13,9 +13,9 @@ returns-in-Some g c =
     rw (← c.self.view_is)
     (elim c.match-put_bits.branch [
       | in-Ok w ↦ rw w.result-is
-          (put_ok g.Word.BitArray.BITS number g.B.Holds.words g.B.WriteWords.room g.B.WriteWords.write_fails _ g.S.BitOrder.form codeword code bits c.self.inside.last c.put_bits.new.last c.self.inside.backend c.put_bits.new.backend
+          (put_ok g.Word.BitArray.BITS number g.B.Holds.words g.B.WriteWords.room g.B.WriteWords.writes g.B.WriteWords.write_fails _ g.S.BitOrder.form codeword code bits c.self.inside.last c.put_bits.new.last c.self.inside.backend c.put_bits.new.backend
           c.in-Some.ensures.is c.in_order-ordered.ensures.bits w.in-Ok.ensures)
       | in-Err w ↦ rw w.result-is
-          (put_err g.Word.BitArray.BITS number g.B.Holds.words g.B.WriteWords.room g.B.WriteWords.write_fails _ g.S.BitOrder.form codeword code bits c.self.inside.last c.put_bits.new.last c.self.inside.backend c.put_bits.new.backend w.in-Err.error
+          (put_err g.Word.BitArray.BITS number g.B.Holds.words g.B.WriteWords.room g.B.WriteWords.writes g.B.WriteWords.write_fails _ g.S.BitOrder.form codeword code bits c.self.inside.last c.put_bits.new.last c.self.inside.backend c.put_bits.new.backend w.in-Err.error
           c.in-Some.ensures.is c.in_order-ordered.ensures.bits w.in-Err.ensures)
     ])

@@ -1,5 +1,6 @@
-use Rattle.std.proofs.Common.{true, Ok}
-use Rattle.constriction_symbol.proofs.Coding.{stack_closed, put_some, puts_bits}
+use Rattle.std.proofs.Common.{true, Ok, inr}
+use Rattle.constriction_base.specs.Backends.{IsWrite}
+use Rattle.constriction_symbol.proofs.Coding.{stack_closed, put_some, puts_bits, word_padded}
 use Rattle.constriction_symbol.proofs.coder.words.StackCoder+Word+B.into_compressed.Goals as goal
 
 pub returns-in-Ok-write-clause-ok : goal.returns-in-Ok-write-clause-ok
@@ -7,7 +8,27 @@ returns-in-Ok-write-clause-ok g c =
     let w = g.Word.BitArray.BITS in
     let number = g.Word.BitArray.number in
     let last = c.put_last.new.last in
-    let some = put_some {E = g.row.B-WriteError.Denot} w number g.B.Holds.words g.B.WriteWords.room g.B.WriteWords.write_fails c.self.inside.last last c.self.inside.backend c.put_last.new.backend true c.in-Ok.ensures in
-    let put = puts_bits {E = g.row.B-WriteError.Denot} w number g.B.Holds.words g.B.WriteWords.room g.B.WriteWords.write_fails c.self.inside.last last c.self.inside.backend c.put_last.new.backend true (Ok tt) c.in-Ok.ensures in
+    let some = put_some {E = g.row.B-WriteError.Denot} w number (IsWrite g.B.Holds.words g.B.WriteWords.room g.B.WriteWords.writes g.B.WriteWords.write_fails) c.self.inside.last last c.self.inside.backend c.put_last.new.backend true c.in-Ok.ensures in
+    let put = puts_bits {E = g.row.B-WriteError.Denot} w number g.B.Holds.words g.B.WriteWords.room g.B.WriteWords.writes g.B.WriteWords.write_fails c.self.inside.last last c.self.inside.backend c.put_last.new.backend true (Ok tt) c.in-Ok.ensures in
     rw (← c.self.view_is)
     (stack_closed w number (g.B.Holds.words c.put_last.new.backend) (g.B.Holds.words c.write.new.self) last c.word.result _ c.word.ensures.bits c.word.ensures.small c.word.ensures.within some c.in-Ok-write.ensures.ok put)
+
+pub returns-in-Ok-write-clause-closes : goal.returns-in-Ok-write-clause-closes
+returns-in-Ok-write-clause-closes g c =
+    let w = g.Word.BitArray.BITS in
+    let number = g.Word.BitArray.number in
+    let last = c.put_last.new.last in
+    let some = put_some {E = g.row.B-WriteError.Denot} w number (IsWrite g.B.Holds.words g.B.WriteWords.room g.B.WriteWords.writes g.B.WriteWords.write_fails) c.self.inside.last last c.self.inside.backend c.put_last.new.backend true c.in-Ok.ensures in
+    let padded = word_padded w last (number c.word.result) c.word.ensures.bits c.word.ensures.small c.word.ensures.within some in
+    rw (← c.self.view_is)
+    (last, c.put_last.new.backend, c.in-Ok.ensures, (c.word.result, padded, (c.in-Ok-write.ensures.ok, c.in-Ok-write.ensures.room, c.in-Ok-write.ensures.writes)))
+
+pub returns-in-Err-write-clause-closes : goal.returns-in-Err-write-clause-closes
+returns-in-Err-write-clause-closes g c =
+    let w = g.Word.BitArray.BITS in
+    let number = g.Word.BitArray.number in
+    let last = c.put_last.new.last in
+    let some = put_some {E = g.row.B-WriteError.Denot} w number (IsWrite g.B.Holds.words g.B.WriteWords.room g.B.WriteWords.writes g.B.WriteWords.write_fails) c.self.inside.last last c.self.inside.backend c.put_last.new.backend true c.in-Ok.ensures in
+    let padded = word_padded w last (number c.word.result) c.word.ensures.bits c.word.ensures.small c.word.ensures.within some in
+    rw (← c.self.view_is)
+    (inr (last, c.put_last.new.backend, c.write.new.self, c.in-Ok.ensures, (c.word.result, padded, (c.in-Err-write.ensures.kept, c.in-Err-write.ensures.err, c.in-Err-write.ensures.writes))))
