@@ -10,4 +10,5 @@ pub mod Bernoulli
 pub mod Lookup
 pub mod Quantizers
 pub mod Counts
+pub mod Families
 pub mod laws

@@ -3,3 +3,4 @@ pub mod Quantizing
 pub mod Interpolating
 pub mod Even
 pub mod Bernoulli
+pub mod Indexing

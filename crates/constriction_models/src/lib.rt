@@ -7,9 +7,10 @@
 //! - [`distribution`]: `CumulativeDistribution`, a distribution function in whole numbers, of which one thing is asked: it
 //!   never falls.
 //! - [`quantizer`]: `LeakyQuantizer`, which cuts such a distribution at half symbols, and `LeakilyQuantizedDistribution`,
-//!   the model that it makes.
+//!   the model that it makes; `IndexedDistribution` is the same of places in the range, as `usize`.
 //! - [`location_scale`]: `LocationScale`, a distribution by the table of a standard one, a location and a scale.
 //! - [`gaussian`], [`laplace`], [`logistic`]: `Gaussian`, `Laplace`, `Logistic`.
+//! - [`families`]: `Family`, one of these three, chosen while a program runs.
 //! - [`uniform`], [`bernoulli`]: `UniformModel` and `BernoulliModel`, of equal symbols and of two.
 //! - [`counts`]: `weights_of_counts`, weights in proportion to counts.
 //! - [`lookup`]: `ContiguousLookupDecoderModel`, a model that lists the symbol of each quantile.
@@ -20,6 +21,7 @@ pub mod bernoulli;
 pub mod counts;
 pub mod distribution;
 pub mod errors;
+pub mod families;
 pub mod gaussian;
 mod interpolation;
 mod intervals;

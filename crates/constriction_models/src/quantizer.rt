@@ -1,5 +1,7 @@
 //! Distributions cut at half symbols.
 
+mod indexed;
+
 ghost use Rattle.std.specs.Prelude.{◌≡◌, ℕ, pos, ◌+◌, ◌-◌, ◌*◌, ◌^◌, ◌<◌, ◌≤◌, ◌+ℤ◌, ◌-ℤ◌, ◌≤ℤ◌, ◌<ℤ◌, ◌↔◌, IfOk, IsErrOf, MatchOption, IsSome};
 ghost use Rattle.constriction_models.specs.Quantized.{symbol_of, below_edge, start_of, quantized};
 ghost use Rattle.constriction_models.specs.laws.Quantizing.{quantized_is_table, quantized_two};
@@ -9,6 +11,7 @@ use crate::errors::SupportError;
 use crate::intervals::interval;
 use constriction_base::model::{DecoderModel, EncoderModel, EntropyModel};
 use constriction_words::{BitArray, WordOf};
+pub use indexed::IndexedDistribution;
 use std::marker::PhantomData;
 
 /// A range of symbols, which cuts distributions at half symbols: every symbol of the range gets a weight above 0, however

@@ -1,0 +1,38 @@
+use Rattle.std.proofs.Common.{arith}
+use Rattle.constriction_models.specs.laws.Quantizing.{interval_of}
+use Rattle.constriction_models.specs.laws.Indexing.{indexed_has, indexed_impossible}
+use Rattle.constriction_models.proofs.Words.{power_grows}
+use Rattle.constriction_models.proofs.quantizer.indexed.IndexedDistributionEncoderModel.left_cumulative_and_probability.Goals as goal
+
+pub returns-then-place-self-clause-impossible : goal.returns-then-place-self-clause-impossible
+returns-then-place-self-clause-impossible g c =
+    let m = c.args.self.now.model in
+    indexed_impossible g.row.PRECISION (g.D.CumulativeDistribution.below m.distribution) m.quantizer.min m.quantizer.count c.args.symbol.now c.if-place-self.true
+
+pub interval-requires-clause-some : goal.interval-requires-clause-some
+interval-requires-clause-some g c =
+    let m = c.args.self.now.model in
+    let q = m.quantizer in
+    let i = interval_of g.row.PRECISION (g.D.CumulativeDistribution.below m.distribution) q.min q.count c.args.symbol.now (g.D.CumulativeDistribution.never_falls m.distribution) q.some q.room c.if-place-self.false in
+    omega (arith, i.some, c.start-left.ensures, c.start-end.ensures)
+
+pub interval-requires-clause-low : goal.interval-requires-clause-low
+interval-requires-clause-low g c =
+    let m = c.args.self.now.model in
+    let q = m.quantizer in
+    let i = interval_of g.row.PRECISION (g.D.CumulativeDistribution.below m.distribution) q.min q.count c.args.symbol.now (g.D.CumulativeDistribution.never_falls m.distribution) q.some q.room c.if-place-self.false in
+    omega (arith, i.some, i.inside, c.start-left.ensures, power_grows _ _ q.fits)
+
+pub interval-requires-clause-long : goal.interval-requires-clause-long
+interval-requires-clause-long g c =
+    let m = c.args.self.now.model in
+    let q = m.quantizer in
+    let i = interval_of g.row.PRECISION (g.D.CumulativeDistribution.below m.distribution) q.min q.count c.args.symbol.now (g.D.CumulativeDistribution.never_falls m.distribution) q.some q.room c.if-place-self.false in
+    omega (arith, i.not_all, c.start-left.ensures, c.start-end.ensures, power_grows _ _ q.fits)
+
+pub returns-clause-found : goal.returns-clause-found
+returns-clause-found g c =
+    let m = c.args.self.now.model in
+    let q = m.quantizer in
+    indexed_has g.row.PRECISION (g.D.CumulativeDistribution.below m.distribution) q.min q.count c.args.symbol.now _ _ c.if-place-self.false (omega (arith, c.interval.ensures.left, c.start-left.ensures))
+    (omega (arith, c.interval.ensures.left, c.interval.ensures.long, c.start-end.ensures))

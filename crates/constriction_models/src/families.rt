@@ -1,0 +1,86 @@
+//! Families of distributions, chosen while a program runs.
+
+ghost use Rattle.std.specs.Prelude.{◌≡◌, ◌↔◌, IfSome, IsNone};
+ghost use Rattle.constriction_models.specs.Families.{below_of_one, family_below, one_never_falls};
+
+use crate::distribution::CumulativeDistribution;
+use crate::gaussian::Gaussian;
+use crate::laplace::Laplace;
+use crate::logistic::Logistic;
+
+/// A distribution of one of three kinds.
+#[derive(Drop)]
+pub enum OneOf<A, B, C> {
+    /// Of the first kind.
+    First(A),
+    /// Of the second kind.
+    Second(B),
+    /// Of the third kind.
+    Third(C),
+}
+
+impl<
+    A: CumulativeDistribution,
+    B: CumulativeDistribution,
+    C: CumulativeDistribution,
+> CumulativeDistribution for OneOf<A, B, C> {
+    ghost below = { λ d. below_of_one A.below B.below C.below d };
+
+    ghost never_falls = { λ d. one_never_falls A.below B.below C.below A.never_falls B.never_falls C.never_falls d };
+
+    #[inline(always)]
+    fn cumulative(&self, place: i64) -> u64 {
+        match self {
+            OneOf::First(distribution) => distribution.cumulative(place),
+            OneOf::Second(distribution) => distribution.cumulative(place),
+            OneOf::Third(distribution) => distribution.cumulative(place),
+        }
+    }
+
+    #[inline(always)]
+    fn guess(&self, below: u64) -> i64 {
+        match self {
+            OneOf::First(distribution) => distribution.guess(below),
+            OneOf::Second(distribution) => distribution.guess(below),
+            OneOf::Third(distribution) => distribution.guess(below),
+        }
+    }
+}
+
+/// A family of distributions, each of which has a location and a scale.
+#[derive(Debug, Clone, Copy, PartialEq, Eq)]
+pub enum Family {
+    /// The normal distributions.
+    Gaussian,
+    /// Laplace's distributions.
+    Laplace,
+    /// The logistic distributions.
+    Logistic,
+}
+
+/// A distribution of one of the families.
+pub type FamilyDistribution = OneOf<Gaussian, Laplace, Logistic>;
+
+impl Family {
+    /// The distribution of a location and a scale above 0, both as multiples of `2^-16`; `None` where the scale is 0.
+    #[inline]
+    pub fn distribution(self, location: i64, scale: u32) -> Option<FamilyDistribution>
+        ensures some { IfSome result (λ d. ⟦<FamilyDistribution as CumulativeDistribution>⟧.below d ≡ family_below self location scale) }
+        ensures none { IsNone result ↔ (scale ≡ 0) }
+    {
+        match self {
+            Family::Gaussian => match Gaussian::new(location, scale) {
+                Some(distribution) => Some(OneOf::First(distribution)),
+                None => None,
+            },
+            Family::Laplace => match Laplace::new(location, scale) {
+                Some(distribution) => Some(OneOf::Second(distribution)),
+                None => None,
+            },
+            Family::Logistic => match Logistic::new(location, scale) {
+                Some(distribution) => Some(OneOf::Third(distribution)),
+                None => None,
+            },
+        }
+    }
+}

@@ -1,0 +1,97 @@
+//! Symbols by their places in a quantizer's range.
+
+ghost use Rattle.std.specs.Prelude.{◌≡◌};
+ghost use Rattle.constriction_models.specs.Quantized.{indexed};
+ghost use Rattle.constriction_models.specs.laws.Indexing.{indexed_is_table, indexed_two};
+
+use crate::distribution::CumulativeDistribution;
+use crate::intervals::interval;
+use crate::quantizer::{LeakilyQuantizedDistribution, LeakyQuantizer};
+use constriction_base::model::{DecoderModel, EncoderModel, EntropyModel};
+use constriction_words::{BitArray, WordOf};
+use std::marker::PhantomData;
+
+/// A distribution, cut at half symbols, as a model of places: 0 stands for the first symbol of the range, 1 for the
+/// next, and so on.
+///
+/// So a range is coded where symbols have to be `usize`, as those of weight tables and of
+/// [`crate::lookup::ContiguousLookupDecoderModel`].
+#[derive(Drop)]
+pub struct IndexedDistribution<
+    D: CumulativeDistribution,
+    Probability: WordOf<u32>,
+    const PRECISION: usize,
+> {
+    model: LeakilyQuantizedDistribution<D, Probability, PRECISION>,
+}
+
+impl<Probability: WordOf<u32>, const PRECISION: usize> LeakyQuantizer<Probability, PRECISION> {
+    ghost use Rattle.constriction_models.specs.Quantizers.{first_symbol, count_of};
+
+    /// The model of a distribution, cut at half symbols, whose symbols are places: that of `min` is 0.
+    pub fn quantize_indexed<D: CumulativeDistribution>(
+        &self,
+        distribution: D,
+    ) -> IndexedDistribution<D, Probability, PRECISION>
+        ensures table { ⟦<IndexedDistribution<D, Probability, PRECISION> as EntropyModel<PRECISION>>⟧.table result ≡ indexed PRECISION (D.below distribution) (first_symbol self.now) (count_of self.now) }
+    {
+        IndexedDistribution {
+            model: LeakilyQuantizedDistribution {
+                distribution,
+                quantizer: LeakyQuantizer {
+                    min: self.min,
+                    count: self.count,
+                    of: PhantomData,
+                },
+            },
+        }
+    }
+}
+
+impl<D: CumulativeDistribution, Probability: WordOf<u32>, const PRECISION: usize> EntropyModel<
+    PRECISION,
+> for IndexedDistribution<D, Probability, PRECISION> {
+    type Symbol = usize;
+
+    type Probability = Probability;
+
+    ghost table = { λ m. indexed PRECISION (D.below m.model.distribution) m.model.quantizer.min m.model.quantizer.count };
+
+    ghost lawful = { λ m. indexed_is_table PRECISION (D.below m.model.distribution) m.model.quantizer.min m.model.quantizer.count (D.never_falls m.model.distribution) m.model.quantizer.some m.model.quantizer.room };
+
+    ghost sized = { λ m. (m.model.quantizer.positive, m.model.quantizer.fits) };
+
+    ghost two_symbols = { λ m _. indexed_two PRECISION (D.below m.model.distribution) m.model.quantizer.min m.model.quantizer.count m.model.quantizer.some };
+}
+
+impl<D: CumulativeDistribution, Probability: WordOf<u32>, const PRECISION: usize> EncoderModel<
+    PRECISION,
+> for IndexedDistribution<D, Probability, PRECISION> {
+    #[inline(always)]
+    fn left_cumulative_and_probability(
+        &self,
+        symbol: &usize,
+    ) -> Option<(Probability, <Probability as BitArray>::NonZero)> {
+        let place = *symbol as u64;
+        if place >= self.model.quantizer.count {
+            return None;
+        }
+        let left = self.model.start(place);
+        let end = self.model.start(place + 1);
+        Some(interval(left, end))
+    }
+}
+
+impl<D: CumulativeDistribution, Probability: WordOf<u32>, const PRECISION: usize> DecoderModel<
+    PRECISION,
+> for IndexedDistribution<D, Probability, PRECISION> {
+    #[inline(always)]
+    fn quantile_function(
+        &self,
+        quantile: Probability,
+    ) -> (usize, Probability, <Probability as BitArray>::NonZero) {
+        let (symbol, left, p) = self.model.quantile_function(quantile);
+        let place = symbol as i64 - self.model.quantizer.min as i64;
+        (place as usize, left, p)
+    }
+}
