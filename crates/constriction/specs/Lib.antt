@@ -5,6 +5,7 @@ pub mod Iterators
 pub mod Lists
 pub mod Models
 pub mod Readings
+pub mod Reciprocals
 pub mod Steps
 pub mod Symbols
 pub mod Tables
@@ -12,4 +13,5 @@ pub mod chain
 pub mod model
 pub mod queue
 pub mod stack
+pub mod store
 pub mod symbol

@@ -2,6 +2,7 @@ pub mod Calls
 pub mod Concatenated
 pub mod Decoder
 pub mod Encoder
+pub mod Flagged
 pub mod Guarded
 pub mod Range
 pub mod SelfDelimiting

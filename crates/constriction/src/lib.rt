@@ -31,6 +31,7 @@
 //!
 //! - [`BitArray`]: a type of whole numbers of a fixed number of bits, as words and heads are.
 //! - [`WordOf`]: a type of words that another type of numbers holds several of.
+//! - [`Reciprocal`]: what divides by one number, as by a symbol's weight, without a division.
 //! - [`Stack`], [`Queue`], [`Semantics`]: which end of a backend is read, the last word or the first.
 //! - [`Pos`], [`Seek`], [`PosSeek`]: positions of a backend or a coder, asked for and gone back to.
 //! - [`CoderError`]: what stops a step, the model's side or the backend's; [`DefaultEncoderError`]
@@ -96,6 +97,7 @@
 //!   the quantile that was read.
 //! - [`stream::queue::RangeCompressedIter`], [`stream::queue::EncoderGuard`]: the sealed words of an encoder
 //!   that stays as it is; [`stream::queue::LendsAsWritten`]: backends that lend their words as they were written.
+//! - [`stream::queue::encode_flagged`], [`stream::queue::FlagSwitch`]: two models in one stream, the second from behind a flag on.
 //!
 //! ## [`stream::chain`]: symbols that don't depend on one another's models
 //!
@@ -104,6 +106,12 @@
 //!   [`stream::chain::BackendPosition`] are what it holds beside its words, and where these stand.
 //! - [`stream::chain::DecoderFrontendError`], [`stream::chain::EncoderFrontendError`],
 //!   [`stream::chain::BackendError`], [`stream::chain::ChangePrecisionError`]: why a call is refused.
+//!
+//! # [`store`]: many lists in one list of words, each found by itself
+//!
+//! - [`store::Store`]: chunks of symbols under one model, with an index of where each begins; at most
+//!   [`store::MOST_SYMBOLS`] of them. [`store::BuildError`], [`store::ChunkError`] and [`store::BadIndex`] say why there is
+//!   no store, or no chunk.
 //!
 //! # [`symbol`]: symbols as lists of bits
 //!
@@ -132,6 +140,7 @@
 //! - [`laws::queue`]: the range coder. [`laws::queue::round_trips`] are whole lists there and back, by the
 //!   coder's own calls; [`laws::queue::words`], [`laws::queue::lists`] and [`laws::queue::positions`] are the
 //!   laws of sealed words, of lists of symbols, and of recorded positions; the others are of guards and room.
+//! - [`laws::store`]: chunks come back from a store in any order, and what is read of its words for one of them.
 //! - [`laws::symbol`]: bit coders and codebooks: lists of symbols come back from queues and from stacks,
 //!   under mixed codebooks too, and no codeword of Exp-Golomb or of a Huffman tree begins another.
 //!   [`laws::symbol::costs`] and [`laws::symbol::huffman`]: a Huffman tree costs at most what any other codebook does.
@@ -145,7 +154,7 @@ pub use constriction_base::backends::{Pos, PosSeek, Queue, Seek, Semantics, Stac
 pub use constriction_base::errors::{
     CoderError, DefaultEncoderError, DefaultEncoderFrontendError, ReadWriteError,
 };
-pub use constriction_words::{BitArray, WordOf};
+pub use constriction_words::{BitArray, Reciprocal, WordOf};
 
 pub mod backends {
     pub use constriction_base::backends::{
@@ -193,8 +202,8 @@ pub mod stream {
     pub mod queue {
         pub use constriction_queue::{
             DecoderFrontendError, DefaultRangeDecoder, DefaultRangeEncoder, EncoderGuard,
-            EncoderSituation, LendsAsWritten, RangeCoderState, RangeCompressedIter, RangeDecoder,
-            RangeEncoder, SmallRangeDecoder, SmallRangeEncoder,
+            EncoderSituation, FlagSwitch, LendsAsWritten, RangeCoderState, RangeCompressedIter,
+            RangeDecoder, RangeEncoder, SmallRangeDecoder, SmallRangeEncoder, encode_flagged,
         };
     }
 
@@ -205,6 +214,10 @@ pub mod stream {
             EncoderFrontendError, SmallChainCoder,
         };
     }
+}
+
+pub mod store {
+    pub use constriction_store::{BadIndex, BuildError, ChunkError, MOST_SYMBOLS, Store};
 }
 
 pub mod symbol {
@@ -308,6 +321,13 @@ pub mod laws {
             pub use constriction_laws::queue::concatenated::{
                 DecodeError, EncodeError, list_at_place, list_whatever_follows,
                 pairs_whatever_follows, two_lists_through_words, words_of_list, words_of_two_lists,
+            };
+        }
+
+        pub mod flagged {
+            pub use constriction_laws::queue::flagged::{
+                decode_flagged, flagged_symbols_come_back, flagged_through_words,
+                one_list_of_flagged_symbols, words_of_flagged,
             };
         }
 
@@ -494,6 +514,13 @@ pub mod laws {
                 export_of_import, import_of_export, imports_are_words, reads_are_words,
             };
         }
+    }
+
+    pub mod store {
+        pub use constriction_store::laws::{
+            ThroughStore, chunks_in_any_order, chunks_through_parts, look_up, one_chunk_at_entry,
+            other_words_are_not_read,
+        };
     }
 
     pub mod symbol {

@@ -8,3 +8,4 @@ pub mod Pairs
 pub mod Following
 pub mod Told
 pub mod Concatenated
+pub mod Flagging

@@ -1,4 +1,5 @@
 pub mod Concatenated
+pub mod Flagged
 pub mod Symbols
 pub mod Told
 pub mod Undone

@@ -5,11 +5,13 @@
 //! - [`positions`]: a recorded position leads to the symbols that were encoded after it.
 //! - [`following`]: words that hold whatever follows them.
 //! - [`concatenated`]: lists in words that stand one behind the other, each decoded from its place.
+//! - [`flagged`]: symbols under two models in one stream, which change behind a flag.
 //! - [`guards`]: the words that a guard shows are those of the export, and go again.
 //! - [`refusals`]: when a step isn't refused.
 //! - [`round_trips`]: whole lists there and back, by the coder's own calls.
 
 pub mod concatenated;
+pub mod flagged;
 pub mod following;
 pub mod guards;
 pub mod lists;

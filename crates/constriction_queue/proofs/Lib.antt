@@ -22,3 +22,4 @@ pub mod Narrowing
 pub mod ReadingRuns
 pub mod SealedRuns
 pub mod SelfDelimited
+pub mod FlaggedRuns

@@ -21,6 +21,7 @@
 //! The modules:
 //! - [`encoder`]: the encoder, its step, its words, and what else can be asked of it.
 //! - [`decoder`]: the decoder, its step, and going to positions.
+//! - [`flagged`]: symbols under two models in one stream, which change behind a flag.
 //! - [`as_written`]: backends that lend their words in the order in which they were written.
 //! - [`state`], [`situation`]: the interval, and whether words are held back.
 //! - `step`, `seal`: what a step and a seal write and leave, as functions of numbers.
@@ -30,12 +31,13 @@
 //! Contracts cite the definitions of `specs/Range.antt` (the run, which holds no word back, wraps nowhere and
 //! passes no carry on, its seal, and reading), and of `specs/Calls.antt` (what a call over a backend may answer
 //! and leave). `specs/Encoder.antt` and `specs/Decoder.antt` say which run and which moment of reading a coder
-//! stands for.
+//! stands for, and `specs/Flagged.antt` which model a symbol has in a stream of two.
 #![tactic(auto)]
 
 pub mod as_written;
 pub mod decoder;
 pub mod encoder;
+pub mod flagged;
 mod reading;
 mod seal;
 pub mod situation;
@@ -49,5 +51,6 @@ pub use crate::decoder::{DefaultRangeDecoder, RangeDecoder, SmallRangeDecoder};
 pub use crate::encoder::compressed::RangeCompressedIter;
 pub use crate::encoder::guard::EncoderGuard;
 pub use crate::encoder::{DefaultRangeEncoder, RangeEncoder, SmallRangeEncoder};
+pub use crate::flagged::{FlagSwitch, encode_flagged};
 pub use crate::situation::EncoderSituation;
 pub use crate::state::RangeCoderState;

@@ -2,6 +2,7 @@ use Rattle.std.proofs.Common.{◌≡◌, ◌∙◌, ap, map, sym, subst}
 use Rattle.std.specs.Prelude.{reverse}
 use Rattle.std.proofs.lemmas.List.{reverse-reverse}
 use Rattle.std.proofs.lemmas.Result.{MatchResult-weaker}
+use Rattle.constriction_base.specs.Backends.{IsWrite}
 use Rattle.constriction_symbol.specs.Bits.{PutsOnto}
 use Rattle.constriction_laws.specs.symbol.Lists.{AreCodewords}
 use Rattle.constriction_laws.proofs.ListsGiven.{all_from_back}
@@ -18,6 +19,6 @@ returns g c =
     (λ _ p.
     let back : map (λ x. x.now) e.2 ≡ reverse symbols = rw e.1.0 at (all_from_back e.0 e.2 p.1) in
     let all : map (λ x. x.now) (reverse e.2) ≡ symbols = map-reverse (λ x. x.now) e.2 ∙ (ap (λ xs. reverse xs) back ∙ reverse-reverse symbols) in
-    let written = written_last (λ s. s.bits) (PutsOnto g.Word.BitArray.BITS g.Word.BitArray.number g.B.Holds.words g.B.WriteWords.room g.B.WriteWords.write_fails) _ (λ x. code x.now) e.2 c.args.coder.now e.3 e.4 in
+    let written = written_last (λ s. s.bits) (PutsOnto g.Word.BitArray.BITS g.Word.BitArray.number (IsWrite g.B.Holds.words g.B.WriteWords.room g.B.WriteWords.writes g.B.WriteWords.write_fails)) _ (λ x. code x.now) e.2 c.args.coder.now e.3 e.4 in
     (written.0, subst (λ xs. AreCodewords code xs written.0) all (codewords_map (λ x. x.now) code (reverse e.2) written.0 written.1), sym (ap (λ s. reverse s.bits) p.0) ∙ written.2))
     (λ _ _. tt)

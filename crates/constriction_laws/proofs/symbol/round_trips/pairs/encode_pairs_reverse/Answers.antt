@@ -5,6 +5,7 @@ use Rattle.std.specs.Iterator.Adapters.{zip_first, zip_second}
 use Rattle.std.specs.Slice.Iter.{iter_rest}
 use Rattle.std.proofs.lemmas.List.{reverse-reverse}
 use Rattle.std.proofs.lemmas.Result.{MatchResult-weaker}
+use Rattle.constriction_base.specs.Backends.{IsWrite}
 use Rattle.constriction_symbol.specs.Bits.{PutsOnto}
 use Rattle.constriction_laws.specs.symbol.Lists.{AreCodewords}
 use Rattle.constriction_laws.proofs.stack_coder.ComingBack.{map-reverse}
@@ -26,6 +27,6 @@ returns g c =
     (λ _ p.
     let back = all_pairs_from_back e.0 e.2 same p.1 ∙ ap₂ (λ xs ks. reverse (zip xs ks)) first second in
     let all : map both_now (reverse e.2) ≡ zip symbols books = map-reverse both_now e.2 ∙ (ap (λ ps. reverse ps) back ∙ reverse-reverse (zip symbols books)) in
-    let written = written_last (λ s. s.bits) (PutsOnto g.Word.BitArray.BITS g.Word.BitArray.number g.B.Holds.words g.B.WriteWords.room g.B.WriteWords.write_fails) _ (λ q. codeword q.1.now q.0.now) e.2 c.args.coder.now e.3 e.4 in
+    let written = written_last (λ s. s.bits) (PutsOnto g.Word.BitArray.BITS g.Word.BitArray.number (IsWrite g.B.Holds.words g.B.WriteWords.room g.B.WriteWords.writes g.B.WriteWords.write_fails)) _ (λ q. codeword q.1.now q.0.now) e.2 c.args.coder.now e.3 e.4 in
     (written.0, subst (λ ps. AreCodewords (λ q. codeword q.1 q.0) ps written.0) all (codewords_map both_now (λ q. codeword q.1 q.0) (reverse e.2) written.0 written.1), sym (ap (λ s. reverse s.bits) p.0) ∙ written.2))
     (λ _ _. tt)

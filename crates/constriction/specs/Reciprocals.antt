@@ -1,0 +1,2 @@
+-- Reciprocals of numbers.
+pub use Rattle.constriction_words.specs.Reciprocals.{GivesQuotients, IsReciprocalOf}

@@ -1,0 +1,203 @@
+//! Symbols under two models in one stream: the second from behind the first flag on.
+//!
+//! A flag is a symbol like any other. It and the symbols before it stand under the first model, and those behind it
+//! under the second, where a symbol that is equal to the flag has no special meaning.
+//!
+//! ```
+//! let first = WeightTable::<u8, 8>::new(alloc, &[128, 64, 64])?;
+//! let second = WeightTable::<u8, 4>::new(alloc, &[4, 4, 4, 4])?;
+//! let mut encoder: RangeEncoder<u8, u16, Vec<u8>> = RangeEncoder::new(alloc);
+//! encode_flagged(&mut encoder, &[0, 1, 3], 1, &first, &second)?; // 1 is the flag
+//! let words = encoder.into_compressed()?; // [88]
+//!
+//! let decoder = RangeDecoder::from_compressed(words)?;
+//! let mut switch: FlagSwitch<_, _, _, 8, 4> = FlagSwitch::new(decoder, 1);
+//! switch.next_symbol(&first, &second)?; // 0
+//! switch.next_symbol(&first, &second)?; // 1, and now it has switched
+//! switch.next_symbol(&first, &second)?; // 3, which only the second model has
+//! ```
+
+ghost use Rattle.std.specs.Prelude.{◌≡◌, ◌↔◌, ◌+◌, ◌≤◌, ◌==◌, ◌||◌, if◌then◌else◌, false, length, Err, IfOk, OnErr};
+ghost use Rattle.constriction_base.specs.declared.errors.CoderError.TheVariants as coder_error;
+ghost use Rattle.constriction_queue.specs.declared.decoder.symbols.DecoderFrontendError.TheVariants as frontend_error;
+ghost use Rattle.constriction_queue.specs.Encoder.{left_to_encode};
+ghost use Rattle.constriction_queue.specs.Flagged.{DecodesUnder, EncodesItem, HoldsNone, StepsToFault, flagged, next_model};
+
+use crate::decoder::RangeDecoder;
+use crate::decoder::symbols::DecoderFrontendError;
+use crate::encoder::RangeEncoder;
+use constriction_base::backends::{Holds, Queue, ReadWords, Stack, WriteWords};
+use constriction_base::errors::{CoderError, DefaultEncoderError};
+use constriction_base::model::{DecoderModel, EncoderModel, EntropyModel};
+use constriction_stream::decoding::Decode;
+use constriction_stream::encoding::Encode;
+use constriction_words::{BitArray, WordOf};
+use std::marker::Model;
+
+/// A decoder of symbols under a model of `P1` bits until the flag has come, and under one of `P2` bits after it.
+///
+/// Contracts see a `Switch`: the decoder, the flag, and whether it has come.
+#[derive(Debug, Drop)]
+pub struct FlagSwitch<
+    Word: WordOf<State>,
+    State: BitArray,
+    Backend: Holds<Word, Queue>,
+    const P1: usize,
+    const P2: usize,
+> {
+    decoder: RangeDecoder<Word, State, Backend>,
+    flag: usize,
+    switched: bool,
+}
+
+impl<
+    Word: WordOf<State>,
+    State: BitArray,
+    Backend: Holds<Word, Queue>,
+    const P1: usize,
+    const P2: usize,
+> Model for FlagSwitch<Word, State, Backend, P1, P2> {
+    ghost use Rattle.constriction_queue.specs.Flagged.{Switch};
+
+    ghost Value = { Switch Backend };
+
+    ghost view = { λ f. record { decoder = f.decoder; flag = f.flag; switched = f.switched } };
+
+    ghost invariant = { λ _. Unit {0} };
+}
+
+impl<
+    Word: WordOf<State>,
+    State: BitArray,
+    Backend: Holds<Word, Queue>,
+    const P1: usize,
+    const P2: usize,
+> FlagSwitch<Word, State, Backend, P1, P2> {
+    /// A switch before its flag.
+    pub fn new(decoder: RangeDecoder<Word, State, Backend>, flag: usize) -> Self
+        ensures { result ≡ record { decoder = decoder; flag = flag; switched = false } }
+    {
+        FlagSwitch {
+            decoder,
+            flag,
+            switched: false,
+        }
+    }
+
+    /// Whether the flag has come.
+    pub fn switched(&self) -> bool
+        ensures { result ≡ self.now.switched }
+    {
+        self.switched
+    }
+
+    /// The decoder, behind the symbols that were taken.
+    pub fn into_inner(self) -> RangeDecoder<Word, State, Backend>
+        ensures { result ≡ self.decoder }
+    {
+        let FlagSwitch {
+            decoder,
+            flag: _,
+            switched: _,
+        } = self;
+        decoder
+    }
+}
+
+impl<
+    Word: WordOf<State>,
+    State: BitArray,
+    Backend: ReadWords<Word, Queue>,
+    const P1: usize,
+    const P2: usize,
+> FlagSwitch<Word, State, Backend, P1, P2> {
+    /// Takes the next symbol: under `first` until the flag has come, and under `second` after it. The flag itself is
+    /// returned as a symbol.
+    ///
+    /// # Errors
+    ///
+    /// - `Frontend(InvalidData)` exactly where the words hold no symbol of a model of the precision that is asked.
+    ///   Nothing changed.
+    /// - `Backend(error)` only where a word had to be read and the read answered that error. The switch stays, and the
+    ///   decoder is as `decode_symbol` leaves it.
+    pub fn next_symbol<M1, M2>(
+        &mut self,
+        first: M1,
+        second: M2,
+    ) -> Result<usize, CoderError<DecoderFrontendError, Backend::ReadError>>
+    where
+        M1: DecoderModel<P1, Symbol = usize>,
+        M2: DecoderModel<P2, Symbol = usize>,
+        M1::Probability: WordOf<Word>,
+        M2::Probability: WordOf<Word>,
+        ensures step { DecodesUnder Word.number Backend.words Backend.is_list Backend.reads Word.BITS State.BITS
+            (next_model self.old.switched record { precision = P1; table = M1.table first } record { precision = P2; table = M2.table second })
+            self.old.decoder result self.new.decoder }
+        ensures variant { (result ≡ Err (coder_error.Frontend frontend_error.InvalidData))
+            ↔ HoldsNone State.BITS (if self.old.switched then P2 else P1) self.old.decoder }
+        ensures switched { IfOk result (λ symbol. self.new.switched ≡ (self.old.switched || symbol == self.old.flag)) }
+        ensures kept { OnErr result (self.new.switched ≡ self.old.switched) }
+        ensures flag { self.new.flag ≡ self.old.flag }
+    {
+        if self.switched {
+            return Decode::<P2>::decode_symbol(&mut self.decoder, second);
+        }
+        match Decode::<P1>::decode_symbol(&mut self.decoder, first) {
+            Ok(symbol) => {
+                self.switched = symbol == self.flag;
+                Ok(symbol)
+            }
+            Err(error) => Err(error),
+        }
+    }
+}
+
+/// Puts symbols behind the others: those up to and with the first flag under `first`, and those behind it under `second`.
+/// There must be no more of them than the encoder's `symbols_left`.
+///
+/// # Errors
+///
+/// That of the first symbol that is refused, as `encode_symbol` answers it. Exactly the symbols before it are encoded.
+pub fn encode_flagged<
+    Word: WordOf<State>,
+    State: BitArray,
+    Backend: WriteWords<Word>,
+    M1: EncoderModel<P1, Symbol = usize>,
+    M2: EncoderModel<P2, Symbol = usize>,
+    const P1: usize,
+    const P2: usize,
+>(
+    encoder: &mut RangeEncoder<Word, State, Backend>,
+    symbols: &[usize],
+    flag: usize,
+    first: &M1,
+    second: &M2,
+) -> Result<(), DefaultEncoderError<Backend::WriteError>>
+where
+    M1::Probability: WordOf<Word>,
+    M2::Probability: WordOf<Word>,
+    requires { length symbols.now ≤ left_to_encode encoder.old }
+    ensures steps { StepsToFault (EncodesItem Word.number Backend.words Word.BITS State.BITS
+        Backend.room Backend.makes_room Backend.prepare_fails Backend.write_fails)
+        encoder.old
+        (flagged flag record { precision = P1; table = M1.table first.now } record { precision = P2; table = M2.table second.now } symbols.now)
+        result encoder.new }
+    ensures fewer_left { left_to_encode encoder.old ≤ left_to_encode encoder.new + length symbols.now }
+{
+    let mut switched = false;
+    for symbol in symbols {
+        if switched {
+            match Encode::<P2>::encode_symbol(encoder, symbol, second) {
+                Ok(()) => {}
+                Err(refusal) => return Err(refusal),
+            }
+        } else {
+            match Encode::<P1>::encode_symbol(encoder, symbol, first) {
+                Ok(()) => {}
+                Err(refusal) => return Err(refusal),
+            }
+            switched = *symbol == flag;
+        }
+    }
+    Ok(())
+}

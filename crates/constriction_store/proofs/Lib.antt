@@ -1,0 +1,5 @@
+pub mod Counting
+pub mod Symbols
+pub mod Indexed
+pub mod LookedUp
+pub mod Windows

@@ -1,0 +1,4 @@
+pub mod Chunks
+pub mod Stores
+pub mod Built
+pub mod LookedUp

@@ -1,0 +1,49 @@
+-- What a look-up answers.
+use Rattle.std.specs.Prelude.{◌≡◌, ℕ, ◌<◌, ◌≤◌, ⊤, List, Result, MatchResult, length, slice_index}
+use Rattle.std.specs.declared.vec.Vec.{Vec}
+use Rattle.constriction_base.specs.Models.{Model, items_of}
+use Rattle.constriction_queue.specs.Range.{Run}
+use Rattle.constriction_laws.specs.queue.Symbols.{FindsAll}
+use Rattle.constriction_store.specs.Stores.{Entry, HoldsNoChunk, HoldsNoSymbol, entry_in, run_at}
+use Rattle.constriction_store.specs.Built.{BuildFails}
+use Rattle.constriction_store.specs.declared.laws.ThroughStore.{ThroughStore}
+use Rattle.constriction_store.specs.declared.laws.ThroughStore.TheVariants.{Build, LookUp}
+use Rattle.constriction_store.specs.declared.looking_up.ChunkError.{ChunkError}
+use Rattle.constriction_store.specs.declared.looking_up.ChunkError.TheVariants.{NoSuchChunk, Invalid, Memory}
+
+-- why so many symbols are not read from this run: behind fewer of them there is none; or memory was missing, and at least
+-- one was read
+abbrev pub ChunkFails : ℕ → ℕ → Model ℕ → List ℕ → Run → ℕ → ChunkError → Type 0
+ChunkFails w s model words there len NoSuchChunk = ⊥
+ChunkFails w s model words there len Invalid =
+    (symbols : List ℕ) × (run : Run) × FindsAll w s words (items_of model symbols) there run × (length symbols < len) × HoldsNoSymbol w s model words run
+ChunkFails w s model words there len Memory =
+    (symbols : List ℕ) × (run : Run) × FindsAll w s words (items_of model symbols) there run × (0 < length symbols) × (length symbols ≤ len)
+
+-- the words hold a symbol at the entry, of those that it counts
+abbrev pub HoldsSome : ℕ → ℕ → Model ℕ → List ℕ → Entry → Type 0
+HoldsSome w s model words entry =
+    (symbols : List ℕ) × (run : Run) × FindsAll w s words (items_of model symbols) (run_at entry) run × (0 < length symbols) × (length symbols ≤ entry.len)
+
+-- why a look-up gives no chunk; want of memory is met behind a symbol
+abbrev pub IsRefused : ℕ → ℕ → Model ℕ → List ℕ → List Entry → ℕ → ChunkError → Type 0
+IsRefused w s model words index i NoSuchChunk = length index ≤ i
+IsRefused w s model words index i Invalid = (i < length index) × HoldsNoChunk w s model words (entry_in index i)
+IsRefused w s model words index i Memory = (i < length index) × HoldsSome w s model words (entry_in index i)
+
+-- these symbols, or want of memory
+abbrev pub IsChunk : {A : Type 0} → List ℕ → Result (Vec ℕ A) ChunkError → Type 0
+IsChunk symbols answer = MatchResult answer (λ again. again.items ≡ symbols) (λ e. e ≡ Memory)
+
+-- ---- chunks through a store
+
+-- why look-ups at these places are refused, in a store that holds chunks: it has fewer, or memory was missing
+abbrev pub CannotLookUp : List (List ℕ) → List ℕ → ChunkError → Type 0
+CannotLookUp chunks places NoSuchChunk = (k : ℕ) × (k < length places) × (length chunks ≤ slice_index places k)
+CannotLookUp chunks places Invalid = ⊥
+CannotLookUp chunks places Memory = 0 < length places
+
+-- why chunks don't come back from a store of them
+abbrev pub HasNoChunks : Model ℕ → List (List ℕ) → List ℕ → ThroughStore → Type 0
+HasNoChunks model chunks places (Build refusal) = BuildFails model chunks refusal
+HasNoChunks model chunks places (LookUp refusal) = CannotLookUp chunks places refusal

@@ -1,0 +1,192 @@
+//! Chunks to words and an index.
+
+ghost use Rattle.std.specs.Prelude.{◌≡◌, ◌↔◌, ◌+◌, ◌-◌, ◌^◌, ◌≤◌, ◌<◌, length, map, IfOk, IfErr, OnOk, Err, IsTrue};
+ghost use Rattle.constriction_base.specs.Models.{items_of};
+ghost use Rattle.constriction_base.specs.Steps.{IsSizes};
+ghost use Rattle.constriction_queue.specs.Encoder.{left_to_encode, run_by};
+ghost use Rattle.constriction_queue.specs.Range.{start};
+ghost use Rattle.constriction_laws.specs.queue.Symbols.{NarrowsAll};
+ghost use Rattle.constriction_store.specs.Built.{BuildFails, EncodingFails};
+ghost use Rattle.constriction_store.specs.Chunks.{count_of, lists_of};
+ghost use Rattle.constriction_store.specs.Stores.{HoldsChunks, Indexes, IsBuilt, entry_at};
+
+use crate::{MOST_SYMBOLS, Store};
+use constriction_base::backends::Pos;
+use constriction_base::errors::CoderError;
+use constriction_base::model::{DecoderModel, EncoderModel, EntropyModel};
+use constriction_laws::queue::following::symbols_come_back_whatever_follows;
+use constriction_queue::{RangeCoderState, RangeEncoder};
+use constriction_stream::encoding::Encode;
+use constriction_words::{BitArray, WordOf};
+use std::alloc::Global;
+use thiserror::Error;
+
+/// Why chunks make no store.
+#[derive(Debug, Clone, Copy, PartialEq, Eq, Error)]
+pub enum BuildError {
+    /// The chunks hold more than [`MOST_SYMBOLS`] symbols together.
+    #[error("too many symbols")]
+    TooLong,
+    /// The model doesn't know this symbol of this chunk.
+    #[error("Impossible symbol.")]
+    ImpossibleSymbol {
+        /// Which chunk.
+        chunk: usize,
+        /// Which of its symbols.
+        index: usize,
+    },
+    /// The words or the index found no memory.
+    #[error("out of memory")]
+    Memory,
+}
+
+/// Whether the chunks hold no more symbols together than a store does.
+fn are_few(chunks: &[Vec<usize>]) -> bool
+    ensures { IsTrue result ↔ (count_of (lists_of chunks.now) ≤ 1048576) }
+{
+    let mut left = MOST_SYMBOLS;
+    for chunk in chunks {
+        if chunk.len() > left {
+            return false;
+        }
+        left -= chunk.len();
+    }
+    true
+}
+
+/// Why a chunk isn't encoded: the model doesn't know the symbol at this place, or memory was missing.
+#[derive(Clone, Copy)]
+enum Refusal {
+    Impossible(usize),
+    Memory,
+}
+
+/// Puts the symbols of a chunk behind the others.
+fn encode_chunk<
+    Word: WordOf<State>,
+    State: BitArray,
+    M: EncoderModel<PRECISION, Symbol = usize>,
+    const PRECISION: usize,
+>(
+    encoder: &mut RangeEncoder<Word, State, Vec<Word>>,
+    symbols: &[usize],
+    model: &M,
+) -> Result<(), Refusal>
+where
+    M::Probability: WordOf<Word>,
+    requires { length symbols.now ≤ left_to_encode encoder.old }
+    ensures ok { OnOk result (NarrowsAll Word.BITS State.BITS
+        (items_of record { precision = PRECISION; table = M.table model.now } symbols.now)
+        (run_by Word.BITS State.BITS encoder.old) (run_by Word.BITS State.BITS encoder.new)) }
+    ensures err { IfErr result (EncodingFails record { precision = PRECISION; table = M.table model.now } symbols.now) }
+    ensures fewer_left { left_to_encode encoder.old ≤ left_to_encode encoder.new + length symbols.now }
+{
+    for (place, symbol) in symbols.iter().enumerate() {
+        match Encode::<PRECISION>::encode_symbol(encoder, symbol, model) {
+            Ok(()) => {}
+            Err(CoderError::Frontend(_)) => return Err(Refusal::Impossible(place)),
+            Err(CoderError::Backend(_)) => return Err(Refusal::Memory),
+        }
+    }
+    Ok(())
+}
+
+/// Puts chunks on a new encoder, and keeps where each of them begins.
+fn encode_chunks<
+    Word: WordOf<State>,
+    State: BitArray,
+    M: EncoderModel<PRECISION, Symbol = usize>,
+    const PRECISION: usize,
+>(
+    alloc: Global,
+    encoder: &mut RangeEncoder<Word, State, Vec<Word>>,
+    chunks: &[Vec<usize>],
+    model: &M,
+) -> Result<Vec<(usize, RangeCoderState<Word, State>, usize)>, BuildError>
+where
+    M::Probability: WordOf<Word>,
+    requires sizes { IsSizes Word.BITS State.BITS }
+    requires begun { run_by Word.BITS State.BITS encoder.old ≡ start State.BITS }
+    requires left { 2 ^ 64 - 18 ≤ left_to_encode encoder.old }
+    requires few { count_of (lists_of chunks.now) ≤ 1048576 }
+    ensures ok { IfOk result (λ index. Indexes Word.BITS State.BITS
+        record { precision = PRECISION; table = M.table model.now } (lists_of chunks.now) (map entry_at index.items)
+        (run_by Word.BITS State.BITS encoder.old) (run_by Word.BITS State.BITS encoder.new)) }
+    ensures err { IfErr result (BuildFails record { precision = PRECISION; table = M.table model.now } (lists_of chunks.now)) }
+{
+    let mut index = Vec::new(alloc);
+    for (place, chunk) in chunks.iter().enumerate() {
+        let (words, state) = encoder.pos();
+        match index.push((words, state, chunk.len())) {
+            Ok(()) => {}
+            Err(_) => return Err(BuildError::Memory),
+        }
+        match encode_chunk::<Word, State, M, PRECISION>(encoder, chunk.as_slice(), model) {
+            Ok(()) => {}
+            Err(Refusal::Impossible(at)) => {
+                return Err(BuildError::ImpossibleSymbol {
+                    chunk: place,
+                    index: at,
+                });
+            }
+            Err(Refusal::Memory) => return Err(BuildError::Memory),
+        }
+    }
+    Ok(index)
+}
+
+impl<
+    Word: WordOf<State>,
+    State: BitArray,
+    M: EncoderModel<PRECISION, Symbol = usize> + DecoderModel<PRECISION, Symbol = usize>,
+    const PRECISION: usize,
+> Store<Word, State, M, PRECISION>
+where
+    M::Probability: WordOf<Word>,
+{
+    /// The store of these chunks: one new encoder takes them in order, and is sealed so that any words may follow.
+    ///
+    /// # Errors
+    ///
+    /// - `TooLong` exactly where the chunks hold more than [`MOST_SYMBOLS`] symbols together. It is looked for first.
+    /// - `ImpossibleSymbol`, of the first symbol, in order, that the model doesn't know; or `Memory`, whichever is met
+    ///   first. Where there are no chunks, neither comes.
+    ///
+    /// ```
+    /// let table = WeightTable::<u32, 24>::new(alloc, &[8388608, 8388608])?;
+    /// Store::<u32, u64, _, 24>::build(alloc, &[], table)?.num_chunks(); // 0
+    /// ```
+    pub fn build(alloc: Global, chunks: &[Vec<usize>], model: M) -> Result<Self, BuildError>
+        requires { IsSizes Word.BITS State.BITS }
+        ensures built { IfOk result (λ store. IsBuilt Word.BITS State.BITS
+            record { precision = PRECISION; table = M.table model } (lists_of chunks.now) store.index store.words) }
+        ensures chunks { IfOk result (λ store. HoldsChunks Word.BITS State.BITS
+            record { precision = PRECISION; table = M.table model } store.words store.index (lists_of chunks.now)) }
+        ensures model { IfOk result (λ store. store.model ≡ model) }
+        ensures too_long { (result ≡ Err BuildError.TooLong) ↔ (1048576 < count_of (lists_of chunks.now)) }
+        ensures err { IfErr result (BuildFails record { precision = PRECISION; table = M.table model } (lists_of chunks.now)) }
+    {
+        if !are_few(chunks) {
+            return Err(BuildError::TooLong);
+        }
+        symbols_come_back_whatever_follows::<usize>();
+        let mut encoder: RangeEncoder<Word, State, Vec<Word>> = RangeEncoder::new(alloc);
+        let index = match encode_chunks::<Word, State, M, PRECISION>(
+            alloc,
+            &mut encoder,
+            chunks,
+            &model,
+        ) {
+            Ok(index) => index,
+            Err(error) => return Err(error),
+        };
+        match encoder.into_self_delimited() {
+            Ok(words) => Ok(Store {
+                words,
+                index,
+                model,
+            }),
+            Err(_) => Err(BuildError::Memory),
+        }
+    }
+}

@@ -1,0 +1,147 @@
+//! Laws of stores: what is read at an entry, and chunks that come back through a store's own calls, in any order.
+
+ghost use Rattle.std.specs.Prelude.{◌≡◌, ◌+◌, ◌/◌, ◌<◌, ◌≤◌, ℕ, List, map, slice_index, IfOk, IfErr, MatchResult};
+ghost use Rattle.constriction_base.specs.Models.{Model, IsModel, items_of};
+ghost use Rattle.constriction_base.specs.Steps.{IsSizes, AreWords};
+ghost use Rattle.constriction_queue.specs.Range.{Run};
+ghost use Rattle.constriction_laws.specs.queue.Symbols.{FindsAll};
+ghost use Rattle.constriction_store.specs.Chunks.{chunk_in, lists_of};
+ghost use Rattle.constriction_store.specs.LookedUp.{CannotLookUp, HasNoChunks};
+ghost use Rattle.constriction_store.specs.Stores.{Entry, HoldsChunk, HoldsChunks, HoldsNoChunk, run_at};
+
+use crate::{BuildError, ChunkError, Store};
+use constriction_base::model::{DecoderModel, EncoderModel, EntropyModel};
+use constriction_words::{BitArray, WordOf};
+use std::alloc::Global;
+
+/// Words hold one list of symbols at an entry, and where they hold one, no symbol of it is missing.
+pub fn one_chunk_at_entry()
+    ensures one { (w s : ℕ) (model : Model ℕ) (words : List ℕ) (entry : Entry) (symbols others : List ℕ) →
+        IsModel w model → HoldsChunk w s model words entry symbols → HoldsChunk w s model words entry others →
+        others ≡ symbols }
+    ensures none_missing { (w s : ℕ) (model : Model ℕ) (words : List ℕ) (entry : Entry) (symbols : List ℕ) →
+        IsModel w model → HoldsChunk w s model words entry symbols → HoldsNoChunk w s model words entry → ⊥ }
+{}
+
+/// What is read at an entry stands in the words from its place on, up to as many words as a state has behind the place that
+/// reading has come to. Other words may be others.
+pub fn other_words_are_not_read()
+    ensures { (w s : ℕ) (model : Model ℕ) (words others : List ℕ) (entry : Entry) (symbols : List ℕ) (last : Run) →
+        IsSizes w s → AreWords w words → AreWords w others →
+        FindsAll w s words (items_of model symbols) (run_at entry) last →
+        ((i : ℕ) → entry.place ≤ i → i < last.moves + s / w → slice_index others i ≡ slice_index words i) →
+        FindsAll w s others (items_of model symbols) (run_at entry) last }
+{}
+
+/// The chunks at these places of a store, in this order. Where the store holds chunks, as one that was built does, they are
+/// these.
+///
+/// # Errors
+///
+/// That of the first look-up that is refused.
+pub fn look_up<
+    Word: WordOf<State>,
+    State: BitArray,
+    M: EncoderModel<PRECISION, Symbol = usize> + DecoderModel<PRECISION, Symbol = usize>,
+    const PRECISION: usize,
+>(
+    alloc: Global,
+    store: &Store<Word, State, M, PRECISION>,
+    places: &[usize],
+) -> Result<Vec<Vec<usize>>, ChunkError>
+where
+    M::Probability: WordOf<Word>,
+    ensures { (chunks : List (List ℕ)) → HoldsChunks Word.BITS State.BITS
+        record { precision = PRECISION; table = M.table store.now.model } store.now.words store.now.index chunks →
+        MatchResult result (λ found. lists_of found.items ≡ map (chunk_in chunks) places.now) (CannotLookUp chunks places.now) }
+{
+    let mut found = Vec::new(alloc);
+    for place in places {
+        let chunk = match store.chunk(alloc, *place) {
+            Ok(chunk) => chunk,
+            Err(refusal) => return Err(refusal),
+        };
+        let Ok(()) = found.push(chunk) else {
+            return Err(ChunkError::Memory);
+        };
+    }
+    Ok(found)
+}
+
+/// Why chunks don't come back.
+#[derive(Debug, Clone, Copy, PartialEq, Eq)]
+pub enum ThroughStore {
+    /// They made no store.
+    Build(BuildError),
+    /// A look-up was refused.
+    LookUp(ChunkError),
+}
+
+/// Chunks come back from a store of them, in any order: `build`, and `chunk` at each of these places.
+///
+/// # Errors
+///
+/// Those of [`Store::build`], and of [`Store::chunk`] but for `Invalid`, which doesn't come.
+pub fn chunks_in_any_order<
+    Word: WordOf<State>,
+    State: BitArray,
+    M: EncoderModel<PRECISION, Symbol = usize> + DecoderModel<PRECISION, Symbol = usize>,
+    const PRECISION: usize,
+>(
+    alloc: Global,
+    chunks: &[Vec<usize>],
+    places: &[usize],
+    model: M,
+) -> Result<(Store<Word, State, M, PRECISION>, Vec<Vec<usize>>), ThroughStore>
+where
+    M::Probability: WordOf<Word>,
+    requires { IsSizes Word.BITS State.BITS }
+    ensures back { IfOk result (λ through. lists_of through.1.items ≡ map (chunk_in (lists_of chunks.now)) places.now) }
+    ensures err { IfErr result (HasNoChunks record { precision = PRECISION; table = M.table model } (lists_of chunks.now) places.now) }
+{
+    let store = match Store::<Word, State, M, PRECISION>::build(alloc, chunks, model) {
+        Ok(store) => store,
+        Err(refusal) => return Err(ThroughStore::Build(refusal)),
+    };
+    match look_up(alloc, &store, places) {
+        Ok(found) => Ok((store, found)),
+        Err(refusal) => Err(ThroughStore::LookUp(refusal)),
+    }
+}
+
+/// The same through the parts of that store: `build`, `into_parts`, `from_parts`, and `chunk` at each of these places.
+///
+/// # Errors
+///
+/// Those of [`Store::build`], and of [`Store::chunk`] but for `Invalid`, which doesn't come.
+pub fn chunks_through_parts<
+    Word: WordOf<State>,
+    State: BitArray,
+    M: EncoderModel<PRECISION, Symbol = usize> + DecoderModel<PRECISION, Symbol = usize>,
+    const PRECISION: usize,
+>(
+    alloc: Global,
+    chunks: &[Vec<usize>],
+    places: &[usize],
+    model: M,
+) -> Result<(Store<Word, State, M, PRECISION>, Vec<Vec<usize>>), ThroughStore>
+where
+    M::Probability: WordOf<Word>,
+    requires { IsSizes Word.BITS State.BITS }
+    ensures back { IfOk result (λ through. lists_of through.1.items ≡ map (chunk_in (lists_of chunks.now)) places.now) }
+    ensures err { IfErr result (HasNoChunks record { precision = PRECISION; table = M.table model } (lists_of chunks.now) places.now) }
+{
+    let built = match Store::<Word, State, M, PRECISION>::build(alloc, chunks, model) {
+        Ok(store) => store,
+        Err(refusal) => return Err(ThroughStore::Build(refusal)),
+    };
+    let (words, index, model) = built.into_parts();
+    let store = match Store::<Word, State, M, PRECISION>::from_parts(words, index, model) {
+        Ok(store) => store,
+        Err(_) => unreachable!(),
+    };
+    match look_up(alloc, &store, places) {
+        Ok(found) => Ok((store, found)),
+        Err(refusal) => Err(ThroughStore::LookUp(refusal)),
+    }
+}

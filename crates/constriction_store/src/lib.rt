@@ -1,0 +1,96 @@
+//! An indexed store: chunks of symbols in the words of one range encoder, each of which is looked up by its place.
+//!
+//! ```
+//! let table = WeightTable::<u32, 24>::new(alloc, &[8388608, 8388608])?;
+//! let store: Store<u32, u64, _, 24> = Store::build(alloc, chunks.as_slice(), table)?;
+//! store.chunk(alloc, 2)?; // the third of the chunks
+//! ```
+//!
+//! - [`building`]: chunks to words and an index.
+//! - [`looking_up`]: one chunk.
+//! - [`parts`]: words and an index from elsewhere.
+//! - [`laws`]: what is read at an entry, and chunks that come back in any order.
+#![tactic(auto)]
+
+pub mod building;
+pub mod laws;
+pub mod looking_up;
+pub mod parts;
+
+pub use crate::building::BuildError;
+pub use crate::looking_up::ChunkError;
+pub use crate::parts::BadIndex;
+use constriction_base::model::{DecoderModel, EncoderModel, EntropyModel};
+use constriction_queue::RangeCoderState;
+use constriction_words::{BitArray, WordOf};
+use std::marker::Model;
+
+/// The most symbols that a store holds.
+pub const MOST_SYMBOLS: usize = 1048576;
+
+/// Chunks of symbols under one model, in the words of a range coder, and where each of them begins.
+///
+/// Contracts see a `Stored`: the numbers of the words, the entries of the index, and the model.
+#[derive(Drop)]
+pub struct Store<
+    Word: WordOf<State>,
+    State: BitArray,
+    M: EncoderModel<PRECISION, Symbol = usize> + DecoderModel<PRECISION, Symbol = usize>,
+    const PRECISION: usize,
+> {
+    words: Vec<Word>,
+    index: Vec<(usize, RangeCoderState<Word, State>, usize)>,
+    model: M,
+}
+
+impl<
+    Word: WordOf<State>,
+    State: BitArray,
+    M: EncoderModel<PRECISION, Symbol = usize> + DecoderModel<PRECISION, Symbol = usize>,
+    const PRECISION: usize,
+> Model for Store<Word, State, M, PRECISION> {
+    ghost use Rattle.std.specs.Prelude.{map, length};
+    ghost use Rattle.constriction_base.specs.Steps.{IsSizes};
+    ghost use Rattle.constriction_store.specs.Stores.{IsIndex, Stored, entry_at};
+
+    ghost Value = { Stored M };
+
+    ghost view = { λ s. record {
+      words = map Word.number s.words.items;
+      index = map entry_at s.index.items;
+      model = s.model;
+    } };
+
+    ghost invariant = { λ s. IsSizes Word.BITS State.BITS × IsIndex (length s.words.items) (map entry_at s.index.items) };
+}
+
+impl<
+    Word: WordOf<State>,
+    State: BitArray,
+    M: EncoderModel<PRECISION, Symbol = usize> + DecoderModel<PRECISION, Symbol = usize>,
+    const PRECISION: usize,
+> Store<Word, State, M, PRECISION> {
+    ghost use Rattle.std.specs.Prelude.{map, length, ◌≡◌};
+    ghost use Rattle.constriction_store.specs.Stores.{entry_at};
+
+    /// Where each chunk begins, and how many symbols it has.
+    pub fn index(&self) -> &[(usize, RangeCoderState<Word, State>, usize)]
+        ensures { map entry_at result.now ≡ self.now.index }
+    {
+        self.index.as_slice()
+    }
+
+    /// How many chunks there are.
+    pub fn num_chunks(&self) -> usize
+        ensures { result ≡ length self.now.index }
+    {
+        self.index.len()
+    }
+
+    /// The words of all chunks.
+    pub fn words(&self) -> &[Word]
+        ensures { map Word.number result.now ≡ self.now.words }
+    {
+        self.words.as_slice()
+    }
+}

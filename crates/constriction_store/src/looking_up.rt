@@ -1,0 +1,135 @@
+//! One chunk of a store.
+
+ghost use Rattle.std.specs.Prelude.{◌≡◌, ◌↔◌, ◌≤◌, ◌<◌, ℕ, List, length, map, IfOk, IfErr, Err};
+ghost use Rattle.constriction_base.specs.Steps.{IsSizes};
+ghost use Rattle.constriction_base.specs.Models.{items_of};
+ghost use Rattle.constriction_queue.specs.Range.{Run};
+ghost use Rattle.constriction_queue.specs.States.{lower_of, range_of};
+ghost use Rattle.constriction_laws.specs.queue.Symbols.{FindsAll, StandsAt};
+ghost use Rattle.constriction_store.specs.LookedUp.{ChunkFails, IsChunk, IsRefused};
+ghost use Rattle.constriction_store.specs.Stores.{HoldsChunk, entry_in, run_from};
+
+use crate::Store;
+use constriction_base::backends::{Queue, ReadWords, Seek};
+use constriction_base::cursor::Cursor;
+use constriction_base::errors::CoderError;
+use constriction_base::model::{DecoderModel, EncoderModel, EntropyModel};
+use constriction_queue::{RangeCoderState, RangeDecoder};
+use constriction_stream::decoding::Decode;
+use constriction_words::{BitArray, WordOf};
+use std::alloc::Global;
+use thiserror::Error;
+
+/// Why a store gives no chunk.
+#[derive(Debug, Clone, Copy, PartialEq, Eq, Error)]
+pub enum ChunkError {
+    /// There are fewer chunks.
+    #[error("no such chunk")]
+    NoSuchChunk,
+    /// The words hold no symbol of the model there.
+    #[error("invalid chunk")]
+    Invalid,
+    /// The chunk found no memory.
+    #[error("out of memory")]
+    Memory,
+}
+
+/// A decoder of borrowed words that stands at a position in them.
+fn decoder_at<'a, Word: WordOf<State>, State: BitArray>(
+    words: &'a [Word],
+    place: usize,
+    state: RangeCoderState<Word, State>,
+) -> RangeDecoder<Word, State, Cursor<Word, &'a [Word]>>
+    requires sizes { IsSizes Word.BITS State.BITS }
+    requires inside { place ≤ length words.now }
+    ensures { StandsAt Word.BITS State.BITS (map Word.number words.now)
+        (run_from place (lower_of state) (range_of state)) result }
+{
+    let mut decoder = match RangeDecoder::<Word, State, Cursor<Word, &'a [Word]>>::from_compressed(
+        words,
+    ) {
+        Ok(decoder) => decoder,
+        Err(never) => match never {},
+    };
+    match decoder.seek((place, state)) {
+        Ok(()) => decoder,
+        Err(()) => unreachable!(),
+    }
+}
+
+/// So many symbols that a decoder gives.
+fn decode_chunk<
+    Word: WordOf<State>,
+    State: BitArray,
+    M: DecoderModel<PRECISION, Symbol = usize>,
+    const PRECISION: usize,
+>(
+    alloc: Global,
+    decoder: &mut RangeDecoder<Word, State, Cursor<Word, &[Word]>>,
+    len: usize,
+    model: &M,
+) -> Result<Vec<usize>, ChunkError>
+where
+    M::Probability: WordOf<Word>,
+    ensures count { IfOk result (λ symbols. length symbols.items ≡ len) }
+    ensures ok { (words : List ℕ) (there : Run) → StandsAt Word.BITS State.BITS words there decoder.old →
+        IfOk result (λ symbols. (last : Run) × FindsAll Word.BITS State.BITS words (items_of record { precision = PRECISION; table = M.table model.now } symbols.items) there last) }
+    ensures err { (words : List ℕ) (there : Run) → StandsAt Word.BITS State.BITS words there decoder.old →
+        IfErr result (ChunkFails Word.BITS State.BITS record { precision = PRECISION; table = M.table model.now } words there len) }
+{
+    let mut symbols = Vec::new(alloc);
+    'symbols: for _ in 0..len {
+        match Decode::<PRECISION>::decode_symbol(decoder, model) {
+            Ok(symbol) => match symbols.push(symbol) {
+                Ok(()) => {}
+                Err(_) => return Err(ChunkError::Memory),
+            },
+            Err(CoderError::Frontend(_)) => return Err(ChunkError::Invalid),
+            Err(CoderError::Backend(never)) => match never {},
+        }
+    }
+    Ok(symbols)
+}
+
+impl<
+    Word: WordOf<State>,
+    State: BitArray,
+    M: EncoderModel<PRECISION, Symbol = usize> + DecoderModel<PRECISION, Symbol = usize>,
+    const PRECISION: usize,
+> Store<Word, State, M, PRECISION>
+where
+    M::Probability: WordOf<Word>,
+{
+    /// The symbols of a chunk: a new decoder of the words goes to its position and takes as many as it has. No other words
+    /// are read than those of the chunk, and as many more as a state has.
+    ///
+    /// # Errors
+    ///
+    /// - `NoSuchChunk` exactly where there are fewer chunks.
+    /// - `Invalid` exactly where the words hold no symbol of the model for one of them, or `Memory` where that is met
+    ///   before it. In a store that was built it can't come.
+    ///
+    /// ```
+    /// let chunks = [&[1, 0], &[], &[1]]; // as a list of `Vec<usize>`
+    /// let store: Store<u32, u64, _, 24> = Store::build(alloc, chunks, table)?;
+    /// store.chunk(alloc, 2)?; // [1]
+    /// store.chunk(alloc, 3); // Err(ChunkError::NoSuchChunk)
+    /// ```
+    pub fn chunk(&self, alloc: Global, i: usize) -> Result<Vec<usize>, ChunkError>
+        ensures none { (result ≡ Err ChunkError.NoSuchChunk) ↔ (length self.now.index ≤ i) }
+        ensures ok { IfOk result (λ symbols. HoldsChunk Word.BITS State.BITS
+            record { precision = PRECISION; table = M.table self.now.model } self.now.words (entry_in self.now.index i) symbols.items) }
+        ensures err { IfErr result (IsRefused Word.BITS State.BITS
+            record { precision = PRECISION; table = M.table self.now.model } self.now.words self.now.index i) }
+        ensures back { i < length self.now.index → (symbols : List ℕ) → HoldsChunk Word.BITS State.BITS
+            record { precision = PRECISION; table = M.table self.now.model } self.now.words (entry_in self.now.index i) symbols →
+            IsChunk symbols result }
+    {
+        if i >= self.index.len() {
+            return Err(ChunkError::NoSuchChunk);
+        }
+        let (place, state, len) = self.index[i];
+        let mut decoder = decoder_at::<Word, State>(self.words.as_slice(), place, state);
+        decode_chunk::<Word, State, M, PRECISION>(alloc, &mut decoder, len, &self.model)
+    }
+}

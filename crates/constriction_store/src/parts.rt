@@ -1,0 +1,92 @@
+//! Words and an index from elsewhere.
+
+ghost use Rattle.std.specs.Prelude.{◌≡◌, ◌↔◌, IsTrue, IfOk, IsOk, length, map};
+ghost use Rattle.constriction_base.specs.Steps.{IsSizes};
+ghost use Rattle.constriction_store.specs.Stores.{IsIndex, entry_at};
+
+use crate::{MOST_SYMBOLS, Store};
+use constriction_base::model::{DecoderModel, EncoderModel, EntropyModel};
+use constriction_queue::RangeCoderState;
+use constriction_words::{BitArray, WordOf};
+use thiserror::Error;
+
+/// Why words and an index make no store.
+#[derive(Debug, Clone, Copy, PartialEq, Eq, Error)]
+#[error("bad index")]
+pub struct BadIndex;
+
+/// Whether no entry begins past so many words, and the lengths together are no more than a store holds.
+fn index_fits<Word: WordOf<State>, State: BitArray>(
+    count: usize,
+    index: &[(usize, RangeCoderState<Word, State>, usize)],
+) -> bool
+    ensures { IsTrue result ↔ IsIndex count (map entry_at index.now) }
+{
+    let mut left = MOST_SYMBOLS;
+    for entry in index {
+        if entry.0 > count || entry.2 > left {
+            return false;
+        }
+        left -= entry.2;
+    }
+    true
+}
+
+impl<
+    Word: WordOf<State>,
+    State: BitArray,
+    M: EncoderModel<PRECISION, Symbol = usize> + DecoderModel<PRECISION, Symbol = usize>,
+    const PRECISION: usize,
+> Store<Word, State, M, PRECISION> {
+    /// The store of these words and this index, as [`Store::into_parts`] or a stranger gave them. It takes no memory.
+    ///
+    /// # Errors
+    ///
+    /// `BadIndex` exactly where an entry begins past the words, or the lengths together are more than
+    /// [`MOST_SYMBOLS`].
+    pub fn from_parts(
+        words: Vec<Word>,
+        index: Vec<(usize, RangeCoderState<Word, State>, usize)>,
+        model: M,
+    ) -> Result<Self, BadIndex>
+        requires { IsSizes Word.BITS State.BITS }
+        ensures variant { IsOk result ↔ IsIndex (length words.items) (map entry_at index.items) }
+        ensures parts { IfOk result (λ store. store ≡ record {
+          words = map Word.number words.items;
+          index = map entry_at index.items;
+          model = model;
+        }) }
+    {
+        if !index_fits::<Word, State>(words.len(), index.as_slice()) {
+            return Err(BadIndex);
+        }
+        Ok(Store {
+            words,
+            index,
+            model,
+        })
+    }
+
+    /// The words, the index and the model. [`Store::from_parts`] makes the same store of them.
+    pub fn into_parts(
+        self,
+    ) -> (
+        Vec<Word>,
+        Vec<(usize, RangeCoderState<Word, State>, usize)>,
+        M,
+    )
+        ensures parts { self ≡ record {
+          words = map Word.number result.0.items;
+          index = map entry_at result.1.items;
+          model = result.2;
+        } }
+        ensures fit { IsIndex (length result.0.items) (map entry_at result.1.items) }
+    {
+        let Store {
+            words,
+            index,
+            model,
+        } = self;
+        (words, index, model)
+    }
+}
