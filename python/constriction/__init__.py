@@ -2,6 +2,7 @@
 
 - :mod:`constriction.stream`: coders that spend fractions of a bit on a symbol (ANS, range coding, chain coding) and their models.
 - :mod:`constriction.symbol`: codewords of whole bits (Huffman, Exp-Golomb).
+- :mod:`constriction.store`: chunks of symbols in one list of words, each of which is read by itself.
 - :mod:`constriction.errors`: what is raised where a call is refused.
 
 The names are those of the Python twin of the Rust crate ``constriction``. The coders are proved; this package, which hands lists
@@ -9,6 +10,7 @@ over to them, isn't, nor are the models that turn floats into weights.
 """
 
 from . import errors, stream, symbol
+from . import store  # It needs the coders of `stream`, which come first.
 
 __version__ = "0.5.0"
-__all__ = ["errors", "stream", "symbol"]
+__all__ = ["errors", "store", "stream", "symbol"]

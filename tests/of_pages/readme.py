@@ -32,7 +32,8 @@ def speed(page):
 
     for coder, name in (("stack coder (ANS)", "ans"), ("range coder", "range"), ("chain coder", "chain")):
         others = of(f"{name}_decode_.*_(bucket|lookup|flat)")
-        page.row(coder, of(f"{name}_encode_.*"), of(f"{name}_decode_.*_table"), others)
+        encodes = f"{of(f'{name}_encode_.*_table')}; {of(f'{name}_encode_.*_flat')}"
+        page.row(coder, encodes, of(f"{name}_decode_.*_table"), others)
     # The Rust crate's writes of bits can be slow by their place in the program: docs/TIMES.md has the ratio to a fast one.
     write = re.search(r"by that both of ours are at ([\d.]+\d)", read("docs/TIMES.md"))
     judge(write, "docs/TIMES.md: the writes of bits")
@@ -73,6 +74,11 @@ def commands(page):
     codewords = [by.golomb_codeword(number) for number in (0, 5, 7)]
     answer = f"{shown(codewords)}, and their bits as words: {shown(by.queue_words(''.join(codewords)))}"
     prints("golomb", "0 5 7", answer)
+    chunks = [[1, 0], [], [1]]
+    words = shown(by.range_words(HALVES * 3, [symbol for chunk in chunks for symbol in chunk]))
+    answer = f"three chunks as words, {words}; the last chunk, {shown(chunks[2])}; the first, {shown(chunks[0])}"
+    lines = "\\n".join(map(shown, chunks))
+    prints("store", f"8388608 8388608\\n2 0\\n{lines}", answer)
     prints("huffman", "2 2 4 1 1", f"{shown(by.huffman_codewords([2, 2, 4, 1, 1]))}: a codeword for each weight")
 
 

@@ -1,12 +1,14 @@
 pub mod Answering
 pub mod Answered
 pub mod Chain
+pub mod Chunks
 pub mod CodewordTexts
 pub mod Faults
 pub mod OwnNumbers
 pub mod Ranges
 pub mod Reading
 pub mod Symbols
+pub mod TextLines
 pub mod TreeTexts
 pub mod Taken
 pub mod Writing

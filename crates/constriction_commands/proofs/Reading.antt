@@ -185,16 +185,16 @@ step_end greatest begun line i past = ap (read_on greatest begun) (drop_all i li
 -- ---- numbers that were read before
 
 -- the numbers so far, in front of those of the rest
-abbrev pub before : List ℕ → Option (List ℕ) → Option (List ℕ)
+abbrev pub before : {X : Type 0} → List X → Option (List X) → Option (List X)
 before numbers None = None
 before numbers (Some rest) = Some (numbers ++ rest)
 
-pub before-none : (rest : Option (List ℕ)) → before [] rest ≡ rest
+pub before-none : {X : Type 0} (rest : Option (List X)) → before [] rest ≡ rest
 before-none None = refl
 before-none (Some rest) = refl
 
 -- one more number so far is one less in front of the rest
-pub before-push : (numbers : List ℕ) (n : ℕ) (rest : Option (List ℕ)) → before (numbers ++ n ∷ []) rest ≡ before numbers (in_front (Some n) rest)
+pub before-push : {X : Type 0} (numbers : List X) (n : X) (rest : Option (List X)) → before (numbers ++ n ∷ []) rest ≡ before numbers (in_front (Some n) rest)
 before-push numbers n None = refl
 before-push numbers n (Some rest) = ap Some (append_assoc numbers (n ∷ []) rest)
 

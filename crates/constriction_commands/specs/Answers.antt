@@ -8,8 +8,9 @@ use Rattle.constriction_commands.specs.commands.RangeDecode.{IsRangeDecoded, Ran
 use Rattle.constriction_commands.specs.commands.ChainSplit.{IsChainSplit, ChainSplitFails}
 use Rattle.constriction_commands.specs.commands.Golomb.{IsGolomb, GolombFails}
 use Rattle.constriction_commands.specs.commands.Huffman.{IsHuffmanLine, HuffmanFails}
+use Rattle.constriction_commands.specs.commands.Store.{IsStored, StoreFails}
 use Rattle.constriction_commands.specs.declared.commands.Command.{Command}
-use Rattle.constriction_commands.specs.declared.commands.Command.TheVariants.{AnsEncode, AnsDecode, RangeEncode, RangeDecode, ChainSplit, Golomb, Huffman}
+use Rattle.constriction_commands.specs.declared.commands.Command.TheVariants.{AnsEncode, AnsDecode, RangeEncode, RangeDecode, ChainSplit, Golomb, Huffman, Store}
 use Rattle.constriction_commands.specs.declared.fault.Fault.{Fault}
 use Rattle.constriction_commands.specs.declared.fault.Fault.TheVariants.{Unreadable, Unwritable, OutOfMemory}
 
@@ -22,6 +23,7 @@ name_of RangeDecode = codes "range-decode"
 name_of ChainSplit = codes "chain-split"
 name_of Golomb = codes "golomb"
 name_of Huffman = codes "huffman"
+name_of Store = codes "store"
 
 -- the arguments are the command's name alone
 abbrev pub Names : List (List ℕ) → Command → Type 0
@@ -36,6 +38,7 @@ Fails RangeDecode text fault = RangeDecodeFails text fault
 Fails ChainSplit text fault = ChainSplitFails text fault
 Fails Golomb text fault = GolombFails text fault
 Fails Huffman text fault = HuffmanFails text fault
+Fails Store text fault = StoreFails text fault
 
 -- why a run stops: reading, writing or memory failed, or the command that the arguments name fails for the text
 abbrev pub Stops : List (List ℕ) → Option (List ℕ) → Fault → Type 0
@@ -51,6 +54,7 @@ Answers RangeDecode text answer = IsRangeDecoded text answer
 Answers ChainSplit text answer = IsChainSplit text answer
 Answers Golomb text answer = IsGolomb text answer
 Answers Huffman text answer = IsHuffmanLine text answer
+Answers Store text answer = IsStored text answer
 
 -- what the command that the arguments name answers a text
 abbrev pub IsAnswered : List (List ℕ) → List ℕ → List ℕ → Type 0

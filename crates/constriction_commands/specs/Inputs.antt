@@ -1,7 +1,7 @@
--- What the first two lines of a text give a command that codes symbols, and why they give nothing.
+-- What the lines of a text give a command that codes symbols, and why they give nothing.
 use Rattle.std.specs.Prelude.{Option, None, ◌≡◌, ℕ, ◌-◌, ◌≤◌, ◌^◌, Some, List, [], ◌∷◌, sum, ◌≢◌, ◌⊎◌, ◌<◌, ⊤}
 use Rattle.constriction.specs.Tables.{table_of}
-use Rattle.constriction_commands.specs.Lines.{first_line, second_line, numbers_of}
+use Rattle.constriction_commands.specs.Lines.{first_line, second_line, after_line, numbers_of, number_lists_of}
 use Rattle.constriction_commands.specs.declared.fault.Fault.{Fault}
 use Rattle.constriction_commands.specs.declared.fault.Fault.TheVariants.{BadNumber, NoCount, NoWeights, WrongTotal, OutOfMemory}
 
@@ -69,3 +69,20 @@ NoWords text WrongTotal =
     (weights : List ℕ) × (count : ℕ) × (words : List ℕ) × WeightsAre text weights × CountedAre text (count ∷ words) × (count ≤ most) × (weights ≢ []) × (sum weights ≢ 2 ^ 24)
 NoWords text OutOfMemory = ⊤
 NoWords text fault = ⊥
+
+-- ---- weights, look-ups and chunks
+
+-- the lines behind the second list these chunks of symbols of 64 bits, one each
+abbrev pub ChunksAre : List ℕ → List (List ℕ) → Type 0
+ChunksAre text chunks = number_lists_of (2 ^ 64 - 1) (after_line (after_line text)) ≡ Some chunks
+
+-- the weights of this table, the places of the chunks that are looked up, and these chunks
+pub record GivesChunks (text : List ℕ) (table : List (ℕ × ℕ × ℕ)) (places : List ℕ) (chunks : List (List ℕ)) : Type 0 where
+  pub first_two : GivesSymbols text table places
+  pub chunk_lines : ChunksAre text chunks
+
+-- why there are none: a line is bad, or else the weights make no table
+abbrev pub NoChunks : List ℕ → Fault → Type 0
+NoChunks text BadNumber = NoSymbols text BadNumber ⊎ (number_lists_of (2 ^ 64 - 1) (after_line (after_line text)) ≡ None)
+NoChunks text OutOfMemory = ⊤
+NoChunks text fault = NoSymbols text fault × ((chunks : List (List ℕ)) × ChunksAre text chunks)

@@ -1,6 +1,6 @@
 -- Lines of numbers: the lines of a text, the numbers that a line lists, and how numbers are printed.
 use Rattle.std.specs.Prelude.{ℕ, ◌+◌, ◌*◌, ◌-◌, Bool, true, false, ◌&&◌, ◌||◌, ◌==◌, nat_le, if◌then◌else◌, Option, None, Some, List, [], ◌∷◌, ◌++◌, map, filter, decimal}
-use Rattle.std.specs.List.{before_first, after_first, slice_split, join_with_byte}
+use Rattle.std.specs.List.{before_first, after_first, onto_first, slice_split, join_with_byte}
 use Rattle.std.specs.Char.{is_ascii_digit}
 use Rattle.std.specs.Str.{all_ascii_digits}
 
@@ -46,11 +46,11 @@ with_digit greatest n byte = if is_ascii_digit byte && nat_le (10 * n + (byte - 
 abbrev pub number_spelled : ℕ → List ℕ → Option ℕ
 number_spelled greatest piece = if all_ascii_digits piece && nat_le (value_after 0 piece) greatest then Some (value_after 0 piece) else None
 
--- a number in front of others, where both are there
-abbrev pub in_front : Option ℕ → Option (List ℕ) → Option (List ℕ)
+-- one in front of others, where both are there
+abbrev pub in_front : {X : Type 0} → Option X → Option (List X) → Option (List X)
 in_front None rest = None
-in_front (Some n) None = None
-in_front (Some n) (Some ns) = Some (n ∷ ns)
+in_front (Some x) None = None
+in_front (Some x) (Some xs) = Some (x ∷ xs)
 
 -- the numbers of pieces; none where one of them spells no number
 abbrev pub all_numbers : ℕ → List (List ℕ) → Option (List ℕ)
@@ -60,6 +60,20 @@ all_numbers greatest (piece ∷ pieces) = in_front (number_spelled greatest piec
 -- the numbers up to the greatest that a line lists; none where it is no list of such numbers
 abbrev pub numbers_of : ℕ → List ℕ → Option (List ℕ)
 numbers_of greatest line = all_numbers greatest (pieces_of line)
+
+-- the lines of a text; where it ends at a line feed, no line stands behind that
+abbrev pub lines_of : List ℕ → List (List ℕ)
+lines_of [] = []
+lines_of (byte ∷ bytes) = if is_line_feed byte then [] ∷ lines_of bytes else onto_first byte (lines_of bytes)
+
+-- the lists of numbers up to the greatest that lines are; none where one of them is no such list
+abbrev pub all_number_lists : ℕ → List (List ℕ) → Option (List (List ℕ))
+all_number_lists greatest [] = Some []
+all_number_lists greatest (line ∷ lines) = in_front (numbers_of greatest line) (all_number_lists greatest lines)
+
+-- those of a text, a list for each line
+abbrev pub number_lists_of : ℕ → List ℕ → Option (List (List ℕ))
+number_lists_of greatest text = all_number_lists greatest (lines_of text)
 
 -- numbers in decimal with a space between each two, as a line
 abbrev pub line_of : List ℕ → List ℕ

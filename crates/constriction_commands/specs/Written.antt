@@ -2,7 +2,7 @@
 use Rattle.std.specs.Prelude.{Option, ℕ, List, [], ◌∷◌, ◌++◌, take, codes}
 use Rattle.std.specs.Io.KnownBytes.{Appends}
 use Rattle.constriction_commands.specs.declared.fault.Fault.{Fault}
-use Rattle.constriction_commands.specs.declared.fault.Fault.TheVariants.{Unreadable, Unwritable, BadNumber, NoCount, NoWeights, WrongTotal, TooManySymbols, WeightOverflow, Encoder, ZeroWord, InvalidData, NoChain, OutOfData, OutOfMemory}
+use Rattle.constriction_commands.specs.declared.fault.Fault.TheVariants.{Unreadable, Unwritable, BadNumber, NoCount, NoWeights, WrongTotal, TooManySymbols, WeightOverflow, Encoder, ZeroWord, NoChain, OutOfData, InvalidData, NoSuchChunk, OutOfMemory}
 
 -- what a writer holds grew by a beginning of these bytes
 abbrev pub GrowsByBeginning : Option (List ℕ) → Option (List ℕ) → List ℕ → Type 0
@@ -14,7 +14,7 @@ as_line text = text ++ 10 ∷ []
 
 -- the line where the arguments are not one known command
 abbrev pub usage_line : List ℕ
-usage_line = as_line (codes "usage: constriction <ans-encode|ans-decode|range-encode|range-decode|chain-split|golomb|huffman>")
+usage_line = as_line (codes "usage: constriction <ans-encode|ans-decode|range-encode|range-decode|chain-split|golomb|huffman|store>")
 
 -- the line of a fault
 abbrev pub fault_line : Fault → List ℕ
@@ -31,4 +31,5 @@ fault_line (ZeroWord error) = as_line (codes "Tried to decode from compressed da
 fault_line (InvalidData error) = as_line (codes "Tried to decode from compressed data that is invalid for the employed entropy model.")
 fault_line NoChain = as_line (codes "not enough words, or a zero word at the end")
 fault_line (OutOfData error) = as_line (codes "Out of compressed data.")
+fault_line NoSuchChunk = as_line (codes "no such chunk")
 fault_line OutOfMemory = as_line (codes "out of memory")

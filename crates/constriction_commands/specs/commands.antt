@@ -5,3 +5,4 @@ pub mod Golomb
 pub mod Huffman
 pub mod RangeDecode
 pub mod RangeEncode
+pub mod Store

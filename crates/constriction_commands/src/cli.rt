@@ -23,7 +23,7 @@ use std::process::ExitCode;
 
 /// The line on standard error where the arguments are not one known command.
 const USAGE: &[u8] =
-    b"usage: constriction <ans-encode|ans-decode|range-encode|range-decode|chain-split|golomb|huffman>\n";
+    b"usage: constriction <ans-encode|ans-decode|range-encode|range-decode|chain-split|golomb|huffman|store>\n";
 
 /// The arguments behind the program's name, of those that the system gave. There are none where one of them is
 /// not UTF-8, so that they name no command.

@@ -7,6 +7,7 @@ mod golomb;
 mod huffman;
 mod range_decode;
 mod range_encode;
+mod store;
 
 ghost use Rattle.std.specs.Prelude.{map, string_bytes, IfOk, IfErr, IfSome, IfNone};
 ghost use Rattle.constriction_commands.specs.Answers.{Names, Answers, Fails};
@@ -25,6 +26,7 @@ pub enum Command {
     ChainSplit,
     Golomb,
     Huffman,
+    Store,
 }
 
 impl Command {
@@ -44,6 +46,7 @@ impl Command {
             "chain-split" => Some(Command::ChainSplit),
             "golomb" => Some(Command::Golomb),
             "huffman" => Some(Command::Huffman),
+            "store" => Some(Command::Store),
             _ => None,
         }
     }
@@ -61,6 +64,7 @@ impl Command {
             Command::ChainSplit => chain_split::answer(alloc, text),
             Command::Golomb => golomb::answer(alloc, text),
             Command::Huffman => huffman::answer(alloc, text),
+            Command::Store => store::answer(alloc, text),
         }
     }
 }

@@ -21,7 +21,7 @@ pub enum Fault {
     NoCount,
     NoWeights,
     WrongTotal,
-    /// The weights are more than a Huffman tree can have.
+    /// The weights are more than a Huffman tree can have, or the symbols more than a store holds.
     TooManySymbols,
     /// The weights of a Huffman tree add up to more than 64 bits.
     WeightOverflow,
@@ -34,6 +34,8 @@ pub enum Fault {
     OutOfData(chain::DecoderFrontendError),
     /// The compressed words hold no symbol of the table.
     InvalidData(DecoderFrontendError),
+    /// There are fewer chunks than a look-up asks for.
+    NoSuchChunk,
     OutOfMemory,
 }
 
@@ -58,6 +60,7 @@ impl Fault {
                 b"Tried to decode from compressed data that is invalid for the employed entropy model.\n",
             Fault::NoChain => b"not enough words, or a zero word at the end\n",
             Fault::OutOfData(_) => b"Out of compressed data.\n",
+            Fault::NoSuchChunk => b"no such chunk\n",
             Fault::OutOfMemory => b"out of memory\n",
         }
     }

@@ -1,5 +1,6 @@
-//! What the first two lines give the commands that code symbols.
+//! What the lines give the commands that code symbols.
 
+pub mod chunks;
 pub mod symbols;
 pub mod words;
 

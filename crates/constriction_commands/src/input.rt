@@ -1,7 +1,7 @@
 //! Reading: the whole input, its lines, and the numbers of a line.
 
 ghost use Rattle.std.specs.Prelude.{◌≡◌, ◌⊎◌, ℕ, ◌-◌, ◌^◌, ◌≤◌, Some, None, IfOk, IfErr, IfSome, IsErrOf, map};
-ghost use Rattle.constriction_commands.specs.Lines.{first_line, after_line, is_blank, with_digit, numbers_of};
+ghost use Rattle.constriction_commands.specs.Lines.{first_line, after_line, is_blank, with_digit, numbers_of, number_lists_of};
 ghost use Rattle.constriction_commands.specs.declared.fault.Fault.TheVariants.{BadNumber, OutOfMemory, Unreadable};
 
 use crate::fault::Fault;
@@ -113,4 +113,22 @@ pub fn parse_numbers<N: Number>(alloc: Global, line: &[u8]) -> Result<Vec<N>, Fa
         numbers.push(N::from_value(value))?;
     }
     Ok(numbers)
+}
+
+/// The lists of numbers that the lines of a text are, a list for each. `BadNumber` where one of them is no list of numbers
+/// up to the greatest of the type.
+pub fn parse_lines<N: Number>(alloc: Global, text: &[u8]) -> Result<Vec<Vec<N>>, Fault>
+    ensures ok { IfOk result (λ lists. number_lists_of N.GREATEST text.now
+        ≡ Some (map (λ list. map N.number list.items) lists.items)) }
+    ensures bad { IsErrOf result BadNumber → number_lists_of N.GREATEST text.now ≡ None }
+    ensures err { IfErr result (λ fault. (fault ≡ BadNumber) ⊎ (fault ≡ OutOfMemory)) }
+{
+    let mut lists = Vec::new(alloc);
+    let mut rest = text;
+    'lines: while !rest.is_empty() {
+        let (line, after) = split_line(rest);
+        lists.push(parse_numbers::<N>(alloc, line)?)?;
+        rest = after;
+    }
+    Ok(lists)
 }

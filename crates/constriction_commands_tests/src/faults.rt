@@ -9,7 +9,7 @@ use constriction_commands::fault::Fault;
 use std::test::Fail;
 
 const USAGE: &[u8] =
-    b"usage: constriction <ans-encode|ans-decode|range-encode|range-decode|chain-split|golomb|huffman>\n";
+    b"usage: constriction <ans-encode|ans-decode|range-encode|range-decode|chain-split|golomb|huffman|store>\n";
 
 #[test]
 fn program_fault_texts(rt: HostRuntime) -> Result<(), Fail> {
@@ -25,7 +25,7 @@ fn program_fault_texts(rt: HostRuntime) -> Result<(), Fail> {
 
 #[test]
 fn fault_texts(rt: HostRuntime) -> Result<(), Fail> {
-    let cases: [(Fault, &[u8]); 12] = [
+    let cases: [(Fault, &[u8]); 13] = [
         (Fault::Unreadable, b"cannot read input\n"),
         (Fault::Unwritable, b"cannot write output\n"),
         (Fault::BadNumber, b"bad number\n"),
@@ -52,6 +52,7 @@ fn fault_texts(rt: HostRuntime) -> Result<(), Fail> {
             Fault::InvalidData(DecoderFrontendError::InvalidData),
             b"Tried to decode from compressed data that is invalid for the employed entropy model.\n",
         ),
+        (Fault::NoSuchChunk, b"no such chunk\n"),
         (Fault::OutOfMemory, b"out of memory\n"),
     ];
     for (fault, line) in cases.iter() {

@@ -21,4 +21,6 @@ mod ranges;
 #[cfg(test)]
 mod runs;
 #[cfg(test)]
+mod stores;
+#[cfg(test)]
 mod writers;

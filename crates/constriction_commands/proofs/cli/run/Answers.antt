@@ -1,5 +1,4 @@
 use Rattle.std.specs.Prelude.{map, string_bytes}
-use Rattle.std.specs.Io.KnownBytes.{Appends}
 use Rattle.std.proofs.Common.{inl, inr}
 use Rattle.constriction_commands.specs.Written.{GrowsByBeginning}
 use Rattle.constriction_commands.proofs.Answering.{answered}

@@ -1,4 +1,4 @@
-use Rattle.std.proofs.Common.{ℕ, ◌%◌, ◌^◌, sym, ◌∙◌, refl, inl, inr, arith}
+use Rattle.std.proofs.Common.{◌%◌, ◌^◌, sym, ◌∙◌, refl, inl, inr, arith}
 use Rattle.constriction_commands.proofs.OwnNumbers.{map-reverse}
 use Rattle.constriction_commands.proofs.Chain.{all_read, last_zero}
 use Rattle.constriction_commands.proofs.commands.chain_split.coder_of.Goals as goal

@@ -1,4 +1,4 @@
-use Rattle.std.proofs.Common.{ℕ, ◌%◌, ◌^◌, [], ◌∷◌, map, arith, length, length-append, ap, ◌∙◌, inl, inr}
+use Rattle.std.proofs.Common.{◌%◌, ◌^◌, [], ◌∷◌, map, arith, length, length-append, ap, ◌∙◌, inl, inr}
 use Rattle.constriction.specs.Tables.{AtEntry}
 use Rattle.constriction.specs.chain.Chain.{IsDecode}
 use Rattle.constriction.proofs.InTurn.{InTurn-more}

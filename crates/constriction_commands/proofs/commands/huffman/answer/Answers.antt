@@ -1,4 +1,4 @@
-use Rattle.std.proofs.Common.{ℕ, ◌-◌, ◌^◌, Some, length, sym, ◌∙◌, ap}
+use Rattle.std.proofs.Common.{◌-◌, ◌^◌, Some, length, sym, ◌∙◌, ap}
 use Rattle.std.proofs.lemmas.List.{map-id}
 use Rattle.constriction.specs.symbol.Huffman.{huffman, leaves, path}
 use Rattle.constriction_commands.specs.Lines.{numbers_of}

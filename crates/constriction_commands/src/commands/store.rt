@@ -1,0 +1,75 @@
+//! `store`: chunks to the words of an indexed store, and the chunks that are looked up in it.
+
+ghost use Rattle.std.specs.Prelude.{◌≡◌, ◌++◌, List, ℕ, length, IfOk, IfErr, OnOk};
+ghost use Rattle.constriction.specs.Tables.{entries, model_of};
+ghost use Rattle.constriction.specs.store.Chunks.{lists_of};
+ghost use Rattle.constriction.specs.store.Stores.{HoldsChunks};
+ghost use Rattle.constriction_commands.specs.commands.Store.{AreThere, AreWordsOf, IsStored, LookingUpFails};
+ghost use Rattle.constriction_commands.specs.commands.Store.{StoreFails, StoringFails, lines_at};
+
+use crate::fault::Fault;
+use crate::given::chunks::table_and_chunks;
+use crate::output::{line_of_words, push_numbers};
+use crate::weights::{PRECISION, Table};
+use constriction::DefaultEncoderFrontendError;
+use constriction::store::{BuildError, ChunkError, Store};
+use constriction::stream::model::{DecoderModel, EncoderModel, EntropyModel};
+use std::alloc::Global;
+
+/// A store of words of 32 bits.
+type Chunks = Store<u32, u64, Table, PRECISION>;
+
+/// The store of chunks.
+fn store_of(alloc: Global, chunks: &[Vec<usize>], table: Table) -> Result<Chunks, Fault>
+    ensures words { IfOk result (λ store. AreWordsOf (entries table) (lists_of chunks.now) store.words) }
+    ensures held { IfOk result (λ store. HoldsChunks 32 64 (model_of store.model) store.words store.index
+        (lists_of chunks.now)) }
+    ensures err { IfErr result (StoringFails (entries table) (lists_of chunks.now)) }
+{
+    match Store::build(alloc, chunks, table) {
+        Ok(store) => Ok(store),
+        Err(BuildError::TooLong) => Err(Fault::TooManySymbols),
+        Err(BuildError::ImpossibleSymbol { chunk: _, index: _ }) => {
+            Err(Fault::Encoder(DefaultEncoderFrontendError::ImpossibleSymbol))
+        }
+        Err(BuildError::Memory) => Err(Fault::OutOfMemory),
+    }
+}
+
+/// Adds the lines of the chunks at these places, in the order of the places.
+fn push_chunks(
+    alloc: Global,
+    lines: &mut Vec<u8>,
+    store: &Chunks,
+    places: &[usize],
+) -> Result<(), Fault>
+    requires { (chunks : List (List ℕ))
+        × HoldsChunks 32 64 (model_of store.now.model) store.now.words store.now.index chunks }
+    ensures ok { OnOk result ((chunks : List (List ℕ))
+        → HoldsChunks 32 64 (model_of store.now.model) store.now.words store.now.index chunks
+        → AreThere chunks places.now × (lines.new.items ≡ lines.old.items ++ lines_at chunks places.now)) }
+    ensures err { IfErr result (LookingUpFails (length store.now.index) places.now) }
+{
+    for place in places {
+        match store.chunk(alloc, *place) {
+            Ok(symbols) => push_numbers(lines, symbols.as_slice())?,
+            Err(ChunkError::NoSuchChunk) => return Err(Fault::NoSuchChunk),
+            // Each chunk of a store that was built is there.
+            Err(ChunkError::Invalid) => unreachable!(),
+            Err(ChunkError::Memory) => return Err(Fault::OutOfMemory),
+        }
+    }
+    Ok(())
+}
+
+/// The line of words and the lines of chunks, for a line of weights, a line of places and a line for each chunk.
+pub fn answer(alloc: Global, text: &[u8]) -> Result<Vec<u8>, Fault>
+    ensures ok { IfOk result (λ answer. IsStored text.now answer.items) }
+    ensures err { IfErr result (StoreFails text.now) }
+{
+    let (table, places, chunks) = table_and_chunks(alloc, text)?;
+    let store = store_of(alloc, chunks.as_slice(), table)?;
+    let mut lines = line_of_words(alloc, store.words())?;
+    push_chunks(alloc, &mut lines, &store, places.as_slice())?;
+    Ok(lines)
+}

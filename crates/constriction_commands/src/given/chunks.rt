@@ -1,0 +1,29 @@
+//! Weights, look-ups and chunks.
+
+ghost use Rattle.std.specs.Prelude.{IfOk, IfErr};
+ghost use Rattle.constriction.specs.store.Chunks.{lists_of};
+ghost use Rattle.constriction_commands.specs.Inputs.{GivesChunks, NoChunks};
+
+use crate::fault::Fault;
+use crate::input::{parse_lines, parse_numbers, split_line};
+use crate::weights::{PRECISION, Table, make_table};
+use constriction::stream::model::EntropyModel;
+use std::alloc::Global;
+
+/// The places of the chunks that are looked up, and all chunks.
+pub type Given = (Table, Vec<usize>, Vec<Vec<usize>>);
+
+/// The table of the weights of line 1, the places of line 2, and a chunk for each line behind them.
+pub fn table_and_chunks(alloc: Global, text: &[u8]) -> Result<Given, Fault>
+    ensures ok { IfOk result (λ given. GivesChunks text.now (⟦<Table as EntropyModel<PRECISION>>⟧.table given.0)
+        given.1.items (lists_of given.2.items)) }
+    ensures err { IfErr result (NoChunks text.now) }
+{
+    let (first, behind) = split_line(text);
+    let (second, rest) = split_line(behind);
+    let weights = parse_numbers::<u32>(alloc, first)?;
+    let places = parse_numbers::<usize>(alloc, second)?;
+    let chunks = parse_lines::<usize>(alloc, rest)?;
+    let table = make_table(alloc, weights.as_slice())?;
+    Ok((table, places, chunks))
+}

@@ -1,0 +1,153 @@
+"""Store: chunks that are looked up, words in a file, hostile words and indices."""
+
+from __future__ import annotations
+
+import doctest
+import mmap
+import random
+import tempfile
+import unittest
+from array import array
+from itertools import product
+from pathlib import Path
+from typing import Any
+
+from constriction import errors, store
+from constriction.store import MOST_SYMBOLS, Store
+from constriction.stream.model import QuantizedGaussian, Uniform, WeightTable
+from constriction.stream.queue import RangeDecoder, RangeEncoder
+
+HALVES = WeightTable([8388608, 8388608])
+THREE = [[1, 0], [], [1]]
+
+
+def some_chunks() -> list[list[int]]:
+    draw = random.Random(7)
+    return [[draw.randrange(-50, 51) for _ in range(draw.randrange(100))] for _ in range(100)]
+
+
+class Stores(unittest.TestCase):
+    def test_three(self) -> None:
+        found = Store.build(THREE, HALVES)
+        self.assertEqual(list(found.words), [2684354560])
+        self.assertEqual([list(found.chunk(i)) for i in (2, 1, 0)], [[1], [], [1, 0]])
+        self.assertEqual([count for _, _, count in found.index], [2, 0, 1])
+        self.assertEqual(found.index[0][:2], RangeEncoder().pos())
+
+    def test_as_a_sequence(self) -> None:
+        found = Store.build(THREE, HALVES)
+        self.assertEqual(len(found), 3)
+        self.assertEqual([list(chunk) for chunk in found], THREE)
+        self.assertEqual([list(chunk) for chunk in found[::-1]], THREE[::-1])
+        self.assertEqual(list(found[-1]), [1])
+        for i in (3, -4, 1 << 70):
+            with self.assertRaisesRegex(IndexError, "no such chunk"):
+                found[i]
+        for i in (3, -1):
+            with self.assertRaisesRegex(IndexError, "no such chunk"):
+                found.chunk(i)
+        with self.assertRaises(TypeError):
+            found["0"]
+
+    def test_words_are_those_of_one_encoder(self) -> None:
+        chunks, model = some_chunks(), QuantizedGaussian(-50, 50, 0.0, 20.0)
+        encoder = RangeEncoder()
+        found = Store.build(chunks, model)
+        for chunk, entry in zip(chunks, found.index):
+            self.assertEqual(encoder.pos(), entry[:2])
+            encoder.encode(chunk, model)
+        self.assertEqual(list(found.words), list(encoder.get_compressed(self_delimiting=True)))
+        decoder = RangeDecoder(found.words)
+        for chunk in chunks:
+            self.assertEqual(list(decoder.decode(model, len(chunk))), chunk)
+
+    def test_any_order_and_whatever_follows(self) -> None:
+        chunks, model = some_chunks(), QuantizedGaussian(-50, 50, 0.0, 20.0)
+        built = Store.build(iter(chunks), model)
+        for behind in ([], [0], [0xFFFFFFFF] * 5, [1, 2, 3]):
+            found = Store.from_parts(array("I", [*built.words, *behind]), built.index, model)
+            order = [*range(100), *reversed(range(100)), 7, 7]
+            self.assertEqual([list(found[i]) for i in order], [chunks[i] for i in order])
+
+    def test_of_a_file(self) -> None:
+        chunks, model = some_chunks(), QuantizedGaussian(-50, 50, 0.0, 20.0)
+        built = Store.build(chunks, model)
+        with tempfile.TemporaryDirectory() as folder:
+            path = Path(folder, "words")
+            path.write_bytes(bytes(built.words))
+            with open(path, "rb") as file, mmap.mmap(file.fileno(), 0, access=mmap.ACCESS_READ) as memory:
+                found = Store.from_parts(memory, built.index, model)
+                self.assertEqual([list(chunk) for chunk in found], chunks)
+
+    def test_buffers(self) -> None:
+        built = Store.build(THREE, HALVES)
+        data = bytes(built.words)
+        for words in (data, bytearray(data), memoryview(data), memoryview(built.words), array("I", built.words)):
+            self.assertEqual(list(Store.from_parts(words, built.index, HALVES)[0]), [1, 0])
+        for bad in (data[:3], b"abcde"):
+            with self.assertRaisesRegex(errors.WrongLengthError, "bad index"):
+                Store.from_parts(bad, [], HALVES)
+        for words in ([1, 2], "ab", array("d", [1.0])):
+            with self.assertRaises(TypeError):
+                Store.from_parts(words, [], HALVES)
+
+    def test_only_the_words_of_the_chunk_are_copied(self) -> None:
+        chunks, model = [[1, 2, 3]] * 1000, Uniform(16)
+        built = Store.build(chunks, model)
+        asked: list[tuple[int, int]] = []
+
+        class Watched(Store):
+            def _words_from(self, place: int, count: int) -> Any:
+                asked.append((place, count))
+                return super()._words_from(place, count)
+
+        found = Watched.from_parts(built.words, built.index, model)
+        self.assertEqual(list(found[500]), [1, 2, 3])
+        self.assertEqual(asked, [(built.index[500].position, 5)])
+
+    def test_refusals(self) -> None:
+        with self.assertRaisesRegex(errors.ImpossibleSymbolError, "Impossible symbol."):
+            Store.build([[0], [1, 2]], HALVES)
+        with self.assertRaisesRegex(errors.WrongLengthError, "too many symbols"):
+            Store.build([array("q", [0]) * MOST_SYMBOLS, [0]], HALVES)
+        with self.assertRaises(TypeError):
+            Store.build([[1]], QuantizedGaussian(-50, 50))
+        empty = Store.build([], HALVES)
+        self.assertEqual((len(empty), list(empty.words)), (0, []))
+        with self.assertRaises(IndexError):
+            empty.chunk(0)
+
+    def test_parts_of_a_stranger(self) -> None:
+        start = RangeEncoder().pos()
+        words = array("I", [0xFFFFFFFF, 0xFFFFFFFF])
+        found = Store.from_parts(words, [(*start, 1)], HALVES)
+        with self.assertRaisesRegex(errors.InvalidDataError, "invalid chunk"):
+            found.chunk(0)
+        at_end = Store.from_parts(words, [(2, start[1], 1)], HALVES)
+        self.assertEqual(list(at_end.chunk(0)), [0])
+        for entry in ((3, start[1], 1), (-1, start[1], 1), (0, start[1], -1), (0, start[1], MOST_SYMBOLS + 1)):
+            with self.assertRaisesRegex(errors.WrongLengthError, "bad index"):
+                Store.from_parts(words, [entry], HALVES)
+        with self.assertRaisesRegex(errors.WrongLengthError, "bad index"):
+            Store.from_parts(words, [(*start, MOST_SYMBOLS), (*start, 1)], HALVES)
+
+    def test_hostile_parts(self) -> None:
+        """Each chunk is what a decoder gives that goes to its position, or both refuse it."""
+        numbers = (0, 1, 1 << 31, (1 << 32) - 1)
+        states = ((0, (1 << 64) - 1), (0, 1 << 32), ((1 << 64) - 1, 1 << 40), (5, 3), (0, 0))
+        for count in range(3):
+            for words in product(numbers, repeat=count):
+                for place, state, many in product(range(count + 1), states, range(3)):
+                    found = Store.from_parts(array("I", words), [(place, state, many)], HALVES)
+                    decoder = RangeDecoder(words)
+                    try:
+                        decoder.seek(place, state)
+                        wanted = list(decoder.decode(HALVES, many)) if many else []
+                    except errors.InvalidDataError:
+                        with self.assertRaisesRegex(errors.InvalidDataError, "invalid chunk"):
+                            found.chunk(0)
+                    else:
+                        self.assertEqual(list(found.chunk(0)), wanted)
+
+    def test_examples(self) -> None:
+        self.assertEqual(doctest.testmod(store).failed, 0)
