@@ -1,0 +1,109 @@
+//! Bits of words: codewords of numbers and of a Huffman tree, in a queue and on a stack.
+
+use crate::Reader;
+use crate::sum::Sum;
+use constriction_base::backends::{Queue, Semantics, Stack};
+use constriction_base::cursor::Cursor;
+use constriction_base::errors::CoderError;
+use constriction_symbol::codebooks::{DecoderCodebook, SymbolCodeError};
+use constriction_symbol::coder::StackCoder;
+use constriction_symbol::exp_golomb::ExpGolomb;
+use constriction_symbol::huffman::DecoderHuffmanTree;
+use constriction_symbol::queue::QueueDecoder;
+use constriction_symbol::reading::ReadBitStream;
+use std::convert::Infallible;
+
+type QueueOf<'a> = QueueDecoder<u8, Cursor<u8, &'a [u8]>>;
+
+type StackOf<'a> = StackCoder<u8, Cursor<u8, &'a [u8]>>;
+
+/// The weights of the tree.
+pub const WEIGHTS: [u32; 5] = [2, 2, 4, 1, 1];
+
+/// In what bits are held, and what they stand for.
+#[derive(Clone, Copy)]
+pub enum Form {
+    QueueOfNumbers,
+    StackOfNumbers,
+    QueueOfSymbols,
+    StackOfSymbols,
+}
+
+/// Codewords are read.
+#[derive(Drop)]
+pub struct Bits<'a> {
+    pub tree: &'a DecoderHuffmanTree,
+    pub form: Form,
+}
+
+/// Adds the number of a codeword, or why there is none.
+fn add_number<E: Drop>(answer: Result<u64, SymbolCodeError<E>>, sum: &mut Sum) {
+    match answer {
+        Ok(number) => sum.add(number),
+        Err(SymbolCodeError::InvalidCodeword(_)) => sum.add(1 << 42),
+        Err(SymbolCodeError::OutOfCompressedData) => sum.add_refusal(),
+    }
+}
+
+/// Six numbers.
+fn numbers<S: Semantics, Stream: ReadBitStream<S, ReadError = Infallible>>(
+    stream: &mut Stream,
+    sum: &mut Sum,
+) {
+    for _ in 0..6 {
+        match stream.decode_symbol(ExpGolomb::<u8>::new()) {
+            Ok(number) => sum.add(number as u64),
+            Err(CoderError::Frontend(error)) => add_number(Err(error), sum),
+            Err(CoderError::Backend(never)) => match never {},
+        }
+    }
+}
+
+/// Twelve symbols of the tree.
+fn symbols<S: Semantics, Stream: ReadBitStream<S, ReadError = Infallible>>(
+    stream: &mut Stream,
+    tree: &DecoderHuffmanTree,
+    sum: &mut Sum,
+) {
+    for _ in 0..12 {
+        match stream.decode_symbol(tree) {
+            Ok(symbol) => sum.add(symbol as u64),
+            Err(CoderError::Frontend(error)) => add_number(Err(error), sum),
+            Err(CoderError::Backend(never)) => match never {},
+        }
+    }
+}
+
+/// What a queue gives.
+fn from_queue(words: &[u8], tree: Option<&DecoderHuffmanTree>, sum: &mut Sum) {
+    let mut queue: QueueOf<'_> = QueueDecoder::from_compressed(Cursor::new_at_write_beginning(
+        words,
+    ));
+    match tree {
+        Some(tree) => symbols::<Queue, _>(&mut queue, tree, sum),
+        None => numbers::<Queue, _>(&mut queue, sum),
+    }
+    sum.add_whether(queue.maybe_exhausted());
+}
+
+/// What a stack gives.
+fn from_stack(words: &[u8], tree: Option<&DecoderHuffmanTree>, sum: &mut Sum) {
+    match StackOf::from_compressed(Cursor::new_at_write_end(words)) {
+        Ok(mut stack) => match tree {
+            Some(tree) => symbols::<Stack, _>(&mut stack, tree, sum),
+            None => numbers::<Stack, _>(&mut stack, sum),
+        },
+        Err(_) => sum.add_refusal(),
+    }
+}
+
+impl Reader for Bits<'_> {
+    fn read(&self, words: &[u8], sum: &mut Sum) {
+        match self.form {
+            Form::QueueOfNumbers => from_queue(words, None, sum),
+            Form::StackOfNumbers => from_stack(words, None, sum),
+            Form::QueueOfSymbols => from_queue(words, Some(self.tree), sum),
+            Form::StackOfSymbols => from_stack(words, Some(self.tree), sum),
+        }
+    }
+}
