@@ -50,6 +50,103 @@ class Twin(unittest.TestCase):
         assert np.all(decoder.decode(family, self.means, self.stds) == self.message)
         assert np.all(decoder.decode(categorical, 3) == tail)
 
+    def test_parts_after_one_another(self) -> None:
+        # A list under one table, then one with a mean and a deviation for each symbol, through both coders in their own order.
+        first, second = np.array([1, 2, 0, 3, 2, 3, 0], dtype=np.int32), np.array([6, 10, -4, 2], dtype=np.int32)
+        table = constriction.stream.model.Categorical(np.array([0.2, 0.4, 0.1, 0.3], dtype=np.float32), perfect=False)
+        means, stds = np.array([2.5, 13.1, -1.1, -3.0], dtype=np.float32), np.array([4.1, 8.7, 6.2, 5.4], dtype=np.float32)
+        family = constriction.stream.model.QuantizedGaussian(-100, 100)
+        encoder = constriction.stream.queue.RangeEncoder()
+        encoder.encode(first, table)
+        encoder.encode(second, family, means, stds)
+        compressed = encoder.get_compressed()
+        self.assertEqual(compressed.dtype, np.uint32)
+        decoder = constriction.stream.queue.RangeDecoder(compressed)
+        assert np.all(decoder.decode(table, 7) == first)
+        assert np.all(decoder.decode(family, means, stds) == second)
+        coder = constriction.stream.stack.AnsCoder()
+        coder.encode_reverse(second, family, means, stds)
+        coder.encode_reverse(first, table)
+        decoder = constriction.stream.stack.AnsCoder(coder.get_compressed())
+        assert np.all(decoder.decode(table, 7) == first)
+        assert np.all(decoder.decode(family, means, stds) == second)
+        assert decoder.is_empty()
+
+    def test_one_symbol_at_a_time(self) -> None:
+        # Each model follows from the symbols before it.
+        model = constriction.stream.model
+        encoder, ans = constriction.stream.queue.RangeEncoder(), constriction.stream.stack.AnsCoder()
+        before = [0] + [int(it) for it in self.message[:-1]]
+        for symbol, mean in zip(self.message, before):
+            encoder.encode(symbol, model.QuantizedGaussian(-50, 50, float(mean), 5.0))
+        for symbol, mean in zip(self.message[::-1], before[::-1]):
+            ans.encode_reverse(symbol, model.QuantizedGaussian(-50, 50, float(mean), 5.0))
+        for decoder in (encoder.get_decoder(), ans):
+            decoded = [0]
+            for _ in self.message:
+                decoded.append(decoder.decode(model.QuantizedGaussian(-50, 50, float(decoded[-1]), 5.0)))
+            self.assertEqual(decoded[1:], list(self.message))
+
+    def test_jumps(self) -> None:
+        table = constriction.stream.model.Categorical(np.array([0.2, 0.4, 0.1, 0.3], dtype=np.float32), perfect=False)
+        first, second = np.array([1, 2, 0, 3, 2, 3, 0], dtype=np.int32), np.array([2, 2, 0, 1, 3], dtype=np.int32)
+        coder = constriction.stream.stack.AnsCoder()
+        coder.encode_reverse(second, table)
+        position, state = coder.pos()
+        coder.encode_reverse(first, table)
+        self.assertEqual(coder.decode(table), 1)
+        coder.seek(position, state)
+        assert np.all(coder.decode(table, 5) == second)
+        encoder = constriction.stream.queue.RangeEncoder()
+        encoder.encode(first, table)
+        position, interval = encoder.pos()
+        encoder.encode(second, table)
+        decoder = constriction.stream.queue.RangeDecoder(encoder.get_compressed())
+        self.assertEqual(decoder.decode(table), 1)
+        decoder.seek(position, interval)
+        assert np.all(decoder.decode(table, 5) == second)
+
+    def test_bits_back(self) -> None:
+        # Words that come from elsewhere are read as symbols under one model, and the symbols are put back.
+        words = np.array([0x80D14131, 0xDDA97C6C, 0x5017A640, 0x01170A3E], dtype=np.uint32)
+        family = constriction.stream.model.QuantizedGaussian(-100, 100)
+        coder = constriction.stream.stack.AnsCoder(words, True)
+        symbols = coder.decode(family, self.means, self.stds)
+        coder.encode_reverse(symbols, family, self.means, self.stds)
+        assert np.all(coder.get_compressed(unseal=True) == words)
+        self.assertEqual((coder.num_valid_bits(), coder.clone().num_words()), (128, 5))
+
+    def test_chain_keeps_a_change_to_itself(self) -> None:
+        # Another model for one symbol: with the chain coder the other symbols stay.
+        words = np.array([0x80D14131, 0xDDA97C6C, 0x5017A640, 0x01170A3E], dtype=np.uint32)
+        family = constriction.stream.model.Categorical(perfect=False)
+        before = np.array([[0.1, 0.7, 0.1, 0.1], [0.2, 0.2, 0.1, 0.5], [0.2, 0.1, 0.4, 0.3]], dtype=np.float32)
+        after = before.copy()
+        after[0] = [0.09, 0.71, 0.1, 0.1]
+        symbols = [constriction.stream.chain.ChainCoder(words, seal=True).decode(family, rows) for rows in (before, after)]
+        assert np.all(symbols[0][1:] == symbols[1][1:])
+        coder = constriction.stream.chain.ChainCoder(words, is_remainders=False, seal=True)
+        decoded = coder.decode(family, before)
+        prefix, suffix = coder.get_remainders()
+        coder = constriction.stream.chain.ChainCoder(np.concatenate((prefix, suffix)), is_remainders=True)
+        coder.encode_reverse(decoded, family, before)
+        prefix, suffix = coder.get_data(unseal=True)
+        assert np.all(np.concatenate((prefix, suffix)) == words)
+
+    def test_a_custom_model(self) -> None:
+        # Functions that scipy has: the distribution function and its inverse, with parameters or without.
+        def below(x: float, place: float = 0.0, scale: float = 1.0) -> float:
+            return 0.5 + math.atan((x - place) / scale) / math.pi
+
+        def inverse(quantile: float, place: float = 0.0, scale: float = 1.0) -> float:
+            return place + scale * math.tan(math.pi * (quantile - 0.5))
+
+        model = constriction.stream.model.CustomModel(below, inverse, -100, 100)
+        for given in ((), (self.means,), (self.means, self.stds)):
+            coder = constriction.stream.stack.AnsCoder()
+            coder.encode_reverse(self.message, model, *given)
+            assert np.all(coder.decode(model, *(given or (9,))) == self.message)
+
     def test_each_model(self) -> None:
         model = constriction.stream.model
         rows = np.array([[0.3, 0.5, 0.2]] * 5, dtype=np.float32)
