@@ -4,6 +4,7 @@ pub mod Digits
 pub mod Iterators
 pub mod Lists
 pub mod Models
+pub mod Outcomes
 pub mod Readings
 pub mod Reciprocals
 pub mod Steps

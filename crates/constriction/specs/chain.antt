@@ -1,5 +1,8 @@
 pub mod Chain
+pub mod Endings
+pub mod Fits
 pub mod Imports
+pub mod Isolating
 pub mod Positions
 pub mod Runs
 pub mod Steps

@@ -4,9 +4,9 @@ pub mod Decoder
 pub mod Encoder
 pub mod Flagged
 pub mod Guarded
+pub mod Outcomes
 pub mod Range
 pub mod SelfDelimiting
 pub mod States
 pub mod Symbols
-pub mod Told
 pub mod Writing

@@ -1,5 +1,6 @@
 pub mod Ans
 pub mod Binary
+pub mod Exporting
 pub mod Guards
 pub mod Imports
 pub mod Positions

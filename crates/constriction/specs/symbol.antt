@@ -7,4 +7,5 @@ pub mod Guards
 pub mod Huffman
 pub mod Lists
 pub mod Merging
+pub mod Refusals
 pub mod Reversed

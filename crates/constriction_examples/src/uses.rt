@@ -1,11 +1,13 @@
 //! Callers of the coder that say in their own contracts that symbols come back, and a small run.
 //! `docs/CALLING.md` goes through them.
 
-ghost use Rattle.std.specs.Prelude.{◌≡◌, ℕ, List, length, IfSome};
+ghost use Rattle.std.specs.Prelude.{◌≡◌, ℕ, List, length, IfOk, IfErr};
+ghost use Rattle.constriction.specs.Outcomes.{HasImpossible, UnlessImpossible};
 ghost use Rattle.constriction.specs.Tables.{model_of};
 ghost use Rattle.constriction_examples.specs.Packing.{ArePacked};
 
 use anyhow::{Result, bail};
+use constriction::laws::errors::RoundTripError;
 use constriction::laws::stack::round_trips::positions::list_before_a_position;
 use constriction::laws::stack::round_trips::words::{
     list_from_borrowed_words, list_through_words, words_of_list,
@@ -17,39 +19,51 @@ use std::alloc::Global;
 
 /// Symbols that are encoded, the last one first, come back in order from the exported words.
 ///
-/// `None`: the table doesn't know a symbol, or memory ran out.
+/// # Errors
+///
+/// `ImpossibleSymbol` where the table doesn't know a symbol, and `Refused` where memory runs out.
 pub fn there_and_back(
     alloc: Global,
     symbols: &[usize],
     table: &WeightTable<u32, 24>,
-) -> Option<Vec<usize>>
-    ensures back { IfSome result (λ again. again.items ≡ symbols.now) }
+) -> Result<Vec<usize>, RoundTripError>
+    ensures back { IfOk result (λ again. again.items ≡ symbols.now) }
+    ensures err { IfErr result (UnlessImpossible (HasImpossible (model_of table.now).table symbols.now)) }
 {
     let coder = DefaultAnsCoder::new(alloc);
     let (again, _) = list_through_words(alloc, coder, symbols, table)?;
-    Some(again)
+    Ok(again)
 }
 
 /// Words for symbols: `unpack` gives them back.
 ///
-/// `None`: the table doesn't know a symbol, or memory ran out.
-pub fn pack(alloc: Global, symbols: &[usize], table: &WeightTable<u32, 24>) -> Option<Vec<u32>>
-    ensures packed { IfSome result (λ words. ArePacked (model_of table.now) symbols.now words.items) }
+/// # Errors
+///
+/// Those of [`there_and_back`].
+pub fn pack(
+    alloc: Global,
+    symbols: &[usize],
+    table: &WeightTable<u32, 24>,
+) -> Result<Vec<u32>, RoundTripError>
+    ensures packed { IfOk result (λ words. ArePacked (model_of table.now) symbols.now words.items) }
+    ensures err { IfErr result (UnlessImpossible (HasImpossible (model_of table.now).table symbols.now)) }
 {
     words_of_list::<u32, u64, _, 24>(alloc, symbols, table)
 }
 
 /// So many symbols from the words of `pack`, in order.
 ///
-/// `None`: the words are no coder's, or memory ran out.
+/// # Errors
+///
+/// `InvalidData` where the words are no coder's, and `Refused` where memory runs out.
 pub fn unpack(
     alloc: Global,
     words: &[u32],
     count: usize,
     table: &WeightTable<u32, 24>,
-) -> Option<Vec<usize>>
+) -> Result<Vec<usize>, RoundTripError>
     ensures back { (symbols : List ℕ) → ArePacked (model_of table.now) symbols words.now → length symbols ≡ count →
-        IfSome result (λ again. again.items ≡ symbols) }
+        IfOk result (λ again. again.items ≡ symbols) }
 {
     list_from_borrowed_words::<u32, u64, _, 24>(alloc, words, count, table)
 }
@@ -69,14 +83,16 @@ pub fn words_so_far(alloc: Global, coder: &mut DefaultAnsCoder) -> Option<Vec<u3
 /// Symbols that were encoded before a position was recorded come back from it, whatever symbols were
 /// encoded since.
 ///
-/// `None`: the table doesn't know a symbol, or memory ran out.
+/// # Errors
+///
+/// `ImpossibleSymbol` where the table doesn't know one of the symbols, and `Refused` where memory runs out.
 pub fn back_to_a_position(
     alloc: Global,
     before: &[usize],
     since: &[usize],
     table: &WeightTable<u32, 24>,
-) -> Option<Vec<usize>>
-    ensures back { IfSome result (λ again. again.items ≡ before.now) }
+) -> Result<Vec<usize>, RoundTripError>
+    ensures back { IfOk result (λ again. again.items ≡ before.now) }
 {
     let mut coder = DefaultAnsCoder::new(alloc);
     list_before_a_position(alloc, &mut coder, before, since, table)

@@ -7,10 +7,10 @@ use Rattle.constriction_base.specs.Models.{Item, AreModels}
 use Rattle.constriction_stack.specs.Ans.{AnsState, IsPush}
 use Rattle.constriction_stack.specs.Symbols.{EncodesAll}
 use Rattle.constriction_queue.specs.Range.{Run}
-use Rattle.constriction_laws.specs.queue.Symbols as queue
-use Rattle.constriction_laws.proofs.queue_coder.Entries.{entries}
+use Rattle.constriction_queue_laws.specs.Symbols as queue
+use Rattle.constriction_queue_laws.proofs.Entries.{entries}
 use Rattle.constriction_laws.specs.Bounds.{AreEntries, product, spare, share, rounded_whole}
-use Rattle.constriction_laws.proofs.stack_coder.Choosing.{step_of}
+use Rattle.constriction_stack_laws.proofs.Choosing.{step_of}
 
 pub steps_of_encodes : {S : Type 0} (w s : ℕ) (items : List (Item S)) (old new : AnsState) → EncodesAll w s items old new
     → (steps : List Step) × AreEntries items steps × InTurn (IsPush w s) steps old new

@@ -21,10 +21,9 @@
 
 pub mod bounds;
 pub mod callers;
-pub mod chain;
-pub mod lists;
-pub mod queue;
-pub mod room;
-pub mod round_trips;
-pub mod stack;
-pub mod symbol;
+
+pub use constriction_chain_laws as chain;
+pub use constriction_coder_laws::{errors, lists, room, round_trips};
+pub use constriction_queue_laws as queue;
+pub use constriction_stack_laws as stack;
+pub use constriction_symbol_laws as symbol;

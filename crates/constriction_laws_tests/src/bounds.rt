@@ -167,7 +167,7 @@ fn ans_product(rt: HostRuntime) -> Result<(), Fail> {
         above_words(2, share) == Some(65536) && whole.checked_mul(256) == Some(34359738368)
     );
     let few = few_words_of_list::<u8, u16, _, 8>(rt.alloc(), &[1, 1, 1], &tables.fine);
-    assert!(rt; few.is_some_and(|words| words.as_slice() == [255, 255, 255].as_slice()));
+    assert!(rt; few.is_ok_and(|words| words.as_slice() == [255, 255, 255].as_slice()));
     Ok(())
 }
 
@@ -182,7 +182,12 @@ fn ans_net_product(rt: HostRuntime) -> Result<(), Fail> {
     let Ok(mut coder) = Stack::from_compressed(words) else {
         return Err(Fail::from("no coder"));
     };
-    assert!(rt; exchange::<u8, u16, Vec<u8>, _, _, 8>(&mut coder, &off, &1, &on) == Some(0));
+    assert!(rt;
+        matches!(
+            exchange::<u8, u16, Vec<u8>, _, _, 8>(&mut coder, &off, &1, &on),
+            Ok(0)
+        )
+    );
     assert!(rt; coder.state() == 13055 && coder.bulk().as_slice() == [1].as_slice());
     assert!(rt; coder.into_compressed()?.len() == 3);
     Ok(())
@@ -201,16 +206,20 @@ fn goes_on_with(
     };
     let four = [others; 4];
     match list_before_other_words::<u8, u16, _, 8>(alloc, symbols, &four, &table) {
-        Some(again) => again.as_slice() == symbols && sealed_are(alloc, &table, words, symbols),
-        None => false,
+        Ok((all, again)) => {
+            again.as_slice() == symbols
+                && all.len() == words.len() + 4
+                && sealed_are(alloc, &table, words, symbols)
+        }
+        Err(_) => false,
     }
 }
 
 /// Whether these are the words of the symbols.
 fn sealed_are(alloc: Global, table: &WeightTable<u8, 8>, words: &[u8], symbols: &[usize]) -> bool {
     match few_sealed_words_of_list::<u8, u16, _, 8>(alloc, symbols, table) {
-        Some(sealed) => sealed.as_slice() == words,
-        None => false,
+        Ok(sealed) => sealed.as_slice() == words,
+        Err(_) => false,
     }
 }
 
@@ -220,8 +229,8 @@ fn one_symbol_goes_on_with(alloc: Global, others: u32) -> bool {
     };
     let four = [others; 4];
     match list_before_other_words::<u32, u64, _, 24>(alloc, &[1usize], &four, &table) {
-        Some(again) => again.as_slice() == [1].as_slice(),
-        None => false,
+        Ok((_, again)) => again.as_slice() == [1].as_slice(),
+        Err(_) => false,
     }
 }
 

@@ -10,11 +10,17 @@ use constriction_laws::chain::lists::{Decoding, Encoding};
 use constriction_laws::chain::round_trips::coding::{
     decode_list, decode_pairs, encode_list_reverse, encode_pairs_reverse,
 };
-use constriction_laws::chain::round_trips::isolation::first_model_replaced;
+use constriction_laws::chain::round_trips::isolation::{decode_by_two, first_model_replaced};
+use constriction_laws::chain::round_trips::precision::change_and_back;
+use constriction_laws::chain::round_trips::remainders::{
+    binary_words_by_both_parts, words_by_suffix,
+};
+use constriction_laws::chain::round_trips::steps::{decode_and_encode, encode_and_decode};
 use constriction_laws::chain::round_trips::words::{
     put_back, put_back_pairs, take_pairs, take_symbols,
 };
 use constriction_laws::chain::{isolation, lists, steps, words};
+use constriction_laws::errors::RoundTripError;
 use constriction_laws::lists::lists_undo;
 use std::alloc::Global;
 use std::test::Fail;
@@ -58,10 +64,10 @@ fn symbols_are_taken(alloc: Global, table: &Table) -> bool {
         return false;
     };
     match take_symbols::<u8, u16, _, 8>(alloc, coder, 1, table) {
-        Some((symbols, prefix, suffix)) => symbols.as_slice() == [1usize].as_slice()
+        Ok((symbols, prefix, suffix)) => symbols.as_slice() == [1usize].as_slice()
             && prefix.as_slice() == [10u8].as_slice()
             && suffix.as_slice() == [36u8, 28, 1].as_slice(),
-        None => false,
+        Err(_) => false,
     }
 }
 
@@ -71,8 +77,8 @@ fn symbols_are_put_back(alloc: Global, table: &Table) -> bool {
         return false;
     };
     match put_back::<u8, u16, _, 8>(alloc, remainders, &[1], table) {
-        Some(coder) => is_coder_of(coder, &[20, 30]),
-        None => false,
+        Ok(coder) => is_coder_of(coder, &[20, 30]),
+        Err(_) => false,
     }
 }
 
@@ -82,10 +88,10 @@ fn pairs_are_taken(alloc: Global, tables: &[Table]) -> bool {
         return false;
     };
     match take_pairs::<u8, u16, _, 8>(alloc, coder, tables) {
-        Some((symbols, prefix, suffix)) => symbols.as_slice() == [1usize, 1, 0].as_slice()
+        Ok((symbols, prefix, suffix)) => symbols.as_slice() == [1usize, 1, 0].as_slice()
             && prefix.as_slice() == [7u8, 99].as_slice()
             && suffix.as_slice() == [126u8, 68, 242, 3, 1].as_slice(),
-        None => false,
+        Err(_) => false,
     }
 }
 
@@ -95,35 +101,78 @@ fn pairs_are_put_back(alloc: Global, tables: &[Table]) -> bool {
         return false;
     };
     match put_back_pairs::<u8, u16, _, 8>(alloc, remainders, &[1, 1, 0], tables) {
-        Some(coder) => is_coder_of(coder, &[10, 200, 30, 9]),
-        None => false,
+        Ok(coder) => is_coder_of(coder, &[10, 200, 30, 9]),
+        Err(_) => false,
     }
 }
 
 /// Two symbols that a coder gives by one table, and takes back.
 fn list_undone(alloc: Global, coder: &mut Small, table: &Table) -> bool {
     match decode_list::<u8, u16, Vec<u8>, Vec<u8>, _, 8>(alloc, coder, 2, table) {
-        Some(symbols) => symbols.as_slice() == [1usize, 0].as_slice()
+        Ok(symbols) => symbols.as_slice() == [1usize, 0].as_slice()
             && encode_list_reverse::<u8, u16, Vec<u8>, Vec<u8>, _, 8>(
                 coder,
                 symbols.as_slice(),
                 table,
             ).is_ok(),
-        None => false,
+        Err(_) => false,
     }
 }
 
 /// Three symbols that a coder gives by a table each, and takes back.
 fn pairs_undone(alloc: Global, coder: &mut Small, tables: &[Table]) -> bool {
     match decode_pairs::<u8, u16, Vec<u8>, Vec<u8>, _, 8>(alloc, coder, tables) {
-        Some(symbols) => symbols.as_slice() == [1usize, 0, 0].as_slice()
+        Ok(symbols) => symbols.as_slice() == [1usize, 0, 0].as_slice()
             && encode_pairs_reverse::<u8, u16, Vec<u8>, Vec<u8>, _, 8>(
                 coder,
                 &[1, 0, 0],
                 tables,
             ).is_ok(),
-        None => false,
+        Err(_) => false,
     }
+}
+
+/// The quantile 20 is the symbol 1. Before it was taken, it can not be put back: that needs a word of the remainders.
+fn steps_undone(coder: &mut Small, table: &Table) -> bool {
+    matches!(
+        encode_and_decode(coder, &1, table),
+        Err(RoundTripError::OutOfData(0))
+    ) && matches!(decode_and_encode(coder, table), Ok(1))
+}
+
+/// From 8 bits of precision to 4 and back.
+fn precision_undone(coder: Small) -> Option<Small> {
+    change_and_back::<u8, u16, 8, 4>(coder).ok()
+}
+
+/// Two symbols out of three words, of which the first read is the number of the remainders.
+fn words_are_back(alloc: Global, words: &[u8], table: &Table) -> bool {
+    let Ok(given) = words.to_vec(alloc) else {
+        return false;
+    };
+    match words_by_suffix::<u8, u16, _, 8>(alloc, given, 2, table) {
+        Ok((symbols, again)) => symbols.as_slice() == [1usize, 0].as_slice()
+            && again.as_slice() == words,
+        Err(_) => false,
+    }
+}
+
+/// Three symbols out of three words, none of which is read for the number.
+fn binary_words_are_back(alloc: Global, words: &[u8], table: &Table) -> bool {
+    let Ok(given) = words.to_vec(alloc) else {
+        return false;
+    };
+    match binary_words_by_both_parts::<u8, u16, _, 8>(alloc, given, 3, table) {
+        Ok((symbols, again)) => symbols.as_slice() == [1usize, 1, 0].as_slice()
+            && again.as_slice() == words,
+        Err(_) => false,
+    }
+}
+
+/// Why words don't come back.
+fn refusal_of(alloc: Global, words: &[u8], table: &Table) -> Option<RoundTripError> {
+    let given = words.to_vec(alloc).ok()?;
+    words_by_suffix::<u8, u16, _, 8>(alloc, given, 3, table).err()
 }
 
 fn table_of(alloc: Global) -> Result<Table, Fail> {
@@ -178,7 +227,7 @@ fn later_symbols_stay(rt: HostRuntime) -> Result<(), Fail> {
     let (Some(mut coder), Some(mut same)) = (coarse_of(rt.alloc()), coarse_of(rt.alloc())) else {
         return Err(Fail::from("refused"));
     };
-    let Some((one, two)) = first_model_replaced::<u8, u16, Vec<u8>, Vec<u8>, _, 4>(
+    let Ok((one, two)) = first_model_replaced::<u8, u16, Vec<u8>, Vec<u8>, _, 4>(
         rt.alloc(),
         &mut coder,
         &first,
@@ -192,6 +241,61 @@ fn later_symbols_stay(rt: HostRuntime) -> Result<(), Fail> {
     assert_eq!(rt; one.1.as_slice(), [1usize, 1, 0].as_slice());
     assert_eq!(rt; two.0, 1);
     assert_eq!(rt; two.1.as_slice(), [1usize, 1, 0].as_slice());
+    Ok(())
+}
+
+#[test]
+fn steps_and_changes_there_and_back(rt: HostRuntime) -> Result<(), Fail> {
+    let table = table_of(rt.alloc())?;
+    let Some(mut coder) = coder_of(rt.alloc(), &[10, 20, 30]) else {
+        return Err(Fail::from("refused"));
+    };
+    assert!(rt; steps_undone(&mut coder, &table));
+    let Some(coder) = precision_undone(coder) else {
+        return Err(Fail::from("refused"));
+    };
+    assert!(rt; is_coder_of(coder, &[10, 20, 30]));
+    Ok(())
+}
+
+/// A third symbol needs a word, and none is left; 0 begins no words.
+#[test]
+fn words_by_the_remainders(rt: HostRuntime) -> Result<(), Fail> {
+    let table = table_of(rt.alloc())?;
+    assert!(rt; words_are_back(rt.alloc(), &[10, 20, 30], &table));
+    assert!(rt; binary_words_are_back(rt.alloc(), &[10, 20, 30], &table));
+    assert!(rt;
+        refusal_of(rt.alloc(), &[10, 20, 30], &table) == Some(RoundTripError::OutOfData(2))
+    );
+    assert!(rt; refusal_of(rt.alloc(), &[10, 20, 0], &table) == Some(RoundTripError::InvalidData));
+    Ok(())
+}
+
+/// Two coders of which one has another table at the second place: the quantiles are 2 and 1.
+#[test]
+fn symbols_stay_at_every_place(rt: HostRuntime) -> Result<(), Fail> {
+    let first = [
+        Coarse::new(rt.alloc(), &[5, 11])?,
+        Coarse::new(rt.alloc(), &[1, 15])?,
+    ];
+    let other = [
+        Coarse::new(rt.alloc(), &[5, 11])?,
+        Coarse::new(rt.alloc(), &[8, 8])?,
+    ];
+    let (Some(mut coder), Some(mut same)) = (coarse_of(rt.alloc()), coarse_of(rt.alloc())) else {
+        return Err(Fail::from("refused"));
+    };
+    let Ok((one, two)) = decode_by_two::<u8, u16, Vec<u8>, Vec<u8>, _, _, 4>(
+        rt.alloc(),
+        &mut coder,
+        &first,
+        &mut same,
+        &other,
+    ) else {
+        return Err(Fail::from("refused"));
+    };
+    assert_eq!(rt; one.as_slice(), [0usize, 1].as_slice());
+    assert_eq!(rt; two.as_slice(), [0usize, 0].as_slice());
     Ok(())
 }
 

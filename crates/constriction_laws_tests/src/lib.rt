@@ -10,6 +10,8 @@ mod bounds;
 #[cfg(test)]
 mod chain;
 #[cfg(test)]
+mod flagged;
+#[cfg(test)]
 mod queue;
 #[cfg(test)]
 mod stack;

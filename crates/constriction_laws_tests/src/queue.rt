@@ -3,23 +3,27 @@
 use constriction_base::cursor::Cursor;
 use constriction_base::weights::WeightTable;
 use constriction_laws::bounds;
+use constriction_laws::errors::RoundTripError;
 use constriction_laws::lists::lists_undo;
 use constriction_laws::queue::concatenated::{
-    DecodeError, EncodeError, list_at_place, list_whatever_follows, pairs_whatever_follows,
-    two_lists_through_words, words_of_list, words_of_two_lists,
+    DecodeError, list_at_place, list_whatever_follows, pairs_whatever_follows,
+    two_lists_through_words, words_of_list, words_of_pairs, words_of_two_lists,
 };
 use constriction_laws::queue::following::{
     fewer_zero_words_hold_less, self_delimiting_words, self_delimiting_words_are_read,
     symbols_come_back_whatever_follows,
 };
 use constriction_laws::queue::lists::Encoding;
+use constriction_laws::queue::round_trips::any_words::{list_of_any_words, pairs_of_any_words};
 use constriction_laws::queue::round_trips::coding::encode_list;
 use constriction_laws::queue::round_trips::decoders::list_into_decoder;
 use constriction_laws::queue::round_trips::lent_words::{
-    decode_through_decoder, list_from_lent_words,
+    decode_through_decoder, list_from_lent_words, list_through_decoder,
 };
 use constriction_laws::queue::round_trips::pairs::pairs_through_words;
-use constriction_laws::queue::round_trips::positions::list_after_a_position;
+use constriction_laws::queue::round_trips::positions::{
+    list_after_a_position, list_from_position, words_and_position,
+};
 use constriction_laws::queue::round_trips::shown::words_shown_and_given;
 use constriction_laws::queue::round_trips::words::list_through_words;
 use constriction_laws::queue::{guards, lists, positions, refusals, words};
@@ -41,10 +45,10 @@ fn is_list(again: &Vec<usize>) -> bool {
     again.as_slice() == SYMBOLS.as_slice()
 }
 
-fn is_list_to_its_end(back: Option<(Vec<usize>, bool)>) -> bool {
+fn is_list_to_its_end(back: Result<(Vec<usize>, bool), RoundTripError>) -> bool {
     match back {
-        Some((again, ended)) => is_list(&again) && ended,
-        None => false,
+        Ok((again, ended)) => is_list(&again) && ended,
+        Err(_) => false,
     }
 }
 
@@ -70,36 +74,36 @@ fn from_its_own_decoder(alloc: Global, table: &WeightTable<u8, 8>) -> bool {
 fn from_lent_words(alloc: Global, table: &WeightTable<u8, 8>) -> bool {
     let mut encoder = new(alloc);
     match list_from_lent_words::<u8, u16, Global, _, 8>(alloc, &mut encoder, &SYMBOLS, table) {
-        Some(again) => is_list(&again) && gives_the_words_of_the_carry(alloc, encoder),
-        None => false,
+        Ok(again) => is_list(&again) && gives_the_words_of_the_carry(alloc, encoder),
+        Err(_) => false,
     }
 }
 
 fn gives_the_words_of_the_carry(alloc: Global, encoder: Small) -> bool {
     match words_shown_and_given::<u8, u16>(alloc, encoder) {
-        Some((shown, given)) => {
+        Ok((shown, given)) => {
             shown.as_slice() == [127u8, 127, 1].as_slice()
                 && given.as_slice() == [127u8, 127, 1].as_slice()
         }
-        None => false,
+        Err(_) => false,
     }
 }
 
 fn from_a_lent_decoder(alloc: Global, table: &WeightTable<u8, 8>) -> bool {
     let mut encoder = new(alloc);
-    let Some(()) = encode_list::<u8, u16, Vec<u8>, _, 8>(&mut encoder, &SYMBOLS, table) else {
+    let Ok(()) = encode_list::<u8, u16, Vec<u8>, _, 8>(&mut encoder, &SYMBOLS, table) else {
         return false;
     };
     match decode_through_decoder::<u8, u16, Global, _, 8>(alloc, &mut encoder, 2, table) {
-        Some(again) => is_list(&again) && gives_the_words_of_the_carry(alloc, encoder),
-        None => false,
+        Ok(again) => is_list(&again) && gives_the_words_of_the_carry(alloc, encoder),
+        Err(_) => false,
     }
 }
 
 fn from_a_position(alloc: Global, table: &WeightTable<u8, 8>) -> bool {
     match list_after_a_position::<u8, u16, _, 8>(alloc, new(alloc), &[1], &[3, 1, 0], table) {
-        Some(again) => again.as_slice() == [3usize, 1, 0].as_slice(),
-        None => false,
+        Ok(again) => again.as_slice() == [3usize, 1, 0].as_slice(),
+        Err(_) => false,
     }
 }
 
@@ -127,7 +131,7 @@ fn symbols_of_two_tables_come_back(rt: HostRuntime) -> Result<(), Fail> {
         WeightTable::<u8, 8>::new(rt.alloc(), &[129, 127])?,
         WeightTable::<u8, 8>::new(rt.alloc(), &[1, 2, 253])?,
     ];
-    let Some((again, ended)) = pairs_through_words::<u8, u16, Vec<u8>, _, 8>(
+    let Ok((again, ended)) = pairs_through_words::<u8, u16, Vec<u8>, _, 8>(
         rt.alloc(),
         new(rt.alloc()),
         &[0, 1],
@@ -151,7 +155,6 @@ fn each_law_is_a_call(_rt: HostRuntime) -> Result<(), Fail> {
     words::words_within_are_read();
     positions::position_leads_there();
     positions::symbols_after_a_position::<usize>();
-    guards::shown_words_are_exported::<Vec<u8>>();
     guards::shown_words_go::<Vec<u8>>();
     refusals::room_is_enough::<u8, u16, Cursor<u8, Vec<u8>>>();
     self_delimiting_words::<usize>();
@@ -167,7 +170,7 @@ fn words_of(
     alloc: Global,
     table: &WeightTable<u8, 8>,
     symbols: &[usize],
-) -> Result<Vec<u8>, EncodeError> {
+) -> Result<Vec<u8>, RoundTripError> {
     words_of_list::<u8, u32, _, 8>(alloc, symbols, table)
 }
 
@@ -181,7 +184,7 @@ fn at_place(
     list_at_place::<u8, u32, _, 8>(alloc, words, place, amt, table)
 }
 
-fn has_words(made: Result<Vec<u8>, EncodeError>, words: &[u8]) -> bool {
+fn has_words(made: Result<Vec<u8>, RoundTripError>, words: &[u8]) -> bool {
     match made {
         Ok(all) => all.as_slice() == words,
         Err(_) => false,
@@ -232,7 +235,7 @@ fn a_list_has_words_or_a_reason(rt: HostRuntime) -> Result<(), Fail> {
             && has_words(words_of(rt.alloc(), &table, &[]), &[])
             && matches!(
                 words_of(rt.alloc(), &table, &[1, 4, 3]),
-                Err(EncodeError::ImpossibleSymbol)
+                Err(RoundTripError::ImpossibleSymbol)
             )
     );
     Ok(())
@@ -308,7 +311,7 @@ fn pairs_come_back_whatever_words_follow(rt: HostRuntime) -> Result<(), Fail> {
         WeightTable::<u8, 8>::new(rt.alloc(), &[19, 237])?,
         WeightTable::<u8, 8>::new(rt.alloc(), &[128, 128])?,
     ];
-    let Some((words, again)) = pairs_whatever_follows::<u8, u32, WeightTable<u8, 8>, 8>(
+    let Ok((words, again)) = pairs_whatever_follows::<u8, u32, WeightTable<u8, 8>, 8>(
         rt.alloc(),
         &[0, 0, 1],
         &tables,
@@ -318,5 +321,110 @@ fn pairs_come_back_whatever_words_follow(rt: HostRuntime) -> Result<(), Fail> {
     };
     assert_eq!(rt; words.as_slice(), [2u8, 0, 0, 255, 255].as_slice());
     assert_eq!(rt; again.as_slice(), [0usize, 0, 1].as_slice());
+    Ok(())
+}
+
+/// The words and the position of the same list as [`from_a_position`], and what is read there.
+fn from_words_and_their_position(alloc: Global, table: &WeightTable<u8, 8>) -> bool {
+    let Ok((words, position)) = words_and_position::<u8, u16, _, 8>(
+        new(alloc),
+        &[1],
+        &[3, 1, 0],
+        table,
+    ) else {
+        return false;
+    };
+    match list_from_position::<u8, u16, _, 8>(alloc, words, position, 3, table) {
+        Ok(again) => again.as_slice() == [3usize, 1, 0].as_slice(),
+        Err(_) => false,
+    }
+}
+
+fn through_a_lent_decoder(alloc: Global, table: &WeightTable<u8, 8>) -> bool {
+    let mut encoder = new(alloc);
+    match list_through_decoder::<u8, u16, Global, _, 8>(alloc, &mut encoder, &SYMBOLS, table) {
+        Ok(again) => is_list(&again) && gives_the_words_of_the_carry(alloc, encoder),
+        Err(_) => false,
+    }
+}
+
+#[test]
+fn symbols_come_back_in_two_halves(rt: HostRuntime) -> Result<(), Fail> {
+    let table = WeightTable::<u8, 8>::new(rt.alloc(), &[127, 1, 127, 1])?;
+    assert!(rt; from_words_and_their_position(rt.alloc(), &table));
+    assert!(rt; through_a_lent_decoder(rt.alloc(), &table));
+    Ok(())
+}
+
+/// The first quantile of these two words, over the 255 that each of 256 parts of the interval is long.
+fn read_of_any_words(
+    alloc: Global,
+    table: &WeightTable<u8, 8>,
+    words: Vec<u8>,
+) -> Result<Vec<usize>, RoundTripError> {
+    list_of_any_words::<u8, u16, Vec<u8>, _, 8>(alloc, words, 1, table)
+}
+
+fn read_by_two_models(
+    alloc: Global,
+    tables: &[WeightTable<u8, 8>],
+    words: Vec<u8>,
+) -> Result<Vec<usize>, RoundTripError> {
+    pairs_of_any_words::<u8, u16, Vec<u8>, _, 8>(alloc, words, tables)
+}
+
+/// Two words, the first one first.
+fn two_words(alloc: Global, first: u8, second: u8) -> Result<Vec<u8>, Fail> {
+    let mut words = Vec::new(alloc);
+    words.push(first)?;
+    words.push(second)?;
+    Ok(words)
+}
+
+/// 65279 divided by 255 is 255, of the interval of symbol 3; 65280 is 256 times 255, which lies in no interval.
+#[test]
+fn any_words_are_read_or_hold_no_list(rt: HostRuntime) -> Result<(), Fail> {
+    let table = WeightTable::<u8, 8>::new(rt.alloc(), &[127, 1, 127, 1])?;
+    let words = two_words(rt.alloc(), 254, 255)?;
+    assert!(rt;
+        match read_of_any_words(rt.alloc(), &table, words) {
+            Ok(again) => again.as_slice() == [3usize].as_slice(),
+            Err(_) => false,
+        }
+    );
+    let words = two_words(rt.alloc(), 255, 0)?;
+    let none = read_of_any_words(rt.alloc(), &table, words);
+    assert!(rt; matches!(none, Err(RoundTripError::InvalidData)));
+    Ok(())
+}
+
+#[test]
+fn any_words_are_read_by_a_model_for_each_symbol(rt: HostRuntime) -> Result<(), Fail> {
+    let tables = [
+        WeightTable::<u8, 8>::new(rt.alloc(), &[129, 127])?,
+        WeightTable::<u8, 8>::new(rt.alloc(), &[1, 2, 253])?,
+    ];
+    let mut words = Vec::new(rt.alloc());
+    words.push(0u8)?;
+    assert!(rt;
+        match read_by_two_models(rt.alloc(), &tables, words) {
+            Ok(again) => again.as_slice() == [0usize, 0].as_slice(),
+            Err(_) => false,
+        }
+    );
+    Ok(())
+}
+
+#[test]
+fn pairs_have_words_or_a_reason(rt: HostRuntime) -> Result<(), Fail> {
+    let tables = [
+        WeightTable::<u8, 8>::new(rt.alloc(), &[27, 229])?,
+        WeightTable::<u8, 8>::new(rt.alloc(), &[19, 237])?,
+        WeightTable::<u8, 8>::new(rt.alloc(), &[128, 128])?,
+    ];
+    let words = words_of_pairs::<u8, u32, _, 8>(rt.alloc(), &[0, 0, 1], &tables);
+    let none = words_of_pairs::<u8, u32, _, 8>(rt.alloc(), &[0, 2, 1], &tables);
+    assert!(rt; has_words(words, &[2, 0, 0]));
+    assert!(rt; matches!(none, Err(RoundTripError::ImpossibleSymbol)));
     Ok(())
 }

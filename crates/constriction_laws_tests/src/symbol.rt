@@ -67,7 +67,7 @@ fn decoder_of(alloc: Global) -> Option<Decoder> {
 fn list_is_written(alloc: Global, codebook: &Codebook) -> bool {
     let mut encoder = new_queue(alloc);
     encode_list::<QueueEncoder<u32>, _>(&mut encoder, &SYMBOLS, codebook).is_ok()
-        && is_list(list_from_lent_queue(alloc, &mut encoder, 3, codebook))
+        && is_list(list_from_lent_queue(alloc, &mut encoder, 3, codebook).ok())
         && gives_the_word(encoder)
 }
 
@@ -79,18 +79,18 @@ fn pairs_are_written(alloc: Global) -> bool {
 
 fn list_is_read(alloc: Global, codebook: &Codebook) -> bool {
     match decoder_of(alloc) {
-        Some(mut decoder) => is_list(decode_list::<Queue, _, _>(alloc, &mut decoder, 3, codebook)),
+        Some(mut decoder) => {
+            is_list(decode_list::<Queue, _, _>(alloc, &mut decoder, 3, codebook).ok())
+        }
         None => false,
     }
 }
 
 fn pairs_are_read(alloc: Global) -> bool {
     match decoder_of(alloc) {
-        Some(mut decoder) => is_list(decode_pairs::<Queue, _, _>(
-            alloc,
-            &mut decoder,
-            &codebooks(),
-        )),
+        Some(mut decoder) => {
+            is_list(decode_pairs::<Queue, _, _>(alloc, &mut decoder, &codebooks()).ok())
+        }
         None => false,
     }
 }
@@ -111,7 +111,7 @@ fn symbol_is_read(alloc: Global) -> bool {
 fn list_on_stack(alloc: Global, codebook: &Codebook) -> bool {
     let mut coder = new_stack(alloc);
     encode_list_reverse(&mut coder, &SYMBOLS, codebook).is_ok()
-        && is_list(list_from_lent_stack(alloc, &mut coder, 3, codebook))
+        && is_list(list_from_lent_stack(alloc, &mut coder, 3, codebook).ok())
 }
 
 /// The three codewords are 13 bits.
@@ -121,22 +121,22 @@ fn pairs_on_stack(alloc: Global) -> bool {
         return false;
     }
     match bits_through_words(coder) {
-        Some(again) => again.len_fits() && again.len() == 13,
-        None => false,
+        Ok(again) => again.len_fits() && again.len() == 13,
+        Err(_) => false,
     }
 }
 
 fn list_through_words_of_stack(alloc: Global, codebook: &Codebook) -> bool {
     match list_through_stack(alloc, new_stack(alloc), &SYMBOLS, codebook) {
-        Some((again, coder)) => is_list(Some(again)) && coder.is_empty(),
-        None => false,
+        Ok((again, coder)) => is_list(Some(again)) && coder.is_empty(),
+        Err(_) => false,
     }
 }
 
 fn pairs_through_words_of_stack(alloc: Global) -> bool {
     match pairs_through_stack(alloc, new_stack(alloc), &SYMBOLS, &codebooks()) {
-        Some((again, coder)) => is_list(Some(again)) && coder.is_empty(),
-        None => false,
+        Ok((again, coder)) => is_list(Some(again)) && coder.is_empty(),
+        Err(_) => false,
     }
 }
 
@@ -148,8 +148,8 @@ fn symbols_of_a_queue(rt: HostRuntime) -> Result<(), Fail> {
     assert!(rt; list_is_read(rt.alloc(), &codebook));
     assert!(rt; pairs_are_read(rt.alloc()));
     assert!(rt; symbol_is_read(rt.alloc()));
-    assert!(rt; is_list(list_through_queue::<u32, _>(rt.alloc(), &SYMBOLS, &codebook)));
-    assert!(rt; is_list(pairs_through_queue::<u32, _>(rt.alloc(), &SYMBOLS, &codebooks())));
+    assert!(rt; is_list(list_through_queue::<u32, _>(rt.alloc(), &SYMBOLS, &codebook).ok()));
+    assert!(rt; is_list(pairs_through_queue::<u32, _>(rt.alloc(), &SYMBOLS, &codebooks()).ok()));
     Ok(())
 }
 

@@ -3,7 +3,7 @@ use Rattle.constriction_queue.specs.Range.{sealed, start}
 use Rattle.constriction_queue.proofs.Narrowing.{valid_start}
 use Rattle.constriction_queue.proofs.SealedRuns.{words-append}
 use Rattle.constriction_laws.proofs.FollowingWords.{read_before}
-use Rattle.constriction_laws.proofs.queue_coder.Sealing.{sealed_words}
+use Rattle.constriction_queue_laws.proofs.Sealing.{sealed_words}
 use Rattle.constriction_laws.proofs.bounds.following.symbols_come_back_before_others.Goals as goal
 
 pub returns : goal.returns

@@ -5,41 +5,39 @@ use Rattle.constriction_stack.specs.Ans.{AnsState, IsValid}
 use Rattle.constriction_stack.specs.Symbols.{Decodes, Encodes}
 use Rattle.constriction_stack.proofs.Pushing.{valid_pop}
 use Rattle.constriction_laws.specs.Bounds.{Decode, Encode}
-use Rattle.constriction_laws.proofs.stack_coder.Choosing.{step_of}
-use Rattle.constriction_laws.proofs.stack_coder.ListCalls.{encode_of, decode_of}
+use Rattle.constriction_stack_laws.proofs.Choosing.{step_of}
+use Rattle.constriction_stack_laws.proofs.ListCalls.{encode_of, decode_of}
 use Rattle.constriction_laws.proofs.bounds.words.exchange.Goals as goal
 
-pub returns : goal.returns
-returns g c = record {
-  net = λ valid.
-      let w = g.Word.BitArray.BITS in
-      let s = g.State.BitArray.BITS in
-      let number = g.Word.BitArray.number in
-      let off : Model g.row.D-Symbol.Denot = record { precision = g.row.PRECISION; table = g.D.EntropyModel.table c.args.off.now } in
-      let on : Model g.row.E-Symbol.Denot = record { precision = g.row.PRECISION; table = g.E.EntropyModel.table c.args.on.now } in
-      let off_sized = g.met.D.EntropyModel.sized c.args.off.now in
-      let on_sized = g.met.E.EntropyModel.sized c.args.on.now in
-      let off_lawful : IsModel w off = record { some_bits = off_sized.0; within_word = omega (arith, off_sized.1, g.met.D.Probability.WordOf.width_law); lawful = g.D.EntropyModel.lawful c.args.off.now } in
-      let on_lawful : IsModel w on = record { some_bits = on_sized.0; within_word = omega (arith, on_sized.1, g.met.E.Probability.WordOf.width_law); lawful = g.E.EntropyModel.lawful c.args.on.now } in
-      let old : AnsState = c.args.coder.now.state in
-      let middle : AnsState = c.decode_symbol.new.self.state in
-      let new : AnsState = c.encode_symbol.new.self.state in
-      let sizes : IsSizes w s = c.state.ensures.1.sizes in
-      let full : 2 ^ (s - w) ≤ old.head = rw c.state.ensures.0 at c.if-is_low.ensures in
-      let middle_full : 2 ^ (s - w) ≤ middle.head = rw c.state-2.ensures.0 at c.if-is_low-2.ensures in
-      let taken : Decodes w s off c.in-Ok.taken old middle =
-      (decode_of _ number g.Backend.Holds.words g.Backend.Holds.is_list g.Backend.ReadWords.reads w s off _ _ _ c.in-Ok.ensures.step).0 g.met.Backend.WriteWords.knows_words in
-      let out : Step = record { precision = g.row.PRECISION; left = taken.0; p = taken.1 } in
-      let out_step : IsStep w out = step_of w s off c.in-Ok.taken taken.0 taken.1 off_lawful taken.2 in
-      let middle_valid : IsValid w s middle = subst (λ (x : AnsState). IsValid w s x) (sym taken.3.1) (valid_pop w s out sizes out_step old valid taken.3.0) in
-      let given : Encodes w s on c.args.symbol.now middle new =
-      encode_of number g.Backend.Holds.words w s g.Backend.WriteWords.room g.Backend.WriteWords.makes_room g.Backend.WriteWords.prepare_fails g.Backend.WriteWords.write_fails _ on _ _ _ middle_valid c.in-Ok-encode_symbol.ensures.step in
-      let put : Step = record { precision = g.row.PRECISION; left = given.0; p = given.1 } in
-      let put_step : IsStep w put = step_of w s on c.args.symbol.now given.0 given.1 on_lawful given.2 in (
-        out,
-        put,
-        (taken.0, taken.1, taken.2, refl),
-        (given.0, given.1, given.2, refl),
-        c.stack_net_bound.ensures w s (Decode out ∷ Encode put ∷ []) old new sizes (out_step, (put_step, tt)) valid full (middle, (taken.3, middle_full), (new, given.3, refl)),
-      );
-}
+pub returns-clause-net : goal.returns-clause-net
+returns-clause-net g c = λ valid.
+    let w = g.Word.BitArray.BITS in
+    let s = g.State.BitArray.BITS in
+    let number = g.Word.BitArray.number in
+    let off : Model g.row.D-Symbol.Denot = record { precision = g.row.PRECISION; table = g.D.EntropyModel.table c.args.off.now } in
+    let on : Model g.row.E-Symbol.Denot = record { precision = g.row.PRECISION; table = g.E.EntropyModel.table c.args.on.now } in
+    let off_sized = g.met.D.EntropyModel.sized c.args.off.now in
+    let on_sized = g.met.E.EntropyModel.sized c.args.on.now in
+    let off_lawful : IsModel w off = record { some_bits = off_sized.0; within_word = omega (arith, off_sized.1, g.met.D.Probability.WordOf.width_law); lawful = g.D.EntropyModel.lawful c.args.off.now } in
+    let on_lawful : IsModel w on = record { some_bits = on_sized.0; within_word = omega (arith, on_sized.1, g.met.E.Probability.WordOf.width_law); lawful = g.E.EntropyModel.lawful c.args.on.now } in
+    let old : AnsState = c.args.coder.now.state in
+    let middle : AnsState = c.decode_symbol.new.self.state in
+    let new : AnsState = c.encode_symbol.new.self.state in
+    let sizes : IsSizes w s = c.state.ensures.1.sizes in
+    let full : 2 ^ (s - w) ≤ old.head = rw c.state.ensures.0 at c.if-is_low.ensures in
+    let middle_full : 2 ^ (s - w) ≤ middle.head = rw c.state-2.ensures.0 at c.if-is_low-2.ensures in
+    let taken : Decodes w s off c.in-Ok.taken old middle =
+    (decode_of _ number g.Backend.Holds.words g.Backend.Holds.is_list g.Backend.ReadWords.reads w s off _ _ _ c.in-Ok.ensures.step).0 g.met.Backend.WriteWords.knows_words in
+    let out : Step = record { precision = g.row.PRECISION; left = taken.0; p = taken.1 } in
+    let out_step : IsStep w out = step_of w s off c.in-Ok.taken taken.0 taken.1 off_lawful taken.2 in
+    let middle_valid : IsValid w s middle = subst (λ (x : AnsState). IsValid w s x) (sym taken.3.1) (valid_pop w s out sizes out_step old valid taken.3.0) in
+    let given : Encodes w s on c.args.symbol.now middle new =
+    encode_of number g.Backend.Holds.words w s g.Backend.WriteWords.room g.Backend.WriteWords.makes_room g.Backend.WriteWords.prepare_fails g.Backend.WriteWords.write_fails _ on _ _ _ middle_valid c.in-Ok-encode_symbol.ensures.step in
+    let put : Step = record { precision = g.row.PRECISION; left = given.0; p = given.1 } in
+    let put_step : IsStep w put = step_of w s on c.args.symbol.now given.0 given.1 on_lawful given.2 in (
+      out,
+      put,
+      (taken.0, taken.1, taken.2, refl),
+      (given.0, given.1, given.2, refl),
+      c.stack_net_bound.ensures w s (Decode out ∷ Encode put ∷ []) old new sizes (out_step, (put_step, tt)) valid full (middle, (taken.3, middle_full), (new, given.3, refl)),
+    )

@@ -7,13 +7,13 @@ use Rattle.constriction_stack.specs.Positions.{position_of, sought}
 use Rattle.constriction_stack.proofs.PositionsKept.{drop_front, held_less}
 use Rattle.constriction_base.specs.Models.{Model, IsModel, Item, item_of}
 use Rattle.constriction_stack.specs.Symbols.{Encodes, Decodes}
-use Rattle.constriction_laws.proofs.stack_coder.ComingBack.{empty_valid}
-use Rattle.constriction_laws.proofs.stack_coder.ListCalls.{encode_of, decode_of}
-use Rattle.constriction_laws.proofs.stack_coder.Seeking.{encodes_grow, cut_is_sought}
+use Rattle.constriction_stack_laws.proofs.ComingBack.{empty_valid}
+use Rattle.constriction_stack_laws.proofs.ListCalls.{encode_of, decode_of}
+use Rattle.constriction_stack_laws.proofs.Seeking.{encodes_grow, cut_is_sought}
 use Rattle.constriction_laws.proofs.callers.round_trips.back_to_a_position.Goals as goal
 
-pub returns : goal.returns
-returns g c =
+pub returns-clause-back : goal.returns-clause-back
+returns-clause-back g c =
     let model : Model ℕ = record { precision = 8; table = g.M.EntropyModel.table c.args.model.now } in
     let lawful : IsModel 8 model = record { some_bits = lit≤ tt; within_word = lit≤ tt; lawful = g.M.EntropyModel.lawful c.args.model.now } in
     let sizes : IsSizes 8 16 = record { some_bits = lit≤ tt; two_words = lit≤ tt; whole = refl } in

@@ -4,8 +4,8 @@ use Rattle.constriction_base.specs.Steps.{IsSizes}
 use Rattle.constriction_stack.specs.Ans.{AnsState, IsValid, filled, exported, empty}
 use Rattle.constriction_base.specs.Models.{Model, IsModel, Item, AreModels, models}
 use Rattle.constriction_stack.specs.Symbols.{Encodes, Decodes, EncodesAll, DecodesAll}
-use Rattle.constriction_laws.proofs.stack_coder.ComingBack.{empty_valid}
-use Rattle.constriction_laws.proofs.stack_coder.ListCalls.{encode_of, decode_of}
+use Rattle.constriction_stack_laws.proofs.ComingBack.{empty_valid}
+use Rattle.constriction_stack_laws.proofs.ListCalls.{encode_of, decode_of}
 use Rattle.constriction_laws.proofs.callers.round_trips.two_precisions.Goals as goal
 
 abbrev item : Model ℕ → ℕ → Item ℕ
@@ -26,8 +26,8 @@ two_back w s a b a_again b_again first second one two three four law m n e f d k
     let symbols : b_again ∷ a_again ∷ [] ≡ b ∷ a ∷ [] = ap (λ (items : List (Item ℕ)). map (λ i. i.symbol) items) back.0 in
     (cc, cc, back.1)
 
-pub returns : goal.returns
-returns g c =
+pub returns-clause-back : goal.returns-clause-back
+returns-clause-back g c =
     let first : Model ℕ = record { precision = 8; table = g.First.EntropyModel.table c.args.first.now } in
     let second : Model ℕ = record { precision = 5; table = g.Second.EntropyModel.table c.args.second.now } in
     let valid : IsValid 8 16 c.new-coder.result.state = subst (λ (x : AnsState). IsValid 8 16 x) (sym c.new-coder.ensures.state) (empty_valid 8 16) in

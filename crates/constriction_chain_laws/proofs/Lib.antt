@@ -1,0 +1,11 @@
+pub mod ComingBack
+pub mod Ending
+pub mod FromBack
+pub mod Isolated
+pub mod Isolating
+pub mod ListCalls
+pub mod NoCoder
+pub mod OneBinary
+pub mod Remaining
+pub mod Stepping
+pub mod Whole

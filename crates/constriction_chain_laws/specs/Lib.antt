@@ -1,0 +1,4 @@
+pub mod Endings
+pub mod Fits
+pub mod Isolating
+pub mod Undone

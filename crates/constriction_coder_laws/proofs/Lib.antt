@@ -1,0 +1,7 @@
+pub mod HavingRoom
+pub mod ListsGiven
+pub mod PairCalls
+pub mod Refused
+pub mod SameModel
+pub mod Turned
+pub mod Undoing

@@ -1,0 +1,94 @@
+-- What lists of decodes and iterators over slices gave, for any coder.
+use Rattle.std.specs.Iterator.{Yields, Drains}
+use Rattle.std.specs.Slice.Iter.{iter_rest, iter_steps_back}
+use Rattle.std.proofs.Common.{◌≡◌, ◌∙◌, ◌<◌, ◌^◌, ℕ, Bor, Iter, Option, Some, None, List, [], ◌∷◌, ◌++◌, Result, Ok, Err, length, map, refl, sym, ap, subst, arith, append_assoc}
+use Rattle.std.specs.Prelude.{reverse, drop, IfSome, IfOk}
+use Rattle.std.specs.List.{zip}
+use Rattle.std.proofs.lemmas.List.{reverse-append, reverse-reverse, append-nil}
+use Rattle.constriction_base.specs.Steps.{Step, InTurn, AreWords}
+use Rattle.constriction_base.proofs.InTurn.{InTurn-more}
+use Rattle.constriction_stream.specs.Symbols.{DecodesSymbol, DecodesByModel}
+
+-- ---- any decoder
+-- decodes that gave the symbols, one after the other; and by a model each
+abbrev pub GaveAll : {C S E : Type 0} → (C → Step → Result (Unit {0}) E → C → Type 0) → (C → E → C → Type 0) → ℕ → List (S × ℕ × ℕ) → List S → C → C → Type 0
+GaveAll decodes halts precision table = InTurn (λ symbol old new. DecodesSymbol decodes halts precision table old (Ok symbol) new)
+
+abbrev pub GavePairs : {C S M E : Type 0} → (C → Step → Result (Unit {0}) E → C → Type 0) → (C → E → C → Type 0) → ℕ → (M → List (S × ℕ × ℕ)) → List (S × M) → C → C → Type 0
+GavePairs decodes halts precision table = InTurn (λ pair old new. DecodesByModel decodes halts precision table old pair.1 (Ok pair.0) new)
+
+-- one symbol more
+pub gives_more : {C S E : Type 0} (decodes : C → Step → Result (Unit {0}) E → C → Type 0) (halts : C → E → C → Type 0) (precision : ℕ) (table same : List (S × ℕ × ℕ))
+    (old : C) (xs : List S) (mid : C) (x : S) (answer : Result S E) (new : C)
+    → GaveAll decodes halts precision table xs old mid → same ≡ table → answer ≡ Ok x → DecodesSymbol decodes halts precision same mid answer new
+    → GaveAll decodes halts precision table (xs ++ x ∷ []) old new
+gives_more {C} {S} {E} decodes halts precision table same old xs mid x answer new all is given step =
+    let at : DecodesSymbol decodes halts precision table mid answer new = subst (λ (t : List (S × ℕ × ℕ)). DecodesSymbol decodes halts precision t mid answer new) is step in
+    let one : DecodesSymbol decodes halts precision table mid (Ok x) new = subst (λ (r : Result S E). DecodesSymbol decodes halts precision table mid r new) given at in
+    InTurn-more (λ (symbol : S) (old new : C). DecodesSymbol decodes halts precision table old (Ok symbol) new) xs x old mid new all one
+
+-- the same where each has a model of its own
+pub zip_more : {S M : Type 0} (xs : List S) (ms : List M) (x : S) (m : M) (rest : List M) → drop (length xs) ms ≡ m ∷ rest → zip (xs ++ x ∷ []) ms ≡ zip xs ms ++ (x, m) ∷ []
+zip_more [] [] x m rest is = absurd cc
+zip_more {S} {M} [] (n ∷ ms) x m rest is = (let first : n ≡ m = cc in ap (λ (n : M). (x, n) ∷ []) first)
+zip_more (y ∷ xs) [] x m rest is = absurd cc
+zip_more {S} {M} (y ∷ xs) (n ∷ ms) x m rest is = ap (λ (ps : List (S × M)). (y, n) ∷ ps) (zip_more xs ms x m rest is)
+
+pub rest_after : {S M : Type 0} (ms : List M) (xs : List S) (x : S) (rest : List M) (m : M) → drop (length xs) ms ≡ m ∷ rest → rest ≡ drop (length (xs ++ x ∷ [])) ms
+rest_after [] [] x rest m is = absurd cc
+rest_after (n ∷ ms) [] x rest m is = cc
+rest_after [] (y ∷ xs) x rest m is = absurd cc
+rest_after (n ∷ ms) (y ∷ xs) x rest m is = rest_after ms xs x rest m is
+
+pub pairs_more : {C S M E : Type 0} (decodes : C → Step → Result (Unit {0}) E → C → Type 0) (halts : C → E → C → Type 0) (precision : ℕ) (table : M → List (S × ℕ × ℕ)) (ms : List M)
+    (old : C) (xs : List S) (mid : C) (x : S) (m : M) (rest : List M) (answer : Result S E) (new : C)
+    → GavePairs decodes halts precision table (zip xs ms) old mid → drop (length xs) ms ≡ m ∷ rest → answer ≡ Ok x → DecodesSymbol decodes halts precision (table m) mid answer new
+    → GavePairs decodes halts precision table (zip (xs ++ x ∷ []) ms) old new
+pairs_more {C} {S} {M} {E} decodes halts precision table ms old xs mid x m rest answer new all next given step =
+    let one : DecodesSymbol decodes halts precision (table m) mid (Ok x) new = subst (λ (r : Result S E). DecodesSymbol decodes halts precision (table m) mid r new) given step in
+    subst (λ (ps : List (S × M)). GavePairs decodes halts precision table ps old new) (sym (zip_more xs ms x m rest next))
+    (InTurn-more (λ (pair : S × M) (old new : C). DecodesByModel decodes halts precision table old pair.1 (Ok pair.0) new) (zip xs ms) (x, m) old mid new all one)
+
+-- ---- what iterators over slices gave
+-- from the back, the last items, in reverse
+pub from_back : {A : Type 0} (i : Iter A) (xs : List (Bor A)) (j : Iter A) → Yields iter_steps_back i xs j → iter_rest i ≡ iter_rest j ++ reverse (map (λ x. x.now) xs)
+from_back i [] j run = ap iter_rest run ∙ sym (append-nil (iter_rest j))
+from_back {A} i (x ∷ xs) j run =
+    run.1 ∙ ap (λ (ys : List A). ys ++ x.now ∷ []) (from_back run.0 xs j run.2)
+    ∙ append_assoc (iter_rest j) (reverse (map (λ x. x.now) xs)) (x.now ∷ [])
+    ∙ ap (λ (ys : List A). iter_rest j ++ ys) (sym (reverse-append (x.now ∷ []) (map (λ x. x.now) xs)))
+
+pub none_left : {A : Type 0} (xs : List A) → length xs ≡ 0 → xs ≡ []
+none_left [] is = refl
+none_left (x ∷ xs) is = absurd (omega arith)
+
+-- all of them, where it ended
+pub all_from_back : {A : Type 0} (i : Iter A) (xs : List (Bor A)) → Drains iter_steps_back i xs → map (λ x. x.now) xs ≡ reverse (iter_rest i)
+all_from_back {A} i xs run =
+    let front = from_back i xs run.1.0 run.1.1 in
+    let ended : iter_rest run.1.0 ≡ [] = none_left (iter_rest run.1.0) run.1.2.0 in
+    let all : iter_rest i ≡ reverse (map (λ x. x.now) xs) = rw ended at front in
+    sym (reverse-reverse (map (λ x. x.now) xs)) ∙ ap (λ (ys : List A). reverse ys) (sym all)
+
+-- ---- answers that may be missing
+pub some_weaker : {X : Type 0} (r : Option X) {P Q : X → Type 0} → IfSome r P → ((x : X) → P x → Q x) → IfSome r Q
+some_weaker None h k = tt
+some_weaker (Some x) h k = k x h
+
+pub some_both : {X : Type 0} (r : Option X) {P Q R : X → Type 0} → IfSome r P → IfSome r Q → ((x : X) → P x → Q x → R x) → IfSome r R
+some_both None h i k = tt
+some_both (Some x) h i k = k x h i
+
+-- ---- answers that may be errors
+pub ok_weaker : {X E : Type 0} (r : Result X E) {P Q : X → Type 0} → IfOk r P → ((x : X) → P x → Q x) → IfOk r Q
+ok_weaker (Ok x) h k = k x h
+ok_weaker (Err e) h k = tt
+
+pub ok_both : {X E : Type 0} (r : Result X E) {P Q R : X → Type 0} → IfOk r P → IfOk r Q → ((x : X) → P x → Q x → R x) → IfOk r R
+ok_both (Ok x) h i k = k x h i
+ok_both (Err e) h i k = tt
+
+-- ---- words whose numbers are below two to their bits
+pub words_fit : {W : Type 0} (number : W → ℕ) (w : ℕ) (ws : List W) → ((x : W) → number x < 2 ^ w) → AreWords w (map number ws)
+words_fit number w [] law = tt
+words_fit number w (x ∷ ws) law = (law x, words_fit number w ws law)

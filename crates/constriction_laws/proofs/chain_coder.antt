@@ -1,4 +1,0 @@
-pub mod ComingBack
-pub mod Isolated
-pub mod ListCalls
-pub mod OneBinary

@@ -1,5 +1,0 @@
-use Rattle.constriction_stack.proofs.BinaryForms.{binary_unique}
-use Rattle.constriction_laws.proofs.stack.binary.one_binary_form.Goals as goal
-
-pub returns : goal.returns
-returns c = binary_unique

@@ -1,8 +1,0 @@
-pub mod Choosing
-pub mod ComingBack
-pub mod Exports
-pub mod ListCalls
-pub mod PairCalls
-pub mod Readings
-pub mod SameModel
-pub mod Seeking

@@ -1,5 +1,0 @@
-use Rattle.constriction_symbol.specs.HuffmanMerge.{merge_one}
-use Rattle.constriction_laws.proofs.symbol.huffman.one_tree.Goals as goal
-
-pub returns : goal.returns
-returns c = merge_one

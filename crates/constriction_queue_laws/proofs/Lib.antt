@@ -1,0 +1,12 @@
+pub mod AnyWords
+pub mod ComingBack
+pub mod Concatenating
+pub mod Entries
+pub mod Flagging
+pub mod Followed
+pub mod ListCalls
+pub mod Pairs
+pub mod Reading
+pub mod Sealing
+pub mod Seeking
+pub mod Told

@@ -1,0 +1,14 @@
+use Rattle.std.specs.Prelude.{◌++◌}
+use Rattle.constriction_queue.specs.Range.{start}
+use Rattle.constriction_queue.proofs.Narrowing.{valid_start}
+use Rattle.constriction_queue.proofs.SealedRuns.{words-append}
+use Rattle.constriction_queue.proofs.SelfDelimited.{self_words}
+use Rattle.constriction_queue_laws.proofs.Entries.{intervals}
+use Rattle.constriction_queue_laws.proofs.Followed.{read_whatever_follows}
+use Rattle.constriction_queue_laws.proofs.following.symbols_come_back_whatever_follows.Goals as goal
+
+pub returns : goal.returns
+returns g c = λ w s before since middle last words rest z bs ss fit h k are.
+    let v = intervals w s before (start s) middle z bs (valid_start w s z) h in
+    read_whatever_follows w s z before since middle last words rest bs ss h k are fit
+    (λ within. c.decodes_undo_encodes.ensures.back w s (words ++ rest) since middle last z (words-append w words rest (self_words w s last words are) fit) ss v k within)

@@ -1,0 +1,7 @@
+use Rattle.constriction_queue.proofs.Roomy.{room_enough}
+use Rattle.constriction_queue_laws.proofs.refusals.room_is_enough.Goals as goal
+
+pub returns : goal.returns
+returns g c = λ old step e new enough refused.
+    room_enough g.Word.BitArray.number g.Backend.Holds.words g.Word.BitArray.BITS g.State.BitArray.BITS g.Backend.WriteWords.room g.Backend.WriteWords.makes_room g.Backend.WriteWords.prepare_fails g.Backend.WriteWords.write_fails
+    old step e new enough refused

@@ -1,0 +1,4 @@
+pub mod Concatenated
+pub mod Outcomes
+pub mod Symbols
+pub mod Undone

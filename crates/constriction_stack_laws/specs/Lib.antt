@@ -1,0 +1,3 @@
+pub mod Exporting
+pub mod Readings
+pub mod Undone

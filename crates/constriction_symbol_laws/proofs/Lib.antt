@@ -1,0 +1,3 @@
+pub mod bit_coders
+pub mod least_cost
+pub mod Costless

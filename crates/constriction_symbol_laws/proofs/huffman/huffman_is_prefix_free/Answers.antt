@@ -1,0 +1,5 @@
+use Rattle.constriction_symbol.specs.HuffmanMerge.{huffman_prefix_free}
+use Rattle.constriction_symbol_laws.proofs.huffman.huffman_is_prefix_free.Goals as goal
+
+pub returns : goal.returns
+returns c = huffman_prefix_free
