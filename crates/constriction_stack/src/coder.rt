@@ -50,7 +50,7 @@ impl<Word: WordOf<State>, State: BitArray, Backend: Holds<Word, Stack>> Model
 impl<Word: WordOf<State>, State: BitArray> AnsCoder<Word, State, Vec<Word>> {
     /// A coder that holds nothing: head 0, and no words. It takes no memory yet; `alloc` is where
     /// its words will be.
-    #[inline]
+    #[inline(always)]
     pub fn new(alloc: Global) -> Self
         requires { IsSizes Word.BITS State.BITS }
         ensures state { result.state ≡ empty }
@@ -98,7 +98,7 @@ impl<Word: WordOf<State>, State: BitArray, Backend: Holds<Word, Stack>> AnsCoder
     /// The coder of the words of a backend below a head. Any head is taken: where it is below 2 to
     /// the (bits of `State` - bits of `Word`) though there are words, decoding is as ever, and
     /// encoding is safe but isn't undone by decoding.
-    #[inline]
+    #[inline(always)]
     pub fn from_raw_parts(bulk: Backend, state: State) -> Self
         requires { IsSizes Word.BITS State.BITS }
         ensures state { result.state
@@ -145,7 +145,7 @@ impl<Word: WordOf<State>, State: BitArray, Backend: WriteWords<Word>> AnsCoder<
     Backend,
 > {
     /// A coder that holds nothing, over a backend that holds nothing: head 0, and no words.
-    #[inline]
+    #[inline(always)]
     pub fn with_write_backend(bulk: Backend) -> Self
         requires sizes { IsSizes Word.BITS State.BITS }
         requires empty { Backend.words bulk ≡ [] }
