@@ -1,5 +1,5 @@
 //! Tests of the range coder, and no code besides: worked values, lists, refusals, words that are held
-//! back, guards, cursors, positions, parts and texts, at concrete types.
+//! back, flags, guards, cursors, positions, parts and texts, at concrete types.
 //!
 //! What a contract of `constriction_queue` says is proved there for all values. These tests stand for
 //! what no contract can say: that the definitions give the numbers that a reader expects, that calls
@@ -25,6 +25,8 @@ mod cursors;
 mod ending;
 #[cfg(test)]
 mod expect;
+#[cfg(test)]
+mod flagged;
 #[cfg(test)]
 mod guards;
 #[cfg(test)]

@@ -54,7 +54,7 @@ pub fn put_bytes(encoder: &mut Coder, table: &Table, symbols: &[usize]) -> bool 
 }
 
 /// The answer of a step or a list.
-fn answer_of<F: Drop, E: Drop>(answer: Result<(), CoderError<F, E>>) -> Put {
+pub fn answer_of<F: Drop, E: Drop>(answer: Result<(), CoderError<F, E>>) -> Put {
     match answer {
         Ok(()) => Put::Done,
         Err(CoderError::Frontend(_)) => Put::Unknown,

@@ -15,9 +15,9 @@ use Rattle.constriction_queue.specs.SelfDelimiting.{SelfDelimits}
 use Rattle.constriction_queue.specs.States.{IsPosition}
 use Rattle.constriction_queue.proofs.Narrowing.{grown_large, grown_small}
 use Rattle.constriction_queue.proofs.Pointing.{mod_sum}
-use Rattle.constriction_laws.specs.queue.Symbols.{Narrows, NarrowsAll, Finds, FindsAll}
-use Rattle.constriction_laws.proofs.stack_coder.ComingBack.{all-append}
-use Rattle.constriction_laws.proofs.stack_coder.SameModel.{are_models}
+use Rattle.constriction_queue_laws.specs.Symbols.{Narrows, NarrowsAll, Finds, FindsAll}
+use Rattle.constriction_coder_laws.proofs.Turned.{all-append}
+use Rattle.constriction_coder_laws.proofs.SameModel.{are_models}
 use Rattle.std.specs.List.{AllByRecursion}
 use Rattle.constriction_store.specs.Chunks.{AllKnown, chunk_in, count_of}
 use Rattle.constriction_store.specs.Stores.{ArePlaces, Entry, HoldsChunk, HoldsChunks, Indexes, IsIndex, StandsAtEntry, entry_in, run_at, total_of}

@@ -6,7 +6,7 @@ use Rattle.std.proofs.lemmas.Bool.{cases_lt}
 use Rattle.constriction_base.specs.Models.{Model, IsModel, items_of}
 use Rattle.constriction_queue.specs.Decoder.{Decoder}
 use Rattle.constriction_queue.specs.Range.{Run}
-use Rattle.constriction_laws.specs.queue.Symbols.{FindsAll, StandsAt}
+use Rattle.constriction_queue_laws.specs.Symbols.{FindsAll, StandsAt}
 use Rattle.constriction_store.specs.LookedUp.{CannotLookUp, ChunkFails, HoldsSome, IsChunk, IsRefused}
 use Rattle.constriction_store.specs.Chunks.{chunk_in}
 use Rattle.constriction_store.specs.Stores.{Entry, HoldsChunk, HoldsChunks, HoldsNoChunk, entry_in, run_at}

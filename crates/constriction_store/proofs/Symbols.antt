@@ -10,11 +10,11 @@ use Rattle.constriction_queue.proofs.Narrowing.{by_growth}
 use Rattle.constriction_queue.specs.Decoder.{Decoder, quantile_read}
 use Rattle.constriction_queue.specs.declared.decoder.symbols.DecoderFrontendError.{DecoderFrontendError}
 use Rattle.constriction_queue.specs.declared.decoder.symbols.DecoderFrontendError.TheVariants.{InvalidData}
-use Rattle.constriction_laws.specs.queue.Symbols.{Narrows, NarrowsAll, Finds, FindsAll, StandsAt}
-use Rattle.constriction_laws.proofs.queue_coder.ListCalls.{distance_is}
-use Rattle.constriction_laws.proofs.queue_coder.ComingBack.{one_decode, decodes_unique}
-use Rattle.constriction_laws.proofs.queue_coder.Entries.{model_step}
-use Rattle.constriction_laws.proofs.stack_coder.SameModel.{are_models, models-alike, symbols-items_of}
+use Rattle.constriction_queue_laws.specs.Symbols.{Narrows, NarrowsAll, Finds, FindsAll, StandsAt}
+use Rattle.constriction_queue_laws.proofs.ListCalls.{distance_is}
+use Rattle.constriction_queue_laws.proofs.ComingBack.{one_decode, decodes_unique}
+use Rattle.constriction_queue_laws.proofs.Entries.{model_step}
+use Rattle.constriction_coder_laws.proofs.SameModel.{are_models, models-alike, symbols-items_of}
 use Rattle.constriction_store.specs.Chunks.{AllKnown}
 
 -- one symbol more

@@ -5,7 +5,7 @@ ghost use Rattle.constriction_base.specs.Steps.{IsSizes};
 ghost use Rattle.constriction_base.specs.Models.{items_of};
 ghost use Rattle.constriction_queue.specs.Range.{Run};
 ghost use Rattle.constriction_queue.specs.States.{lower_of, range_of};
-ghost use Rattle.constriction_laws.specs.queue.Symbols.{FindsAll, StandsAt};
+ghost use Rattle.constriction_queue_laws.specs.Symbols.{FindsAll, StandsAt};
 ghost use Rattle.constriction_store.specs.LookedUp.{ChunkFails, IsChunk, IsRefused};
 ghost use Rattle.constriction_store.specs.Stores.{HoldsChunk, entry_in, run_from};
 

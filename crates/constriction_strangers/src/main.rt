@@ -10,6 +10,7 @@ mod bits;
 mod chain;
 mod range;
 mod stack;
+mod store;
 mod sum;
 
 use anyhow::{Result, bail};
@@ -169,6 +170,38 @@ fn of_range(rt: &impl Print, alloc: Global) -> Result<()> {
     Ok(())
 }
 
+/// Chunks of a store at an entry: of the first words, at the end, and past it; in intervals of encoders and in others.
+fn of_stores(rt: &impl Print, alloc: Global) -> Result<()> {
+    let table = &WeightTable::<u8, 8>::new(alloc, &range::WEIGHTS)?;
+    'intervals: for (lower, range) in [(0u16, 65535u16), (33024, 65280), (1, 300), (0, 255)] {
+        'places: for place in 0..4usize {
+            'lengths: for len in 0..4usize {
+                show_parts(
+                    rt,
+                    "store, chunk",
+                    &store::Chunk {
+                        alloc,
+                        table,
+                        entry: (place, lower, range, len),
+                    },
+                )?;
+            }
+        }
+        'pairs: for place in 0..3usize {
+            show_words(
+                rt,
+                "store, chunk",
+                &store::Chunk {
+                    alloc,
+                    table,
+                    entry: (place, lower, range, 2),
+                },
+            )?;
+        }
+    }
+    Ok(())
+}
+
 /// The chain coder.
 fn of_chain(rt: &impl Print, alloc: Global) -> Result<()> {
     let table = &WeightTable::<u8, 4>::new(alloc, &chain::WEIGHTS)?;
@@ -269,6 +302,7 @@ fn main(rt: HostRuntime) -> Result<()> {
     let alloc = rt.alloc();
     of_stack(&rt, alloc)?;
     of_range(&rt, alloc)?;
+    of_stores(&rt, alloc)?;
     of_chain(&rt, alloc)?;
     of_bits(&rt, alloc)?;
     Ok(())

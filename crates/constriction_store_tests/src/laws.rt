@@ -1,0 +1,104 @@
+//! The laws of stores, and chunks that come back by their calls.
+
+use crate::stores::{Halves, chunks_of, halves, three};
+use constriction_store::laws::{
+    ThroughStore, chunks_in_any_order, chunks_through_parts, look_up, one_chunk_at_entry,
+    other_words_are_not_read,
+};
+use constriction_store::{BuildError, ChunkError};
+use std::alloc::Global;
+use std::test::Fail;
+
+/// What chunks through a store give.
+type Through = Result<(Halves, Vec<Vec<usize>>), ThroughStore>;
+
+/// Whether two look-ups found these chunks.
+fn are(found: &[Vec<usize>], first: &[usize], second: &[usize]) -> bool {
+    match found {
+        [one, other] => one.as_slice() == first && other.as_slice() == second,
+        _ => false,
+    }
+}
+
+/// Whether chunks came back in this order.
+fn came_back(through: Through, first: &[usize], second: &[usize]) -> bool {
+    match through {
+        Ok((_, found)) => are(found.as_slice(), first, second),
+        Err(_) => false,
+    }
+}
+
+/// Why they didn't.
+fn refusal_of(through: Through) -> Option<ThroughStore> {
+    through.err()
+}
+
+/// Look-ups in a store that is there.
+fn looked_up(alloc: Global, places: &[usize]) -> Result<bool, Fail> {
+    let store = three(alloc)?;
+    match look_up(alloc, &store, places) {
+        Ok(found) => Ok(are(found.as_slice(), &[1], &[1, 0])),
+        Err(ChunkError::NoSuchChunk) => Ok(false),
+        Err(_) => Err(Fail::from("another refusal")),
+    }
+}
+
+#[test]
+fn look_ups_in_any_order(rt: HostRuntime) -> Result<(), Fail> {
+    assert!(rt; looked_up(rt.alloc(), &[2, 0])?);
+    assert!(rt; !looked_up(rt.alloc(), &[2, 3, 0])?);
+    Ok(())
+}
+
+/// Through a store that is built.
+fn built(alloc: Global, lists: &[&[usize]], places: &[usize]) -> Result<Through, Fail> {
+    let chunks = chunks_of(alloc, lists)?;
+    let table = halves(alloc)?;
+    Ok(chunks_in_any_order(alloc, chunks.as_slice(), places, table))
+}
+
+/// Through the store of its parts.
+fn through_parts(alloc: Global, lists: &[&[usize]], places: &[usize]) -> Result<Through, Fail> {
+    let chunks = chunks_of(alloc, lists)?;
+    let table = halves(alloc)?;
+    Ok(chunks_through_parts(alloc, chunks.as_slice(), places, table))
+}
+
+#[test]
+fn chunks_come_back_in_any_order(rt: HostRuntime) -> Result<(), Fail> {
+    let unknown = ThroughStore::Build(BuildError::ImpossibleSymbol { chunk: 1, index: 0 });
+    let none = ThroughStore::LookUp(ChunkError::NoSuchChunk);
+    assert!(rt;
+        came_back(
+            built(rt.alloc(), &[&[1, 0], &[], &[1]], &[2, 0])?,
+            &[1],
+            &[1, 0]
+        )
+    );
+    assert!(rt; refusal_of(built(rt.alloc(), &[&[1, 0], &[2]], &[0])?) == Some(unknown));
+    assert!(rt; refusal_of(built(rt.alloc(), &[&[1, 0], &[1]], &[0, 2])?) == Some(none));
+    Ok(())
+}
+
+#[test]
+fn chunks_come_back_through_parts(rt: HostRuntime) -> Result<(), Fail> {
+    let unknown = ThroughStore::Build(BuildError::ImpossibleSymbol { chunk: 1, index: 0 });
+    let none = ThroughStore::LookUp(ChunkError::NoSuchChunk);
+    assert!(rt;
+        came_back(
+            through_parts(rt.alloc(), &[&[1, 0], &[], &[1]], &[1, 0])?,
+            &[],
+            &[1, 0]
+        )
+    );
+    assert!(rt; refusal_of(through_parts(rt.alloc(), &[&[1, 0], &[2]], &[0])?) == Some(unknown));
+    assert!(rt; refusal_of(through_parts(rt.alloc(), &[&[1, 0], &[1]], &[0, 2])?) == Some(none));
+    Ok(())
+}
+
+#[test]
+fn each_law_is_a_call(_rt: HostRuntime) -> Result<(), Fail> {
+    one_chunk_at_entry();
+    other_words_are_not_read();
+    Ok(())
+}
