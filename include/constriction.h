@@ -1,4 +1,5 @@
-/* Proved entropy coders as C functions: a stack coder (ANS), a range coder, a chain coder, Huffman and Exp-Golomb codewords.
+/* Proved entropy coders as C functions: a stack coder (ANS), a range coder, stores of its chunks, a chain coder, Huffman and
+   Exp-Golomb codewords.
 
    For C99 and later, and for C++. Link with the static library build/libconstriction.a, or with the shared object
    build/libconstriction.so, both of which tools/library makes. docs/C_AND_PYTHON.md is a page on what is proved of these
@@ -255,6 +256,33 @@ uint32_t constriction_range_seek_u32(struct constriction_range_decoder_state_u32
    Refusals: WRONG_LENGTH (pos > word_count), INVALID_DATA (no decoder has such numbers). */
 uint32_t constriction_range_maybe_exhausted_u32(const struct constriction_range_decoder_state_u32 *decoder,
                                                 const uint32_t *words, size_t word_count, uint32_t *maybe);
+
+/* ---- Stores: chunks of symbols in the words of one range encoder, each of which is read by itself ----
+
+   An index has for each chunk the position where it begins, as constriction_range_seek takes it, in positions[i], lowers[i] and
+   ranges[i]; and lengths[i], the number of its symbols. Words and index are those of an encoder that took the chunks in order, and of
+   constriction_range_into_self_delimited, so other words may follow. */
+
+/* Puts the words of a store at the beginning of a buffer, *len of them, and its index into three lists. The symbols of all chunks stand
+   one behind another, at most 1048576 of them; chunk i has lengths[i].
+   Refusals: WRONG_LENGTH (position_count, lower_count or range_count isn't chunk_count, the lengths don't add up to symbol_count, or
+   that is above 1048576), WRONG_WEIGHTS, IMPOSSIBLE_SYMBOL, NO_SPACE, NO_MEMORY. */
+uint32_t constriction_store_build_u32(uint32_t *words, size_t capacity, size_t *len,
+                                      size_t *positions, size_t position_count,
+                                      uint64_t *lowers, size_t lower_count,
+                                      uint64_t *ranges, size_t range_count,
+                                      const uint32_t *weights, size_t weight_count,
+                                      const size_t *symbols, size_t symbol_count,
+                                      const size_t *lengths, size_t chunk_count, size_t *needed);
+
+/* Decodes the chunk that begins at a position: symbol_count is its length. Of the words those of the chunk are read, and two more;
+   past their end it reads zero words. Words and position may be any.
+   Refusals: WRONG_LENGTH (pos > word_count), WRONG_WEIGHTS, INVALID_DATA (range is below 2^32, or the words hold no such chunk there,
+   which doesn't come in what a build gave), NO_MEMORY. */
+uint32_t constriction_store_chunk_u32(const uint32_t *words, size_t word_count,
+                                      size_t pos, uint64_t lower, uint64_t range,
+                                      const uint32_t *weights, size_t weight_count,
+                                      size_t *symbols, size_t symbol_count);
 
 /* ---- The chain coder: a symbol is read from 24 bits of the words, whatever the models of the other symbols are ----
 
@@ -515,6 +543,33 @@ uint32_t constriction_range_seek_u16(struct constriction_range_decoder_state_u16
    Refusals: WRONG_LENGTH (pos > word_count), INVALID_DATA (no decoder has such numbers). */
 uint32_t constriction_range_maybe_exhausted_u16(const struct constriction_range_decoder_state_u16 *decoder,
                                                 const uint16_t *words, size_t word_count, uint32_t *maybe);
+
+/* ---- Stores: chunks of symbols in the words of one range encoder, each of which is read by itself ----
+
+   An index has for each chunk the position where it begins, as constriction_range_seek takes it, in positions[i], lowers[i] and
+   ranges[i]; and lengths[i], the number of its symbols. Words and index are those of an encoder that took the chunks in order, and of
+   constriction_range_into_self_delimited, so other words may follow. */
+
+/* Puts the words of a store at the beginning of a buffer, *len of them, and its index into three lists. The symbols of all chunks stand
+   one behind another, at most 1048576 of them; chunk i has lengths[i].
+   Refusals: WRONG_LENGTH (position_count, lower_count or range_count isn't chunk_count, the lengths don't add up to symbol_count, or
+   that is above 1048576), WRONG_WEIGHTS, IMPOSSIBLE_SYMBOL, NO_SPACE, NO_MEMORY. */
+uint32_t constriction_store_build_u16(uint16_t *words, size_t capacity, size_t *len,
+                                      size_t *positions, size_t position_count,
+                                      uint32_t *lowers, size_t lower_count,
+                                      uint32_t *ranges, size_t range_count,
+                                      const uint16_t *weights, size_t weight_count,
+                                      const size_t *symbols, size_t symbol_count,
+                                      const size_t *lengths, size_t chunk_count, size_t *needed);
+
+/* Decodes the chunk that begins at a position: symbol_count is its length. Of the words those of the chunk are read, and two more;
+   past their end it reads zero words. Words and position may be any.
+   Refusals: WRONG_LENGTH (pos > word_count), WRONG_WEIGHTS, INVALID_DATA (range is below 2^16, or the words hold no such chunk there,
+   which doesn't come in what a build gave), NO_MEMORY. */
+uint32_t constriction_store_chunk_u16(const uint16_t *words, size_t word_count,
+                                      size_t pos, uint32_t lower, uint32_t range,
+                                      const uint16_t *weights, size_t weight_count,
+                                      size_t *symbols, size_t symbol_count);
 
 /* ---- The chain coder: a symbol is read from 12 bits of the words, whatever the models of the other symbols are ----
 

@@ -81,6 +81,8 @@ _PARAMETERS: dict[str, list[Any]] = {
     "range_decode_each": [_decoder, *_items, *_rows, *_items],
     "range_seek": [_decoder, *_items, _size, c_uint64, c_uint64],
     "range_maybe_exhausted": [_decoder, *_items, POINTER(c_uint32)],
+    "store_build": [*_buffer, *_items, *_items, *_items, *_table, *_items, *_items, _needed],
+    "store_chunk": [*_items, _size, c_uint64, c_uint64, *_table, *_items],
     "chain_from_compressed": [*_buffer, _heads],
     "chain_from_binary": [*_buffer, _heads],
     "chain_from_remainders": [*_buffer, _heads],

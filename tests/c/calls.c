@@ -16,7 +16,7 @@ typedef uint32_t state;
 #define C(name) NAME(name, _u16)
 #endif
 
-enum { KINDS = 7, COUNT = 40, GUARD = 4, ROOM = 3 * COUNT + 8, RESULTS = 9 };
+enum { KINDS = 7, COUNT = 40, CHUNKS = 6, MOST = 1048576, GUARD = 4, ROOM = 3 * COUNT + 8, RESULTS = 9 };
 static const state WHOLE = (state)1 << PRECISION;
 
 /* ==== What a call changes: all of it in one place, so that what it must not change can be seen ==== */
@@ -31,6 +31,8 @@ struct world {
     word before[GUARD], words[ROOM], behind[GUARD];
     word other[ROOM], numbers[COUNT];
     size_t symbols[COUNT];
+    size_t positions[CHUNKS];
+    state lowers[CHUNKS], ranges[CHUNKS];
 };
 
 /* What a call is given. */
@@ -40,6 +42,7 @@ static struct {
     uint32_t tree[KINDS];
     size_t symbols[COUNT], kinds;
     size_t weight_count, row_count, p_count;
+    size_t lengths[CHUNKS], chunks, position_count, lower_count, range_count, chunk;
 } in;
 
 /* Equal up to what pads the structs. */
@@ -54,7 +57,9 @@ static int equal(const struct world *a, const struct world *b) {
         && a->maybe == b->maybe
         && !memcmp(a->before, b->before, sizeof a->before) && !memcmp(a->words, b->words, sizeof a->words)
         && !memcmp(a->behind, b->behind, sizeof a->behind) && !memcmp(a->other, b->other, sizeof a->other)
-        && !memcmp(a->numbers, b->numbers, sizeof a->numbers) && !memcmp(a->symbols, b->symbols, sizeof a->symbols);
+        && !memcmp(a->numbers, b->numbers, sizeof a->numbers) && !memcmp(a->symbols, b->symbols, sizeof a->symbols)
+        && !memcmp(a->positions, b->positions, sizeof a->positions)
+        && !memcmp(a->lowers, b->lowers, sizeof a->lowers) && !memcmp(a->ranges, b->ranges, sizeof a->ranges);
 }
 
 /* A world of which every place has its own value. */
@@ -64,6 +69,7 @@ static struct world fresh(void) {
     for (size_t i = 0; i < GUARD; i++) w.before[i] = (word)(50000 + i), w.behind[i] = (word)(51000 + i);
     for (size_t i = 0; i < ROOM; i++) w.words[i] = (word)(52000 + i), w.other[i] = (word)(53000 + i);
     for (size_t i = 0; i < COUNT; i++) w.numbers[i] = (word)(54000 + i), w.symbols[i] = 55000 + i;
+    for (size_t i = 0; i < CHUNKS; i++) w.positions[i] = 58000 + i, w.lowers[i] = (state)(59000 + i), w.ranges[i] = (state)(60000 + i);
     w.needed = 56000, w.maybe = 57000, w.capacity = ROOM;
     C(range_encoder)(&w.encoder);
     C(range_from_compressed)(w.words, 0, &w.decoder);
@@ -102,6 +108,13 @@ static void draw(size_t count) {
         in.numbers[i] = (word)(random_below(4) ? random_below(100) : ~random_below(3));
     }
     in.weight_count = KINDS, in.row_count = count * KINDS, in.p_count = count;
+    /* Chunks, of which some are empty. */
+    size_t left = count;
+    in.chunks = in.position_count = in.lower_count = in.range_count = CHUNKS;
+    for (size_t i = 0; i < CHUNKS; i++) {
+        in.lengths[i] = i + 1 == CHUNKS ? left : random_below(3) ? random_below(left + 1) : 0;
+        left -= in.lengths[i];
+    }
 }
 
 /* ==== The calls, each on a world ==== */
@@ -138,6 +151,11 @@ static uint32_t range_import(struct world *w) { return C(range_from_compressed)(
 static uint32_t range_decode(struct world *w) { return C(range_decode)(&w->decoder, w->words, w->len, TABLE, TAKEN); }
 static uint32_t range_decode_each(struct world *w) { return C(range_decode_each)(&w->decoder, w->words, w->len, ROWS, TAKEN); }
 static uint32_t range_maybe(struct world *w) { return C(range_maybe_exhausted)(&w->decoder, w->words, w->len, &w->maybe); }
+
+#define INDEX w->positions, in.position_count, w->lowers, in.lower_count, w->ranges, in.range_count
+#define ENTRY w->positions[in.chunk], w->lowers[in.chunk], w->ranges[in.chunk]
+static uint32_t store_build(struct world *w) { return C(store_build)(BUFFER, INDEX, TABLE, GIVEN, in.lengths, in.chunks, &w->needed); }
+static uint32_t store_chunk(struct world *w) { return C(store_chunk)(w->words, w->len, ENTRY, TABLE, w->symbols, in.lengths[in.chunk]); }
 
 #define OTHER w->other, (size_t)ROOM, &w->other_len
 static uint32_t chain_import(struct world *w) { return C(chain_from_compressed)(w->other, w->other_len, &w->other_len, &w->heads); }
@@ -446,6 +464,115 @@ static void range(size_t count) {
     }
 }
 
+/* Each chunk is what stands at its place in the list, and a decoder that goes to its position gives the same. */
+static void looks_up(const struct world *built, size_t chunk) {
+    struct world w = *built;
+    size_t begins = 0, count = in.lengths[chunk], again[COUNT];
+    for (size_t i = 0; i < chunk; i++) begins += in.lengths[i];
+    in.chunk = chunk;
+    refused_memory("store: a chunk, memory", store_chunk, &w);
+    done("store: a chunk", store_chunk, &w);
+    CHECK("store: a chunk", !memcmp(w.symbols, in.symbols + begins, count * sizeof(size_t)));
+    CHECK("store: no symbol behind a chunk", !memcmp(w.symbols + count, built->symbols + count, (COUNT - count) * sizeof(size_t)));
+    /* Of no symbols nothing is read, and words that hold none may stand for no decoder. */
+    if (!count) return;
+    CHECK("store: a position", C(range_seek)(&w.decoder, w.words, w.len, w.positions[chunk], w.lowers[chunk], w.ranges[chunk]) == CONSTRICTION_DONE
+          && C(range_decode)(&w.decoder, w.words, w.len, TABLE, again, count) == CONSTRICTION_DONE && !memcmp(again, w.symbols, count * sizeof(size_t)));
+}
+
+/* The words and the index are those of one encoder that takes the chunks in order. */
+static void as_one_encoder(const struct world *built) {
+    struct world w = fresh();
+    size_t begins = 0;
+    for (size_t i = 0; i < CHUNKS; begins += in.lengths[i++]) {
+        CHECK("store: an entry", built->positions[i] == w.len + w.encoder.held && built->lowers[i] == w.encoder.lower && built->ranges[i] == w.encoder.range);
+        CHECK("store: a chunk is encoded", C(range_encode)(&w.encoder, w.words, w.capacity, &w.len, TABLE, in.symbols + begins, in.lengths[i], &w.needed) == CONSTRICTION_DONE);
+    }
+    done("store: the seal", range_followed, &w);
+    CHECK("store: the words", w.len == built->len && !memcmp(w.words, built->words, w.len * sizeof(word)));
+}
+
+/* What a build refuses, and the order of refusals: lengths before weights, and these before symbols. */
+static void refuses_build(const struct world *start) {
+    size_t *const counts[] = {&in.position_count, &in.lower_count, &in.range_count, &in.chunks, &in.lengths[0]};
+    struct world w = *start;
+    size_t kept = in.symbols[0];
+    in.symbols[0] = KINDS;
+    refuses_without_memory("store: an unknown symbol", store_build, &w, CONSTRICTION_IMPOSSIBLE_SYMBOL);
+    in.weights[0]++;
+    refuses_without_memory("store: wrong weights", store_build, &w, CONSTRICTION_WRONG_WEIGHTS);
+    for (size_t i = 0; i < sizeof counts / sizeof *counts; i++) {
+        (*counts[i])--;
+        refuses_without_memory("store: wrong lengths", store_build, &w, CONSTRICTION_WRONG_LENGTH);
+        (*counts[i])++;
+    }
+    in.lengths[0]++;
+    refuses("store: lengths of more symbols", store_build, &w, CONSTRICTION_WRONG_LENGTH);
+    in.lengths[0]--;
+    size_t last = in.lengths[CHUNKS - 1];
+    in.lengths[CHUNKS - 1] = SIZE_MAX;
+    refuses("store: lengths past any", store_build, &w, CONSTRICTION_WRONG_LENGTH);
+    in.lengths[CHUNKS - 1] = last;
+    in.weights[0]--;
+    in.symbols[0] = kept;
+}
+
+/* What a look-up refuses. */
+static void refuses_chunk(const struct world *built) {
+    struct world w = *built;
+    in.chunk = 0;
+    w.positions[0] = w.len + 1, w.ranges[0] = 1, in.weights[0]++;
+    refuses_without_memory("store: a position past the words", store_chunk, &w, CONSTRICTION_WRONG_LENGTH);
+    w.positions[0] = w.len;
+    refuses_without_memory("store: wrong weights", store_chunk, &w, CONSTRICTION_WRONG_WEIGHTS);
+    in.weights[0]--;
+    refuses_without_memory("store: a short interval", store_chunk, &w, CONSTRICTION_INVALID_DATA);
+    w.ranges[0] = (state)1 << (8 * sizeof(state) - BITS), w.lowers[0] = 1;
+    if (in.lengths[0]) {
+        refuses("store: no chunk", store_chunk, &w, CONSTRICTION_INVALID_DATA);
+    } else {
+        done("store: no symbols", store_chunk, &w);
+    }
+    w.lowers[0] = 0, w.ranges[0] = (state)-1, w.len = 0, w.positions[0] = 0;
+    done("store: behind the words are zeros", store_chunk, &w);
+}
+
+/* As many symbols as a store holds, and one more. */
+static void most_symbols(void) {
+    size_t *symbols = calloc(MOST + 1, sizeof *symbols), lengths[2] = {MOST - 1, 1}, positions[2], len = 0, needed = 0, last = 7;
+    word *words = malloc((MOST + 2) * sizeof *words), weights[2] = {(word)(WHOLE / 2), (word)(WHOLE / 2)};
+    state lowers[2], ranges[2];
+    if (!symbols || !words) {
+        CHECK("store: memory for the test", 0);
+        return;
+    }
+    symbols[MOST - 1] = 1;
+    CHECK("store: the most symbols", C(store_build)(words, MOST + 2, &len, positions, 2, lowers, 2, ranges, 2, weights, 2, symbols, MOST, lengths, 2, &needed) == CONSTRICTION_DONE
+          && len == MOST / BITS + 1 && C(store_chunk)(words, len, positions[1], lowers[1], ranges[1], weights, 2, &last, 1) == CONSTRICTION_DONE && last == 1);
+    lengths[1] = 2;
+    CHECK("store: one symbol too many", C(store_build)(words, MOST + 2, &len, positions, 2, lowers, 2, ranges, 2, weights, 2, symbols, MOST + 1, lengths, 2, &needed) == CONSTRICTION_WRONG_LENGTH);
+    free(symbols), free(words);
+}
+
+static void store(size_t count) {
+    struct world start = fresh(), w;
+    draw(count);
+    every_length("store: build", store_build, &start, 0);
+    refused_memory("store: build, memory", store_build, &start);
+    if (count) refuses_build(&start);
+    w = start;
+    done("store: build", store_build, &w);
+    as_one_encoder(&w);
+    for (size_t i = 0; i < CHUNKS; i++) looks_up(&w, i);
+    for (size_t i = CHUNKS; i > 0; i--) looks_up(&w, i - 1);
+    /* Whatever follows. */
+    struct world longer = w;
+    for (size_t i = w.len; i < ROOM; i++) longer.words[i] = (word)-1;
+    longer.len = ROOM;
+    for (size_t i = 0; i < CHUNKS; i++) looks_up(&longer, i);
+    if (count) refuses_chunk(&w);
+}
+
 /* A state from outside may hold any number of words back: room is looked at before memory is asked for. */
 static void great_held(void) {
     call *const exports[] = {range_export, range_followed};
@@ -487,6 +614,10 @@ static void nulls(void) {
     CHECK("null: range", !C(range_from_compressed)(NULL, 0, &decoder) && !C(range_decode)(&decoder, NULL, 0, TABLE, NULL, 0));
     CHECK("null: range", !C(range_decode_each)(&decoder, NULL, 0, NULL, 0, KINDS, NULL, 0));
     CHECK("null: range", !C(range_maybe_exhausted)(&decoder, NULL, 0, &maybe) && !C(range_seek)(&decoder, NULL, 0, 0, 0, (state)-1));
+
+    CHECK("null: store", !C(store_build)(NULL, 0, &len, NULL, 0, NULL, 0, NULL, 0, TABLE, NULL, 0, NULL, 0, &needed) && len == 0);
+    CHECK("null: store", !C(store_chunk)(NULL, 0, 0, 0, (state)-1, TABLE, NULL, 0) && !C(store_chunk)(NULL, 0, 0, 0, (state)-1, TABLE, w.symbols, 1));
+    CHECK("null: store, no weights", C(store_chunk)(NULL, 0, 0, 0, (state)-1, NULL, 0, NULL, 0) == CONSTRICTION_WRONG_WEIGHTS);
 
     CHECK("null: chain", !C(chain_decode)(&w.heads, NULL, 0, &len, NULL, 0, &other_len, TABLE, NULL, 0, &needed));
     CHECK("null: chain", !C(chain_decode_each)(&w.heads, NULL, 0, &len, NULL, 0, &other_len, NULL, 0, KINDS, NULL, 0, &needed));
@@ -638,9 +769,9 @@ static void codewords(size_t count) {
 int main(void) {
     for (int round = 0; round < 20; round++) {
         size_t count = round < 3 ? (size_t)round : 1 + random_below(COUNT);
-        ans(count), range(count), chain(count), codewords(count);
+        ans(count), range(count), store(count), chain(count), codewords(count);
     }
-    great_held(), nulls(), texts();
+    great_held(), most_symbols(), nulls(), texts();
     for (size_t i = 1; i < RESULTS; i++) CHECK("each result was seen", seen[i] > 0);
     return finish();
 }

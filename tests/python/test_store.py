@@ -8,14 +8,18 @@ import random
 import tempfile
 import unittest
 from array import array
+from ctypes import byref, c_size_t
 from itertools import product
 from pathlib import Path
 from typing import Any
 
 from constriction import errors, store
+from constriction._buffers import lent
+from constriction._library import call
 from constriction.store import MOST_SYMBOLS, Store
 from constriction.stream.model import QuantizedGaussian, Uniform, WeightTable
 from constriction.stream.queue import RangeDecoder, RangeEncoder
+from definitions import random_symbol, random_weights
 
 HALVES = WeightTable([8388608, 8388608])
 THREE = [[1, 0], [], [1]]
@@ -24,6 +28,30 @@ THREE = [[1, 0], [], [1]]
 def some_chunks() -> list[list[int]]:
     draw = random.Random(7)
     return [[draw.randrange(-50, 51) for _ in range(draw.randrange(100))] for _ in range(100)]
+
+
+def built_by_function(chunks: list[list[int]], model: WeightTable) -> tuple[list[int], list[tuple[Any, ...]]]:
+    """The words and the index of chunks, by the C function."""
+    symbols = array("q", [symbol for chunk in chunks for symbol in chunk])
+    lengths = array("Q", [len(chunk) for chunk in chunks])
+    words, weights = array("I", [0]) * (len(symbols) + 2), model.table()
+    positions, lowers, ranges = (array("Q", [0]) * len(chunks) for _ in range(3))
+    count, needed = c_size_t(0), c_size_t(0)
+    call(
+        "store_build", lent(words), len(words), byref(count), lent(positions), len(chunks), lent(lowers), len(chunks),
+        lent(ranges), len(chunks), lent(weights), len(weights), lent(symbols), len(symbols), lent(lengths), len(chunks),
+        byref(needed),
+    )  # fmt: skip
+    states = zip(lowers, ranges)
+    return list(words[: count.value]), [(place, state, many) for place, state, many in zip(positions, states, lengths)]
+
+
+def looked_up_by_function(words: list[int], entry: tuple[Any, ...], model: WeightTable) -> list[int]:
+    """The chunk at an entry of words, by the C function."""
+    place, state, many = entry
+    memory, symbols, weights = array("I", words), array("q", [0]) * many, model.table()
+    call("store_chunk", lent(memory), len(memory), place, *state, lent(weights), len(weights), lent(symbols), many)
+    return list(symbols)
 
 
 class Stores(unittest.TestCase):
@@ -148,6 +176,35 @@ class Stores(unittest.TestCase):
                             found.chunk(0)
                     else:
                         self.assertEqual(list(found.chunk(0)), wanted)
+
+    def test_as_the_functions(self) -> None:
+        """The C functions build the same words and the same index, and look the same chunks up."""
+        draw = random.Random(11)
+        for kinds in (2, 5, 300):
+            weights = random_weights(draw, kinds)
+            model = WeightTable(weights)
+            chunks = [[random_symbol(draw, weights) for _ in range(draw.randrange(30))] for _ in range(draw.randrange(40))]
+            built = Store.build(chunks, model)
+            words, index = built_by_function(chunks, model)
+            self.assertEqual(list(built.words), words)
+            self.assertEqual([tuple(entry) for entry in built.index], index)
+            for place in draw.sample(range(len(chunks)), len(chunks)):
+                self.assertEqual(looked_up_by_function(words, index[place], model), chunks[place])
+
+    def test_hostile_parts_as_the_functions(self) -> None:
+        draw = random.Random(12)
+        for _ in range(3000):
+            words = [draw.choice((0, 1, 1 << 31, (1 << 32) - 1, draw.randrange(1 << 32))) for _ in range(draw.randrange(4))]
+            state = draw.choice((0, (1 << 64) - 1, draw.randrange(1 << 64))), draw.choice((0, (1 << 64) - 1, draw.randrange(1 << 64)))
+            entry = draw.randrange(len(words) + 1), state, draw.randrange(5)
+            found = Store.from_parts(array("I", words), [entry], HALVES)
+            try:
+                wanted = looked_up_by_function(words, entry, HALVES)
+            except errors.InvalidDataError:
+                with self.assertRaises(errors.InvalidDataError):
+                    found.chunk(0)
+            else:
+                self.assertEqual(list(found.chunk(0)), wanted)
 
     def test_examples(self) -> None:
         self.assertEqual(doctest.testmod(store).failed, 0)

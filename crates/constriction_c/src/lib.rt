@@ -18,5 +18,6 @@ pub mod ans;
 pub mod chain;
 pub mod codes;
 pub mod range;
+pub mod store;
 pub mod symbol;
 pub mod version;

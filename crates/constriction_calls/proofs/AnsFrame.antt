@@ -12,7 +12,7 @@ use Rattle.constriction_calls.specs.Buffers.{Appended, stack_in}
 use Rattle.constriction_calls.specs.AnsCalls.{state_in, PutOn, NeedsRoom, PutOnRefused}
 use Rattle.constriction_calls.specs.declared.refusal.Refusal.{Refusal}
 use Rattle.constriction_calls.specs.declared.refusal.Refusal.TheVariants.{ImpossibleSymbol, WrongWeights, WrongInterval, WrongLength, NoSpace, NoMemory, InvalidData, OutOfData}
-use Rattle.constriction_laws.proofs.stack_coder.ComingBack.{all-reverse, map-reverse}
+use Rattle.constriction_coder_laws.proofs.Turned.{all-reverse, map-reverse}
 
 -- a state, and more words below it
 abbrev pub over : AnsState → List ℕ → AnsState

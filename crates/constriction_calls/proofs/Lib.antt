@@ -16,5 +16,8 @@ pub mod RowTables
 pub mod ChainWords
 pub mod RowWeights
 pub mod Stacked
+mod StoreAnswers
+mod StoreIndex
 mod SymbolLists
 mod SymbolTrees
+mod Totals

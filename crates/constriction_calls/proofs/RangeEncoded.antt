@@ -5,7 +5,7 @@ use Rattle.std.proofs.lemmas.List.{length-append, length-take, reverse-append}
 use Rattle.constriction_base.specs.Models.{Item, AreKnown}
 use Rattle.constriction_queue.specs.Range.{Run}
 use Rattle.constriction_queue.specs.Encoder.{run_of}
-use Rattle.constriction_laws.specs.queue.Symbols.{NarrowsAll}
+use Rattle.constriction_queue_laws.specs.Symbols.{NarrowsAll}
 use Rattle.constriction_calls.specs.Buffers.{Appended}
 use Rattle.constriction_calls.specs.Weights.{row_items}
 use Rattle.constriction_calls.specs.RangeCalls.{kept_words, run_kept, IsEncoderKept, IsEncodedBy, LacksRoom}

@@ -10,7 +10,7 @@ use Rattle.constriction_queue.specs.Range.{Run, cut, grown, narrow, sealed, seal
 use Rattle.constriction_queue.specs.Encoder.{Encoder, encoder_of, held_of, number_of, run_by, run_of, words_held}
 use Rattle.constriction_queue.specs.declared.situation.EncoderSituation.{EncoderSituation}
 use Rattle.constriction_base.specs.Models.{Item}
-use Rattle.constriction_laws.specs.queue.Symbols.{NarrowsAll}
+use Rattle.constriction_queue_laws.specs.Symbols.{NarrowsAll}
 use Rattle.constriction_queue.proofs.Fits.{pow-split}
 use Rattle.constriction_queue.proofs.Runs.{same_run}
 use Rattle.constriction_queue.proofs.Seals.{digits_of_words, words_held_fit}

@@ -17,9 +17,9 @@ use Rattle.constriction_queue.proofs.Sought.{sought_is_at}
 use Rattle.constriction_queue.proofs.WordsRead.{first_point}
 use Rattle.constriction_calls.specs.Weights.{row_items, row_tables}
 use Rattle.constriction_calls.proofs.RowItems.{rows_are_items}
-use Rattle.constriction_laws.specs.queue.Symbols.{Finds, FindsAll, MayEnd, StandsAt}
-use Rattle.constriction_laws.proofs.queue_coder.ComingBack.{decodes_unique}
-use Rattle.constriction_laws.proofs.queue_coder.ListCalls.{decodes_of, distance_is, ended_of}
+use Rattle.constriction_queue_laws.specs.Symbols.{Finds, FindsAll, MayEnd, StandsAt}
+use Rattle.constriction_queue_laws.proofs.ComingBack.{decodes_unique}
+use Rattle.constriction_queue_laws.proofs.ListCalls.{decodes_of, distance_is, ended_of}
 
 -- ---- where a cursor stands
 -- so many words are left that those before them are these

@@ -8,7 +8,7 @@ use Rattle.constriction_symbol.specs.Codewords.{ReadsSymbol}
 use Rattle.constriction_symbol.specs.declared.codebooks.SymbolCodeError.{SymbolCodeError}
 use Rattle.constriction_symbol.specs.declared.codebooks.SymbolCodeError.TheVariants.{OutOfCompressedData, InvalidCodeword}
 use Rattle.constriction_symbol.proofs.ReadBack.{gives_front}
-use Rattle.constriction_laws.specs.symbol.Lists.{AreCodewords}
+use Rattle.constriction_symbol_laws.specs.Lists.{AreCodewords}
 use Rattle.constriction_calls.specs.declared.refusal.Refusal.{Refusal}
 use Rattle.constriction_calls.specs.SymbolCalls.{EndInZero, HaveCodewords, IsToldAs, ReadsNone}
 

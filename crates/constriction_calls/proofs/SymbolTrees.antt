@@ -5,8 +5,8 @@ use Rattle.std.proofs.lemmas.List.Elements.{All-nil, All-cons, All-head, All-tai
 use Rattle.constriction_symbol.specs.Codewords.{NoneBegins}
 use Rattle.constriction_symbol.specs.Huffman.{ReadsOnIn, Tree, huffman, path}
 use Rattle.constriction_symbol.specs.HuffmanLaws.{inner_begins_none}
-use Rattle.constriction_laws.specs.symbol.Lists.{AreCodewords}
-use Rattle.constriction_laws.proofs.bit_coders.Trees.{known_symbol, same_codewords, unknown_symbol}
+use Rattle.constriction_symbol_laws.specs.Lists.{AreCodewords}
+use Rattle.constriction_symbol_laws.proofs.bit_coders.Trees.{known_symbol, same_codewords, unknown_symbol}
 use Rattle.constriction_calls.specs.declared.refusal.Refusal.{Refusal}
 use Rattle.constriction_calls.specs.declared.refusal.Refusal.TheVariants.{ImpossibleSymbol, WrongWeights, WrongInterval, WrongLength, NoSpace, NoMemory, InvalidData, OutOfData}
 use Rattle.constriction_calls.specs.SymbolCalls.{BeginBits, BeginStack, HaveCodewords, MakesNone, OneHasNone, ReadsNoStack, ReadsNone, UnderTree, WritesNone}

@@ -7,5 +7,6 @@ pub mod ChainWords
 pub mod Intervals
 pub mod RangeCalls
 pub mod Rows
+pub mod StoreCalls
 pub mod SymbolCalls
 pub mod Weights

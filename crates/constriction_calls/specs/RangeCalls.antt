@@ -3,7 +3,7 @@ use Rattle.std.specs.Prelude.{◌≡◌, ℕ, zero, suc, ◌+◌, ◌-◌, ◌*�
 use Rattle.constriction_base.specs.Models.{Item}
 use Rattle.constriction_queue.specs.Range.{Run, IsAt}
 use Rattle.constriction_queue.specs.Encoder.{run_of, words_held}
-use Rattle.constriction_laws.specs.queue.Symbols.{NarrowsAll}
+use Rattle.constriction_queue_laws.specs.Symbols.{NarrowsAll}
 use Rattle.constriction_calls.specs.Buffers.{Appended}
 use Rattle.constriction_calls.specs.declared.refusal.Refusal.{Refusal}
 use Rattle.constriction_calls.specs.declared.refusal.Refusal.TheVariants.{ImpossibleSymbol, InvalidData, NoMemory, NoSpace, OutOfData, WrongInterval, WrongLength, WrongWeights}

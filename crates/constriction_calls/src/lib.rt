@@ -11,6 +11,7 @@
 //! - [`symbol`]: lists of symbols as words of bits, and back.
 //! - [`range`]: the range coder.
 //! - [`chain`]: the chain coder.
+//! - [`store`]: stores of chunks.
 #![tactic(auto)]
 
 pub mod ans;
@@ -21,5 +22,6 @@ pub mod known;
 pub mod range;
 pub mod refusal;
 pub mod rows;
+pub mod store;
 pub mod symbol;
 pub mod tables;

@@ -15,5 +15,5 @@ pub mod parts;
 pub mod positions;
 mod reading;
 mod scratch;
-mod taking;
+pub(crate) mod taking;
 pub mod words;

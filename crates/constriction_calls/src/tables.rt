@@ -11,7 +11,7 @@ use constriction_base::weights::{TableError, WeightTable};
 use constriction_words::BitArray;
 use std::alloc::Global;
 
-/// The table of these weights.
+/// The table of these weights, with their reciprocals.
 ///
 /// # Errors
 ///
@@ -28,6 +28,29 @@ pub fn table_by<P: BitArray, const PRECISION: usize>(
     ensures err { IfErr result (λ e. (e ≡ refusals.WrongWeights) ⊎ (e ≡ refusals.NoMemory)) }
 {
     match WeightTable::new(alloc, weights) {
+        Ok(table) => Ok(table),
+        Err(TableError::Empty) => Err(Refusal::WrongWeights),
+        Err(TableError::WrongTotal) => Err(Refusal::WrongWeights),
+        Err(TableError::Memory) => Err(Refusal::NoMemory),
+    }
+}
+
+/// The same table without reciprocals of its weights, for calls that divide by none: decodes, and those of the range coder.
+///
+/// # Errors
+///
+/// Those of [`table_by`].
+pub fn decoding_table_by<P: BitArray, const PRECISION: usize>(
+    alloc: Global,
+    weights: &[P],
+) -> Result<WeightTable<P, PRECISION>, Refusal>
+    requires { (1 ≤ PRECISION) × (PRECISION ≤ P.BITS) }
+    ensures ok { IfOk result (λ table. entries table ≡ table_of (map P.number weights.now)) }
+    ensures total { OnOk result (IsTotal PRECISION (map P.number weights.now)) }
+    ensures wrong_weights { IsErrOf result refusals.WrongWeights ↔ (IsTotal PRECISION (map P.number weights.now) → ⊥) }
+    ensures err { IfErr result (λ e. (e ≡ refusals.WrongWeights) ⊎ (e ≡ refusals.NoMemory)) }
+{
+    match WeightTable::for_decoding(alloc, weights) {
         Ok(table) => Ok(table),
         Err(TableError::Empty) => Err(Refusal::WrongWeights),
         Err(TableError::WrongTotal) => Err(Refusal::WrongWeights),

@@ -9,7 +9,7 @@ ghost use Rattle.constriction_calls.specs.Intervals.{AreIntervals, interval_item
 ghost use Rattle.constriction_calls.specs.RangeCalls.{CanEncode, HadRoom, IsDecoderKept, IsEncodedBy, IsEncoderKept, LacksRoom, OfDecode, OfIntervals, OfPlace, OfWeights, OfWords, StandsKept, run_kept};
 ghost use Rattle.constriction_calls.specs.Weights.{AreTotals, IsTotal, row_items, weights_model};
 ghost use Rattle.constriction_calls.specs.declared.refusal.Refusal.TheVariants as refusals;
-ghost use Rattle.constriction_laws.specs.queue.Symbols.{FindsAll, MayEnd};
+ghost use Rattle.constriction_queue_laws.specs.Symbols.{FindsAll, MayEnd};
 ghost use Rattle.constriction_queue.specs.Range.{Run, sealed, start};
 ghost use Rattle.constriction_queue.specs.SelfDelimiting.{SelfDelimits};
 ghost use Rattle.constriction_queue.specs.States.{IsPosition};

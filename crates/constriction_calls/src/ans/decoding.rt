@@ -9,7 +9,7 @@ ghost use Rattle.constriction_stack.specs.Symbols.{Decodes, DecodesAll};
 
 use crate::refusal::Refusal;
 use crate::rows::rows_of;
-use crate::tables::table_by;
+use crate::tables::decoding_table_by;
 use constriction_base::cursor::Cursor;
 use constriction_base::errors::CoderError;
 use constriction_base::model::{DecoderModel, EntropyModel};
@@ -49,7 +49,7 @@ pub fn decode<Word: WordOf<State>, State: BitArray, P: WordOf<Word>, const PRECI
     if *len > words.len() {
         return Err(Refusal::WrongLength);
     }
-    match table_by::<P, PRECISION>(alloc, weights) {
+    match decoding_table_by::<P, PRECISION>(alloc, weights) {
         Ok(table) => {
             let (new_head, new_len) = decode_by(*head, words, *len, &table, symbols);
             *head = new_head;

@@ -10,8 +10,8 @@ ghost use Rattle.constriction_stack.specs.Symbols.{EncodesAll};
 use crate::buffers::append;
 use crate::refusal::Refusal;
 use constriction_base::model::{EncoderModel, EntropyModel};
-use constriction_laws::stack::round_trips::coding::{encode_list_reverse, encode_pairs_reverse};
 use constriction_stack::coder::AnsCoder;
+use constriction_stack_laws::round_trips::coding::{encode_list_reverse, encode_pairs_reverse};
 use constriction_words::{BitArray, WordOf};
 use std::alloc::Global;
 

@@ -14,7 +14,7 @@ use crate::chain::lending::{begin_taking, end_taking};
 use crate::chain::taking::{take_symbols, take_symbols_each};
 use crate::refusal::Refusal;
 use crate::rows::{Row, rows_of};
-use crate::tables::table_by;
+use crate::tables::decoding_table_by;
 use constriction_base::model::{DecoderModel, EntropyModel};
 use constriction_words::{BitArray, WordOf};
 use std::alloc::Global;
@@ -69,7 +69,7 @@ pub fn decode<Word: WordOf<State>, State: BitArray, P: WordOf<Word>, const PRECI
     if *compressed_len > compressed.len() || *remainders_len > remainders.len() {
         return Err(Refusal::WrongLength);
     }
-    match table_by::<P, PRECISION>(alloc, weights) {
+    match decoding_table_by::<P, PRECISION>(alloc, weights) {
         Ok(table) => decode_by(
             alloc,
             heads,

@@ -4,7 +4,7 @@ ghost use Rattle.std.specs.Prelude.{◌≡◌, ◌≢◌, ◌↔◌, ◌⊎◌, 
 ghost use Rattle.constriction_base.specs.Models.{items_of};
 ghost use Rattle.constriction_base.specs.Steps.{IsSizes};
 ghost use Rattle.constriction_queue.specs.Range.{Run};
-ghost use Rattle.constriction_laws.specs.queue.Symbols.{FindsAll};
+ghost use Rattle.constriction_queue_laws.specs.Symbols.{FindsAll};
 ghost use Rattle.constriction_calls.specs.RangeCalls.{IsDecoderKept, OfDecode, StandsKept};
 ghost use Rattle.constriction_calls.specs.Weights.{AreTotals, IsTotal, row_items, weights_model};
 ghost use Rattle.constriction_calls.specs.declared.refusal.Refusal.TheVariants as refusals;
@@ -15,7 +15,7 @@ use crate::range::taking::{take_list, take_pairs};
 use crate::refusal::Refusal;
 use crate::rows::adding::{are_totals, is_product, is_total};
 use crate::rows::rows_of;
-use crate::tables::table_by;
+use crate::tables::decoding_table_by;
 use constriction_words::{BitArray, WordOf};
 use std::alloc::Global;
 
@@ -63,7 +63,7 @@ pub fn decode<Word: WordOf<State>, State: BitArray, P: WordOf<Word>, const PRECI
     let Some(decoder) = decoder_of(words, parts) else {
         return Err(Refusal::InvalidData);
     };
-    let Ok(table) = table_by::<P, PRECISION>(alloc, weights) else {
+    let Ok(table) = decoding_table_by::<P, PRECISION>(alloc, weights) else {
         return Err(Refusal::NoMemory);
     };
     match take_list(alloc, decoder, symbols.len(), &table) {

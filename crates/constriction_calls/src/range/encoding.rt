@@ -5,7 +5,7 @@ ghost use Rattle.constriction_base.specs.Models.{AreKnown, items_of};
 ghost use Rattle.constriction_base.specs.Steps.{IsSizes};
 ghost use Rattle.constriction_queue.specs.Encoder.{PartsFit, held_of, run_of};
 ghost use Rattle.constriction_queue.specs.States.{lower_of, range_of};
-ghost use Rattle.constriction_laws.specs.queue.Symbols.{NarrowsAll};
+ghost use Rattle.constriction_queue_laws.specs.Symbols.{NarrowsAll};
 ghost use Rattle.constriction_calls.specs.Intervals.{AreIntervals, interval_items};
 ghost use Rattle.constriction_calls.specs.Buffers.{NeedsSpace};
 ghost use Rattle.constriction_calls.specs.RangeCalls.{CanEncode, IsEncodedBy, IsEncoderKept, LacksRoom, OfIntervals, OfWeights, kept_words};
@@ -20,7 +20,7 @@ use crate::range::scratch::{encoder_for, put_list, put_pairs};
 use crate::refusal::Refusal;
 use crate::rows::adding::{are_totals, is_product};
 use crate::rows::{Row, rows_of};
-use crate::tables::table_by;
+use crate::tables::decoding_table_by;
 use constriction_queue::{EncoderSituation, RangeCoderState};
 use constriction_words::{BitArray, WordOf};
 use std::alloc::Global;
@@ -44,7 +44,7 @@ fn put_by_weights<Word: WordOf<State>, State: BitArray, P: WordOf<Word>, const P
         (run_of Word.BITS State.BITS (kept_words Word.BITS made.1.held (Word.number made.1.first) ++ (map Word.number (reverse made.0.items) ++ below))
         (State.number made.1.lower) (State.number made.1.range))) }
 {
-    let Ok(table) = table_by::<P, PRECISION>(alloc, weights) else {
+    let Ok(table) = decoding_table_by::<P, PRECISION>(alloc, weights) else {
         return None;
     };
     put_list(alloc, state, situation, symbols, &table)

@@ -4,7 +4,7 @@ ghost use Rattle.std.specs.Prelude.{◌≡◌, ◌↔◌, ◌<◌, ◌≤◌, �
 ghost use Rattle.constriction_base.specs.Steps.{IsSizes};
 ghost use Rattle.constriction_queue.specs.Range.{Run};
 ghost use Rattle.constriction_queue.specs.States.{IsPosition};
-ghost use Rattle.constriction_laws.specs.queue.Symbols.{MayEnd};
+ghost use Rattle.constriction_queue_laws.specs.Symbols.{MayEnd};
 ghost use Rattle.constriction_calls.specs.RangeCalls.{IsDecoderKept, OfPlace, StandsKept};
 ghost use Rattle.constriction_calls.specs.declared.refusal.Refusal.TheVariants as refusals;
 

@@ -5,13 +5,13 @@ ghost use Rattle.constriction_base.specs.Models.{items_of, pairs_of};
 ghost use Rattle.constriction_base.specs.Steps.{IsSizes};
 ghost use Rattle.constriction_queue.specs.Encoder.{PartsFit, held_of, run_of};
 ghost use Rattle.constriction_queue.specs.States.{lower_of, range_of};
-ghost use Rattle.constriction_laws.specs.queue.Symbols.{NarrowsAll};
+ghost use Rattle.constriction_queue_laws.specs.Symbols.{NarrowsAll};
 ghost use Rattle.constriction_calls.specs.RangeCalls.{CanEncode, IsEncoderKept, kept_words};
 
 use crate::range::parts::{EncoderParts, encoder_of, parts_of};
 use constriction_base::model::{EncoderModel, EntropyModel};
-use constriction_laws::queue::round_trips::coding::{encode_list, encode_pairs};
 use constriction_queue::{EncoderSituation, RangeCoderState, RangeEncoder};
+use constriction_queue_laws::round_trips::coding::{encode_list, encode_pairs};
 use constriction_words::{BitArray, WordOf};
 use std::alloc::Global;
 
@@ -65,7 +65,7 @@ where
         (State.number made.1.lower) (State.number made.1.range))) }
 {
     let mut encoder = RangeEncoder::from_raw_parts(Vec::new(alloc), state, situation);
-    let Some(()) = encode_list(&mut encoder, symbols, model) else {
+    let Ok(()) = encode_list(&mut encoder, symbols, model) else {
         return None;
     };
     let (words, state, situation) = encoder.into_raw_parts();
@@ -99,7 +99,7 @@ where
         (State.number made.1.lower) (State.number made.1.range))) }
 {
     let mut encoder = RangeEncoder::from_raw_parts(Vec::new(alloc), state, situation);
-    let Some(()) = encode_pairs(&mut encoder, symbols, models) else {
+    let Ok(()) = encode_pairs(&mut encoder, symbols, models) else {
         return None;
     };
     let (words, state, situation) = encoder.into_raw_parts();

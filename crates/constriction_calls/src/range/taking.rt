@@ -3,7 +3,7 @@
 ghost use Rattle.std.specs.Prelude.{◌≡◌, ◌⊎◌, ℕ, List, length, IfErr, IfOk, IsErrOf};
 ghost use Rattle.constriction_base.specs.Models.{items_of, pairs_of};
 ghost use Rattle.constriction_queue.specs.Range.{Run};
-ghost use Rattle.constriction_laws.specs.queue.Symbols.{FindsAll, StandsAt};
+ghost use Rattle.constriction_queue_laws.specs.Symbols.{FindsAll, StandsAt};
 ghost use Rattle.constriction_calls.specs.declared.refusal.Refusal.TheVariants as refusals;
 
 use crate::refusal::Refusal;

@@ -6,9 +6,9 @@ ghost use Rattle.constriction_calls.specs.declared.refusal.Refusal.TheVariants a
 ghost use Rattle.std.specs.Prelude.{IfErr, IfSome, OnErr, OnOk, length, map, ◌<◌, ◌≡◌};
 
 use crate::refusal::Refusal;
-use constriction_laws::symbol::round_trips::coding::{encode_list, encode_list_reverse};
 use constriction_symbol::codebooks::{Codebook, EncoderCodebook};
 use constriction_symbol::coder::{QueueEncoder, StackCoder};
+use constriction_symbol_laws::round_trips::coding::{encode_list, encode_list_reverse};
 use constriction_words::BitArray;
 use std::alloc::Global;
 

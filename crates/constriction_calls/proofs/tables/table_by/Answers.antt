@@ -1,12 +1,6 @@
-use Rattle.std.proofs.Common.{◌≡◌, ℕ, List, [], map, arith, rules, pow_pos}
-use Rattle.constriction_calls.specs.Weights.{IsTotal}
+use Rattle.std.proofs.Common.{◌≡◌, [], rules}
+use Rattle.constriction_calls.proofs.Totals.{none_total}
 use Rattle.constriction_calls.proofs.tables.table_by.Goals as goal
-
--- no weights add up to no power of two
-none_total : {W : Type 0} (number : W → ℕ) (precision : ℕ) (ws : List W) → ws ≡ [] → IsTotal precision (map number ws) → ⊥
-none_total number precision ws is total =
-    let none = rw is at total in
-    omega (arith, none, pow_pos precision)
 
 pub returns-in-Err-Empty : goal.returns-in-Err-Empty
 returns-in-Err-Empty g c =

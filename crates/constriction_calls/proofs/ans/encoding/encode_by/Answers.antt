@@ -2,7 +2,7 @@ use Rattle.std.proofs.Common.{ap, arith}
 use Rattle.std.specs.Prelude.{reverse}
 use Rattle.std.proofs.lemmas.Result.{on_ok_weaker}
 use Rattle.constriction_base.specs.Models.{Model, IsModel, items_of}
-use Rattle.constriction_laws.proofs.stack_coder.SameModel.{are_models}
+use Rattle.constriction_coder_laws.proofs.SameModel.{are_models}
 use Rattle.constriction_calls.proofs.AnsFrame.{put_on, refused, encodes_know, known_items, on_ok_always}
 use Rattle.constriction_calls.proofs.ans.encoding.encode_by.Goals as goal
 

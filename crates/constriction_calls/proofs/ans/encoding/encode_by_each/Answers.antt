@@ -2,8 +2,8 @@ use Rattle.std.proofs.Common.{ap, arith}
 use Rattle.std.specs.Prelude.{reverse}
 use Rattle.std.proofs.lemmas.Result.{on_ok_weaker}
 use Rattle.constriction_base.specs.Models.{IsModel, AreModels, pairs_of}
-use Rattle.constriction_laws.proofs.stack_coder.ComingBack.{all-reverse}
-use Rattle.constriction_laws.proofs.stack_coder.PairCalls.{are_pairs}
+use Rattle.constriction_coder_laws.proofs.Turned.{all-reverse}
+use Rattle.constriction_coder_laws.proofs.PairCalls.{are_pairs}
 use Rattle.constriction_calls.proofs.AnsFrame.{put_on, refused, encodes_know, known_turned, on_ok_always}
 use Rattle.constriction_calls.proofs.ans.encoding.encode_by_each.Goals as goal
 

@@ -1,7 +1,7 @@
 use Rattle.std.proofs.Common.{◌∙◌, ℕ, List, Err, ap, sym, map, length, subst}
 use Rattle.std.proofs.lemmas.List.{length-map}
 use Rattle.constriction_base.specs.Models.{items_of}
-use Rattle.constriction_laws.specs.queue.Symbols.{FindsAll}
+use Rattle.constriction_queue_laws.specs.Symbols.{FindsAll}
 use Rattle.constriction_calls.specs.Weights.{weights_model}
 use Rattle.constriction_calls.proofs.RangeEncoded.{err_is}
 use Rattle.constriction_calls.proofs.RangeTaking.{map-drop, stands_by, stands_of}

@@ -1,7 +1,7 @@
 use Rattle.std.proofs.Common.{◌+◌, ℕ, List, ap, drop, map, subst, sym, ◌∙◌, arith}
 use Rattle.std.proofs.lemmas.List.{map_push}
 use Rattle.constriction_base.specs.Models.{Item, Model, IsModel, item_of, items_of}
-use Rattle.constriction_laws.specs.queue.Symbols.{FindsAll}
+use Rattle.constriction_queue_laws.specs.Symbols.{FindsAll}
 use Rattle.constriction_calls.proofs.RangeTaking.{items_next, never_refused, next_found, one_more}
 use Rattle.constriction_calls.proofs.range.taking.take_list.Goals as goal
 

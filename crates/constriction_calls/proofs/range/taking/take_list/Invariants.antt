@@ -1,7 +1,7 @@
 use Rattle.std.proofs.Common.{◌≡◌, ℕ, List, drop, length, vec_len, vec_capacity}
 use Rattle.constriction_base.specs.Models.{items_of}
 use Rattle.constriction_queue.specs.Range.{Run}
-use Rattle.constriction_laws.specs.queue.Symbols.{FindsAll, StandsAt}
+use Rattle.constriction_queue_laws.specs.Symbols.{FindsAll, StandsAt}
 use Rattle.constriction_calls.proofs.range.taking.take_list.Given as goal
 
 abbrev pub invariant-loop-done : goal.invariant-loop-done

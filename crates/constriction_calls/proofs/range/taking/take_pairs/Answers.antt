@@ -1,6 +1,6 @@
 use Rattle.std.proofs.Common.{◌+◌, ◌∷◌, ℕ, List, ap, drop, subst, sym, ◌∙◌, arith}
 use Rattle.constriction_base.specs.Models.{Item, Model, IsModel, item_of, pairs_of}
-use Rattle.constriction_laws.specs.queue.Symbols.{FindsAll}
+use Rattle.constriction_queue_laws.specs.Symbols.{FindsAll}
 use Rattle.constriction_calls.proofs.ChainRows as rows
 use Rattle.constriction_calls.proofs.RangeTaking.{pairs_next, never_refused, next_found, one_more}
 use Rattle.constriction_calls.proofs.range.taking.take_pairs.Goals as goal

@@ -1,0 +1,67 @@
+use Rattle.std.proofs.Common.{◌≡◌, ◌∙◌, ℕ, ◌+◌, List, length, map, refl, ap, arith, rules}
+use Rattle.std.proofs.lemmas.List.{length-map}
+use Rattle.constriction_base.specs.Models.{Model}
+use Rattle.constriction_store.specs.Stores.{entry_at}
+use Rattle.constriction_calls.specs.StoreCalls.{StoreKept}
+use Rattle.constriction_calls.specs.Weights.{IsTotal, weights_model}
+use Rattle.constriction_calls.proofs.StoreAnswers.{kept_store, space_refused}
+use Rattle.constriction_calls.proofs.StoreIndex.{as_many}
+use Rattle.constriction_calls.proofs.store.building.build.Goals as goal
+
+pub put_index-requires-clause-positions : goal.put_index-requires-clause-positions
+put_index-requires-clause-positions g c =
+    let items = c.in-Some-stored.index.items in
+    let built = c.in-Some-stored.ensures.built in
+    let fit = c.if-not-fit.ensures.0 refl in
+    let many = as_many _ _ _ c.args.symbols.now c.args.lengths.now (map entry_at items) _ _ built.1 in
+    omega (arith, fit.positions_are, many, length-map items entry_at, ap length c.deref-in-Ok.ensures.value)
+
+pub put_index-requires-clause-lowers : goal.put_index-requires-clause-lowers
+put_index-requires-clause-lowers g c =
+    let items = c.in-Some-stored.index.items in
+    let built = c.in-Some-stored.ensures.built in
+    let fit = c.if-not-fit.ensures.0 refl in
+    let many = as_many _ _ _ c.args.symbols.now c.args.lengths.now (map entry_at items) _ _ built.1 in
+    omega (arith, fit.lowers_are, many, length-map items entry_at, ap length c.deref-in-Ok.ensures.value)
+
+pub put_index-requires-clause-ranges : goal.put_index-requires-clause-ranges
+put_index-requires-clause-ranges g c =
+    let items = c.in-Some-stored.index.items in
+    let built = c.in-Some-stored.ensures.built in
+    let fit = c.if-not-fit.ensures.0 refl in
+    let many = as_many _ _ _ c.args.symbols.now c.args.lengths.now (map entry_at items) _ _ built.1 in
+    omega (arith, fit.ranges_are, many, length-map items entry_at, ap length c.deref-in-Ok.ensures.value)
+
+pub returns-in-Ok : goal.returns-in-Ok
+returns-in-Ok g c =
+    let number = g.Word.BitArray.number in
+    let state = g.State.BitArray.number in
+    let made = c.in-Some-stored in
+    let weights = map g.P.BitArray.number c.args.weights.now in
+    let fit = c.if-not-fit.ensures.0 refl in
+    let total : IsTotal g.row.PRECISION weights = search rules in
+    let same = c.deref-in-Ok.ensures.value in
+    record {
+      call = kept_store number state g.Word.BitArray.BITS g.State.BitArray.BITS g.row.PRECISION weights c.args.symbols.now c.args.lengths.now _ fit total
+          (map entry_at made.index.items) (map number made.made.items) made.ensures.built _ made.ensures.chunks
+          (c.put_index.ensures.positions ∙ ap (λ is. map (λ e. e.place) (map entry_at is)) same)
+          (c.put_index.ensures.lowers ∙ ap (λ is. map (λ e. e.lower) (map entry_at is)) same)
+          (c.put_index.ensures.ranges ∙ ap (λ is. map (λ e. e.range) (map entry_at is)) same)
+          (ap (map number) (c.in-Ok.ensures.ok.words ∙ c.deref.ensures.value)) c.in-Ok.ensures.ok.behind;
+    }
+
+pub returns : goal.returns
+returns g c =
+    let number = g.Word.BitArray.number in
+    let state = g.State.BitArray.number in
+    let made = c.in-Some-stored in
+    let weights = map g.P.BitArray.number c.args.weights.now in
+    let fit = c.if-not-fit.ensures.0 refl in
+    let total : IsTotal g.row.PRECISION weights = search rules in
+    let kept = c.in-Err.ensures.kept in
+    record {
+      call = space_refused number state g.Word.BitArray.BITS g.State.BitArray.BITS g.row.PRECISION weights c.args.symbols.now c.args.lengths.now _ fit total
+          (map entry_at made.index.items) (map number made.made.items) made.ensures.built _
+          (ap (λ ws. record { positions = c.args.positions.now; lowers = c.args.lowers.now; ranges = c.args.ranges.now; words = ws; len = c.args.len.now }) kept.0)
+          c.in-Err.refusal _ (omega (arith, length-map made.made.items number, ap length c.deref.ensures.value)) c.in-Err.ensures.full c.in-Err.ensures.err;
+    }

@@ -1,0 +1,104 @@
+-- Stores over a caller's buffers: words, and an index as lists of positions, of lower ends and of lengths of intervals.
+use Rattle.std.specs.Prelude.{◌≡◌, ◌↔◌, ℕ, ◌-◌, ◌<◌, ◌≤◌, ◌^◌, List, [], ◌∷◌, Result, IfErr, IsErrOf, OnErr, OnOk, drop, length, map, sum, take}
+use Rattle.constriction_base.specs.Models.{AreKnown, items_of}
+use Rattle.constriction_store.specs.Stores.{Entry, HoldsChunk, HoldsChunks, IsBuilt, entry_of}
+use Rattle.constriction_calls.specs.Buffers.{NeedsSpace}
+use Rattle.constriction_calls.specs.Weights.{IsTotal, weights_model}
+use Rattle.constriction_calls.specs.declared.refusal.Refusal.{Refusal}
+use Rattle.constriction_calls.specs.declared.refusal.Refusal.TheVariants.{ImpossibleSymbol, InvalidData, NoMemory, OutOfData, WrongInterval, WrongLength, WrongWeights}
+
+-- ---- chunks, and where they begin
+-- symbols that stand one chunk behind another, as chunks of these lengths
+abbrev pub chunks_by : List ℕ → List ℕ → List (List ℕ)
+chunks_by symbols [] = []
+chunks_by symbols (len ∷ lengths) = take len symbols ∷ chunks_by (drop len symbols) lengths
+
+-- the entries of these positions, of intervals that begin here and are so long, and of so many symbols
+abbrev pub entries_by : List ℕ → List ℕ → List ℕ → List ℕ → List Entry
+entries_by (place ∷ places) (lower ∷ lowers) (range ∷ ranges) (len ∷ lengths) =
+    entry_of place lower range len ∷ entries_by places lowers ranges lengths
+entries_by places lowers ranges lengths = []
+
+-- the buffers of a store: an index, and words, of which so many from the first on are the store's
+pub record StoreKept (Word State : Type 0) : Type 0 where
+  pub positions : List ℕ
+  pub lowers : List State
+  pub ranges : List State
+  pub words : List Word
+  pub len : ℕ
+
+-- the index in them
+abbrev pub index_kept : {Word State : Type 0} → (State → ℕ) → List ℕ → StoreKept Word State → List Entry
+index_kept state lengths kept = entries_by kept.positions (map state kept.lowers) (map state kept.ranges) lengths
+
+-- the words in them
+abbrev pub words_kept : {Word State : Type 0} → (Word → ℕ) → StoreKept Word State → List ℕ
+words_kept number kept = map number (take kept.len kept.words)
+
+-- ---- builds
+-- the lengths are those of so many symbols, of no more than a store holds, and the lists of the index are as many
+pub record FitStore (symbols : ℕ) (lengths : List ℕ) (positions lowers ranges : ℕ) : Type 0 where
+  pub positions_are : positions ≡ length lengths
+  pub lowers_are : lowers ≡ length lengths
+  pub ranges_are : ranges ≡ length lengths
+  pub all : sum lengths ≡ symbols
+  pub few : symbols ≤ 1048576
+
+-- the same of buffers
+abbrev pub FitKept : {Word State : Type 0} → List ℕ → List ℕ → StoreKept Word State → Type 0
+FitKept symbols lengths kept = FitStore (length symbols) lengths (length kept.positions) (length kept.lowers) (length kept.ranges)
+
+-- so many words are the store's, and there is room for fewer
+pub record LacksStore (w s precision : ℕ) (weights : List ℕ) (chunks : List (List ℕ)) (size needed : ℕ) : Type 0 where
+  pub less : size < needed
+  pub index : List Entry
+  pub words : List ℕ
+  pub built : IsBuilt w s (weights_model precision weights) chunks index words
+  pub count : needed ≡ length words
+
+-- a refusal of a build
+abbrev pub OfStore : Refusal → Type 0
+OfStore WrongInterval = ⊥
+OfStore InvalidData = ⊥
+OfStore OutOfData = ⊥
+OfStore other = Unit {0}
+
+-- what a build does with the buffers, and which refusal comes when
+pub record StoreBuilds {Word State : Type 0} (number : Word → ℕ) (state : State → ℕ) (w s precision : ℕ) (weights symbols lengths : List ℕ)
+    (old new : StoreKept Word State) (answer : Result (Unit {0}) Refusal) : Type 0 where
+  -- the store of the chunks
+  pub built : OnOk answer (IsBuilt w s (weights_model precision weights) (chunks_by symbols lengths) (index_kept state lengths new) (words_kept number new))
+  -- each chunk is looked up at its entry
+  pub chunks : OnOk answer (HoldsChunks w s (weights_model precision weights) (words_kept number new) (index_kept state lengths new) (chunks_by symbols lengths))
+  -- the buffer behind the words stays
+  pub behind : OnOk answer (drop new.len new.words ≡ drop new.len old.words)
+  pub wrong_length : IsErrOf answer WrongLength ↔ (FitKept symbols lengths old → ⊥)
+  pub wrong_weights : IsErrOf answer WrongWeights ↔ (FitKept symbols lengths old × (IsTotal precision weights → ⊥))
+  pub impossible : IsErrOf answer ImpossibleSymbol ↔ (FitKept symbols lengths old × IsTotal precision weights × (AreKnown (items_of (weights_model precision weights) symbols) → ⊥))
+  pub no_space : NeedsSpace answer (LacksStore w s precision weights (chunks_by symbols lengths) (length old.words))
+  pub err : IfErr answer OfStore
+  pub kept : OnErr answer (new ≡ old)
+
+-- ---- look-ups
+-- a refusal of a look-up
+abbrev pub OfLookUp : Refusal → Type 0
+OfLookUp WrongLength = Unit {0}
+OfLookUp WrongWeights = Unit {0}
+OfLookUp InvalidData = Unit {0}
+OfLookUp NoMemory = Unit {0}
+OfLookUp other = ⊥
+
+-- what a look-up at an entry does with as many symbols as it has, and which refusal comes when
+pub record StoreGives {State : Type 0} (state : State → ℕ) (w s precision : ℕ) (weights words : List ℕ) (place : ℕ) (lower range : State)
+    (old new : List ℕ) (answer : Result (Unit {0}) Refusal) : Type 0 where
+  -- the chunk at the entry
+  pub ok : OnOk answer (HoldsChunk w s (weights_model precision weights) words (entry_of place (state lower) (state range) (length old)) new)
+  pub wrong_length : IsErrOf answer WrongLength ↔ (length words < place)
+  pub wrong_weights : IsErrOf answer WrongWeights ↔ ((place ≤ length words) × (IsTotal precision weights → ⊥))
+  -- the interval is too short
+  pub short : (place ≤ length words) × IsTotal precision weights × (state range < 2 ^ (s - w)) → IsErrOf answer InvalidData
+  -- else the words hold no chunk there
+  pub invalid_data : IsErrOf answer InvalidData → 2 ^ (s - w) ≤ state range → (symbols : List ℕ) →
+      HoldsChunk w s (weights_model precision weights) words (entry_of place (state lower) (state range) (length old)) symbols → ⊥
+  pub err : IfErr answer OfLookUp
+  pub kept : OnErr answer (new ≡ old)

@@ -1,0 +1,121 @@
+//! Chunks to words and an index.
+
+ghost use Rattle.std.specs.Prelude.{◌≡◌, ◌↔◌, ◌≤◌, length, map, sum, IfSome, IsTrue};
+ghost use Rattle.constriction_base.specs.Steps.{IsSizes};
+ghost use Rattle.constriction_store.specs.Stores.{HoldsChunks, IsBuilt, entry_at};
+ghost use Rattle.constriction_calls.specs.StoreCalls.{FitStore, StoreBuilds, chunks_by};
+ghost use Rattle.constriction_calls.specs.Weights.{weights_model};
+
+use crate::buffers::append;
+use crate::known::all_known;
+use crate::refusal::Refusal;
+use crate::rows::Row;
+use crate::store::cutting::{add_up, cut};
+use crate::store::indexing::put_index;
+use crate::tables::decoding_table_by;
+use constriction_base::weights::WeightTable;
+use constriction_queue::RangeCoderState;
+use constriction_store::{MOST_SYMBOLS, Store};
+use constriction_words::{BitArray, WordOf};
+use std::alloc::Global;
+
+/// Whether lengths are those of so many symbols, of no more than a store holds, and lists of an index are as many.
+fn fit(symbols: usize, lengths: &[usize], positions: usize, lowers: usize, ranges: usize) -> bool
+    ensures { IsTrue result ↔ FitStore symbols lengths.now positions lowers ranges }
+{
+    let count = lengths.len();
+    if positions != count || lowers != count || ranges != count || symbols > MOST_SYMBOLS {
+        return false;
+    }
+    add_up(lengths, symbols)
+}
+
+/// The words and the index of the store of these chunks. `None` says that a symbol is impossible, or that memory is missing.
+fn stored<Word: WordOf<State>, State: BitArray, P: WordOf<Word>, const PRECISION: usize>(
+    alloc: Global,
+    weights: &[P],
+    symbols: &[usize],
+    lengths: &[usize],
+) -> Option<(Vec<Word>, Vec<(usize, RangeCoderState<Word, State>, usize)>)>
+    requires sizes { IsSizes Word.BITS State.BITS }
+    requires precision { (1 ≤ PRECISION) × (PRECISION ≤ P.BITS) }
+    requires all { sum lengths.now ≤ length symbols.now }
+    ensures built { IfSome result (λ made. IsBuilt Word.BITS State.BITS (weights_model PRECISION (map P.number weights.now))
+        (chunks_by symbols.now lengths.now) (map entry_at made.1.items) (map Word.number made.0.items)) }
+    ensures chunks { IfSome result (λ made. HoldsChunks Word.BITS State.BITS (weights_model PRECISION (map P.number weights.now))
+        (map Word.number made.0.items) (map entry_at made.1.items) (chunks_by symbols.now lengths.now)) }
+{
+    let Ok(table) = decoding_table_by::<P, PRECISION>(alloc, weights) else {
+        return None;
+    };
+    let Ok(chunks) = cut(alloc, symbols, lengths) else {
+        return None;
+    };
+    match Store::<Word, State, WeightTable<P, PRECISION>, PRECISION>::build(alloc, &chunks, table) {
+        Ok(store) => {
+            let (words, index, _) = store.into_parts();
+            Some((words, index))
+        }
+        Err(_) => None,
+    }
+}
+
+/// Puts the words of the store of chunks at the beginning of a buffer, and its index into three lists: for each chunk the position
+/// where it begins, and its interval's lower end and length. The symbols of all chunks stand one behind another, and each
+/// chunk has so many of them as its length says. `len` is the number of the words then.
+///
+/// # Errors
+///
+/// In this order, and nothing changed:
+/// - `WrongLength` exactly where the lists of the index aren't as long as that of the lengths, the lengths don't add up to the
+///   number of symbols, or there are more of these than a store holds, 1048576.
+/// - `WrongWeights` exactly where the weights don't add up to two to the precision.
+/// - `ImpossibleSymbol` exactly where the weight of a symbol is 0, or there is none.
+/// - `NoSpace` only where the buffer ends before all words, and tells how many there would be.
+/// - `NoMemory` where memory is missing.
+pub fn build<Word: WordOf<State>, State: BitArray, P: WordOf<Word>, const PRECISION: usize>(
+    alloc: Global,
+    words: &mut [Word],
+    len: &mut usize,
+    positions: &mut [usize],
+    lowers: &mut [State],
+    ranges: &mut [State],
+    weights: &[P],
+    symbols: &[usize],
+    lengths: &[usize],
+) -> Result<(), Refusal>
+    requires sizes { IsSizes Word.BITS State.BITS }
+    requires precision { (1 ≤ PRECISION) × (PRECISION ≤ P.BITS) }
+    ensures call { StoreBuilds Word.number State.number Word.BITS State.BITS PRECISION (map P.number weights.now) symbols.now lengths.now
+        record { positions = positions.old; lowers = lowers.old; ranges = ranges.old; words = words.old; len = len.old }
+        record { positions = positions.new; lowers = lowers.new; ranges = ranges.new; words = words.new; len = len.new } result }
+{
+    if !fit(
+        symbols.len(),
+        lengths,
+        positions.len(),
+        lowers.len(),
+        ranges.len(),
+    ) {
+        return Err(Refusal::WrongLength);
+    }
+    let Some(row) = Row::<P, PRECISION>::new(weights) else {
+        return Err(Refusal::WrongWeights);
+    };
+    let Some((made, index)) = stored::<Word, State, P, PRECISION>(alloc, weights, symbols, lengths)
+    else {
+        if all_known::<PRECISION, _>(&row, symbols) {
+            return Err(Refusal::NoMemory);
+        }
+        return Err(Refusal::ImpossibleSymbol);
+    };
+    let mut count = 0;
+    match append(&made, words, &mut count) {
+        Ok(()) => {
+            put_index(&index, positions, lowers, ranges);
+            *len = count;
+            Ok(())
+        }
+        Err(refusal) => Err(refusal),
+    }
+}

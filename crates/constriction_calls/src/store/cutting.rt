@@ -1,0 +1,41 @@
+//! Symbols that stand one chunk behind another.
+
+ghost use Rattle.std.specs.Prelude.{◌≡◌, ◌↔◌, ◌≤◌, length, sum, IfOk, IsTrue};
+ghost use Rattle.constriction_store.specs.Chunks.{lists_of};
+ghost use Rattle.constriction_calls.specs.StoreCalls.{chunks_by};
+
+use std::alloc::{AllocError, Global};
+
+/// Whether lengths add up to a number. The sum is exact, whatever the lengths.
+pub fn add_up(lengths: &[usize], count: usize) -> bool
+    ensures { IsTrue result ↔ (sum lengths.now ≡ count) }
+{
+    let mut left = count;
+    for len in lengths {
+        if *len > left {
+            return false;
+        }
+        left -= *len;
+    }
+    left == 0
+}
+
+/// The symbols as chunks of these lengths.
+pub fn cut(
+    alloc: Global,
+    symbols: &[usize],
+    lengths: &[usize],
+) -> Result<Vec<Vec<usize>>, AllocError>
+    requires { sum lengths.now ≤ length symbols.now }
+    ensures { IfOk result (λ chunks. lists_of chunks.items ≡ chunks_by symbols.now lengths.now) }
+{
+    let mut chunks = Vec::new(alloc);
+    let mut start = 0;
+    for i in 0..lengths.len() {
+        let end = start + lengths[i];
+        let chunk = symbols[start..end].to_vec(alloc)?;
+        chunks.push(chunk)?;
+        start = end;
+    }
+    Ok(chunks)
+}

@@ -1,0 +1,29 @@
+//! An index as three lists, beside the lengths of its chunks.
+
+ghost use Rattle.std.specs.Prelude.{◌≡◌, length, map};
+ghost use Rattle.constriction_store.specs.Stores.{entry_at};
+
+use constriction_queue::RangeCoderState;
+use constriction_words::{BitArray, WordOf};
+
+/// Puts the positions, the lower ends and the lengths of the intervals of an index where a caller keeps them.
+pub fn put_index<Word: WordOf<State>, State: BitArray>(
+    index: &[(usize, RangeCoderState<Word, State>, usize)],
+    positions: &mut [usize],
+    lowers: &mut [State],
+    ranges: &mut [State],
+)
+    requires positions { length positions.old ≡ length index.now }
+    requires lowers { length lowers.old ≡ length index.now }
+    requires ranges { length ranges.old ≡ length index.now }
+    ensures positions { positions.new ≡ map (λ e. e.place) (map entry_at index.now) }
+    ensures lowers { map State.number lowers.new ≡ map (λ e. e.lower) (map entry_at index.now) }
+    ensures ranges { map State.number ranges.new ≡ map (λ e. e.range) (map entry_at index.now) }
+{
+    for i in 0..index.len() {
+        let (place, state, _) = index[i];
+        positions[i] = place;
+        lowers[i] = state.lower();
+        ranges[i] = State::from_nonzero(state.range());
+    }
+}

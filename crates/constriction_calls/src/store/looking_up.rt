@@ -1,0 +1,89 @@
+//! One chunk of a store.
+
+ghost use Rattle.std.specs.Prelude.{◌≡◌, ◌≤◌, length, map};
+ghost use Rattle.constriction_base.specs.Steps.{IsSizes};
+ghost use Rattle.constriction_queue_laws.specs.Symbols.{StandsAt};
+ghost use Rattle.constriction_queue.specs.States.{lower_of, range_of};
+ghost use Rattle.constriction_store.specs.Stores.{run_from};
+ghost use Rattle.constriction_calls.specs.StoreCalls.{StoreGives};
+
+use crate::range::taking::take_list;
+use crate::refusal::Refusal;
+use crate::rows::adding::is_total;
+use crate::tables::decoding_table_by;
+use constriction_base::backends::Seek;
+use constriction_base::cursor::Cursor;
+use constriction_queue::{RangeCoderState, RangeDecoder};
+use constriction_words::{BitArray, WordOf};
+use std::alloc::Global;
+
+/// A decoder of borrowed words that stands at a position in them.
+fn decoder_at<'a, Word: WordOf<State>, State: BitArray>(
+    words: &'a [Word],
+    place: usize,
+    state: RangeCoderState<Word, State>,
+) -> RangeDecoder<Word, State, Cursor<Word, &'a [Word]>>
+    requires sizes { IsSizes Word.BITS State.BITS }
+    requires inside { place ≤ length words.now }
+    ensures { StandsAt Word.BITS State.BITS (map Word.number words.now)
+        (run_from place (lower_of state) (range_of state)) result }
+{
+    let mut decoder = match RangeDecoder::<Word, State, Cursor<Word, &'a [Word]>>::from_compressed(
+        words,
+    ) {
+        Ok(decoder) => decoder,
+        Err(never) => match never {},
+    };
+    match decoder.seek((place, state)) {
+        Ok(()) => decoder,
+        Err(()) => unreachable!(),
+    }
+}
+
+/// The chunk of words that begins at a position, in an interval of this lower end and length: as many symbols as the buffer has
+/// places. No other words are read than those of the chunk, and as many more as a state has. The words and the entry may be
+/// a stranger's.
+///
+/// # Errors
+///
+/// In this order, and nothing changed:
+/// - `WrongLength` exactly where the position is past the words.
+/// - `WrongWeights` exactly where the weights don't add up to two to the precision.
+/// - `InvalidData` where the interval is too short, or the words hold no symbol of the weights for one of the chunk. In the words
+///   and at the entries of a build it can't come.
+/// - `NoMemory` where memory is missing.
+pub fn chunk<Word: WordOf<State>, State: BitArray, P: WordOf<Word>, const PRECISION: usize>(
+    alloc: Global,
+    words: &[Word],
+    pos: usize,
+    lower: State,
+    range: State,
+    weights: &[P],
+    symbols: &mut [usize],
+) -> Result<(), Refusal>
+    requires sizes { IsSizes Word.BITS State.BITS }
+    requires precision { (1 ≤ PRECISION) × (PRECISION ≤ P.BITS) }
+    ensures call { StoreGives State.number Word.BITS State.BITS PRECISION (map P.number weights.now) (map Word.number words.now)
+        pos lower range symbols.old symbols.new result }
+{
+    if pos > words.len() {
+        return Err(Refusal::WrongLength);
+    }
+    if !is_total::<P, PRECISION>(weights) {
+        return Err(Refusal::WrongWeights);
+    }
+    let Ok(state) = RangeCoderState::<Word, State>::new(lower, range) else {
+        return Err(Refusal::InvalidData);
+    };
+    let Ok(table) = decoding_table_by::<P, PRECISION>(alloc, weights) else {
+        return Err(Refusal::NoMemory);
+    };
+    let decoder = decoder_at::<Word, State>(words, pos, state);
+    match take_list(alloc, decoder, symbols.len(), &table) {
+        Ok((again, _)) => {
+            symbols.copy_from_slice(&again);
+            Ok(())
+        }
+        Err(refusal) => Err(refusal),
+    }
+}
