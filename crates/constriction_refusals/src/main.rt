@@ -1,0 +1,389 @@
+//! Calls of backends that are refused.
+//!
+//! Each call is made over backends that pass no call, one, two, .. until a run meets no refusal: once where
+//! `prepare` makes room, and once where it makes none. Each answer, the numbers of the coder and the words that the
+//! backends hold then go into a sum that depends on their order, with the words that backends took that are gone,
+//! and how many words each `prepare` asked for. A line for each call says how many runs there were, and the sum.
+//!
+//! `tests/refused-requests` computes the sums apart, from the definitions.
+#![tactic(auto)]
+
+mod backend;
+mod bits;
+mod budget;
+mod chain;
+mod putting;
+mod range;
+mod stack;
+mod sum;
+
+use anyhow::{Result, bail};
+use backend::Refusing;
+use budget::Budget;
+use constriction_base::weights::WeightTable;
+use putting::{Put, PutBack, Table, Take, WEIGHTS};
+use std::alloc::{AllocError, Global};
+use sum::Sum;
+
+/// A call of a coder.
+#[derive(Clone, Copy)]
+enum Case {
+    Stack(stack::Form),
+    Range(range::Form),
+    Chain(chain::Form),
+    MakeChain(chain::Form),
+    Bits(bits::Form),
+}
+
+/// The words that each backend begins with.
+const WORDS: [u8; 5] = [9, 200, 31, 7, 1];
+
+/// The words that the remainders of a chain coder begin with.
+const REMAINDERS: [u8; 4] = [77, 3, 250, 18];
+
+/// All calls.
+const CASES: [(&str, Case); 78] = [
+    (
+        "stack, encode_symbol",
+        Case::Stack(stack::Form::Put(Put::Each)),
+    ),
+    (
+        "stack, encode_iid_symbols",
+        Case::Stack(stack::Form::Put(Put::List)),
+    ),
+    (
+        "stack, encode_symbols",
+        Case::Stack(stack::Form::Put(Put::Pairs)),
+    ),
+    (
+        "stack, try_encode_symbols",
+        Case::Stack(stack::Form::Put(Put::Items)),
+    ),
+    (
+        "stack, encode_iid_symbols_reverse",
+        Case::Stack(stack::Form::PutBack(PutBack::List)),
+    ),
+    (
+        "stack, encode_symbols_reverse",
+        Case::Stack(stack::Form::PutBack(PutBack::Pairs)),
+    ),
+    (
+        "stack, try_encode_symbols_reverse",
+        Case::Stack(stack::Form::PutBack(PutBack::Items)),
+    ),
+    (
+        "stack, decode_symbol",
+        Case::Stack(stack::Form::Take(Take::Each)),
+    ),
+    (
+        "stack, decode_iid_symbols",
+        Case::Stack(stack::Form::Take(Take::List)),
+    ),
+    (
+        "stack, decode_symbols",
+        Case::Stack(stack::Form::Take(Take::Models)),
+    ),
+    (
+        "stack, try_decode_symbols",
+        Case::Stack(stack::Form::Take(Take::Items)),
+    ),
+    ("stack, seek", Case::Stack(stack::Form::Seek)),
+    (
+        "stack, from_compressed",
+        Case::Stack(stack::Form::Compressed),
+    ),
+    ("stack, from_binary", Case::Stack(stack::Form::Binary)),
+    (
+        "stack, into_compressed",
+        Case::Stack(stack::Form::IntoCompressed),
+    ),
+    ("stack, into_binary", Case::Stack(stack::Form::IntoBinary)),
+    (
+        "stack, get_compressed",
+        Case::Stack(stack::Form::GetCompressed),
+    ),
+    ("stack, get_binary", Case::Stack(stack::Form::GetBinary)),
+    (
+        "range, encode_symbol",
+        Case::Range(range::Form::Put(Put::Each)),
+    ),
+    (
+        "range, encode_iid_symbols",
+        Case::Range(range::Form::Put(Put::List)),
+    ),
+    (
+        "range, encode_symbols",
+        Case::Range(range::Form::Put(Put::Pairs)),
+    ),
+    (
+        "range, try_encode_symbols",
+        Case::Range(range::Form::Put(Put::Items)),
+    ),
+    ("range, encode_flagged", Case::Range(range::Form::Flagged)),
+    (
+        "range, into_compressed",
+        Case::Range(range::Form::IntoCompressed),
+    ),
+    (
+        "range, into_self_delimited",
+        Case::Range(range::Form::IntoSelfDelimited),
+    ),
+    ("range, into_decoder", Case::Range(range::Form::IntoDecoder)),
+    (
+        "range, decode_symbol",
+        Case::Range(range::Form::Take(Take::Each)),
+    ),
+    (
+        "range, decode_iid_symbols",
+        Case::Range(range::Form::Take(Take::List)),
+    ),
+    (
+        "range, decode_symbols",
+        Case::Range(range::Form::Take(Take::Models)),
+    ),
+    (
+        "range, try_decode_symbols",
+        Case::Range(range::Form::Take(Take::Items)),
+    ),
+    ("range, next_symbol", Case::Range(range::Form::FlagSwitch)),
+    ("range, seek", Case::Range(range::Form::Seek)),
+    ("range, with_backend", Case::Range(range::Form::WithBackend)),
+    (
+        "range, from_compressed",
+        Case::Range(range::Form::FromCompressed),
+    ),
+    (
+        "chain, encode_symbol",
+        Case::Chain(chain::Form::Put(Put::Each)),
+    ),
+    (
+        "chain, encode_iid_symbols",
+        Case::Chain(chain::Form::Put(Put::List)),
+    ),
+    (
+        "chain, encode_symbols",
+        Case::Chain(chain::Form::Put(Put::Pairs)),
+    ),
+    (
+        "chain, try_encode_symbols",
+        Case::Chain(chain::Form::Put(Put::Items)),
+    ),
+    (
+        "chain, encode_iid_symbols_reverse",
+        Case::Chain(chain::Form::PutBack(PutBack::List)),
+    ),
+    (
+        "chain, encode_symbols_reverse",
+        Case::Chain(chain::Form::PutBack(PutBack::Pairs)),
+    ),
+    (
+        "chain, try_encode_symbols_reverse",
+        Case::Chain(chain::Form::PutBack(PutBack::Items)),
+    ),
+    (
+        "chain, decode_symbol",
+        Case::Chain(chain::Form::Take(Take::Each)),
+    ),
+    (
+        "chain, decode_iid_symbols",
+        Case::Chain(chain::Form::Take(Take::List)),
+    ),
+    (
+        "chain, decode_symbols",
+        Case::Chain(chain::Form::Take(Take::Models)),
+    ),
+    (
+        "chain, try_decode_symbols",
+        Case::Chain(chain::Form::Take(Take::Items)),
+    ),
+    ("chain, seek", Case::Chain(chain::Form::Seek)),
+    (
+        "chain, into_remainders",
+        Case::Chain(chain::Form::IntoRemainders),
+    ),
+    (
+        "chain, into_compressed",
+        Case::Chain(chain::Form::IntoCompressed),
+    ),
+    ("chain, into_binary", Case::Chain(chain::Form::IntoBinary)),
+    (
+        "chain, increase_precision",
+        Case::Chain(chain::Form::Increase),
+    ),
+    (
+        "chain, decrease_precision",
+        Case::Chain(chain::Form::Decrease),
+    ),
+    (
+        "chain, change_precision up",
+        Case::Chain(chain::Form::ChangeUp),
+    ),
+    (
+        "chain, change_precision down",
+        Case::Chain(chain::Form::ChangeDown),
+    ),
+    (
+        "chain, from_compressed",
+        Case::MakeChain(chain::Form::FromCompressed),
+    ),
+    (
+        "chain, from_binary",
+        Case::MakeChain(chain::Form::FromBinary),
+    ),
+    (
+        "chain, from_remainders",
+        Case::MakeChain(chain::Form::FromRemainders),
+    ),
+    (
+        "queue of bits, write_bit",
+        Case::Bits(bits::Form::QueueWrites(bits::Write::Bits)),
+    ),
+    (
+        "queue of bits, encode_symbol",
+        Case::Bits(bits::Form::QueueWrites(bits::Write::Each)),
+    ),
+    (
+        "queue of bits, encode_iid_symbols",
+        Case::Bits(bits::Form::QueueWrites(bits::Write::List)),
+    ),
+    (
+        "queue of bits, encode_symbols",
+        Case::Bits(bits::Form::QueueWrites(bits::Write::Pairs)),
+    ),
+    (
+        "queue of bits, read_bit",
+        Case::Bits(bits::Form::QueueReads(bits::Read::Bits)),
+    ),
+    (
+        "queue of bits, decode_symbol",
+        Case::Bits(bits::Form::QueueReads(bits::Read::Each)),
+    ),
+    (
+        "queue of bits, decode_iid_symbols",
+        Case::Bits(bits::Form::QueueReads(bits::Read::List)),
+    ),
+    (
+        "queue of bits, decode_symbols",
+        Case::Bits(bits::Form::QueueReads(bits::Read::Codebooks)),
+    ),
+    (
+        "queue of bits, into_compressed",
+        Case::Bits(bits::Form::QueueIntoCompressed),
+    ),
+    (
+        "queue of bits, into_decoder",
+        Case::Bits(bits::Form::QueueIntoDecoder),
+    ),
+    (
+        "stack of bits, write_bit",
+        Case::Bits(bits::Form::StackWrites(bits::Write::Bits)),
+    ),
+    (
+        "stack of bits, encode_symbol",
+        Case::Bits(bits::Form::StackWrites(bits::Write::Each)),
+    ),
+    (
+        "stack of bits, encode_iid_symbols",
+        Case::Bits(bits::Form::StackWrites(bits::Write::List)),
+    ),
+    (
+        "stack of bits, encode_symbols",
+        Case::Bits(bits::Form::StackWrites(bits::Write::Pairs)),
+    ),
+    (
+        "stack of bits, encode_iid_symbols_reverse",
+        Case::Bits(bits::Form::StackListBack),
+    ),
+    (
+        "stack of bits, encode_symbols_reverse",
+        Case::Bits(bits::Form::StackPairsBack),
+    ),
+    (
+        "stack of bits, read_bit",
+        Case::Bits(bits::Form::StackReads(bits::Read::Bits)),
+    ),
+    (
+        "stack of bits, decode_symbol",
+        Case::Bits(bits::Form::StackReads(bits::Read::Each)),
+    ),
+    (
+        "stack of bits, decode_iid_symbols",
+        Case::Bits(bits::Form::StackReads(bits::Read::List)),
+    ),
+    (
+        "stack of bits, decode_symbols",
+        Case::Bits(bits::Form::StackReads(bits::Read::Codebooks)),
+    ),
+    (
+        "stack of bits, from_compressed",
+        Case::Bits(bits::Form::StackFromCompressed),
+    ),
+    (
+        "stack of bits, into_compressed",
+        Case::Bits(bits::Form::StackIntoCompressed),
+    ),
+];
+
+/// Makes a call over backends that share a budget.
+fn run(
+    alloc: Global,
+    table: &Table,
+    case: Case,
+    budget: &Budget,
+    sum: &mut Sum,
+) -> Result<(), AllocError> {
+    let backend = Refusing::new(alloc, &WORDS, budget)?;
+    match case {
+        Case::Stack(form) => stack::run(backend, form, table, sum),
+        Case::Range(form) => range::run(backend, form, table, sum),
+        Case::Chain(form) => {
+            let remainders = Refusing::new(alloc, &REMAINDERS, budget)?;
+            chain::run(backend, remainders, form, table, sum);
+        }
+        Case::MakeChain(form) => chain::make(alloc, backend, form, sum),
+        Case::Bits(form) => bits::run(backend, form, budget, sum),
+    }
+    Ok(())
+}
+
+/// Makes a call over backends that pass no call, one, two, .. up to the first run that meets no refusal. Returns
+/// whether there is one.
+fn run_all(
+    alloc: Global,
+    table: &Table,
+    case: Case,
+    makes_room: bool,
+    sum: &mut Sum,
+) -> Result<bool, AllocError> {
+    for calls in 0..100u64 {
+        let budget = Budget::new(calls, makes_room);
+        sum.begin();
+        run(alloc, table, case, &budget, sum)?;
+        sum.add(budget.taken());
+        if !budget.has_refused() {
+            return Ok(true);
+        }
+    }
+    Ok(false)
+}
+
+/// Makes a call over backends of both kinds, and prints what comes of it.
+fn show(rt: &impl Print, alloc: Global, table: &Table, name: &str, case: Case) -> Result<()> {
+    let mut sum = Sum::new();
+    if !run_all(alloc, table, case, true, &mut sum)?
+        || !run_all(alloc, table, case, false, &mut sum)?
+    {
+        bail!("a call that is always refused");
+    }
+    println!(rt; "{name}: {} {}", sum.runs, sum.value)?;
+    Ok(())
+}
+
+fn main(rt: HostRuntime) -> Result<()> {
+    let alloc = rt.alloc();
+    let table = &WeightTable::<u8, 4>::new(alloc, &WEIGHTS)?;
+    'cases: for (name, case) in CASES {
+        show(&rt, alloc, table, name, case)?;
+    }
+    Ok(())
+}

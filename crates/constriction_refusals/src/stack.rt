@@ -1,0 +1,128 @@
+//! The stack coder over backends that refuse.
+
+use crate::backend::Refusing;
+use crate::putting::{Put, PutBack, Table, Take, put_on_stack, puts, takes};
+use crate::sum::Sum;
+use constriction_base::backends::Seek;
+use constriction_stack::AnsCoder;
+use constriction_stream::coder::Code;
+
+type Coder<'a> = AnsCoder<u8, u32, Refusing<'a>>;
+
+/// A call of the stack coder.
+#[derive(Clone, Copy)]
+pub enum Form {
+    Put(Put),
+    PutBack(PutBack),
+    Take(Take),
+    Seek,
+    Compressed,
+    Binary,
+    IntoCompressed,
+    IntoBinary,
+    GetCompressed,
+    GetBinary,
+}
+
+/// Adds the head and the words.
+fn add_state(coder: &Coder<'_>, sum: &mut Sum) {
+    sum.add(coder.state() as u64);
+    sum.add_words(coder.bulk().held());
+}
+
+/// A coder of words that are imported, or the words that come back.
+fn compressed(backend: Refusing<'_>, sum: &mut Sum) {
+    match Coder::from_compressed(backend) {
+        Ok(coder) => add_state(&coder, sum),
+        Err(backend) => sum.add_words(backend.held()),
+    }
+}
+
+/// The same in the binary form.
+fn binary(backend: Refusing<'_>, sum: &mut Sum) {
+    match Coder::from_binary(backend) {
+        Ok(coder) => add_state(&coder, sum),
+        Err(_) => sum.add_refusal(),
+    }
+}
+
+/// The words that are exported.
+fn into_compressed(coder: Coder<'_>, sum: &mut Sum) {
+    match coder.into_compressed() {
+        Ok(backend) => sum.add_words(backend.held()),
+        Err(_) => sum.add_refusal(),
+    }
+}
+
+/// The same in the binary form.
+fn into_binary(coder: Coder<'_>, sum: &mut Sum) {
+    match coder.into_binary() {
+        Ok(backend) => sum.add_words(backend.held()),
+        Err(_) => sum.add_refusal(),
+    }
+}
+
+/// The words that a guard shows.
+fn get_compressed(coder: &mut Coder<'_>, sum: &mut Sum) {
+    match coder.get_compressed() {
+        Ok(guard) => sum.add_words(guard.backend().held()),
+        Err(_) => sum.add_refusal(),
+    }
+}
+
+/// The same in the binary form.
+fn get_binary(coder: &mut Coder<'_>, sum: &mut Sum) {
+    match coder.get_binary() {
+        Ok(guard) => sum.add_words(guard.backend().held()),
+        Err(_) => sum.add_refusal(),
+    }
+}
+
+/// Puts symbols on from the last to the first.
+fn put_back(coder: &mut Coder<'_>, call: PutBack, table: &Table, sum: &mut Sum) {
+    let answer = put_on_stack(coder, table, call);
+    sum.add_answer(answer);
+}
+
+/// Makes a call of a coder that is lent.
+fn borrowed(coder: &mut Coder<'_>, form: Form, table: &Table, sum: &mut Sum) {
+    match form {
+        Form::Put(call) => {
+            let answer = puts(coder, table, call);
+            sum.add_answer(answer);
+        }
+        Form::PutBack(call) => put_back(coder, call, table, sum),
+        Form::Take(call) => takes(coder, table, call, sum),
+        Form::Seek => {
+            let is_done = coder.seek((2, 9)).is_ok();
+            sum.add_whether(is_done);
+        }
+        Form::GetCompressed => get_compressed(coder, sum),
+        _ => get_binary(coder, sum),
+    }
+}
+
+/// Makes a call of a coder that is lent, and adds what is left of the coder.
+fn lent(mut coder: Coder<'_>, form: Form, table: &Table, sum: &mut Sum) {
+    borrowed(&mut coder, form, table, sum);
+    add_state(&coder, sum);
+}
+
+/// Makes a call over a backend.
+pub fn run(backend: Refusing<'_>, form: Form, table: &Table, sum: &mut Sum) {
+    match form {
+        Form::Compressed => compressed(backend, sum),
+        Form::Binary => binary(backend, sum),
+        Form::IntoCompressed => into_compressed(
+            AnsCoder::from_raw_parts(backend, 0x01_fe_00_03),
+            sum,
+        ),
+        Form::IntoBinary => into_binary(AnsCoder::from_raw_parts(backend, 0x01_fe_00_03), sum),
+        _ => lent(
+            AnsCoder::from_raw_parts(backend, 0x01_fe_00_03),
+            form,
+            table,
+            sum,
+        ),
+    }
+}
