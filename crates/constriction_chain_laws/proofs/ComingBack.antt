@@ -3,10 +3,9 @@ use Rattle.std.specs.Prelude.{reverse}
 use Rattle.std.proofs.Common.{◌≡◌, ℕ, ◌^◌, ◌≤◌, List, [], ◌∷◌, ◌++◌, refl, sym, ap, subst, ◌∙◌, append_assoc}
 use Rattle.std.proofs.lemmas.List.{append-nil}
 use Rattle.std.specs.Int.Digits.{digits_of}
-use Rattle.std.specs.List.{AllByRecursion}
 use Rattle.constriction_base.specs.Digits.{fixed_digits}
 use Rattle.constriction_base.specs.Models.{Model, Item}
-use Rattle.constriction_base.specs.Steps.{AreWords, InTurn}
+use Rattle.constriction_base.specs.Steps.{AreWords}
 use Rattle.constriction_base.proofs.Entries.{one_of}
 use Rattle.constriction_chain.specs.Chain.{ChainState, IsChain, IsDecode, IsSized, least}
 use Rattle.constriction_chain.specs.Imports.{AreBinaryWords, FromBinary, FromCompressed, FromRemainders, IsWhole, compressed_words}
@@ -15,7 +14,7 @@ use Rattle.constriction_chain.specs.Words.{IsOneAbove, remainder_words}
 use Rattle.constriction_chain.proofs.Below.{decodes_part, one_window}
 use Rattle.constriction_chain.proofs.Chains.{state, state_same}
 use Rattle.constriction_chain.proofs.Walks.{cons_same}
-use Rattle.constriction_chain_laws.specs.Undone.{decode_back, decoded_at, encode_back}
+use Rattle.constriction_chain_laws.specs.Undone.{decoded_at, encode_back}
 use Rattle.constriction_coder_laws.proofs.Undoing.{all_undone}
 use Rattle.constriction_coder_laws.proofs.Turned.{all-reverse}
 

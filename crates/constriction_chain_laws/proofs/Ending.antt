@@ -1,6 +1,6 @@
 -- Lists of steps of a chain coder that were refused.
 use Rattle.std.specs.List.{zip}
-use Rattle.std.proofs.Common.{◌≡◌, ◌∙◌, ℕ, ◌-◌, ◌*◌, ◌^◌, ◌<◌, Option, None, List, [], ◌∷◌, ◌++◌, Result, Ok, Err, inl, inr, map, length, refl, sym, ap, subst}
+use Rattle.std.proofs.Common.{◌≡◌, ◌∙◌, ℕ, ◌-◌, ◌*◌, ◌^◌, ◌<◌, Option, List, [], ◌∷◌, ◌++◌, Result, Err, inl, inr, map, length, refl, sym, ap, subst}
 use Rattle.constriction_base.specs.Models.{Model, Item, item_of, items_of, pairs_of}
 use Rattle.constriction_base.specs.declared.errors.CoderError.{CoderError}
 use Rattle.constriction_base.specs.declared.errors.CoderError.TheVariants.{Frontend, Backend}
@@ -17,7 +17,7 @@ use Rattle.constriction_chain.specs.declared.errors.EncoderFrontendError.TheVari
 use Rattle.constriction_coder_laws.specs.declared.errors.RoundTripError.{RoundTripError}
 use Rattle.constriction_coder_laws.specs.declared.errors.RoundTripError.TheVariants as trip
 use Rattle.constriction_coder_laws.specs.declared.errors.Stopped.TheVariants.{Refused}
-use Rattle.constriction_chain_laws.specs.Endings.{Ended, EndsEarly, IsImpossible, LacksWord, NotEncoded, StopsAfter, StopsAfterPairs, StopsBefore, UnlessEnded}
+use Rattle.constriction_chain_laws.specs.Endings.{Ended, EndsEarly, IsImpossible, LacksWord, NotEncoded, StopsAfter, StopsAfterPairs, UnlessEnded}
 use Rattle.constriction_chain_laws.proofs.ListCalls.{decodes_of, encodes_of}
 
 -- ---- decodes

@@ -1,5 +1,4 @@
 -- Symbols of two chain coders over equal words, of which the first were decoded by two models.
-use Rattle.std.specs.List.{zip}
 use Rattle.std.proofs.Common.{◌≡◌, ℕ, List, [], ◌∷◌, length, map, refl, ap₂, arith}
 use Rattle.constriction_base.specs.Models.{AreModels, IsModel, Item, Model, item_of, pairs_of}
 use Rattle.constriction_chain.specs.Chain.{ChainState}

@@ -1,5 +1,5 @@
 -- What list calls of a chain coder do, in the words of the laws.
-use Rattle.std.proofs.Common.{◌≡◌, ℕ, Option, List, [], ◌∷◌, Result, Ok, Err, inl, inr, map, ap}
+use Rattle.std.proofs.Common.{ℕ, Option, List, [], ◌∷◌, Result, Ok, inl, inr, map, ap}
 use Rattle.constriction_base.specs.declared.errors.CoderError.{CoderError}
 use Rattle.constriction_base.specs.Models.{Model, Item, items_of}
 use Rattle.constriction_base.specs.Steps.{InTurn}

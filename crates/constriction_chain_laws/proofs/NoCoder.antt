@@ -1,7 +1,6 @@
 -- Words that stand for no chain coder.
-use Rattle.std.proofs.Common.{◌≡◌, ◌⊎◌, ℕ, zero, suc, ◌+◌, ◌-◌, ◌*◌, ◌/◌, ◌%◌, ◌^◌, ◌<◌, ◌≤◌, List, [], ◌∷◌, ◌++◌, Result, Ok, Err, length, map, drop, get_or, Option, sym, ap, ◌∙◌, arith, inl, inr, pow-add, pow_pos, div-add-mod', mul-le-mul_right, mod-lt, append-nil}
+use Rattle.std.proofs.Common.{◌≡◌, ℕ, zero, suc, ◌+◌, ◌-◌, ◌*◌, ◌/◌, ◌%◌, ◌^◌, ◌<◌, ◌≤◌, List, [], ◌∷◌, ◌++◌, Result, length, map, drop, get_or, Option, sym, ap, ◌∙◌, arith, inl, inr, pow_pos, div-add-mod', append-nil}
 use Rattle.std.specs.Int.Digits.{digits_of, number_from_digits, number_from_digits_after}
-use Rattle.std.proofs.lemmas.Bool.{cases_lt}
 use Rattle.std.proofs.lemmas.Int.Digits.{first_digits_of, number_after_append, number_after_ge, number_digits_of}
 use Rattle.constriction_base.specs.Digits.{fixed_digits}
 use Rattle.constriction_base.specs.declared.errors.CoderError.TheVariants.{Frontend}

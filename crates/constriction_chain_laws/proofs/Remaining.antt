@@ -1,7 +1,6 @@
 -- The way of words by the remainders, for either form of words.
 use Rattle.std.specs.Prelude.{reverse}
-use Rattle.std.proofs.Common.{◌≡◌, ◌≤◌, ◌∙◌, ℕ, ◌^◌, List, [], ◌++◌, map, refl, sym, ap, subst, append_assoc}
-use Rattle.std.proofs.lemmas.List.{append-nil}
+use Rattle.std.proofs.Common.{◌≡◌, ◌≤◌, ◌∙◌, ℕ, ◌^◌, List, ◌++◌, map, refl, sym, ap, subst, append_assoc}
 use Rattle.constriction_base.specs.Models.{Model, item_of, items_of}
 use Rattle.constriction_chain.specs.Chain.{ChainState, IsSized}
 use Rattle.constriction_chain.specs.Imports.{FromRemainders, IsWhole}

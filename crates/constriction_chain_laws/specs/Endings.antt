@@ -1,5 +1,5 @@
 -- Why symbols aren't taken out of a chain coder, or put back.
-use Rattle.std.specs.Prelude.{◌≡◌, ℕ, ◌*◌, ◌<◌, ⊤, List, [], ◌∷◌, ◌++◌, drop, Result, Ok, Err, length}
+use Rattle.std.specs.Prelude.{◌≡◌, ℕ, ◌*◌, ◌+◌, ◌<◌, ◌≤◌, ◌⊎◌, ⊤, List, [], ◌∷◌, ◌++◌, drop, Result, Ok, Err, length}
 use Rattle.std.specs.List.{zip}
 use Rattle.constriction_base.specs.Models.{Item}
 use Rattle.constriction_base.specs.Steps.{Step, InTurn}
@@ -11,7 +11,7 @@ use Rattle.constriction_coder_laws.specs.Outcomes.{Reasons}
 use Rattle.constriction_coder_laws.specs.declared.errors.RoundTripError.{RoundTripError}
 use Rattle.constriction_coder_laws.specs.declared.errors.Stopped.{Stopped}
 use Rattle.constriction_coder_laws.specs.declared.errors.Stopped.TheVariants.{Refused, NoMemory}
-use Rattle.constriction_chain.specs.Chain.{ChainState, least}
+use Rattle.constriction_chain.specs.Chain.{ChainState, IsPrecisionChange, least}
 use Rattle.constriction_chain.specs.Imports.{FromRemainders}
 use Rattle.constriction_chain.specs.Symbols.{TakesOffAll, PutsBackAll}
 use Rattle.constriction_chain.specs.Walk.{NeedsWord}
@@ -52,6 +52,22 @@ WordsEnded w P x = NeedsWord w P x.h × (x.compressed ≡ [])
 -- fewer symbols were taken than asked for; over a backend that knows its words they ended there
 abbrev pub EndsEarly : {S : Type 0} → Type 0 → ℕ → ℕ → ℕ → (List S → List (Item S)) → ℕ → ChainState → ℕ → ChainState → Type 0
 EndsEarly is_list w s P items amt old taken new = (taken < amt) × (is_list → Ended w s P items taken old new)
+
+-- so many symbols were taken, and then the change to a precision needs a word of the remainders, and none is left
+abbrev pub LacksChange : {S : Type 0} → ℕ → ℕ → ℕ → ℕ → (List S → List (Item S)) → ℕ → ChainState → Type 0
+LacksChange {S} w s P N items count old = (given : List S) × (mid : ChainState) × (length given ≡ count) × TakesOffAll w s (items given) old mid
+    × (N ≤ P) × (mid.r < least w s N) × (mid.remainders ≡ [])
+
+-- symbols end early, or the change behind all of them lacks a word
+abbrev pub EndsBeforeChange : {S : Type 0} → ℕ → ℕ → ℕ → ℕ → (List S → List (Item S)) → ℕ → ChainState → ℕ → Type 0
+EndsBeforeChange w s P N items count old taken =
+    ((taken < count) × (after : ChainState) × Ended w s P items taken old after) ⊎ ((taken ≡ count) × LacksChange w s P N items count old)
+
+-- the same, or the symbols behind the change end early
+abbrev pub EndsAcross : {S : Type 0} → ℕ → ℕ → ℕ → ℕ → (List S → List (Item S)) → ℕ → (List S → List (Item S)) → ℕ → ChainState → ℕ → Type 0
+EndsAcross {S} w s P N items count later amt old taken = EndsBeforeChange w s P N items count old taken
+    ⊎ ((given : List S) × (mid next after : ChainState) × (more : ℕ) × (length given ≡ count) × TakesOffAll w s (items given) old mid
+    × IsPrecisionChange w (least w s N) mid next × (taken ≡ count + more) × (more < amt) × Ended w s N later more next after)
 
 -- nothing stops the call but words that end, and a refusal
 abbrev pub UnlessEnded : (ℕ → Type 0) → RoundTripError → Type 0

@@ -1,9 +1,9 @@
 -- One encode or decode of the chain coder is undone, as the laws on lists ask of a coder.
-use Rattle.std.proofs.Common.{◌≡◌, ℕ, ◌≤◌, ◌^◌, arith, sym, subst}
+use Rattle.std.proofs.Common.{ℕ, ◌≤◌, ◌^◌, arith, sym, subst}
 use Rattle.constriction_base.specs.Models.{Model}
 use Rattle.constriction_base.specs.Steps.{Step}
 use Rattle.constriction_base.proofs.Entries.{in_range}
-use Rattle.constriction_chain.specs.Chain.{ChainState, IsChain, IsDecode, IsSized}
+use Rattle.constriction_chain.specs.Chain.{ChainState, IsChain, IsSized}
 use Rattle.constriction_chain.specs.Symbols.{TakesOff, PutsBack, IsModelAt}
 use Rattle.constriction_chain.proofs.Chains.{decode_from}
 use Rattle.constriction_chain.proofs.Validity.{decoded_chain}

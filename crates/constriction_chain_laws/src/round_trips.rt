@@ -5,6 +5,7 @@
 //! [`PutBackError`](crate::errors::PutBackError). Each of its cases comes for no other reason than it tells, but want of
 //! memory, and backends that refuse a word.
 //!
+//! - [`changes`]: symbols that stay where models of others are replaced, across a change of the precision.
 //! - [`coding`]: list calls, said in the words of the laws.
 //! - [`counting`]: lists from any decoder, or how many symbols came.
 //! - [`isolation`]: symbols that stay where models of others are replaced.
@@ -13,6 +14,7 @@
 //! - [`steps`]: a symbol there and back.
 //! - [`words`]: symbols and words out of a coder, and back.
 
+pub mod changes;
 pub mod coding;
 pub mod counting;
 pub mod isolation;

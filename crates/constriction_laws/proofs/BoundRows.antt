@@ -1,7 +1,7 @@
 -- Worked values of the bounds, at words of 8 bits and states of 16. They hold by computing.
-use Rattle.std.proofs.Common.{◌≡◌, ℕ, ◌-◌, ◌*◌, ◌^◌, [], ◌∷◌, length, refl}
+use Rattle.std.proofs.Common.{◌≡◌, ◌-◌, ◌*◌, ◌^◌, [], ◌∷◌, length, refl}
 use Rattle.constriction_base.specs.Steps.{Step}
-use Rattle.constriction_stack.specs.Ans.{AnsState, empty, exported, pop}
+use Rattle.constriction_stack.specs.Ans.{empty, exported, pop}
 use Rattle.constriction_laws.specs.Bounds.{Decode, Encode, net_share, net_whole, product, rounded_whole, share}
 
 -- the last of 256 parts

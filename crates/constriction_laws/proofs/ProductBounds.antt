@@ -1,14 +1,14 @@
 -- The product bounds: one inequality a step, and an induction.
-use Rattle.std.proofs.Common.{lt-ltb, le-ltb, le_of_mul-le-mul_right, eq-eqb, ne_eqb, ◌≡◌, ℕ, suc, ◌+◌, ◌-◌, ◌*◌, ◌/◌, ◌%◌, ◌^◌, ◌<◌, ◌≤◌, max, List, [], ◌∷◌, ◌++◌, length, refl, inl, inr, arith, pow_pos, pow-add, mul-le-mul_right, mul-le-mul, div-mul-le_self, mod-lt, le_trans, length-append}
+use Rattle.std.proofs.Common.{lt-ltb, le-ltb, le_of_mul-le-mul_right, eq-eqb, ne_eqb, ◌≡◌, ℕ, suc, ◌+◌, ◌-◌, ◌*◌, ◌/◌, ◌^◌, ◌<◌, ◌≤◌, max, List, [], ◌∷◌, ◌++◌, length, refl, inl, inr, arith, pow_pos, pow-add, mul-le-mul_right, mul-le-mul, div-mul-le_self, mod-lt, le_trans, length-append}
 use native.Mathlib.Nat.{pow-suc, pow-zero, le-max_left, le-max_right, one-le-pow, zero-max, mul-pos, mul-lt-mul_of_pos_right, pow-le-pow_right, mul_comm, max-eq_left, max-eq_right, le_of_lt, lt-div-mul-add}
 use Rattle.std.proofs.lemmas.Bool.{cases_lt, cases_eq}
 use Rattle.std.proofs.lemmas.Int.Digits.{length-digits_of-le, number_lt, number_digits_of, all_below_base_digits_of}
 use Rattle.std.specs.Int.Digits.{digits_of, number_from_digits}
 use Rattle.constriction_base.specs.Steps.{Step, IsStep, AreSteps, InTurn, IsSizes, AreWords}
 use Rattle.constriction_base.specs.Digits.{fixed_digits}
-use Rattle.constriction_stack.specs.Ans.{AnsState, IsValid, refilled, popped_head, IsNext, pop, IsPop, IsPush, empty, exported}
+use Rattle.constriction_stack.specs.Ans.{AnsState, IsValid, refilled, popped_head, IsNext, pop, IsPush, empty, exported}
 use Rattle.constriction_queue.specs.Range.{Run, start, scale, cut, narrow, run, IsInterval, sealed, seal_number}
-use Rattle.constriction_laws.specs.Bounds.{product, spare, share, rounded_whole, Act, Encode, Decode, IsAllowed, AreAllowed, Acts, net_share, net_whole}
+use Rattle.constriction_laws.specs.Bounds.{product, spare, share, rounded_whole, Act, Encode, Decode, AreAllowed, Acts, net_share, net_whole}
 use Rattle.constriction_base.proofs.Sizes.{Facts, facts, table_divides, pow-mul}
 use Rattle.constriction_stack.proofs.Pushing.{only_push, written, kept, put_on, room, valid_pop}
 use Rattle.constriction_queue.proofs.Narrowing.{by_growth, scale_least, valid_cut, valid_run, valid_start}

@@ -1,5 +1,5 @@
 -- The steps of symbols that were encoded, and products over steps of one precision.
-use Rattle.std.proofs.Common.{◌≡◌, ℕ, ◌+◌, ◌-◌, ◌*◌, ◌^◌, List, [], ◌∷◌, length, refl, sym, ap, subst, arith}
+use Rattle.std.proofs.Common.{◌≡◌, ℕ, ◌+◌, ◌-◌, ◌*◌, ◌^◌, List, [], ◌∷◌, length, refl, subst, arith}
 use native.Mathlib.Nat.{pow-suc, pow-zero}
 use Rattle.std.specs.List.{AllByRecursion}
 use Rattle.constriction_base.specs.Steps.{Step, IsStep, AreSteps, InTurn}
@@ -9,7 +9,7 @@ use Rattle.constriction_stack.specs.Symbols.{EncodesAll}
 use Rattle.constriction_queue.specs.Range.{Run}
 use Rattle.constriction_queue_laws.specs.Symbols as queue
 use Rattle.constriction_queue_laws.proofs.Entries.{entries}
-use Rattle.constriction_laws.specs.Bounds.{AreEntries, product, spare, share, rounded_whole}
+use Rattle.constriction_laws.specs.Bounds.{AreEntries, product, share, rounded_whole}
 use Rattle.constriction_stack_laws.proofs.Choosing.{step_of}
 
 pub steps_of_encodes : {S : Type 0} (w s : ℕ) (items : List (Item S)) (old new : AnsState) → EncodesAll w s items old new

@@ -1,7 +1,7 @@
 -- How many words a list of steps takes at most, in whole numbers. With k = s - w - P the spare bits of a state beyond a word
 -- and a table of P bits, a step whose share of its table is p / 2 ^ P multiplies what a coder holds by no more than
 -- 2 ^ P / p times (2 ^ k + 1) / 2 ^ k: the information that it has, and a rounding.
-use Rattle.std.specs.Prelude.{◌≡◌, ℕ, ◌+◌, ◌-◌, ◌*◌, ◌<◌, ◌≤◌, ◌^◌, List, [], ◌∷◌, ⊤}
+use Rattle.std.specs.Prelude.{◌≡◌, ℕ, ◌+◌, ◌-◌, ◌*◌, ◌≤◌, ◌^◌, List, [], ◌∷◌, ⊤}
 use Rattle.std.specs.List.{AllByRecursion}
 use Rattle.constriction_base.specs.Steps.{Step, IsStep}
 use Rattle.constriction_base.specs.Tables.{AtEntry}

@@ -7,6 +7,7 @@
 use constriction_base::weights::WeightTable;
 use constriction_chain::ChainCoder;
 use constriction_laws::chain::lists::{Decoding, Encoding};
+use constriction_laws::chain::round_trips::changes::two_across_a_change;
 use constriction_laws::chain::round_trips::coding::{
     decode_list, decode_pairs, encode_list_reverse, encode_pairs_reverse,
 };
@@ -296,6 +297,35 @@ fn symbols_stay_at_every_place(rt: HostRuntime) -> Result<(), Fail> {
     };
     assert_eq!(rt; one.as_slice(), [0usize, 1].as_slice());
     assert_eq!(rt; two.as_slice(), [0usize, 0].as_slice());
+    Ok(())
+}
+
+/// The words 0xab, 0x12 and 0x9c at 4 bits, by these tables, then a change to 2 bits, and two symbols there.
+fn across(alloc: Global, first: &[Coarse], other: &[Coarse], later: &[WeightTable<u8, 2>]) -> bool {
+    let (Some(coder), Some(same)) = (coarse_of(alloc), coarse_of(alloc)) else {
+        return false;
+    };
+    match two_across_a_change::<u8, u16, _, _, _, 4, 2>(
+        alloc, coder, first, later, same, other, later,
+    ) {
+        Ok(((one, later), (two, also))) => one.as_slice() == [0usize].as_slice()
+            && two.as_slice() == [1usize].as_slice()
+            && later.as_slice() == [1usize, 0].as_slice()
+            && also.as_slice() == [1usize, 0].as_slice(),
+        Err(_) => false,
+    }
+}
+
+/// The quantiles are 2 at 4 bits, and 1 and 0 at 2 bits, whatever the first table is.
+#[test]
+fn symbols_stay_across_a_change(rt: HostRuntime) -> Result<(), Fail> {
+    let first = [Coarse::new(rt.alloc(), &[5, 11])?];
+    let other = [Coarse::new(rt.alloc(), &[1, 15])?];
+    let later = [
+        WeightTable::<u8, 2>::new(rt.alloc(), &[1, 3])?,
+        WeightTable::<u8, 2>::new(rt.alloc(), &[1, 3])?,
+    ];
+    assert!(rt; across(rt.alloc(), &first, &other, &later));
     Ok(())
 }
 

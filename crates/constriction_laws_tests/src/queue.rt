@@ -17,6 +17,9 @@ use constriction_laws::queue::lists::Encoding;
 use constriction_laws::queue::round_trips::any_words::{list_of_any_words, pairs_of_any_words};
 use constriction_laws::queue::round_trips::coding::encode_list;
 use constriction_laws::queue::round_trips::decoders::list_into_decoder;
+use constriction_laws::queue::round_trips::lent_pairs::{
+    pairs_from_lent_words, pairs_through_decoder,
+};
 use constriction_laws::queue::round_trips::lent_words::{
     decode_through_decoder, list_from_lent_words, list_through_decoder,
 };
@@ -24,6 +27,7 @@ use constriction_laws::queue::round_trips::pairs::pairs_through_words;
 use constriction_laws::queue::round_trips::positions::{
     list_after_a_position, list_from_position, words_and_position,
 };
+use constriction_laws::queue::round_trips::positions_of_pairs::pairs_after_a_position;
 use constriction_laws::queue::round_trips::shown::words_shown_and_given;
 use constriction_laws::queue::round_trips::words::list_through_words;
 use constriction_laws::queue::{guards, lists, positions, refusals, words};
@@ -141,6 +145,48 @@ fn symbols_of_two_tables_come_back(rt: HostRuntime) -> Result<(), Fail> {
     };
     assert_eq!(rt; again.as_slice(), [0usize, 1].as_slice());
     assert!(rt; ended);
+    Ok(())
+}
+
+/// Two tables, by each of which one symbol is coded.
+fn tables(alloc: Global) -> Option<[WeightTable<u8, 8>; 2]> {
+    Some([
+        WeightTable::new(alloc, &[129, 127]).ok()?,
+        WeightTable::new(alloc, &[1, 2, 253]).ok()?,
+    ])
+}
+
+/// Symbols by a model each from lent words, from a lent decoder, and from a position.
+fn pairs_are_back(alloc: Global, tables: &[WeightTable<u8, 8>; 2]) -> bool {
+    let mut encoder = new(alloc);
+    let lent = pairs_from_lent_words::<u8, u16, Global, _, 8>(alloc, &mut encoder, &[0, 1], tables);
+    let mut other = new(alloc);
+    let own = pairs_through_decoder::<u8, u16, Global, _, 8>(alloc, &mut other, &[1, 2], tables);
+    lent.is_ok_and(|it| it.as_slice() == [0usize, 1].as_slice())
+        && own.is_ok_and(|it| it.as_slice() == [1usize, 2].as_slice())
+}
+
+fn pairs_behind_a_position(alloc: Global, tables: &[WeightTable<u8, 8>; 2]) -> bool {
+    match pairs_after_a_position::<u8, u16, _, 8>(
+        alloc,
+        new(alloc),
+        &[0, 2],
+        tables,
+        &[1, 0],
+        tables,
+    ) {
+        Ok(again) => again.as_slice() == [1usize, 0].as_slice(),
+        Err(_) => false,
+    }
+}
+
+#[test]
+fn symbols_of_two_tables_come_back_from_guards(rt: HostRuntime) -> Result<(), Fail> {
+    let Some(tables) = tables(rt.alloc()) else {
+        return Err(Fail::from("refused"));
+    };
+    assert!(rt; pairs_are_back(rt.alloc(), &tables));
+    assert!(rt; pairs_behind_a_position(rt.alloc(), &tables));
     Ok(())
 }
 

@@ -173,3 +173,12 @@ impossible_before {S} table xs ys (before, after, symbol, is, never) =
 pub impossible_behind : {S : Type 0} (table : List (S × ℕ × ℕ)) (xs ys : List S) → HasImpossible table ys → HasImpossible table (xs ++ ys)
 impossible_behind {S} table xs ys (before, after, symbol, is, never) =
     (xs ++ before, after, symbol, ap (λ (zs : List S). xs ++ zs) is ∙ sym (append_assoc xs before (symbol ∷ after)), never)
+
+-- the same of items
+pub item_before : {S : Type 0} (xs ys : List (Item S)) → HasImpossibleItem xs → HasImpossibleItem (xs ++ ys)
+item_before {S} xs ys (before, after, item, is, never) =
+    (before, after ++ ys, item, ap (λ (zs : List (Item S)). zs ++ ys) is ∙ append_assoc before (item ∷ after) ys, never)
+
+pub item_behind : {S : Type 0} (xs ys : List (Item S)) → HasImpossibleItem ys → HasImpossibleItem (xs ++ ys)
+item_behind {S} xs ys (before, after, item, is, never) =
+    (xs ++ before, after, item, ap (λ (zs : List (Item S)). xs ++ zs) is ∙ sym (append_assoc xs before (item ∷ after)), never)

@@ -20,9 +20,13 @@ abbrev pub JoinsLists : {S : Type 0} → ℕ → ℕ → Model S → List S → 
 JoinsLists w s model first other second words place =
     (one two : List ℕ) × DelimitsList w s model first one × DelimitsList w s other second two × (words ≡ one ++ two) × (place ≡ length one)
 
--- a new decoder of the words reads these symbols
+-- a new decoder of the words reads these items
+abbrev pub ReadsItems : {S : Type 0} → ℕ → ℕ → List ℕ → List (Item S) → Type 0
+ReadsItems w s words items = (last : Run) × FindsAll w s words items (start s) last
+
+-- the same of symbols under one model
 abbrev pub ReadsList : {S : Type 0} → ℕ → ℕ → Model S → List ℕ → List S → Type 0
-ReadsList w s model words symbols = (last : Run) × FindsAll w s words (items_of model symbols) (start s) last
+ReadsList w s model words symbols = ReadsItems w s words (items_of model symbols)
 
 -- why so many symbols weren't read from a place in words; in the second case these hold no list of that length
 abbrev pub HoldsNoList : {S : Type 0} → ℕ → ℕ → Model S → List ℕ → ℕ → ℕ → DecodeError → Type 0

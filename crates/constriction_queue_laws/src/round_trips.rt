@@ -10,8 +10,10 @@
 //! - [`coding`]: list calls, said in the words of the laws.
 //! - [`decoders`]: symbols that come back from the decoder that an encoder becomes.
 //! - [`lent_words`]: symbols that come back from the words that an encoder lends by a guard.
-//! - [`pairs`]: symbols that have a model each.
+//! - [`lent_pairs`]: the same of symbols that have a model each.
+//! - [`pairs`]: symbols that have a model each, and come back from exported words.
 //! - [`positions`]: symbols that come back from a recorded position.
+//! - [`positions_of_pairs`]: the same of symbols that have a model each.
 //! - [`shown`]: words that an encoder shows and keeps, and those that it then gives.
 //! - [`words`]: symbols that come back from exported words.
 //!
@@ -20,8 +22,10 @@
 pub mod any_words;
 pub mod coding;
 pub mod decoders;
+pub mod lent_pairs;
 pub mod lent_words;
 pub mod pairs;
 pub mod positions;
+pub mod positions_of_pairs;
 pub mod shown;
 pub mod words;

@@ -1,14 +1,12 @@
 -- Lists of symbols that are coded, and come back.
-use Rattle.std.proofs.Common.{◌≡◌, ℕ, List, [], ◌∷◌, ◌++◌, refl, sym, ap, ap₂, ◌∙◌, subst, pow_pos, inr}
-use Rattle.std.specs.Prelude.{reverse, map}
-use Rattle.std.specs.List.{AllByRecursion}
-use Rattle.std.proofs.lemmas.List.{reverse-append, map-append}
+use Rattle.std.proofs.Common.{◌≡◌, ℕ, List, [], ◌∷◌, refl, sym, ap₂, ◌∙◌, subst, pow_pos, inr}
+use Rattle.std.specs.Prelude.{reverse}
 use Rattle.constriction_base.specs.Steps.{IsSizes}
 use Rattle.constriction_stack.specs.Ans.{AnsState, IsValid, empty}
 use Rattle.constriction_base.specs.Models.{Model, IsModel, Item, models, AreModels, AreKnown}
 use Rattle.constriction_stack.specs.Symbols.{Decodes, EncodesAll, DecodesAll}
 use Rattle.constriction_stack_laws.proofs.Choosing.{encode_exists, encode_unique, decode_unique}
-use Rattle.constriction_coder_laws.proofs.Turned.{map-reverse, all-append, all-reverse, same_item}
+use Rattle.constriction_coder_laws.proofs.Turned.{map-reverse, all-reverse, same_item}
 
 module _ {S : Type 0} (w s : ℕ) where
   -- ---- there is one list of encodes, and one of decodes

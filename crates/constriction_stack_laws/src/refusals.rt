@@ -1,9 +1,10 @@
 //! When a step of the stack coder is refused, and when it isn't.
 
-ghost use Rattle.std.specs.Prelude.{◌≡◌, Err, IfErr, IfOk, length};
+ghost use Rattle.std.specs.Prelude.{◌≡◌, ◌≢◌, Err, IfErr, IfOk, length};
 ghost use Rattle.constriction_base.specs.Tables.{AtEntry, Impossible};
 ghost use Rattle.constriction_base.specs.declared.errors.CoderError.TheVariants as coder_error;
 ghost use Rattle.constriction_stack.specs.Ans.{OwesRead};
+ghost use Rattle.constriction_stream.specs.Symbols.{EncodesSymbol};
 
 use constriction_base::backends::{ReadWords, Stack, WordsMut};
 use constriction_base::cursor::Cursor;
@@ -35,8 +36,13 @@ pub fn step_on_open_cursor<
 ) -> Result<Result<(), DefaultEncoderError<BoundedWriteError>>, MaybeFull>
 where
     M::Probability: WordOf<Word>,
-    ensures step { IfOk result (λ answer. IfErr answer (λ _.
+    ensures step { IfOk result (λ answer. EncodesSymbol
+        (⟦<AnsCoder<Word, State, Cursor<Word, Buf>> as Encode<PRECISION>>⟧.encodes)
+        (⟦<AnsCoder<Word, State, Cursor<Word, Buf>> as Encode<PRECISION>>⟧.is_impossible_symbol)
+        PRECISION (M.table model.now) symbol.now coder.old answer coder.new) }
+    ensures impossible { IfOk result (λ answer. IfErr answer (λ _.
         Impossible (M.table model.now) symbol.now × (coder.new ≡ coder.old))) }
+    ensures open { IfOk result (λ _. coder.old.backend.pos ≢ length (Buf.lent coder.old.backend.buf)) }
     ensures full { IfErr result (λ _. coder.old.backend.pos ≡ length (Buf.lent coder.old.backend.buf)) }
     ensures kept { IfErr result (λ _. coder.new ≡ coder.old) }
 {

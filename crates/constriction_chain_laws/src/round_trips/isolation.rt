@@ -85,6 +85,7 @@ where
     M::Symbol: Drop,
     C::ReadError: Drop,
     R::WriteError: Drop,
+    ensures count { IfOk result (λ both. (length both.0.1.items ≡ length later.now) × (length both.1.1.items ≡ length later.now)) }
     ensures first { C.is_list → IfOk result (λ both. TakesOffAll Word.BITS State.BITS
         (pairs_of PRECISION M.table (both.0.0 ∷ both.0.1.items) (first.now ∷ later.now)) coder.old.state coder.new.state) }
     ensures other { C.is_list → IfOk result (λ both. TakesOffAll Word.BITS State.BITS
@@ -131,6 +132,7 @@ where
     M::Symbol: Drop,
     C::ReadError: Drop,
     R::WriteError: Drop,
+    ensures count { IfOk result (λ both. (length both.0.items ≡ length models.now) × (length both.1.items ≡ length others.now)) }
     ensures first { C.is_list → IfOk result (λ both. TakesOffAll Word.BITS State.BITS
         (pairs_of PRECISION M.table both.0.items models.now) coder.old.state coder.new.state) }
     ensures other { C.is_list → IfOk result (λ both. TakesOffAll Word.BITS State.BITS

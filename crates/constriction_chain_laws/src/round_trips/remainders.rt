@@ -134,6 +134,7 @@ where
     M::Symbol: Drop,
     requires fits { CoderFits Word.row State.row }
     requires sized { IsSized Word.BITS State.BITS PRECISION }
+    ensures count { IfOk result (λ back. length back.0.items ≡ amt) }
     ensures taken { IfOk result (λ back. (x after : ChainState) × FromCompressed Word.BITS State.BITS PRECISION (map Word.number (reverse words.items)) x
         × TakesOffAll Word.BITS State.BITS (items_of record { precision = PRECISION; table = M.table model.now } back.0.items) x after) }
     ensures back { IfOk result (λ back. map Word.number back.1.items ≡ map Word.number words.items) }
@@ -182,6 +183,7 @@ where
     M::Symbol: Drop,
     requires fits { CoderFits Word.row State.row }
     requires sized { IsSized Word.BITS State.BITS PRECISION }
+    ensures count { IfOk result (λ back. length back.0.items ≡ amt) }
     ensures taken { IfOk result (λ back. (x after : ChainState) × FromBinary Word.BITS State.BITS PRECISION (map Word.number (reverse words.items)) x
         × TakesOffAll Word.BITS State.BITS (items_of record { precision = PRECISION; table = M.table model.now } back.0.items) x after) }
     ensures back { IfOk result (λ back. map Word.number back.1.items ≡ map Word.number words.items) }

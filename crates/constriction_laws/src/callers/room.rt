@@ -1,9 +1,11 @@
 //! When a step is refused for want of memory or of room, from the contracts of the stack coder alone.
 
-ghost use Rattle.std.specs.Prelude.{◌≡◌, ℕ, ◌<◌, ◌≤◌, ◌+◌, ◌-◌, ◌/◌, ◌^◌, length, vec_len, vec_capacity, Err};
+ghost use Rattle.std.specs.Prelude.{◌≡◌, ℕ, ◌<◌, ◌≤◌, ◌+◌, ◌-◌, ◌/◌, ◌^◌, length, vec_len, vec_capacity, Ok, Err};
 ghost use Rattle.constriction_base.specs.Tables.{Has};
 ghost use Rattle.constriction_base.specs.declared.errors.CoderError.TheVariants as coder_error;
 ghost use Rattle.constriction_base.specs.declared.errors.BoundedWriteError.{BoundedWriteError};
+ghost use Rattle.constriction_laws.specs.Stepping.{StepsTwice};
+ghost use Rattle.constriction_stream.specs.Symbols.{DecodesSymbol, EncodesSymbol};
 
 use constriction_base::cursor::Cursor;
 use constriction_base::errors::{BoundedWriteError, CoderError, DefaultEncoderError};
@@ -20,7 +22,9 @@ pub fn step_without_word<M: EncoderModel<8, Probability = u8>>(
     model: M,
 ) -> Result<(), DefaultEncoderError<AllocError>>
     requires { (left p : ℕ) → Has (M.table model) symbol.now left p → coder.old.state.head / 2 ^ 8 < p }
-    ensures { (e : AllocError) → result ≡ Err (coder_error.Backend e) → ⊥ }
+    ensures step { EncodesSymbol (⟦<AnsCoder<u8, u16, Vec<u8>> as Encode<8>>⟧.encodes) (⟦<AnsCoder<u8, u16, Vec<u8>> as Encode<8>>⟧.is_impossible_symbol)
+        8 (M.table model) symbol.now coder.old result coder.new }
+    ensures enough { (e : AllocError) → result ≡ Err (coder_error.Backend e) → ⊥ }
 {
     coder.encode_symbol(symbol, model)
 }
@@ -32,9 +36,11 @@ pub fn step_with_room<M: EncoderModel<8, Probability = u8>>(
     model: M,
 ) -> Result<(), DefaultEncoderError<AllocError>>
     requires { vec_len coder.old.backend < vec_capacity coder.old.backend }
-    ensures { (e : AllocError) → result ≡ Err (coder_error.Backend e) → ⊥ }
+    ensures step { EncodesSymbol (⟦<AnsCoder<u8, u16, Vec<u8>> as Encode<8>>⟧.encodes) (⟦<AnsCoder<u8, u16, Vec<u8>> as Encode<8>>⟧.is_impossible_symbol)
+        8 (M.table model) symbol.now coder.old result coder.new }
+    ensures enough { (e : AllocError) → result ≡ Err (coder_error.Backend e) → ⊥ }
 {
-    coder.encode_symbol(symbol, model)
+    Encode::<8>::encode_symbol(coder, symbol, model)
 }
 
 /// Over a cursor with room for a word a step is refused for an impossible symbol alone.
@@ -44,16 +50,21 @@ pub fn step_on_cursor<M: EncoderModel<8, Probability = u8>>(
     model: M,
 ) -> Result<(), DefaultEncoderError<BoundedWriteError>>
     requires { coder.old.backend.pos < length coder.old.backend.buf.items }
-    ensures { (e : BoundedWriteError) → result ≡ Err (coder_error.Backend e) → ⊥ }
+    ensures step { EncodesSymbol (⟦<AnsCoder<u8, u16, Cursor<u8, Vec<u8>>> as Encode<8>>⟧.encodes) (⟦<AnsCoder<u8, u16, Cursor<u8, Vec<u8>>> as Encode<8>>⟧.is_impossible_symbol)
+        8 (M.table model) symbol.now coder.old result coder.new }
+    ensures enough { (e : BoundedWriteError) → result ≡ Err (coder_error.Backend e) → ⊥ }
 {
-    coder.encode_symbol(symbol, model)
+    Encode::encode_symbol(coder, symbol, model)
 }
 
 /// A decode over a cursor always gives a symbol.
 pub fn decode_on_cursor<M: DecoderModel<8, Probability = u8>>(
     coder: &mut AnsCoder<u8, u16, Cursor<u8, Vec<u8>>>,
     model: M,
-) -> M::Symbol {
+) -> M::Symbol
+    ensures { DecodesSymbol (⟦<AnsCoder<u8, u16, Cursor<u8, Vec<u8>>> as Decode<8>>⟧.decodes) (⟦<AnsCoder<u8, u16, Cursor<u8, Vec<u8>>> as Decode<8>>⟧.halts)
+        8 (M.table model) coder.old (Ok result) coder.new }
+{
     match coder.decode_symbol(model) {
         Ok(symbol) => symbol,
         Err(CoderError::Frontend(never)) => match never {},
@@ -68,7 +79,9 @@ pub fn two_steps_on_cursor<M: EncoderModel<8, Probability = u8>>(
     model: &M,
 ) -> Result<(), DefaultEncoderError<BoundedWriteError>>
     requires { coder.old.backend.pos + 2 ≤ length coder.old.backend.buf.items }
-    ensures { (e : BoundedWriteError) → result ≡ Err (coder_error.Backend e) → ⊥ }
+    ensures steps { StepsTwice (EncodesSymbol (⟦<AnsCoder<u8, u16, Cursor<u8, Vec<u8>>> as Encode<8>>⟧.encodes)
+        (⟦<AnsCoder<u8, u16, Cursor<u8, Vec<u8>>> as Encode<8>>⟧.is_impossible_symbol) 8 (M.table model.now) symbol.now) coder.old result coder.new }
+    ensures enough { (e : BoundedWriteError) → result ≡ Err (coder_error.Backend e) → ⊥ }
 {
     match coder.encode_symbol(symbol, model) {
         Ok(()) => coder.encode_symbol(symbol, model),

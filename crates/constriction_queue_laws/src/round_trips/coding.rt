@@ -85,6 +85,7 @@ where
     ensures narrowed { IfOk result (λ _. NarrowsAll Word.BITS State.BITS
         (pairs_of PRECISION M.table symbols.now models.now)
         (run_by Word.BITS State.BITS encoder.old) (run_by Word.BITS State.BITS encoder.new)) }
+    ensures fewer_left { left_to_encode encoder.old ≤ left_to_encode encoder.new + length symbols.now }
     ensures err { IfErr result (NotCoded (HasImpossibleItem (pairs_of PRECISION M.table symbols.now models.now))
         (left_to_encode encoder.old < length symbols.now)) }
 {

@@ -67,10 +67,10 @@ pub fn copy_lent_binary_words<Word: WordOf<State>, State: BitArray, A: Allocator
 /// # Errors
 ///
 /// `Refused` alone.
-pub fn words_lent_and_given<Word: WordOf<State>, State: BitArray, A: Allocator + Drop>(
+pub fn words_lent_and_given<Word: WordOf<State>, State: BitArray>(
     alloc: Global,
-    coder: AnsCoder<Word, State, Vec<Word, A>>,
-) -> Result<(Vec<Word>, Vec<Word, A>), RoundTripError>
+    coder: AnsCoder<Word, State, Vec<Word>>,
+) -> Result<(Vec<Word>, Vec<Word>), RoundTripError>
     ensures same { IfOk result (λ both. map Word.number (reverse both.0.items) ≡ map Word.number (reverse both.1.items)) }
     ensures given { IfOk result (λ both. map Word.number (reverse both.1.items) ≡ exported Word.BITS coder.state) }
     ensures err { IfErr result OnlyRefused }
@@ -88,10 +88,10 @@ pub fn words_lent_and_given<Word: WordOf<State>, State: BitArray, A: Allocator +
 /// # Errors
 ///
 /// `InvalidData` where the coder has no binary form, and `Refused`.
-pub fn binary_words_lent_and_given<Word: WordOf<State>, State: BitArray, A: Allocator + Drop>(
+pub fn binary_words_lent_and_given<Word: WordOf<State>, State: BitArray>(
     alloc: Global,
-    coder: AnsCoder<Word, State, Vec<Word, A>>,
-) -> Result<(Vec<Word>, Vec<Word, A>), RoundTripError>
+    coder: AnsCoder<Word, State, Vec<Word>>,
+) -> Result<(Vec<Word>, Vec<Word>), RoundTripError>
     ensures same { IfOk result (λ both. map Word.number (reverse both.0.items) ≡ map Word.number (reverse both.1.items)) }
     ensures given { IfOk result (λ both. (m : ℕ) × IsBinary Word.BITS m coder.state
         × (map Word.number (reverse both.1.items) ≡ binary_words Word.BITS m coder.state)) }

@@ -7,8 +7,8 @@ use Rattle.constriction_stack.specs.Ans.{EncodeCall}
 use Rattle.constriction_coder_laws.proofs.HavingRoom.{on_false, no_lack, only_impossible}
 use Rattle.constriction_stack_laws.proofs.refusals.step_on_open_cursor.Goals as goal
 
-pub returns-clause-step : goal.returns-clause-step
-returns-clause-step g c =
+pub returns-clause-impossible : goal.returns-clause-impossible
+returns-clause-impossible g c =
     let lent = g.Buf.Words.lent in
     let table = g.M.EntropyModel.table c.args.model.now in
     let old = c.args.coder.now in

@@ -1,4 +1,4 @@
-use Rattle.std.proofs.Common.{◌+◌, arith}
+use Rattle.std.proofs.Common.{arith}
 use Rattle.constriction_base.specs.Models.{Model}
 use Rattle.constriction_chain_laws.proofs.Isolating.{ends_later}
 use Rattle.constriction_chain_laws.proofs.ListCalls.{decode_of}

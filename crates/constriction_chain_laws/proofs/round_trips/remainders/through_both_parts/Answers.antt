@@ -1,9 +1,8 @@
-use Rattle.std.proofs.Common.{◌≡◌, ◌∙◌, ◌++◌, [], map, refl, sym, ap, ap₂}
+use Rattle.std.proofs.Common.{◌∙◌, ◌++◌, map, refl, ap, ap₂}
 use Rattle.std.specs.Prelude.{reverse}
 use Rattle.std.proofs.lemmas.List.{map-append, reverse-append}
 use Rattle.constriction_base.specs.Models.{Model}
 use Rattle.constriction_chain.specs.Symbols.{IsModelAt}
-use Rattle.constriction_chain.specs.Words.{remainder_words}
 use Rattle.constriction_chain_laws.proofs.Remaining.{comes_back}
 use Rattle.constriction_chain_laws.proofs.round_trips.remainders.through_both_parts.Goals as goal
 

@@ -1,4 +1,4 @@
-use Rattle.std.proofs.Common.{◌≡◌, ◌-◌, ◌≤◌, ◌^◌, [], ◌∷◌, refl, sym, subst, arith}
+use Rattle.std.proofs.Common.{◌-◌, ◌≤◌, ◌^◌, [], ◌∷◌, refl, sym, subst, arith}
 use Rattle.constriction_base.specs.Steps.{Step, IsSizes, IsStep}
 use Rattle.constriction_base.specs.Models.{Model, IsModel}
 use Rattle.constriction_stack.specs.Ans.{AnsState, IsValid}

@@ -1,10 +1,10 @@
-use Rattle.std.proofs.Common.{◌≡◌, ℕ, ◌-◌, ◌*◌, ◌<◌, ◌≤◌, ◌^◌, List, length, map, sym, subst, ap, ◌∙◌, arith}
+use Rattle.std.proofs.Common.{◌≡◌, ◌-◌, ◌*◌, ◌<◌, ◌≤◌, ◌^◌, List, length, map, sym, subst, ap, ◌∙◌, arith}
 use Rattle.std.specs.Prelude.{reverse}
 use Rattle.std.proofs.lemmas.List.{length-map, length-reverse, reverse-reverse}
 use Rattle.constriction_base.specs.Steps.{Step, AreSteps}
 use Rattle.constriction_base.specs.Models.{Model, IsModel, items_of}
 use Rattle.constriction_queue.specs.Encoder.{run_by}
-use Rattle.constriction_queue.specs.Range.{Run, run, sealed, start}
+use Rattle.constriction_queue.specs.Range.{Run, sealed, start}
 use Rattle.constriction_queue.proofs.Showing.{queue_is}
 use Rattle.constriction_laws.specs.Bounds.{product, rounded_whole, share}
 use Rattle.constriction_queue_laws.specs.Symbols.{NarrowsAll}

@@ -9,8 +9,8 @@ one_word : (b : Bool) (v : ℕ) (ws : List ℕ) → length (if b then ws else v 
 one_word true v ws = omega arith
 one_word false v ws = omega arith
 
-pub returns-in-Ok : goal.returns-in-Ok
-returns-in-Ok g c =
+pub returns-in-Ok-clause-enough : goal.returns-in-Ok-clause-enough
+returns-in-Ok-clause-enough g c =
     let before = ok_by (EncodeCall _ _ 8 16 _ _ _ _) 8 _ _ _ _ c.in-Ok.ensures.step in
     let grown = one_word (nat_lt (c.args.coder.now.state.head / 2 ^ (16 - 8)) before.1) (c.args.coder.now.state.head % 2 ^ 8) c.args.coder.now.state.words in
     λ e is.
@@ -19,3 +19,6 @@ returns-in-Ok g c =
       | inl never ↦ absurd never
       | inr full ↦ omega (arith, full.1.1, before.3.room_used, ap length before.3.words, grown, c.requires)
     ]
+
+pub returns-in-Ok-clause-steps : goal.returns-in-Ok-clause-steps
+returns-in-Ok-clause-steps g c = inr (c.encode_symbol.new.self, c.in-Ok.ensures.step, c.encode_symbol-in-Ok.ensures.step)

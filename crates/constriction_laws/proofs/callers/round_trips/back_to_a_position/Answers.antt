@@ -1,10 +1,10 @@
-use Rattle.std.proofs.Common.{◌≡◌, ℕ, ◌-◌, ◌%◌, ◌^◌, ◌≤◌, List, [], ◌∷◌, ◌++◌, length, take, drop, refl, sym, ap, ◌∙◌, subst, arith, lit≤}
+use Rattle.std.proofs.Common.{◌≡◌, ℕ, ◌%◌, ◌^◌, ◌≤◌, List, [], ◌∷◌, length, take, refl, sym, ap, ◌∙◌, subst, arith, lit≤}
 use Rattle.std.specs.Prelude.{reverse, map}
-use Rattle.std.proofs.lemmas.List.{take-append-drop, reverse-append, length-reverse, length-map, length-drop, drop-map}
+use Rattle.std.proofs.lemmas.List.{length-reverse, length-map}
 use Rattle.constriction_base.specs.Steps.{IsSizes}
 use Rattle.constriction_stack.specs.Ans.{AnsState, IsValid, empty}
 use Rattle.constriction_stack.specs.Positions.{position_of, sought}
-use Rattle.constriction_stack.proofs.PositionsKept.{drop_front, held_less}
+use Rattle.constriction_stack.proofs.PositionsKept.{held_less}
 use Rattle.constriction_base.specs.Models.{Model, IsModel, Item, item_of}
 use Rattle.constriction_stack.specs.Symbols.{Encodes, Decodes}
 use Rattle.constriction_stack_laws.proofs.ComingBack.{empty_valid}

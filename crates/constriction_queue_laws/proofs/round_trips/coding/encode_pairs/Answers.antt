@@ -1,4 +1,4 @@
-use Rattle.std.proofs.Common.{◌≡◌, ◌∙◌, ap, ap₂, map, subst}
+use Rattle.std.proofs.Common.{◌≡◌, ◌∙◌, ap, ap₂, arith, length, map, subst}
 use Rattle.std.specs.List.{zip}
 use Rattle.std.specs.Iterator.Adapters.{zip_first, zip_second}
 use Rattle.std.specs.Slice.Iter.{iter_rest}
@@ -38,3 +38,18 @@ returns-in-Err-Frontend-clause-err g c =
     let second : iter_rest (zip_second e.0) ≡ c.args.models.now = ap (λ i. iter_rest (zip_second i)) e.1 ∙ (ap iter_rest c.zip.ensures.second ∙ c.iter-2.ensures.rest) in
     unknown_among g.Word.BitArray.number _ g.Word.BitArray.BITS g.State.BitArray.BITS _ _ _ _ g.row.PRECISION g.M.EntropyModel.table c.args.symbols.now c.args.models.now e.0 e.2 p.0 p.1 e.3 c.encode_symbols.new.self _
     (ap₂ (λ xs ms. zip xs ms) first second) p.2 p.3
+
+pub returns-in-Ok-clause-fewer_left : goal.returns-in-Ok-clause-fewer_left
+returns-in-Ok-clause-fewer_left g c =
+    c.encode_symbols.ensures.fewer_left (length c.args.symbols.now)
+    (λ iterator is. omega (arith, ap length (ap (λ i. iter_rest (zip_first i)) is ∙ (ap iter_rest c.zip.ensures.first ∙ c.iter.ensures.rest))))
+
+pub returns-in-Err-Frontend-clause-fewer_left : goal.returns-in-Err-Frontend-clause-fewer_left
+returns-in-Err-Frontend-clause-fewer_left g c =
+    c.encode_symbols.ensures.fewer_left (length c.args.symbols.now)
+    (λ iterator is. omega (arith, ap length (ap (λ i. iter_rest (zip_first i)) is ∙ (ap iter_rest c.zip.ensures.first ∙ c.iter.ensures.rest))))
+
+pub returns-clause-fewer_left : goal.returns-clause-fewer_left
+returns-clause-fewer_left g c =
+    c.encode_symbols.ensures.fewer_left (length c.args.symbols.now)
+    (λ iterator is. omega (arith, ap length (ap (λ i. iter_rest (zip_first i)) is ∙ (ap iter_rest c.zip.ensures.first ∙ c.iter.ensures.rest))))

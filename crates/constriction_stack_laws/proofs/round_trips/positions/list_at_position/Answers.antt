@@ -1,6 +1,5 @@
 use Rattle.std.proofs.Common.{◌≡◌, ◌≤◌, ◌∙◌, length, take, refl, sym, ap, subst, arith}
 use Rattle.std.specs.Prelude.{reverse, map}
-use Rattle.std.proofs.lemmas.List.{length-take, length-reverse, length-map}
 use Rattle.constriction_stack.specs.Ans.{AnsState}
 use Rattle.constriction_stack.specs.Positions.{AnsPosition, sought}
 use Rattle.constriction_stack.proofs.PositionsKept.{sought_back}

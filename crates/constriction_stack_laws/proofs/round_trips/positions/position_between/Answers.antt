@@ -1,8 +1,8 @@
-use Rattle.std.proofs.Common.{◌≡◌, ℕ, length, ap, ap₂, sym, arith}
-use Rattle.std.specs.Prelude.{reverse, map}
+use Rattle.std.proofs.Common.{◌≡◌, ℕ, length, ap, ap₂, arith}
+use Rattle.std.specs.Prelude.{reverse}
 use Rattle.std.proofs.lemmas.List.{length-reverse, length-map}
 use Rattle.constriction_stack.specs.Ans.{AnsState}
-use Rattle.constriction_stack.specs.Positions.{AnsPosition, position_of}
+use Rattle.constriction_stack.specs.Positions.{AnsPosition}
 use Rattle.constriction_base.specs.Models.{Model, items_of}
 use Rattle.constriction_stack_laws.proofs.ComingBack.{encoded_all_valid}
 use Rattle.constriction_stack_laws.proofs.round_trips.positions.position_between.Goals as goal
