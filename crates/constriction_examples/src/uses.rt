@@ -1,12 +1,14 @@
 //! Callers of the coder that say in their own contracts that symbols come back, and a small run.
 //! `docs/CALLING.md` goes through them.
 
-ghost use Rattle.std.specs.Prelude.{◌≡◌, ℕ, List, length, IfOk, IfErr};
+ghost use Rattle.std.specs.Prelude.{◌≡◌, ℕ, List, length, map, reverse, IfOk, IfErr, IfSome};
 ghost use Rattle.constriction.specs.Outcomes.{HasImpossible, UnlessImpossible};
 ghost use Rattle.constriction.specs.Tables.{model_of};
+ghost use Rattle.constriction.specs.stack.Ans.{exported};
 ghost use Rattle.constriction_examples.specs.Packing.{ArePacked};
 
 use anyhow::{Result, bail};
+use constriction::BitArray;
 use constriction::laws::errors::RoundTripError;
 use constriction::laws::stack::round_trips::positions::list_before_a_position;
 use constriction::laws::stack::round_trips::words::{
@@ -72,6 +74,8 @@ pub fn unpack(
 ///
 /// `None`: memory ran out.
 pub fn words_so_far(alloc: Global, coder: &mut DefaultAnsCoder) -> Option<Vec<u32>>
+    ensures words { IfSome result (λ words.
+        map ⟦<u32 as BitArray>⟧.number (reverse words.items) ≡ exported 32 coder.old.state) }
     ensures kept { coder.new.state ≡ coder.old.state }
 {
     let Ok(guard) = coder.get_compressed() else {
