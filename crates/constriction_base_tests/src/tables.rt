@@ -5,7 +5,7 @@ ghost use Rattle.std.specs.Prelude.{◌≤◌, ◌<◌, ◌^◌};
 use constriction_base::model::{DecoderModel, EncoderModel};
 use constriction_base::weights::{TableError, WeightTable};
 use constriction_words::BitArray;
-use std::alloc::Global;
+use std::alloc::{AllocError, Global};
 use std::test::Fail;
 
 /// The table, asked for again where memory was refused the first time.
@@ -62,38 +62,40 @@ fn knows<Probability: BitArray + PartialEq, const PRECISION: usize>(
     }
 }
 
-/// Makes so many lists, and then a table, which is right or is refused for want of memory.
-///
-/// A table is three allocations. `tests/refused-memory` has the third allocation of each of the next tests
-/// refused, so that it is the table's third, its second, and its first; and the fourth of the first test, which is none.
-fn a_table_after(alloc: Global, lists: usize) -> Result<(), Fail> {
-    for _ in 0..lists {
-        let list = [7u8].to_vec(alloc)?;
-        if list.len() != 1 {
-            return Err(Fail::from("another list"));
+/// What comes of a table, where there is memory.
+fn table_went(table: Result<WeightTable<u8, 8>, TableError>) -> Result<bool, AllocError> {
+    match table {
+        Ok(table) => Ok(finds(&table, 254, (1, 200, 55))),
+        Err(TableError::Memory) => Err(AllocError),
+        Err(_) => Ok(false),
+    }
+}
+
+/// A table of three weights, with reciprocals or without.
+fn table_of_three(alloc: Global, is_for_decoding: bool) -> Result<bool, AllocError> {
+    if is_for_decoding {
+        table_went(WeightTable::for_decoding(alloc, &[200, 55, 1]))
+    } else {
+        table_went(WeightTable::new(alloc, &[200, 55, 1]))
+    }
+}
+
+/// Makes a table, and once more where memory was refused, which the error says then.
+fn table_comes(alloc: Global, is_for_decoding: bool, name: &'static str) -> Result<(), Fail> {
+    match table_of_three(alloc, is_for_decoding) {
+        Ok(true) => Ok(()),
+        Err(AllocError) if matches!(table_of_three(alloc, is_for_decoding), Ok(true)) => {
+            Err(Fail::from(name))
         }
-    }
-    match WeightTable::<u8, 8>::new(alloc, &[200, 55, 1]) {
-        Ok(table) if finds(&table, 254, (1, 200, 55)) => Ok(()),
-        Ok(_) => Err(Fail::from("another table")),
-        Err(TableError::Memory) => Err(Fail::from("want of memory")),
-        Err(_) => Err(Fail::from("another error")),
+        _ => Err(Fail::from("another table, or another error")),
     }
 }
 
+/// `tests/refused-memory` has each request of this test refused in turn.
 #[test]
-fn a_table_after_no_list(rt: HostRuntime) -> Result<(), Fail> {
-    a_table_after(rt.alloc(), 0)
-}
-
-#[test]
-fn a_table_after_one_list(rt: HostRuntime) -> Result<(), Fail> {
-    a_table_after(rt.alloc(), 1)
-}
-
-#[test]
-fn a_table_after_two_lists(rt: HostRuntime) -> Result<(), Fail> {
-    a_table_after(rt.alloc(), 2)
+fn refused_requests_of_tables(rt: HostRuntime) -> Result<(), Fail> {
+    table_comes(rt.alloc(), false, "WeightTable::new")?;
+    table_comes(rt.alloc(), true, "WeightTable::for_decoding")
 }
 
 #[test]

@@ -40,6 +40,8 @@ mod readers;
 #[cfg(test)]
 mod refusals;
 #[cfg(test)]
+mod refused;
+#[cfg(test)]
 mod rows;
 #[cfg(test)]
 mod script;

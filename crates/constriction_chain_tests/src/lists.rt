@@ -19,13 +19,13 @@ use std::alloc::{AllocError, Global};
 use std::convert::Infallible;
 
 /// A symbol and its table.
-type Pair<'a> = (&'a usize, &'a WeightTable<u8, 8>);
+pub type Pair<'a> = (&'a usize, &'a WeightTable<u8, 8>);
 
 /// An item of a list that may be faulty.
-type Item<'a> = Result<Pair<'a>, u8>;
+pub type Item<'a> = Result<Pair<'a>, u8>;
 
 /// Puts symbols back by one table. Returns why the list stops, if it does.
-fn put_list<C>(coder: &mut C, table: &WeightTable<u8, 8>, symbols: &[usize]) -> Option<Fault>
+pub fn put_list<C>(coder: &mut C, table: &WeightTable<u8, 8>, symbols: &[usize]) -> Option<Fault>
 where
     C: Encode<
         8,
@@ -41,7 +41,7 @@ where
 }
 
 /// The same of two symbols, a table for each.
-fn put_pairs<C>(coder: &mut C, pairs: [Pair<'_>; 2]) -> Option<Fault>
+pub fn put_pairs<C>(coder: &mut C, pairs: [Pair<'_>; 2]) -> Option<Fault>
 where
     C: Encode<
         8,
@@ -57,7 +57,7 @@ where
 }
 
 /// The same of items, each of which may be an error.
-fn put_items<C>(coder: &mut C, items: [Item<'_>; 3]) -> Option<Fault>
+pub fn put_items<C>(coder: &mut C, items: [Item<'_>; 3]) -> Option<Fault>
 where
     C: Encode<
         8,
@@ -134,7 +134,7 @@ where
 }
 
 /// Why a list at bytes is not put back, the last symbol first, if it isn't.
-fn put_list_back(
+pub fn put_list_back(
     coder: &mut Bytes<8>,
     table: &WeightTable<u8, 8>,
     symbols: &[usize],
@@ -143,7 +143,7 @@ fn put_list_back(
 }
 
 /// The same of two symbols, each with its table.
-fn put_pairs_back(
+pub fn put_pairs_back(
     coder: &mut Bytes<8>,
     table: &WeightTable<u8, 8>,
     first: usize,
@@ -153,7 +153,7 @@ fn put_pairs_back(
 }
 
 /// The same of two items, of which the first may be an error.
-fn put_items_back(
+pub fn put_items_back(
     coder: &mut Bytes<8>,
     table: &WeightTable<u8, 8>,
     first: &Result<usize, u8>,
@@ -342,10 +342,10 @@ fn gives_by_tables(
 }
 
 /// What is given in the place of a symbol where a table may be an error.
-type Given = Result<usize, TryCodingError<DecoderError<Infallible, AllocError>, u8>>;
+pub type Given = Result<usize, TryCodingError<DecoderError<Infallible, AllocError>, u8>>;
 
 /// The symbol that is given, or the fault in its place.
-fn symbol_of(given: Given) -> Result<usize, Fault> {
+pub fn symbol_of(given: Given) -> Result<usize, Fault> {
     match given {
         Ok(symbol) => Ok(symbol),
         Err(TryCodingError::InvalidEntropyModel(error)) => Err(Fault::BadModel(error)),

@@ -22,7 +22,7 @@ fn chain_heads(rt: HostRuntime) {
 }
 
 /// The heads of these numbers over these backends.
-fn of_parts(compressed: Vec<u8>, remainders: Vec<u8>, h: u8, r: u16) -> Option<Bytes<8>> {
+pub fn of_parts(compressed: Vec<u8>, remainders: Vec<u8>, h: u8, r: u16) -> Option<Bytes<8>> {
     match ChainCoderHeads::new(h, r) {
         Some(heads) => Some(ChainCoder::from_raw_parts(compressed, remainders, heads)),
         None => None,

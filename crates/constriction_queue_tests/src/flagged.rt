@@ -17,9 +17,9 @@ type Switch<'a> = FlagSwitch<u8, u16, Cursor<u8, &'a [u8]>, 8, 4>;
 
 /// The tables up to the flag and behind it.
 #[derive(Drop)]
-struct Tables {
-    first: Table,
-    second: WeightTable<u8, 4>,
+pub struct Tables {
+    pub first: Table,
+    pub second: WeightTable<u8, 4>,
 }
 
 /// These weights up to the flag, and four equal ones behind it.
@@ -30,7 +30,7 @@ fn tables_of(alloc: Global, weights: &[u8]) -> Result<Tables, TableError> {
 }
 
 /// Puts symbols on.
-fn put(encoder: &mut Coder, tables: &Tables, symbols: &[usize]) -> Put {
+pub fn put(encoder: &mut Coder, tables: &Tables, symbols: &[usize]) -> Put {
     if Encode::<8>::symbols_left(encoder) < symbols.len() {
         return Put::NoneLeft;
     }

@@ -121,6 +121,69 @@ fn range_forgotten_guard(rt: HostRuntime) -> Result<(), Fail> {
     Ok(())
 }
 
+/// Forgets a decoder that borrows the encoder, and so the guard that it holds.
+fn forgets_decoder(encoder: &mut Coder) -> bool {
+    match encoder.decoder() {
+        Ok(decoder) => {
+            mem::forget(decoder);
+            true
+        }
+        Err(_) => false,
+    }
+}
+
+/// Whether a decoder that borrows the encoder gives this symbol first.
+fn begins(encoder: &mut Coder, table: &Table, symbol: usize) -> bool {
+    match encoder.decoder() {
+        Ok(mut decoder) => gives(&mut decoder, table, &[symbol]),
+        Err(_) => false,
+    }
+}
+
+/// The words of the seal stay, as they do where a guard was forgotten, and calls go on: guards, lent words, copies,
+/// another decoder, a symbol and an export.
+#[test]
+fn a_forgotten_decoder(rt: HostRuntime) -> Result<(), Fail> {
+    let table = table_of(rt.alloc(), &INVERTING)?;
+    let mut encoder = new_encoder(rt.alloc());
+    let left = At {
+        written: &[126, 129],
+        held: &[126],
+        lower: 33024,
+        range: 65280,
+        sealed: &[126, 129, 126, 129],
+    };
+    assert!(rt;
+        put_bytes(&mut encoder, &table, &[1])
+            && forgets_decoder(&mut encoder)
+            && is_seen(&mut encoder, &left)
+            && begins(&mut encoder, &table, 1)
+            && put_bytes(&mut encoder, &table, &[3])
+            && exports(encoder, &[126, 129, 127, 127, 1])
+    );
+    Ok(())
+}
+
+/// Makes a guard, and a decoder that holds one, and drops each before anybody reads a word.
+fn drops_unread(encoder: &mut Coder) -> bool {
+    let is_made = encoder.get_compressed().is_ok();
+    is_made & encoder.decoder().is_ok()
+}
+
+#[test]
+fn guards_that_nobody_reads(rt: HostRuntime) -> Result<(), Fail> {
+    let table = table_of(rt.alloc(), &INVERTING)?;
+    let mut encoder = new_encoder(rt.alloc());
+    assert!(rt;
+        put_bytes(&mut encoder, &table, &[1, 3])
+            && drops_unread(&mut encoder)
+            && encoder.bulk().as_slice() == [127u8].as_slice()
+            && stands(&encoder, 2, 256, 65280)
+            && exports(encoder, &[127, 127, 1])
+    );
+    Ok(())
+}
+
 #[test]
 fn the_text_of_a_guard(rt: HostRuntime) -> Result<(), Fail> {
     let table = table_of(rt.alloc(), &INVERTING)?;

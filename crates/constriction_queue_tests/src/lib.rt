@@ -44,6 +44,8 @@ mod readers;
 #[cfg(test)]
 mod reading;
 #[cfg(test)]
+mod refused;
+#[cfg(test)]
 mod seals;
 #[cfg(test)]
 mod seeking;

@@ -26,7 +26,7 @@ where
 }
 
 /// Compares the words that an encoder shows one by one.
-fn iterates<Word, State>(encoder: &RangeEncoder<Word, State>, words: &[Word]) -> bool
+pub fn iterates<Word, State>(encoder: &RangeEncoder<Word, State>, words: &[Word]) -> bool
 where
     Word: WordOf<State> + PartialEq,
     State: BitArray,

@@ -16,7 +16,7 @@ use std::alloc::Global;
 use std::test::Fail;
 
 /// Compares the words of the binary form.
-fn exports_in_binary<Word, State, Backend>(
+pub fn exports_in_binary<Word, State, Backend>(
     coder: AnsCoder<Word, State, Backend>,
     words: &[Word],
 ) -> Answer

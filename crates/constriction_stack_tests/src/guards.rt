@@ -5,6 +5,7 @@ ghost use Rattle.std.specs.Prelude.{◌≡◌};
 
 use crate::cases::{cursor_does, new_does, small_does, tall_cursor_does, tall_does};
 use crate::coders::{Small, Table, coder_with, table_of};
+use crate::expect::exports;
 use crate::put::Answer;
 use crate::script::Act;
 use constriction_base::backends::{BoundedReadWords, Stack, WriteWords};
@@ -174,9 +175,32 @@ fn forgets(coder: &mut Small) -> bool {
     }
 }
 
-/// The same, and the coder does as expected then.
+/// The same of the binary form.
+fn forgets_binary(coder: &mut Small) -> bool {
+    match coder.get_binary() {
+        Ok(guard) => {
+            mem::forget(guard);
+            true
+        }
+        Err(_) => false,
+    }
+}
+
+/// Drops a guard of either form before anybody reads its words.
+fn drops_unread(coder: &mut Small) -> bool {
+    let is_made = coder.get_compressed().is_ok();
+    is_made & coder.get_binary().is_ok()
+}
+
+/// Forgets a guard, and the coder does as expected then.
 fn goes_on_then(mut coder: Small, table: &Table, acts: &[Act<'_, u8, u16>]) -> bool {
     forgets(&mut coder) & small_does(&mut coder, table, acts)
+}
+
+/// The same of the binary form, and it exports the words 3, 3 and 1 in the end.
+fn goes_on_then_in_binary(mut coder: Small, table: &Table, acts: &[Act<'_, u8, u16>]) -> bool {
+    let goes = forgets_binary(&mut coder) & small_does(&mut coder, table, acts);
+    goes & (exports(coder, &[3, 3, 1]) == Answer::Done)
 }
 
 /// Calls go on after a guard was forgotten.
@@ -192,5 +216,39 @@ fn a_forgotten_guard(rt: HostRuntime) -> Result<(), Fail> {
     ];
     let coder = coder_with(Vec::<u8>::new(rt.alloc()), 515u16);
     assert!(rt; goes_on_then(coder, &table, &acts));
+    Ok(())
+}
+
+/// The head 259, which is a 1 above the word 3: its word stays below the head. Then each kind of call returns: guards
+/// of either form, lists, decodes, and an export.
+#[test]
+fn a_forgotten_binary_guard(rt: HostRuntime) -> Result<(), Fail> {
+    let table = table_of(rt.alloc(), &[255, 1])?;
+    let acts = [
+        Act::Holds(&259, &[3]),
+        Act::ShowsBinary(&[3, 3], Answer::Done),
+        Act::Shows(&[3, 3, 1], Answer::Done),
+        Act::NoLimit,
+        Act::List(&[1], Answer::Done),
+        Act::Holds(&511, &[3, 3]),
+        Act::ListBack(&[0], Answer::Done),
+        Act::Gives(&[0, 1]),
+        Act::Holds(&259, &[3]),
+    ];
+    let coder = coder_with(Vec::<u8>::new(rt.alloc()), 259u16);
+    assert!(rt; goes_on_then_in_binary(coder, &table, &acts));
+    Ok(())
+}
+
+/// Nobody reads the words of the guards, and the coder is as it was.
+fn stays_unread(mut coder: Small, table: &Table) -> bool {
+    drops_unread(&mut coder) & small_does(&mut coder, table, &[Act::Holds(&259, &[7])])
+}
+
+#[test]
+fn guards_that_nobody_reads(rt: HostRuntime) -> Result<(), Fail> {
+    let table = table_of(rt.alloc(), &[255, 1])?;
+    let coder = coder_with([7u8].to_vec(rt.alloc())?, 259u16);
+    assert!(rt; stays_unread(coder, &table));
     Ok(())
 }

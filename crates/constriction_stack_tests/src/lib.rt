@@ -39,6 +39,8 @@ mod readers;
 #[cfg(test)]
 mod refusals;
 #[cfg(test)]
+mod refused;
+#[cfg(test)]
 mod reversed_lists;
 #[cfg(test)]
 mod script;

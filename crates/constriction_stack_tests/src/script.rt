@@ -74,7 +74,10 @@ impl<'a, Word, State> Clone for Act<'a, Word, State> {
 }
 
 /// Whether a guard shows these words.
-fn shown<Word, State, Backend>(coder: &mut AnsCoder<Word, State, Backend>, words: &[Word]) -> Answer
+pub fn shown<Word, State, Backend>(
+    coder: &mut AnsCoder<Word, State, Backend>,
+    words: &[Word],
+) -> Answer
 where
     Word: WordOf<State> + PartialEq,
     State: BitArray,
@@ -89,7 +92,7 @@ where
 }
 
 /// The same of the binary form.
-fn shown_in_binary<Word, State, Backend>(
+pub fn shown_in_binary<Word, State, Backend>(
     coder: &mut AnsCoder<Word, State, Backend>,
     words: &[Word],
 ) -> Answer

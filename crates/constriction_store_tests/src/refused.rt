@@ -1,63 +1,52 @@
-//! Requests for memory that are refused, one at a time: `tests/refused-memory` has one allocation of each of these tests refused.
+//! Requests for memory that are refused, one at a time: `tests/refused-memory` has each request of this test refused
+//! in turn. The test then says by its error which call it was, where that call answered want of memory and went when
+//! it was made again.
 
 use crate::stores::{Halves, chunks_of, halves};
 use constriction_store::{BuildError, ChunkError};
-use std::alloc::Global;
+use std::alloc::{AllocError, Global};
 use std::test::Fail;
 
-/// A look-up in a store of five chunks.
-fn look_up(alloc: Global, store: &Halves) -> Result<(), Fail> {
+/// Whether a look-up in a store of five chunks gives the first one, where there is memory.
+fn looks_up(alloc: Global, store: &Halves) -> Result<bool, AllocError> {
     match store.chunk(alloc, 0) {
-        Ok(found) if found.as_slice() == [1usize, 0, 1, 0, 1].as_slice() => Ok(()),
-        Ok(_) => Err(Fail::from("another chunk")),
-        Err(ChunkError::Memory) => Err(Fail::from("want of memory in a look-up")),
-        Err(_) => Err(Fail::from("another refusal of a look-up")),
+        Ok(found) => Ok(found.as_slice() == [1usize, 0, 1, 0, 1].as_slice()),
+        Err(ChunkError::Memory) => Err(AllocError),
+        Err(_) => Ok(false),
     }
 }
 
-/// Makes so many lists, then chunks and a table, a store of these, and a look-up. All of these ask for memory in turn.
-fn a_store_after(alloc: Global, lists: usize) -> Result<(), Fail> {
-    for _ in 0..lists {
-        let list = [7u8].to_vec(alloc)?;
-        if list.len() != 1 {
-            return Err(Fail::from("another list"));
-        }
+/// Looks a chunk up, and once more where memory was refused.
+fn look_up(alloc: Global, store: &Halves) -> Result<(), Fail> {
+    match looks_up(alloc, store) {
+        Ok(true) => Ok(()),
+        Err(AllocError) if matches!(looks_up(alloc, store), Ok(true)) => Err(Fail::from("chunk")),
+        _ => Err(Fail::from("another chunk, or another refusal")),
     }
-    let chunks = chunks_of(alloc, &[&[1, 0, 1, 0, 1], &[], &[0], &[], &[1]])?;
-    let table = halves(alloc)?;
-    match Halves::build(alloc, chunks.as_slice(), table) {
+}
+
+/// Builds a store of five chunks, and looks one of them up.
+fn build(alloc: Global, chunks: &[Vec<usize>]) -> Result<(), Fail> {
+    match Halves::build(alloc, chunks, halves(alloc)?) {
         Ok(store) => look_up(alloc, &store),
-        Err(BuildError::Memory) => Err(Fail::from("want of memory in a build")),
+        Err(BuildError::Memory) => {
+            build_again(alloc, chunks)?;
+            Err(Fail::from("build"))
+        }
         Err(_) => Err(Fail::from("another refusal of a build")),
     }
 }
 
-#[test]
-fn a_store_after_0(rt: HostRuntime) -> Result<(), Fail> {
-    a_store_after(rt.alloc(), 0)
+/// Whether the store is built where there is memory again.
+fn build_again(alloc: Global, chunks: &[Vec<usize>]) -> Result<(), Fail> {
+    match Halves::build(alloc, chunks, halves(alloc)?) {
+        Ok(store) => look_up(alloc, &store),
+        Err(_) => Err(Fail::from("no store where there is memory")),
+    }
 }
 
 #[test]
-fn a_store_after_1(rt: HostRuntime) -> Result<(), Fail> {
-    a_store_after(rt.alloc(), 1)
-}
-
-#[test]
-fn a_store_after_2(rt: HostRuntime) -> Result<(), Fail> {
-    a_store_after(rt.alloc(), 2)
-}
-
-#[test]
-fn a_store_after_3(rt: HostRuntime) -> Result<(), Fail> {
-    a_store_after(rt.alloc(), 3)
-}
-
-#[test]
-fn a_store_after_4(rt: HostRuntime) -> Result<(), Fail> {
-    a_store_after(rt.alloc(), 4)
-}
-
-#[test]
-fn a_store_after_5(rt: HostRuntime) -> Result<(), Fail> {
-    a_store_after(rt.alloc(), 5)
+fn refused_requests_of_a_store(rt: HostRuntime) -> Result<(), Fail> {
+    let chunks = chunks_of(rt.alloc(), &[&[1, 0, 1, 0, 1], &[], &[0], &[], &[1]])?;
+    build(rt.alloc(), chunks.as_slice())
 }

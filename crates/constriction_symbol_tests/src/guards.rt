@@ -2,6 +2,7 @@
 
 use crate::bits::{gives, writes};
 use crate::coders::{exports, exports_queue, has_len};
+use crate::codewords::{Put, Took, puts, takes};
 use crate::texts::prints;
 use constriction_base::backends::{Queue, Stack};
 use constriction_symbol::coder::{
@@ -9,6 +10,7 @@ use constriction_symbol::coder::{
 };
 use constriction_words::BitArray;
 use std::alloc::{AllocError, Allocator, Global};
+use std::mem;
 use std::test::Fail;
 
 /// Whether a guard shows these words.
@@ -174,6 +176,80 @@ fn guards_of_full_words(rt: HostRuntime) {
     let is_stack_shown = shows_full_stack(&mut stack);
     let is_stack_exported = exports(stack, &[255, 255, 1]);
     assert!(rt; is_queue_shown && is_queue_exported && is_stack_shown && is_stack_exported);
+}
+
+/// Forgets a guard of a queue, whose word stays behind the others.
+fn forgets_of_queue(coder: &mut QueueEncoder<u8>) -> bool {
+    match coder.get_compressed() {
+        Ok(guard) => {
+            mem::forget(guard);
+            true
+        }
+        Err(_) => false,
+    }
+}
+
+/// The same of a stack.
+fn forgets_of_stack(coder: &mut StackCoder<u8>) -> bool {
+    match coder.get_compressed() {
+        Ok(guard) => {
+            mem::forget(guard);
+            true
+        }
+        Err(_) => false,
+    }
+}
+
+/// Three bits, of which a forgotten guard's word stays: eight bits more, in front of the three.
+fn queue_goes_on(coder: &mut QueueEncoder<u8>) -> bool {
+    writes::<Queue, _>(coder, b"101")
+        && forgets_of_queue(coder)
+        && has_len(coder, 11)
+        && matches!(shows_queue(coder, &[5, 5]), Ok(true))
+        && writes::<Queue, _>(coder, b"1")
+        && matches!(puts::<Queue, _, u8>(coder, &[0, 5]), Put::Done)
+}
+
+/// The same of a stack, whose word has the bit that ends its bits; what comes off it again are the bits written, and
+/// then that word's.
+fn stack_goes_on(coder: &mut StackCoder<u8>) -> bool {
+    writes::<Stack, _>(coder, b"101")
+        && forgets_of_stack(coder)
+        && has_len(coder, 11)
+        && matches!(shows_stack(coder, &[13, 13]), Ok(true))
+        && writes::<Stack, _>(coder, b"1")
+        && matches!(puts::<Stack, _, u8>(coder, &[5]), Put::Done)
+        && matches!(takes::<Stack, _, u8>(coder, &[5]), Took::All)
+        && gives::<Stack, _>(coder, b"110100001101.")
+}
+
+/// Calls go on after guards were forgotten.
+#[test]
+fn forgotten_guards(rt: HostRuntime) {
+    let mut queue: QueueEncoder<u8> = QueueEncoder::new(rt.alloc());
+    let queue_goes = queue_goes_on(&mut queue);
+    let is_exported = exports_queue(queue, &[5, 157, 1]);
+    let mut stack: StackCoder<u8> = StackCoder::new(rt.alloc());
+    let stack_goes = stack_goes_on(&mut stack);
+    assert!(rt; queue_goes && is_exported && stack_goes && exports(stack, &[1]));
+}
+
+/// Guards of both, each dropped before anybody reads a word, leave the bits.
+fn drop_unread(queue: &mut QueueEncoder<u8>, stack: &mut StackCoder<u8>) -> bool {
+    writes::<Queue, _>(queue, b"101")
+        && writes::<Stack, _>(stack, b"101")
+        && queue.get_compressed().is_ok()
+        && stack.get_compressed().is_ok()
+        && has_len(queue, 3)
+        && has_len(stack, 3)
+}
+
+#[test]
+fn guards_that_nobody_reads(rt: HostRuntime) {
+    let mut queue: QueueEncoder<u8> = QueueEncoder::new(rt.alloc());
+    let mut stack: StackCoder<u8> = StackCoder::new(rt.alloc());
+    let are_kept = drop_unread(&mut queue, &mut stack);
+    assert!(rt; are_kept && exports_queue(queue, &[5]) && exports(stack, &[13]));
 }
 
 #[test]

@@ -1,0 +1,48 @@
+/* Put in front of the C library by LD_PRELOAD: refuses the request for memory whose number the variable
+   REFUSED_REQUEST says, counted from 1 in each process, and says so by a line on standard error. It needs no
+   header, so that any C compiler builds it. */
+
+typedef __SIZE_TYPE__ size_t;
+
+extern char **environ;
+void *dlsym(void *handle, const char *name);
+long write(int file, const void *bytes, size_t count);
+void *malloc(size_t size);
+void *realloc(void *block, size_t size);
+
+/* Of the C library's <dlfcn.h>: the next one of that name, behind this one. */
+#define BEHIND ((void *)-1L)
+
+static const char variable[] = "REFUSED_REQUEST=", line[] = "refused a request\n";
+
+/* The number that the variable says; 0: none is refused. */
+static unsigned long number(void) {
+    for (char **it = environ; it && *it; it++) {
+        size_t same = 0;
+        while (variable[same] && (*it)[same] == variable[same]) same++;
+        if (variable[same]) continue;
+        unsigned long value = 0;
+        for (const char *digit = *it + same; *digit; digit++) value = 10 * value + (unsigned long)(*digit - '0');
+        return value;
+    }
+    return 0;
+}
+
+static int is_refused(void) {
+    static unsigned long requests;
+    if (++requests != number()) return 0;
+    write(2, line, sizeof line - 1);
+    return 1;
+}
+
+void *malloc(size_t size) {
+    static void *(*next)(size_t);
+    if (!next) next = (void *(*)(size_t))dlsym(BEHIND, "malloc");
+    return is_refused() ? 0 : next(size);
+}
+
+void *realloc(void *block, size_t size) {
+    static void *(*next)(void *, size_t);
+    if (!next) next = (void *(*)(void *, size_t))dlsym(BEHIND, "realloc");
+    return is_refused() ? 0 : next(block, size);
+}
