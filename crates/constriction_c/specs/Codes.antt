@@ -13,7 +13,9 @@ answer_of (suc (suc (suc (suc zero)))) needed = Err WrongLength
 answer_of (suc (suc (suc (suc (suc zero))))) needed = Err (NoSpace needed)
 answer_of (suc (suc (suc (suc (suc (suc zero)))))) needed = Err NoMemory
 answer_of (suc (suc (suc (suc (suc (suc (suc zero))))))) needed = Err InvalidData
-answer_of (suc (suc (suc (suc (suc (suc (suc (suc code)))))))) needed = Err OutOfData
+answer_of (suc (suc (suc (suc (suc (suc (suc (suc zero)))))))) needed = Err OutOfData
+-- no other code is one: that there is no space for no words is no call's answer
+answer_of (suc (suc (suc (suc (suc (suc (suc (suc (suc code))))))))) needed = Err (NoSpace zero)
 
 -- the number of words that are needed: where that is not why a call was refused, as it was before
 abbrev pub needed_by : Result (Unit {0}) Refusal → ℕ → ℕ

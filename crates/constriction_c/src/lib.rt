@@ -17,6 +17,7 @@
 pub mod ans;
 pub mod chain;
 pub mod codes;
+pub mod quantized;
 pub mod range;
 pub mod store;
 pub mod symbol;

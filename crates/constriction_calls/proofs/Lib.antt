@@ -3,6 +3,13 @@ mod AnsFrame
 pub mod ChainFrame
 pub mod ChainRows
 pub mod ChainSteps
+mod FamilyAns
+mod FamilyAnswers
+mod FamilyChain
+mod FamilyCounts
+mod FamilyIntervals
+mod FamilyRange
+mod FamilyTables
 pub mod IntervalRows
 pub mod KnownRows
 pub mod RangeEncoded

@@ -5,6 +5,8 @@ pub mod ChainFits
 pub mod ChainIntervals
 pub mod ChainWords
 pub mod Intervals
+pub mod Quantized
+pub mod QuantizedCalls
 pub mod RangeCalls
 pub mod Rows
 pub mod StoreCalls

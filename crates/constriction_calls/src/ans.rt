@@ -2,9 +2,11 @@
 //!
 //! - [`encoding`]: symbols put on.
 //! - [`decoding`]: symbols taken off.
+//! - [`quantized`]: both by models of a family.
 //! - [`words`]: the words of a state, and a state from words.
 
 pub mod decoding;
 pub mod encoding;
+pub mod quantized;
 mod scratch;
 pub mod words;

@@ -12,6 +12,7 @@
 //! - [`range`]: the range coder.
 //! - [`chain`]: the chain coder.
 //! - [`store`]: stores of chunks.
+//! - [`quantized`]: models by a family of distributions; each coder has calls by them.
 #![tactic(auto)]
 
 pub mod ans;
@@ -19,6 +20,7 @@ pub mod buffers;
 pub mod chain;
 pub mod intervals;
 pub mod known;
+pub mod quantized;
 pub mod range;
 pub mod refusal;
 pub mod rows;

@@ -2,6 +2,7 @@
 //!
 //! - [`encoding`]: encodes.
 //! - [`decoding`]: decodes.
+//! - [`quantized`]: both by models of a family.
 //! - [`parts`]: an encoder and a decoder between two calls.
 //! - [`words`]: the words of an encoder, and a decoder of words.
 //! - `reading`: decoders over borrowed words.
@@ -13,6 +14,7 @@ pub mod decoding;
 pub mod encoding;
 pub mod parts;
 pub mod positions;
+pub mod quantized;
 mod reading;
 mod scratch;
 pub(crate) mod taking;

@@ -48,7 +48,7 @@ pub struct RangeDecoderU32 {
 impl RangeEncoderU32 {
     /// Its numbers, as the calls take them.
     #[inline]
-    fn parts(&self) -> EncoderParts<u32, u64>
+    pub(crate) fn parts(&self) -> EncoderParts<u32, u64>
         ensures { result ≡ large_encoder self.now }
     {
         EncoderParts {
@@ -61,7 +61,7 @@ impl RangeEncoderU32 {
 
     /// The encoder of these numbers.
     #[inline]
-    fn of(parts: EncoderParts<u32, u64>) -> Self
+    pub(crate) fn of(parts: EncoderParts<u32, u64>) -> Self
         ensures { large_encoder result ≡ parts }
     {
         RangeEncoderU32 {
@@ -76,7 +76,7 @@ impl RangeEncoderU32 {
 impl RangeDecoderU32 {
     /// Its numbers, as the calls take them.
     #[inline]
-    fn parts(&self) -> DecoderParts<u64>
+    pub(crate) fn parts(&self) -> DecoderParts<u64>
         ensures { result ≡ large_decoder self.now }
     {
         DecoderParts {
@@ -89,7 +89,7 @@ impl RangeDecoderU32 {
 
     /// The decoder of these numbers.
     #[inline]
-    fn of(parts: DecoderParts<u64>) -> Self
+    pub(crate) fn of(parts: DecoderParts<u64>) -> Self
         ensures { large_decoder result ≡ parts }
     {
         RangeDecoderU32 {

@@ -48,7 +48,7 @@ pub struct RangeDecoderU16 {
 impl RangeEncoderU16 {
     /// Its numbers, as the calls take them.
     #[inline]
-    fn parts(&self) -> EncoderParts<u16, u32>
+    pub(crate) fn parts(&self) -> EncoderParts<u16, u32>
         ensures { result ≡ small_encoder self.now }
     {
         EncoderParts {
@@ -61,7 +61,7 @@ impl RangeEncoderU16 {
 
     /// The encoder of these numbers.
     #[inline]
-    fn of(parts: EncoderParts<u16, u32>) -> Self
+    pub(crate) fn of(parts: EncoderParts<u16, u32>) -> Self
         ensures { small_encoder result ≡ parts }
     {
         RangeEncoderU16 {
@@ -76,7 +76,7 @@ impl RangeEncoderU16 {
 impl RangeDecoderU16 {
     /// Its numbers, as the calls take them.
     #[inline]
-    fn parts(&self) -> DecoderParts<u32>
+    pub(crate) fn parts(&self) -> DecoderParts<u32>
         ensures { result ≡ small_decoder self.now }
     {
         DecoderParts {
@@ -89,7 +89,7 @@ impl RangeDecoderU16 {
 
     /// The decoder of these numbers.
     #[inline]
-    fn of(parts: DecoderParts<u32>) -> Self
+    pub(crate) fn of(parts: DecoderParts<u32>) -> Self
         ensures { small_decoder result ≡ parts }
     {
         RangeDecoderU16 {

@@ -134,7 +134,7 @@ where
 
 /// Takes a symbol off by each of the models: the head and how many words are left.
 #[inline(never)]
-fn decode_by_each<
+pub(crate) fn decode_by_each<
     Word: WordOf<State>,
     State: BitArray,
     M: DecoderModel<PRECISION, Symbol = usize>,

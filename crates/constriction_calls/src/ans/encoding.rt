@@ -210,7 +210,7 @@ where
 /// # Errors
 ///
 /// As [`encode_by`].
-fn encode_by_each<
+pub(crate) fn encode_by_each<
     Word: WordOf<State>,
     State: BitArray,
     M: EncoderModel<PRECISION, Symbol = usize>,

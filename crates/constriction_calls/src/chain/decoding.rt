@@ -219,7 +219,7 @@ where
 /// # Errors
 ///
 /// As [`decode_each`], but for the lengths and the weights.
-fn decode_by_each<
+pub(crate) fn decode_by_each<
     Word: WordOf<State>,
     State: BitArray,
     M: DecoderModel<PRECISION> + EntropyModel<PRECISION, Symbol = usize>,

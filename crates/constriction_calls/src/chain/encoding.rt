@@ -306,7 +306,7 @@ where
 /// # Errors
 ///
 /// As [`encode_each_reverse`], but for the lengths and the weights.
-fn encode_by_each<
+pub(crate) fn encode_by_each<
     Word: WordOf<State>,
     State: BitArray,
     M: EncoderModel<PRECISION> + EntropyModel<PRECISION, Symbol = usize>,
