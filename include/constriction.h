@@ -1,5 +1,6 @@
 /* Proved entropy coders as C functions: a stack coder (ANS), a range coder, stores of its chunks, a chain coder, Huffman and
-   Exp-Golomb codewords.
+   Exp-Golomb codewords. Models in whole numbers, as Gaussians with a mean and a deviation for each symbol, are in
+   constriction_models.h, which this file includes.
 
    For C99 and later, and for C++. Link with the static library build/libconstriction.a, or with the shared object
    build/libconstriction.so, both of which tools/library makes. docs/C_AND_PYTHON.md is a page on what is proved of these
@@ -22,11 +23,13 @@
    bytes.
 
    MODELS. A model is a list of weights: symbol 0 has the first weight, symbol 1 the next, and so on. They add up to 2^24 (2^12).
-   A symbol whose weight is 0, or that is past the list, is impossible. There are three ways to hand in models:
+   A symbol whose weight is 0, or that is past the list, is impossible. There are four ways to hand in models:
      - `weights`, `weight_count`: the same weights for all symbols;
      - .._each: a row of `width` weights for each symbol, one row behind another, so weight_count is width * symbol_count;
      - .._intervals: for encoding alone, the interval of each symbol: the sum of the weights before it (lefts[i]) and its own
-       weight (ps[i]), with 1 <= ps[i] and lefts[i] + ps[i] <= 2^24 (2^12). This costs no look-up.
+       weight (ps[i]), with 1 <= ps[i] and lefts[i] + ps[i] <= 2^24 (2^12). This costs no look-up;
+     - .._quantized: a family of distributions, and for each symbol its location and its scale: constriction_models.h.
+   constriction_weights_of_counts makes weights of counts.
 
    SYMBOLS are size_t: 0, 1, ..; those of Exp-Golomb codewords are words. `symbols` of a decode is written in the order decoded.
 
@@ -49,9 +52,9 @@
 
    REFUSALS. Each function returns one of enum constriction_result. If that is not CONSTRICTION_DONE, nothing changed: neither
    the state, nor a buffer, nor the symbols; only with CONSTRICTION_NO_SPACE *needed is written, and nothing else is. Where
-   several refusals would fit, it is the first of: WRONG_LENGTH; WRONG_WEIGHTS or WRONG_INTERVAL; INVALID_DATA of a state that
+   several refusals would fit, it is the first of: WRONG_LENGTH; WRONG_INTERVAL; WRONG_WEIGHTS; INVALID_DATA of a state that
    was handed in; IMPOSSIBLE_SYMBOL, of any symbol; OUT_OF_DATA, or INVALID_DATA of words; NO_SPACE. NO_MEMORY can take the
-   place of any of these behind WRONG_LENGTH.
+   place of any of these behind WRONG_LENGTH; with models by a family, of those behind WRONG_WEIGHTS alone.
 
    MEMORY. Most functions ask malloc, realloc and free of the program for room, and give all of it back before they return.
    These three come from one allocator; malloc and realloc align a block to each power of two up to 16 that divides its size. A
@@ -84,9 +87,11 @@ enum constriction_result {
     CONSTRICTION_DONE = 0,
     /* A model doesn't know its symbol: the symbol's weight is 0, or it is past the list of weights. */
     CONSTRICTION_IMPOSSIBLE_SYMBOL = 1,
-    /* Weights don't add up to 2^24 (2^12). Of Huffman trees: there are none, or their sum is past the type's greatest. */
+    /* Weights don't add up to 2^24 (2^12). Of Huffman trees: there are none, or their sum is past the type's greatest. Of
+       families: a scale is 0, or there is no such family. Of counts: none is above 0, or more than 2^24 (2^12) are. */
     CONSTRICTION_WRONG_WEIGHTS = 2,
-    /* An interval is empty, or ends past 2^24 (2^12). */
+    /* An interval is empty, or ends past 2^24 (2^12). Of families: the range has fewer than 2 symbols, or more than 2^24
+       (2^12). */
     CONSTRICTION_WRONG_INTERVAL = 3,
     /* A length or a position is past its buffer's end, or two lists don't have the lengths that fit each other. */
     CONSTRICTION_WRONG_LENGTH = 4,
@@ -697,5 +702,7 @@ uint32_t constriction_exp_golomb_decode_stack_u16(const uint16_t *words, size_t 
 #ifdef __cplusplus
 }
 #endif
+
+#include "constriction_models.h"
 
 #endif

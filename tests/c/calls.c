@@ -1,39 +1,8 @@
 /* Every C function at one size, which -DBITS=32 or -DBITS=16 chooses: buffers of every length, every refusal, memory that is refused,
    and random lists there and back. */
-#include "check.h"
+#include "world.h"
 
-#define GLUE(a, b, c) a##b##c
-#define NAME(name, bits) GLUE(constriction_, name, bits)
-#if BITS == 32
-typedef uint32_t word;
-typedef uint64_t state;
-#define PRECISION CONSTRICTION_PRECISION_U32
-#define C(name) NAME(name, _u32)
-#else
-typedef uint16_t word;
-typedef uint32_t state;
-#define PRECISION CONSTRICTION_PRECISION_U16
-#define C(name) NAME(name, _u16)
-#endif
-
-enum { KINDS = 7, COUNT = 40, CHUNKS = 6, MOST = 1048576, GUARD = 4, ROOM = 3 * COUNT + 8, RESULTS = 9 };
-static const state WHOLE = (state)1 << PRECISION;
-
-/* ==== What a call changes: all of it in one place, so that what it must not change can be seen ==== */
-
-struct world {
-    state head;
-    struct C(range_encoder_state) encoder;
-    struct C(range_decoder_state) decoder;
-    struct C(chain_heads) heads;
-    size_t len, other_len, needed, capacity;
-    uint32_t maybe;
-    word before[GUARD], words[ROOM], behind[GUARD];
-    word other[ROOM], numbers[COUNT];
-    size_t symbols[COUNT];
-    size_t positions[CHUNKS];
-    state lowers[CHUNKS], ranges[CHUNKS];
-};
+enum { KINDS = 7, MOST = 1048576 };
 
 /* What a call is given. */
 static struct {
@@ -44,38 +13,6 @@ static struct {
     size_t weight_count, row_count, p_count;
     size_t lengths[CHUNKS], chunks, position_count, lower_count, range_count, chunk;
 } in;
-
-/* Equal up to what pads the structs. */
-static int equal(const struct world *a, const struct world *b) {
-    return a->head == b->head
-        && a->encoder.lower == b->encoder.lower && a->encoder.range == b->encoder.range
-        && a->encoder.held == b->encoder.held && a->encoder.first == b->encoder.first
-        && a->decoder.lower == b->decoder.lower && a->decoder.range == b->decoder.range
-        && a->decoder.point == b->decoder.point && a->decoder.pos == b->decoder.pos
-        && a->heads.remainders == b->heads.remainders && a->heads.compressed == b->heads.compressed
-        && a->len == b->len && a->other_len == b->other_len && a->needed == b->needed && a->capacity == b->capacity
-        && a->maybe == b->maybe
-        && !memcmp(a->before, b->before, sizeof a->before) && !memcmp(a->words, b->words, sizeof a->words)
-        && !memcmp(a->behind, b->behind, sizeof a->behind) && !memcmp(a->other, b->other, sizeof a->other)
-        && !memcmp(a->numbers, b->numbers, sizeof a->numbers) && !memcmp(a->symbols, b->symbols, sizeof a->symbols)
-        && !memcmp(a->positions, b->positions, sizeof a->positions)
-        && !memcmp(a->lowers, b->lowers, sizeof a->lowers) && !memcmp(a->ranges, b->ranges, sizeof a->ranges);
-}
-
-/* A world of which every place has its own value. */
-static struct world fresh(void) {
-    struct world w;
-    memset(&w, 0, sizeof w);
-    for (size_t i = 0; i < GUARD; i++) w.before[i] = (word)(50000 + i), w.behind[i] = (word)(51000 + i);
-    for (size_t i = 0; i < ROOM; i++) w.words[i] = (word)(52000 + i), w.other[i] = (word)(53000 + i);
-    for (size_t i = 0; i < COUNT; i++) w.numbers[i] = (word)(54000 + i), w.symbols[i] = 55000 + i;
-    for (size_t i = 0; i < CHUNKS; i++) w.positions[i] = 58000 + i, w.lowers[i] = (state)(59000 + i), w.ranges[i] = (state)(60000 + i);
-    w.needed = 56000, w.maybe = 57000, w.capacity = ROOM;
-    C(range_encoder)(&w.encoder);
-    C(range_from_compressed)(w.words, 0, &w.decoder);
-    w.heads.remainders = (state)1 << (8 * sizeof(state) - BITS - PRECISION), w.heads.compressed = 1;
-    return w;
-}
 
 /* Weights that add up; each is 1 at least, but where a 0 is wanted at the front. */
 static void draw_weights(word *weights, int with_zero) {
@@ -118,8 +55,6 @@ static void draw(size_t count) {
 }
 
 /* ==== The calls, each on a world ==== */
-
-typedef uint32_t call(struct world *w);
 
 #define BUFFER w->words, w->capacity, &w->len
 #define TABLE in.weights, in.weight_count
@@ -180,97 +115,7 @@ static uint32_t golomb_stack(struct world *w) { return C(exp_golomb_encode_stack
 static uint32_t golomb_from_queue(struct world *w) { return C(exp_golomb_decode_queue)(w->words, w->len, w->numbers, in.count); }
 static uint32_t golomb_from_stack(struct world *w) { return C(exp_golomb_decode_stack)(w->words, w->len, w->numbers, in.count); }
 
-/* ==== What holds of each call ==== */
-
-static unsigned long seen[RESULTS];
-
-/* The call answers this, and unless it is done nothing changes. */
-static void refuses(const char *about, call *run, struct world *w, uint32_t wanted) {
-    struct world old = *w;
-    uint32_t result = run(w);
-    if (result < RESULTS) seen[result]++;
-    if (result != wanted) printf("%s: %u in place of %u\n", about, result, wanted);
-    CHECK(about, result == wanted);
-    if (wanted == CONSTRICTION_NO_SPACE) w->needed = old.needed;
-    CHECK(about, equal(w, &old));
-}
-
-/* The call is done, and leaves what stands around the buffer, and in front of what is added, as it is. */
-static void done(const char *about, call *run, struct world *w) {
-    struct world old = *w;
-    uint32_t result = run(w);
-    if (result) printf("%s: %u in place of DONE\n", about, result);
-    CHECK(about, result == CONSTRICTION_DONE);
-    CHECK(about, !memcmp(w->before, old.before, sizeof w->before) && !memcmp(w->behind, old.behind, sizeof w->behind));
-    CHECK(about, !memcmp(w->other, old.other, sizeof w->other));
-    CHECK(about, w->needed == old.needed && w->capacity == old.capacity);
-    size_t from = w->len < old.len ? old.len : w->len;
-    CHECK(about, from <= ROOM && !memcmp(w->words + from, old.words + from, (ROOM - from) * sizeof(word)));
-}
-
-/* With buffers of every length: too short for what is in use, too short for what is added, and long enough.
-   keeps: what is in use stays in front of what is added. */
-static void every_length(const char *about, call *run, const struct world *start, int keeps) {
-    struct world whole = *start;
-    done(about, run, &whole);
-    size_t used = keeps ? start->len : 0;
-    if (keeps) CHECK(about, whole.len >= used && !memcmp(whole.words, start->words, used * sizeof(word)));
-    for (size_t capacity = 0; capacity <= whole.len + 2; capacity++) {
-        struct world w = *start;
-        w.capacity = capacity;
-        if (capacity < used) {
-            refuses(about, run, &w, CONSTRICTION_WRONG_LENGTH);
-        } else if (capacity < whole.len) {
-            struct world old = w;
-            uint32_t result = run(&w);
-            seen[CONSTRICTION_NO_SPACE]++;
-            CHECK(about, result == CONSTRICTION_NO_SPACE && w.needed == whole.len);
-            w.needed = old.needed;
-            CHECK(about, equal(&w, &old));
-        } else {
-            done(about, run, &w);
-            w.capacity = whole.capacity;
-            CHECK(about, equal(&w, &whole));
-        }
-    }
-}
-
-/* With each request for memory refused in turn: want of memory, and nothing changed. */
-static void refused_memory(const char *about, call *run, const struct world *start) {
-    for (unsigned long n = 1; n < 1000; n++) {
-        struct world w = *start;
-        requests = 0, refused_request = n;
-        uint32_t result = run(&w);
-        refused_request = 0;
-        if (requests < n) {
-            CHECK(about, result == CONSTRICTION_DONE);
-            return;
-        }
-        seen[CONSTRICTION_NO_MEMORY]++;
-        CHECK(about, result == CONSTRICTION_NO_MEMORY);
-        CHECK(about, equal(&w, start));
-    }
-    CHECK(about, 0);
-}
-
-/* With each request for memory refused in turn: this refusal all the same, and nothing changed. */
-static void refuses_without_memory(const char *about, call *run, const struct world *start, uint32_t wanted) {
-    for (unsigned long n = 1; n < 1000; n++) {
-        struct world w = *start;
-        requests = 0, refused_request = n;
-        refuses(about, run, &w, wanted);
-        refused_request = 0;
-        if (requests < n) return;
-    }
-    CHECK(about, 0);
-}
-
-/* Two calls do the same. */
-static void same(const char *about, call *one, call *another, const struct world *start) {
-    struct world a = *start, b = *start;
-    done(about, one, &a), done(about, another, &b);
-    CHECK(about, equal(&a, &b));
-}
+/* ==== What holds of the calls of a coder ==== */
 
 static int same_symbols(const struct world *w) { return !memcmp(w->symbols, in.symbols, in.count * sizeof(size_t)); }
 

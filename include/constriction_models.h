@@ -1,0 +1,270 @@
+/* Models in whole numbers: distributions over a range of whole numbers, with a location and a scale for each symbol,
+   and weights of counts. A part of constriction.h, which includes it; what that file says of sizes, buffers, pointers
+   and refusals holds here.
+
+   FAMILIES. `family` is one of enum constriction_family. Each is a standard distribution, moved to a location and
+   stretched by a scale:
+
+                              location    scale
+     CONSTRICTION_GAUSSIAN    mean        standard deviation
+     CONSTRICTION_LAPLACE     mean        how far from the mean the density is 1/e of what it is there
+     CONSTRICTION_LOGISTIC    mean        of the distribution function 1 / (1 + exp(-(x - mean) / scale))
+
+   UNITS. Locations and scales are whole numbers of units of 2^-16: a mean of 3.5 is 229376, a deviation of 2.25 is
+   147456. A scale is above 0. Who has floats rounds them once, llrint(65536 * mean); from then on all is whole
+   numbers, and a table is the same on every machine.
+
+   RANGE. Symbols stand for the whole numbers from `min` to `max`, of which there are 2 at least and 2^24 (2^12) at
+   most. A symbol is its place in the range, as size_t: 0 stands for min, 1 for min + 1, max - min for max. So add min
+   to what a decode gives, and take it off what an encode is given.
+
+   TABLE. Each symbol has a weight of 1, and the rest of 2^24 (2^12) is shared out by the distribution: that of the
+   whole number x is what lies between x - 1/2 and x + 1/2, and what lies outside the range goes to its two ends. So
+   every symbol of the range can be coded. docs/MODELS.md has the definition, to the last unit.
+
+   There are as many locations and as many scales as symbols. Refusals come in this order: WRONG_LENGTH (there aren't,
+   and as of the coder); WRONG_INTERVAL (the range); WRONG_WEIGHTS (a scale is 0, or there is no such family);
+   INVALID_DATA of a state; IMPOSSIBLE_SYMBOL (a symbol is past the range); the others as of the coder. NO_MEMORY can
+   take the place of any of these behind WRONG_WEIGHTS. */
+#ifndef CONSTRICTION_MODELS_H
+#define CONSTRICTION_MODELS_H
+
+#include "constriction.h"
+
+#ifdef __cplusplus
+extern "C" {
+#endif
+
+/* The families of distributions. */
+enum constriction_family {
+    CONSTRICTION_GAUSSIAN = 0,
+    CONSTRICTION_LAPLACE = 1,
+    CONSTRICTION_LOGISTIC = 2
+};
+
+/* How many units a location or a scale of 1 has. */
+#define CONSTRICTION_UNITS 65536
+
+/* ---- Words of 32 bits, states of 64, weights that add up to 2^24 ---- */
+
+/* The stack coder: encodes symbols, from the last one of the list to the first, each under its own location and scale.
+   Refusals: WRONG_LENGTH (*len > capacity, or location_count or scale_count isn't symbol_count), WRONG_INTERVAL,
+   WRONG_WEIGHTS, IMPOSSIBLE_SYMBOL, NO_SPACE, NO_MEMORY. */
+uint32_t constriction_ans_encode_quantized_reverse_u32(uint64_t *head, uint32_t *words, size_t capacity, size_t *len,
+                                                       uint32_t family, int32_t min, int32_t max,
+                                                       const int64_t *locations, size_t location_count,
+                                                       const uint32_t *scales, size_t scale_count,
+                                                       const size_t *symbols, size_t symbol_count, size_t *needed);
+
+/* Decodes symbol_count symbols and takes words off the top, past the end of data too, as constriction_ans_decode.
+   Refusals: WRONG_LENGTH (*len > word_count, or location_count or scale_count isn't symbol_count), WRONG_INTERVAL,
+   WRONG_WEIGHTS, NO_MEMORY. */
+uint32_t constriction_ans_decode_quantized_u32(uint64_t *head, const uint32_t *words, size_t word_count, size_t *len,
+                                               uint32_t family, int32_t min, int32_t max,
+                                               const int64_t *locations, size_t location_count,
+                                               const uint32_t *scales, size_t scale_count,
+                                               size_t *symbols, size_t symbol_count);
+
+/* The range coder: encodes symbols, the first one of the list first.
+   Refusals: WRONG_LENGTH (*len > capacity, or location_count or scale_count isn't symbol_count), WRONG_INTERVAL,
+   WRONG_WEIGHTS, INVALID_DATA (no encoder has such numbers), IMPOSSIBLE_SYMBOL, NO_SPACE, NO_MEMORY. */
+uint32_t constriction_range_encode_quantized_u32(struct constriction_range_encoder_state_u32 *encoder,
+                                                 uint32_t *words, size_t capacity, size_t *len,
+                                                 uint32_t family, int32_t min, int32_t max,
+                                                 const int64_t *locations, size_t location_count,
+                                                 const uint32_t *scales, size_t scale_count,
+                                                 const size_t *symbols, size_t symbol_count, size_t *needed);
+
+/* Decodes symbol_count symbols of the words. Past their end it reads zero words.
+   Refusals: WRONG_LENGTH (pos > word_count, or location_count or scale_count isn't symbol_count), WRONG_INTERVAL,
+   WRONG_WEIGHTS, INVALID_DATA (no decoder has such numbers, or no encoder wrote such words under these models),
+   NO_MEMORY. */
+uint32_t constriction_range_decode_quantized_u32(struct constriction_range_decoder_state_u32 *decoder,
+                                                 const uint32_t *words, size_t word_count,
+                                                 uint32_t family, int32_t min, int32_t max,
+                                                 const int64_t *locations, size_t location_count,
+                                                 const uint32_t *scales, size_t scale_count,
+                                                 size_t *symbols, size_t symbol_count);
+
+/* The chain coder: encodes symbols, from the last one of the list to the first: the converse of the decode.
+   Refusals: WRONG_LENGTH (*compressed_len > capacity, *remainders_len > remainders_count, or location_count or
+   scale_count isn't symbol_count), WRONG_INTERVAL, WRONG_WEIGHTS, INVALID_DATA (no coder has such heads),
+   IMPOSSIBLE_SYMBOL, OUT_OF_DATA (remainders are too short), NO_SPACE (of compressed), NO_MEMORY. */
+uint32_t constriction_chain_encode_quantized_reverse_u32(struct constriction_chain_heads_u32 *heads,
+                                                         uint32_t *compressed, size_t capacity, size_t *compressed_len,
+                                                         const uint32_t *remainders, size_t remainders_count,
+                                                         size_t *remainders_len,
+                                                         uint32_t family, int32_t min, int32_t max,
+                                                         const int64_t *locations, size_t location_count,
+                                                         const uint32_t *scales, size_t scale_count,
+                                                         const size_t *symbols, size_t symbol_count, size_t *needed);
+
+/* Decodes symbol_count symbols, each from 24 bits of the words.
+   Refusals: WRONG_LENGTH (*compressed_len > compressed_count, *remainders_len > capacity, or location_count or
+   scale_count isn't symbol_count), WRONG_INTERVAL, WRONG_WEIGHTS, INVALID_DATA (no coder has such heads), OUT_OF_DATA
+   (compressed is too short), NO_SPACE (of remainders), NO_MEMORY. */
+uint32_t constriction_chain_decode_quantized_u32(struct constriction_chain_heads_u32 *heads,
+                                                 const uint32_t *compressed, size_t compressed_count,
+                                                 size_t *compressed_len,
+                                                 uint32_t *remainders, size_t capacity, size_t *remainders_len,
+                                                 uint32_t family, int32_t min, int32_t max,
+                                                 const int64_t *locations, size_t location_count,
+                                                 const uint32_t *scales, size_t scale_count,
+                                                 size_t *symbols, size_t symbol_count, size_t *needed);
+
+/* The interval of each symbol under its location and scale, as the calls .._intervals take it: the sum of the weights
+   before the symbol in lefts[i], and its own weight in ps[i]. With equal parameters and the symbols 0 to max - min
+   the ps are a whole table, which can be handed in as `weights`.
+   Refusals: WRONG_LENGTH (location_count, scale_count, left_count or p_count isn't symbol_count), WRONG_INTERVAL,
+   WRONG_WEIGHTS, IMPOSSIBLE_SYMBOL. */
+uint32_t constriction_quantized_intervals_u32(uint32_t family, int32_t min, int32_t max,
+                                              const int64_t *locations, size_t location_count,
+                                              const uint32_t *scales, size_t scale_count,
+                                              const size_t *symbols, size_t symbol_count,
+                                              uint32_t *lefts, size_t left_count, uint32_t *ps, size_t p_count);
+
+/* Weights in proportion to counts, which add up to 2^24: a count of 0 gets the weight 0, each other count 1 at least.
+   The others share what is left, rounded so that the largest remainders are served first, and of equal ones those
+   that stand first. Counts may be any; their sum may be past 2^64.
+   Refusals: WRONG_LENGTH (weight_count isn't count_count); WRONG_WEIGHTS (no count is above 0, or more than 2^24 of
+   them are); NO_MEMORY. */
+uint32_t constriction_weights_of_counts_u32(const uint64_t *counts, size_t count_count,
+                                            uint32_t *weights, size_t weight_count);
+
+/* ---- Words of 16 bits, states of 32, weights that add up to 2^12: the same, with 2^12 in the place of 2^24 ---- */
+
+uint32_t constriction_ans_encode_quantized_reverse_u16(uint32_t *head, uint16_t *words, size_t capacity, size_t *len,
+                                                       uint32_t family, int32_t min, int32_t max,
+                                                       const int64_t *locations, size_t location_count,
+                                                       const uint32_t *scales, size_t scale_count,
+                                                       const size_t *symbols, size_t symbol_count, size_t *needed);
+uint32_t constriction_ans_decode_quantized_u16(uint32_t *head, const uint16_t *words, size_t word_count, size_t *len,
+                                               uint32_t family, int32_t min, int32_t max,
+                                               const int64_t *locations, size_t location_count,
+                                               const uint32_t *scales, size_t scale_count,
+                                               size_t *symbols, size_t symbol_count);
+uint32_t constriction_range_encode_quantized_u16(struct constriction_range_encoder_state_u16 *encoder,
+                                                 uint16_t *words, size_t capacity, size_t *len,
+                                                 uint32_t family, int32_t min, int32_t max,
+                                                 const int64_t *locations, size_t location_count,
+                                                 const uint32_t *scales, size_t scale_count,
+                                                 const size_t *symbols, size_t symbol_count, size_t *needed);
+uint32_t constriction_range_decode_quantized_u16(struct constriction_range_decoder_state_u16 *decoder,
+                                                 const uint16_t *words, size_t word_count,
+                                                 uint32_t family, int32_t min, int32_t max,
+                                                 const int64_t *locations, size_t location_count,
+                                                 const uint32_t *scales, size_t scale_count,
+                                                 size_t *symbols, size_t symbol_count);
+uint32_t constriction_chain_encode_quantized_reverse_u16(struct constriction_chain_heads_u16 *heads,
+                                                         uint16_t *compressed, size_t capacity, size_t *compressed_len,
+                                                         const uint16_t *remainders, size_t remainders_count,
+                                                         size_t *remainders_len,
+                                                         uint32_t family, int32_t min, int32_t max,
+                                                         const int64_t *locations, size_t location_count,
+                                                         const uint32_t *scales, size_t scale_count,
+                                                         const size_t *symbols, size_t symbol_count, size_t *needed);
+uint32_t constriction_chain_decode_quantized_u16(struct constriction_chain_heads_u16 *heads,
+                                                 const uint16_t *compressed, size_t compressed_count,
+                                                 size_t *compressed_len,
+                                                 uint16_t *remainders, size_t capacity, size_t *remainders_len,
+                                                 uint32_t family, int32_t min, int32_t max,
+                                                 const int64_t *locations, size_t location_count,
+                                                 const uint32_t *scales, size_t scale_count,
+                                                 size_t *symbols, size_t symbol_count, size_t *needed);
+
+uint32_t constriction_quantized_intervals_u16(uint32_t family, int32_t min, int32_t max,
+                                              const int64_t *locations, size_t location_count,
+                                              const uint32_t *scales, size_t scale_count,
+                                              const size_t *symbols, size_t symbol_count,
+                                              uint16_t *lefts, size_t left_count, uint16_t *ps, size_t p_count);
+uint32_t constriction_weights_of_counts_u16(const uint64_t *counts, size_t count_count,
+                                            uint16_t *weights, size_t weight_count);
+
+/* ==== The same by the families' names ====
+
+   For NAME in gaussian, laplace, logistic, and both sizes, as inline functions:
+
+     constriction_ans_encode_NAME_reverse_u32      constriction_ans_decode_NAME_u32
+     constriction_range_encode_NAME_u32            constriction_range_decode_NAME_u32
+     constriction_chain_encode_NAME_reverse_u32    constriction_chain_decode_NAME_u32
+     constriction_NAME_intervals_u32               constriction_NAME_interval_u32
+
+   Each but the last is the function with `quantized` in the place of the name, without its argument `family`. The
+   last writes the interval of one symbol, under one location and scale, to *left and *p.
+   Refusals: WRONG_INTERVAL, WRONG_WEIGHTS (the scale is 0), IMPOSSIBLE_SYMBOL. */
+#define CONSTRICTION_MODEL_ \
+    int32_t min, int32_t max, const int64_t *locations, size_t location_count, const uint32_t *scales, size_t scale_count
+#define CONSTRICTION_OF_MODEL_ min, max, locations, location_count, scales, scale_count
+#define CONSTRICTION_GIVEN_ const size_t *symbols, size_t symbol_count
+#define CONSTRICTION_TAKEN_ size_t *symbols, size_t symbol_count
+
+#define CONSTRICTION_OF_FAMILY_(name, family, size, word, state) \
+    static inline uint32_t constriction_ans_encode_##name##_reverse_##size( \
+        state *head, word *words, size_t capacity, size_t *len, \
+        CONSTRICTION_MODEL_, CONSTRICTION_GIVEN_, size_t *needed) { \
+        return constriction_ans_encode_quantized_reverse_##size( \
+            head, words, capacity, len, family, CONSTRICTION_OF_MODEL_, symbols, symbol_count, needed); \
+    } \
+    static inline uint32_t constriction_ans_decode_##name##_##size( \
+        state *head, const word *words, size_t word_count, size_t *len, CONSTRICTION_MODEL_, CONSTRICTION_TAKEN_) { \
+        return constriction_ans_decode_quantized_##size( \
+            head, words, word_count, len, family, CONSTRICTION_OF_MODEL_, symbols, symbol_count); \
+    } \
+    static inline uint32_t constriction_range_encode_##name##_##size( \
+        struct constriction_range_encoder_state_##size *encoder, word *words, size_t capacity, size_t *len, \
+        CONSTRICTION_MODEL_, CONSTRICTION_GIVEN_, size_t *needed) { \
+        return constriction_range_encode_quantized_##size( \
+            encoder, words, capacity, len, family, CONSTRICTION_OF_MODEL_, symbols, symbol_count, needed); \
+    } \
+    static inline uint32_t constriction_range_decode_##name##_##size( \
+        struct constriction_range_decoder_state_##size *decoder, const word *words, size_t word_count, \
+        CONSTRICTION_MODEL_, CONSTRICTION_TAKEN_) { \
+        return constriction_range_decode_quantized_##size( \
+            decoder, words, word_count, family, CONSTRICTION_OF_MODEL_, symbols, symbol_count); \
+    } \
+    static inline uint32_t constriction_chain_encode_##name##_reverse_##size( \
+        struct constriction_chain_heads_##size *heads, word *compressed, size_t capacity, size_t *compressed_len, \
+        const word *remainders, size_t remainders_count, size_t *remainders_len, \
+        CONSTRICTION_MODEL_, CONSTRICTION_GIVEN_, size_t *needed) { \
+        return constriction_chain_encode_quantized_reverse_##size( \
+            heads, compressed, capacity, compressed_len, remainders, remainders_count, remainders_len, \
+            family, CONSTRICTION_OF_MODEL_, symbols, symbol_count, needed); \
+    } \
+    static inline uint32_t constriction_chain_decode_##name##_##size( \
+        struct constriction_chain_heads_##size *heads, \
+        const word *compressed, size_t compressed_count, size_t *compressed_len, \
+        word *remainders, size_t capacity, size_t *remainders_len, \
+        CONSTRICTION_MODEL_, CONSTRICTION_TAKEN_, size_t *needed) { \
+        return constriction_chain_decode_quantized_##size( \
+            heads, compressed, compressed_count, compressed_len, remainders, capacity, remainders_len, \
+            family, CONSTRICTION_OF_MODEL_, symbols, symbol_count, needed); \
+    } \
+    static inline uint32_t constriction_##name##_intervals_##size( \
+        CONSTRICTION_MODEL_, CONSTRICTION_GIVEN_, word *lefts, size_t left_count, word *ps, size_t p_count) { \
+        return constriction_quantized_intervals_##size( \
+            family, CONSTRICTION_OF_MODEL_, symbols, symbol_count, lefts, left_count, ps, p_count); \
+    } \
+    static inline uint32_t constriction_##name##_interval_##size( \
+        int32_t min, int32_t max, int64_t location, uint32_t scale, size_t symbol, word *left, word *p) { \
+        return constriction_quantized_intervals_##size( \
+            family, min, max, &location, 1, &scale, 1, &symbol, 1, left, 1, p, 1); \
+    }
+
+CONSTRICTION_OF_FAMILY_(gaussian, CONSTRICTION_GAUSSIAN, u32, uint32_t, uint64_t)
+CONSTRICTION_OF_FAMILY_(laplace, CONSTRICTION_LAPLACE, u32, uint32_t, uint64_t)
+CONSTRICTION_OF_FAMILY_(logistic, CONSTRICTION_LOGISTIC, u32, uint32_t, uint64_t)
+CONSTRICTION_OF_FAMILY_(gaussian, CONSTRICTION_GAUSSIAN, u16, uint16_t, uint32_t)
+CONSTRICTION_OF_FAMILY_(laplace, CONSTRICTION_LAPLACE, u16, uint16_t, uint32_t)
+CONSTRICTION_OF_FAMILY_(logistic, CONSTRICTION_LOGISTIC, u16, uint16_t, uint32_t)
+
+#undef CONSTRICTION_OF_FAMILY_
+#undef CONSTRICTION_MODEL_
+#undef CONSTRICTION_OF_MODEL_
+#undef CONSTRICTION_GIVEN_
+#undef CONSTRICTION_TAKEN_
+
+#ifdef __cplusplus
+}
+#endif
+
+#endif
