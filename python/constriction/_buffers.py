@@ -12,7 +12,7 @@ from array import array
 from collections.abc import Iterable
 from typing import TYPE_CHECKING, Any, Union
 
-__all__ = ["NUMBER", "SYMBOL", "WORD", "List", "Numbers", "answered", "lent", "room"]
+__all__ = ["NUMBER", "SYMBOL", "WORD", "List", "Numbers", "answered", "lent", "listed", "room"]
 
 #: A list of symbols, words or parameters: a list, a tuple, an ``array.array``, a numpy array.
 List = Union[Iterable[Any], memoryview]
@@ -49,6 +49,11 @@ class Numbers(Array):
 def lent(memory: Any) -> Any:
     """The memory of a writable buffer, as an argument. As long as this lives, the buffer stays where it is."""
     return _Start.from_buffer(memory) if len(memory) else _NOWHERE
+
+
+def listed(memory: Any) -> tuple[Any, int]:
+    """The same, and how many numbers there are."""
+    return lent(memory), len(memory)
 
 
 def room(code: str, count: int) -> Numbers:

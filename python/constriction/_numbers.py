@@ -3,7 +3,7 @@
 from __future__ import annotations
 
 from array import array
-from collections.abc import Callable
+from collections.abc import Callable, Iterable
 from operator import index
 from typing import Any
 
@@ -16,7 +16,7 @@ __all__ = ["count_of", "floats_of", "is_one", "places_of", "rows_of", "whole", "
 _RANGES = {WORD: (0, (1 << 32) - 1), SYMBOL: (-(1 << 63), (1 << 63) - 1)}
 _WANTED = "whole numbers are wanted, and not {}: round them, and make integers of them, as by array.astype('int64')"
 #: The formats of memory that holds such numbers. What is past 63 bits is no place in a table, by either sign.
-_ALIKE = {WORD: ("I", "L"), SYMBOL: ("q", "Q", "l", "L", "n", "N")}
+_ALIKE = {WORD: ("I", "L"), SYMBOL: ("q", "Q", "l", "L", "n", "N"), NUMBER: ("d",)}
 #: Tables that begin within this are shifted by numpy, since their symbols lie within twice of it.
 _NEAR = 1 << 61
 
@@ -123,6 +123,13 @@ def words_of(words: List) -> array[Any]:
     return wholes_of(WORD, words)
 
 
+def _signed(symbols: Any) -> Iterable[int]:
+    """Whole numbers to go through: as they lie in memory where that holds them with their signs."""
+    if isinstance(symbols, array) and symbols.typecode == SYMBOL:
+        return symbols
+    return map(whole, _listed(symbols))
+
+
 def places_of(symbols: Any, first: int) -> array[Any]:
     """One symbol or a list of them, as places in a table whose first symbol this is."""
     try:
@@ -130,7 +137,7 @@ def places_of(symbols: Any, first: int) -> array[Any]:
             return array(SYMBOL, (whole(symbols) - first,))
         table = _as_numpy(symbols) if abs(first) < _NEAR else None
         if first and table is None:
-            return array(SYMBOL, map((-first).__add__, map(whole, _listed(symbols))))
+            return array(SYMBOL, map((-first).__add__, _signed(symbols)))
         places = wholes_of(SYMBOL, symbols)
         if first and len(places):
             if int(table.min()) < -2 * _NEAR or int(table.max()) > 2 * _NEAR:
@@ -148,7 +155,8 @@ def floats_of(numbers: Any) -> array[float]:
         return array(NUMBER, (float(numbers),))
     table = _as_numpy(numbers)
     if table is None:
-        return array(NUMBER, map(float, _listed(numbers)))
+        memory = _copied(NUMBER, numbers)
+        return array(NUMBER, map(float, _listed(numbers))) if memory is None else memory
     _flat(table.ndim)
     if table.dtype.kind not in "iubf":
         raise TypeError(f"floats are wanted, and not those of the type {table.dtype}")

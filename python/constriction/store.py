@@ -46,7 +46,7 @@ class Entry(NamedTuple):
 
     position: int
     state: tuple[int, int]
-    count: int
+    count: int  # type: ignore[assignment]
 
 
 def _entry(given: Sequence[Any]) -> Entry:
@@ -88,7 +88,7 @@ class Store:
         """
         encoder, index, left = RangeEncoder(), [], MOST_SYMBOLS
         for chunk in chunks:
-            symbols = chunk if hasattr(chunk, "__len__") else list(chunk)
+            symbols: Any = chunk if hasattr(chunk, "__len__") else list(chunk)
             left -= len(symbols)
             if left < 0:
                 raise errors.WrongLengthError(TOO_MANY_SYMBOLS)

@@ -44,15 +44,16 @@ def range_words(tables: list[list[int]], symbols: list[int]) -> list[int]:
 def chain_split(tables: list[list[int]], words: list[int]) -> tuple[list[int], list[int], list[int]]:
     """The symbols that a chain coder decodes from words, the words left, and the remainders."""
     words, bits, remainders, symbols = list(words), "", [], []
+    size, precision = WORD.bit_length() - 1, PRECISION.bit_length() - 1
     number = words.pop()
     while number < STATE // WORD // PRECISION:
         number = number * WORD + words.pop()
     for weights in tables:
-        if len(bits) < 24:
-            taken = format(words.pop(), "032b")
-            bits, quantile = bits + taken[:8], int(taken[8:], 2)
+        if len(bits) < precision:
+            taken = format(words.pop(), f"0{size}b")
+            bits, quantile = bits + taken[:-precision], int(taken[-precision:], 2)
         else:
-            bits, quantile = bits[:-24], int(bits[-24:], 2)
+            bits, quantile = bits[:-precision], int(bits[-precision:], 2)
         symbol = max(i for i in range(len(weights)) if weights[i] and sum(weights[:i]) <= quantile)
         number = number * weights[symbol] + quantile - sum(weights[:symbol])
         if number >= STATE // PRECISION:

@@ -1,4 +1,5 @@
-"""Decodes under parameters for each symbol: by the quantile, with the same symbols as by rows of weights, and no row is made."""
+"""Decodes under parameters for each symbol: with the same symbols as by rows of weights, and no row is made. Models
+by floats take the coder's quantile for that; those in whole numbers are C functions."""
 
 from __future__ import annotations
 
@@ -10,8 +11,10 @@ from unittest import mock
 
 from constriction import errors
 from constriction.stream.chain import ChainCoder
-from constriction.stream.model import Categorical, Model, QuantizedCauchy, QuantizedGaussian, QuantizedLaplace, WeightTable
-from constriction.stream.queue import RangeDecoder
+from constriction.stream.model import (
+    Binomial, Categorical, Model, QuantizedCauchy, QuantizedGaussian, QuantizedLaplace, QuantizedLogistic, WeightTable,
+)  # fmt: skip
+from constriction.stream.queue import RangeDecoder, RangeEncoder
 from constriction.stream.stack import AnsCoder
 
 
@@ -19,13 +22,22 @@ class Quantiles(unittest.TestCase):
     def test_the_same_symbols_as_by_rows(self) -> None:
         dice = random.Random(13)
         words = array("I", (dice.randrange(1, 1 << 31) for _ in range(500)))
-        for family in (QuantizedGaussian(-50, 50), QuantizedLaplace(-5, 50), QuantizedCauchy(0, 9), QuantizedGaussian(7, 7)):
-            given = [dice.gauss(0, 9) for _ in range(300)], [dice.uniform(0.01, 30) for _ in range(300)]
+        families: list[Model] = [
+            QuantizedGaussian(-50, 50), QuantizedLaplace(-5, 50), QuantizedLogistic(-500, 50), QuantizedCauchy(0, 9),
+            QuantizedGaussian(7, 7), Binomial(12), QuantizedGaussian(-9, 9, 0.5),
+        ]  # fmt: skip
+        for family in families:
+            given: tuple[list[float], ...] = ([dice.random() for _ in range(300)],)
+            if len(family.missing) == 2:
+                given = [dice.gauss(0, 9) for _ in range(300)], [dice.uniform(0.01, 30) for _ in range(300)]
             rows = [family._weights(it) for it in zip(*given)]
+            encoder = RangeEncoder()
+            encoder.encode([family.first + dice.randrange(len(row)) for row in rows], family, *given)
             for make in (AnsCoder, RangeDecoder, ChainCoder):
-                one, other = make(words), make(words)
+                data = encoder.get_compressed() if make is RangeDecoder else words
+                one, other = make(data), make(data)
                 wanted = [it + family.first for it in other.decode(WeightTable(), rows)]
-                with mock.patch.object(Model, "_weights", side_effect=AssertionError("a row was made")):
+                with mock.patch.object(type(family), "_weights", side_effect=AssertionError("a row was made")):
                     self.assertEqual(one.decode(family, *given), wanted)
                 self.assertEqual(one._plain(one._state), other._plain(other._state))
 
@@ -44,7 +56,7 @@ class Quantiles(unittest.TestCase):
 
     def test_wide_models_are_no_slower(self) -> None:
         def seconds(width: int) -> float:
-            family, coder = QuantizedGaussian(-width, width), AnsCoder(range(1, 1001))
+            family, coder = QuantizedCauchy(-width, width), AnsCoder(range(1, 1001))
             begin = time.perf_counter()
             coder.decode(family, [0.5] * 1000, [9.0] * 1000)
             return time.perf_counter() - begin

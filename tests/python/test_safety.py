@@ -20,7 +20,9 @@ from unittest import mock
 import definitions
 from constriction import _library, _words, errors
 from constriction.stream.chain import ChainCoder
-from constriction.stream.model import Bernoulli, Categorical, CustomModel, QuantizedGaussian, Uniform, WeightTable
+from constriction.stream.model import (
+    Bernoulli, Categorical, CustomModel, QuantizedGaussian, QuantizedLaplace, QuantizedLogistic, Uniform, WeightTable,
+)  # fmt: skip
 from constriction.stream.queue import RangeDecoder, RangeEncoder
 from constriction.stream.stack import AnsCoder
 from constriction.symbol import DecoderHuffmanTree, EncoderHuffmanTree, ExpGolomb, QueueDecoder, QueueEncoder, StackCoder
@@ -44,6 +46,12 @@ def coders() -> dict[str, tuple[Any, Callable[[Any], Any], Callable[[Any], Any]]
     return {
         "AnsCoder": (ans, lambda it: it.encode_reverse(symbols, Uniform(300)), lambda it: (it.pos(), it.get_compressed())),
         "AnsCoder, decode": (AnsCoder(words), lambda it: it.decode(family, *given), lambda it: (it.pos(), it.get_compressed())),
+        "AnsCoder, means": (
+            ans.clone(), lambda it: it.encode_reverse(symbols[:50], family, *given), lambda it: (it.pos(), it.get_compressed()),
+        ),
+        "RangeEncoder, rows": (
+            encoder.clone(), lambda it: it.encode([0, 1] * 25, Bernoulli(), [0.25] * 50), lambda it: (it.pos(), it.get_compressed()),
+        ),
         "RangeEncoder": (encoder, lambda it: it.encode(symbols, Uniform(300)), lambda it: (it.pos(), it.get_compressed())),
         "RangeDecoder": (RangeDecoder(words), lambda it: it.decode(family, *given), lambda it: it._state.numbers),
         "ChainCoder": (ChainCoder(words), lambda it: it.decode(Uniform(7), 200), lambda it: it.get_remainders()),
@@ -94,7 +102,7 @@ class Copies(unittest.TestCase):
             for model, given in (
                 (Categorical([0.1, 0.6, 0.3]), ()), (WeightTable(array("I", [5, 1 << 23, (1 << 23) - 5])), ()), (Uniform(3), ()),
                 (QuantizedGaussian(0, 2, 1.0, 1.0), ()), (QuantizedGaussian(0, 2), ([1.0] * 3, [2.0] * 3)), (Categorical(), ([[1, 2, 3]] * 3,)),
-                (Bernoulli(0.5), ()),
+                (Bernoulli(0.5), ()), (QuantizedLogistic(0, 2, 1.0), ([2.0] * 3,)), (QuantizedLaplace(0, 1, 0.5, 1.0), ()),
             ):  # fmt: skip
                 symbols, coder = [1, 0, 1], AnsCoder()
                 coder.encode_reverse(symbols, model, *given)

@@ -2,7 +2,6 @@
 
 from __future__ import annotations
 
-from array import array
 from ctypes import byref, c_size_t
 from typing import Any, NamedTuple
 
@@ -43,38 +42,16 @@ class _Call:
         return _State(Words(self._compressed.memory, below), Words(self._remainders.memory, above), heads)
 
 
-def _encode_table(state: _State, weights: array[int], symbols: array[int]) -> _State:
-    it = _Call(state.compressed.reserve(len(symbols)), state.remainders, state.heads)  # A step moves one word at most.
-    call(
-        "chain_encode_reverse", *it.arguments(), lent(weights), len(weights), lent(symbols), len(symbols),
-        byref(it.needed), texts={8: errors.OUT_OF_REMAINDERS},
-    )  # fmt: skip
+def _encode(kind: str, state: _State, count: int, arguments: tuple[Any, ...]) -> _State:
+    it = _Call(state.compressed.reserve(count), state.remainders, state.heads)  # A step moves one word at most.
+    texts = {8: errors.OUT_OF_REMAINDERS}
+    call(f"chain_encode{kind}_reverse", *it.arguments(), *arguments, byref(it.needed), texts=texts)
     return it.state()
 
 
-def _encode_intervals(state: _State, lefts: array[int], ps: array[int]) -> _State:
-    it = _Call(state.compressed.reserve(len(ps)), state.remainders, state.heads)
-    call(
-        "chain_encode_intervals_reverse", *it.arguments(), lent(lefts), len(lefts), lent(ps), len(ps),
-        byref(it.needed), texts={8: errors.OUT_OF_REMAINDERS},
-    )  # fmt: skip
-    return it.state()
-
-
-def _decode_table(state: _State, weights: array[int], symbols: array[int]) -> _State:
-    it = _Call(state.compressed, state.remainders.reserve(len(symbols)), state.heads)
-    call(
-        "chain_decode", *it.arguments(), lent(weights), len(weights), lent(symbols), len(symbols), byref(it.needed)
-    )
-    return it.state()
-
-
-def _decode_rows(state: _State, weights: array[int], width: int, symbols: array[int]) -> _State:
-    it = _Call(state.compressed, state.remainders.reserve(len(symbols)), state.heads)
-    call(
-        "chain_decode_each", *it.arguments(), lent(weights), len(weights), width, lent(symbols), len(symbols),
-        byref(it.needed),
-    )  # fmt: skip
+def _decode(kind: str, state: _State, count: int, arguments: tuple[Any, ...]) -> _State:
+    it = _Call(state.compressed, state.remainders.reserve(count), state.heads)
+    call(f"chain_decode{kind}", *it.arguments(), *arguments, byref(it.needed))
     return it.state()
 
 
@@ -121,9 +98,7 @@ class ChainCoder(Coder):
 
         Raises :class:`OutOfDataError` where the words end; the coder is as before then.
         """
-        return self._changed(
-            lambda it: decoded(it, model, amt_or_parameters, _decode_table, _decode_rows, _quantile)
-        )
+        return self._changed(lambda it: decoded(it, model, amt_or_parameters, _decode, _quantile))
 
     def encode_reverse(self, symbols: Symbols, model: Model, *parameters: Any) -> None:
         """Encodes a symbol, or a list of them from the last one to the first: the converse of ``decode``.
@@ -131,9 +106,7 @@ class ChainCoder(Coder):
         Raises :class:`ImpossibleSymbolError`, :class:`WrongWeightsError`, and :class:`OutOfDataError` where the remainders end; the coder is as
         before then.
         """
-        self._changed(
-            lambda it: (encoded(it, symbols, model, parameters, _encode_table, _encode_intervals, True), None)
-        )
+        self._changed(lambda it: (encoded(it, symbols, model, parameters, _encode, True), None))
 
     def get_data(self, unseal: bool = False) -> tuple[Any, Any]:
         """The remainders left, and the data: put together, the second behind the first, they are what the coder began with, once

@@ -2,7 +2,6 @@
 
 from __future__ import annotations
 
-from array import array
 from ctypes import byref, c_size_t, c_uint32
 from typing import Any, NamedTuple
 
@@ -41,23 +40,10 @@ def _new_encoder() -> tuple[int, int, int, int]:
     return _numbers(it)
 
 
-def _encode_table(state: _Writing, weights: array[int], symbols: array[int]) -> _Writing:
-    words = state.words.reserve(state.held + len(symbols))  # A step shifts one word out at most.
+def _encode(kind: str, state: _Writing, count: int, arguments: tuple[Any, ...]) -> _Writing:
+    words = state.words.reserve(state.held + count)  # A step shifts one word out at most.
     it, length, needed = RangeEncoderState(*state.numbers), c_size_t(words.length), c_size_t(0)
-    call(
-        "range_encode", byref(it), *words.lent(), byref(length), lent(weights), len(weights),
-        lent(symbols), len(symbols), byref(needed),
-    )  # fmt: skip
-    return _Writing(Words(words.memory, length.value), _numbers(it))
-
-
-def _encode_intervals(state: _Writing, lefts: array[int], ps: array[int]) -> _Writing:
-    words = state.words.reserve(state.held + len(ps))
-    it, length, needed = RangeEncoderState(*state.numbers), c_size_t(words.length), c_size_t(0)
-    call(
-        "range_encode_intervals", byref(it), *words.lent(), byref(length), lent(lefts), len(lefts),
-        lent(ps), len(ps), byref(needed),
-    )  # fmt: skip
+    call(f"range_encode{kind}", byref(it), *words.lent(), byref(length), *arguments, byref(needed))
     return _Writing(Words(words.memory, length.value), _numbers(it))
 
 
@@ -75,15 +61,9 @@ def _reading(words: Words, it: RangeDecoderState) -> _Reading:
     return _Reading(words, (it.lower, it.range, it.point, it.pos))
 
 
-def _decode_table(state: _Reading, weights: array[int], symbols: array[int]) -> _Reading:
+def _decode(kind: str, state: _Reading, count: int, arguments: tuple[Any, ...]) -> _Reading:
     it = RangeDecoderState(*state.numbers)
-    call("range_decode", byref(it), *state.lent(), lent(weights), len(weights), lent(symbols), len(symbols))
-    return _reading(state.words, it)
-
-
-def _decode_rows(state: _Reading, weights: array[int], width: int, symbols: array[int]) -> _Reading:
-    it = RangeDecoderState(*state.numbers)
-    call("range_decode_each", byref(it), *state.lent(), lent(weights), len(weights), width, lent(symbols), len(symbols))
+    call(f"range_decode{kind}", byref(it), *state.lent(), *arguments)
     return _reading(state.words, it)
 
 
@@ -117,9 +97,7 @@ class RangeEncoder(Coder):
         Where the model has no parameters of its own, a list of each follows. Raises :class:`ImpossibleSymbolError` and
         :class:`WrongWeightsError`; the encoder is as before then.
         """
-        self._changed(
-            lambda it: (encoded(it, symbols, model, parameters, _encode_table, _encode_intervals, False), None)
-        )
+        self._changed(lambda it: (encoded(it, symbols, model, parameters, _encode, False), None))
 
     def _sealed(self, state: _Writing, self_delimiting: bool) -> Words:
         """All words with the seal. The state stays as it is."""
@@ -187,9 +165,7 @@ class RangeDecoder(Coder):
 
         Raises :class:`InvalidDataError` where no encoder wrote such words under such a model; the decoder is as before then.
         """
-        return self._changed(
-            lambda it: decoded(it, model, amt_or_parameters, _decode_table, _decode_rows, _quantile)
-        )
+        return self._changed(lambda it: decoded(it, model, amt_or_parameters, _decode, _quantile))
 
     def seek(self, position: int, state: tuple[int, int]) -> None:
         """Goes to a position that the words' encoder recorded by ``pos``. Raises :class:`WrongLengthError` or

@@ -2,7 +2,6 @@
 
 from __future__ import annotations
 
-from array import array
 from ctypes import byref, c_size_t, c_uint64
 from typing import Any, NamedTuple
 
@@ -25,42 +24,16 @@ class _State(NamedTuple):
     head: int
 
 
-def _encode_table(state: _State, weights: array[int], symbols: array[int]) -> _State:
-    words = state.words.reserve(len(symbols))  # A step writes one word at most.
+def _encode(kind: str, state: _State, count: int, arguments: tuple[Any, ...]) -> _State:
+    words = state.words.reserve(count)  # A step writes one word at most.
     head, length, needed = c_uint64(state.head), c_size_t(words.length), c_size_t(0)
-    call(
-        "ans_encode_reverse", byref(head), *words.lent(), byref(length), lent(weights), len(weights),
-        lent(symbols), len(symbols), byref(needed),
-    )  # fmt: skip
+    call(f"ans_encode{kind}_reverse", byref(head), *words.lent(), byref(length), *arguments, byref(needed))
     return _State(Words(words.memory, length.value), head.value)
 
 
-def _encode_intervals(state: _State, lefts: array[int], ps: array[int]) -> _State:
-    words = state.words.reserve(len(ps))
-    head, length, needed = c_uint64(state.head), c_size_t(words.length), c_size_t(0)
-    call(
-        "ans_encode_intervals_reverse", byref(head), *words.lent(), byref(length), lent(lefts), len(lefts),
-        lent(ps), len(ps), byref(needed),
-    )  # fmt: skip
-    return _State(Words(words.memory, length.value), head.value)
-
-
-def _decode_table(state: _State, weights: array[int], symbols: array[int]) -> _State:
-    words = state.words
-    head, length = c_uint64(state.head), c_size_t(words.length)
-    call(
-        "ans_decode", byref(head), *words.lent(), byref(length), lent(weights), len(weights), lent(symbols), len(symbols)
-    )
-    return _State(Words(words.memory, length.value), head.value)
-
-
-def _decode_rows(state: _State, weights: array[int], width: int, symbols: array[int]) -> _State:
-    words = state.words
-    head, length = c_uint64(state.head), c_size_t(words.length)
-    call(
-        "ans_decode_each", byref(head), *words.lent(), byref(length), lent(weights), len(weights), width,
-        lent(symbols), len(symbols),
-    )  # fmt: skip
+def _decode(kind: str, state: _State, count: int, arguments: tuple[Any, ...]) -> _State:
+    words, head, length = state.words, c_uint64(state.head), c_size_t(state.words.length)
+    call(f"ans_decode{kind}", byref(head), *words.lent(), byref(length), *arguments)
     return _State(Words(words.memory, length.value), head.value)
 
 
@@ -101,18 +74,14 @@ class AnsCoder(Coder):
         Where the model has no parameters of its own, a list of each follows. Raises :class:`ImpossibleSymbolError` and
         :class:`WrongWeightsError`; the coder is as before then.
         """
-        self._changed(
-            lambda it: (encoded(it, symbols, model, parameters, _encode_table, _encode_intervals, True), None)
-        )
+        self._changed(lambda it: (encoded(it, symbols, model, parameters, _encode, True), None))
 
     def decode(self, model: Model, *amt_or_parameters: Any) -> Any:
         """Takes symbols off: one, or a list of ``amt``, or one for each set of parameters.
 
         It goes on past the end of data, as the coder does.
         """
-        return self._changed(
-            lambda it: decoded(it, model, amt_or_parameters, _decode_table, _decode_rows, _quantile)
-        )
+        return self._changed(lambda it: decoded(it, model, amt_or_parameters, _decode, _quantile))
 
     def get_compressed(self, unseal: bool = False) -> Any:
         """A copy of the words with those of the head. The coder stays as it is. With ``unseal`` that is ``get_binary``."""

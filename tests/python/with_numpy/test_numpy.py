@@ -3,13 +3,19 @@
 from __future__ import annotations
 
 import copy
+import math
 import pickle
+import random
 import unittest
+from array import array
 from typing import Any
+from unittest import mock
 
-from constriction import errors
+from constriction import _units, errors
 from constriction.stream.chain import ChainCoder
-from constriction.stream.model import Categorical, QuantizedGaussian, Uniform, WeightTable
+from constriction.stream.model import (
+    Bernoulli, Categorical, QuantizedGaussian, QuantizedLaplace, QuantizedLogistic, Uniform, WeightTable,
+)  # fmt: skip
 from constriction.stream.queue import RangeDecoder, RangeEncoder
 from constriction.stream.stack import AnsCoder
 from constriction.symbol import DecoderHuffmanTree, EncoderHuffmanTree, ExpGolomb, QueueDecoder, QueueEncoder, StackCoder
@@ -82,6 +88,72 @@ class Numpy(unittest.TestCase):
         for kind in ("float64", "float32", "float16", ">f4", ">f8", "int32"):
             self.assertEqual(decoder.decode(fixed, 40).tolist(), message.tolist())
             self.assertEqual(decoder.decode(family, means.astype(kind), stds.astype(kind)).tolist(), message.tolist())
+
+    def test_many_parameters(self) -> None:
+        """In parts, under each family, by all coders; and symbols of another type."""
+        dice = numpy.random.default_rng(3)
+        means, stds = dice.uniform(-30, 30, 150_000), dice.uniform(0.1, 20, 150_000)
+        symbols = numpy.clip(numpy.rint(dice.normal(means, stds)), -40, 40).astype("int32")
+        for kind in (QuantizedGaussian, QuantizedLaplace, QuantizedLogistic):
+            family, coder, encoder = kind(-40, 40), AnsCoder(), RangeEncoder()
+            coder.encode_reverse(symbols, family, means, stds)
+            encoder.encode(symbols, family, means, stds)
+            for found in (coder.decode(family, means, stds), encoder.get_decoder().decode(family, means, stds)):
+                self.assertEqual((type(found), found.dtype), (numpy.ndarray, numpy.int64))
+                self.assertTrue((found == symbols).all())
+            self.assertTrue(coder.is_empty())
+            words = dice.integers(1, 1 << 32, 150_000, dtype="uint32")
+            chain = ChainCoder(words)
+            chain.encode_reverse(chain.decode(family, means, stds), family, means, stds)
+            self.assertEqual(numpy.concatenate(chain.get_data()).tolist(), words.tolist())
+
+    def test_the_same_as_without_numpy(self) -> None:
+        """Parameters are rounded alike, and the words are the same."""
+        dice = random.Random(9)
+        exact = [(k + 0.5) * 2.0**-16 for k in range(-20, 20)] + [2.0**k for k in range(-30, 100)] + [5e-324, 1e308]
+        given = exact + [dice.choice((-1, 1)) * math.exp(dice.uniform(-30, 30)) for _ in range(1000)]
+        means, stds = array("d", given), array("d", (abs(it) for it in given))
+        chances = array("d", (it for it in stds if it <= 1))
+        with mock.patch.object(_units, "numpy_module", return_value=None):
+            wanted_parts = _units.parts_of(chances)
+        self.assertEqual(_units.parts_of(chances), wanted_parts)
+        with mock.patch.dict("sys.modules", numpy=None):
+            wanted_rows = list(Bernoulli().rows((chances,)))
+        self.assertEqual(list(Bernoulli().rows((chances,))), wanted_rows)
+        ours = _units.locations_of("mean", means), _units.scales_of("std", stds)
+        with mock.patch.object(_units, "numpy_module", return_value=None):
+            theirs = _units.locations_of("mean", means), _units.scales_of("std", stds)
+        self.assertEqual(ours, theirs)
+        self.assertEqual((ours[0].typecode, ours[1].typecode), ("q", "I"))
+        symbols = [dice.randrange(-9, 10) for _ in given]
+        for make in (numpy.array, list, tuple, lambda it: it, lambda it: numpy.array(it, dtype=">f8")):
+            coder, wanted = AnsCoder(), AnsCoder()
+            coder.encode_reverse(symbols, QuantizedGaussian(-9, 9), make(means), make(stds))
+            with mock.patch.dict("sys.modules", numpy=None):
+                wanted.encode_reverse(symbols, QuantizedGaussian(-9, 9), means, stds)
+                words = list(wanted.get_compressed())
+            self.assertEqual(coder.get_compressed().tolist(), words)
+
+    def test_refused_parameters(self) -> None:
+        family, good = QuantizedGaussian(-9, 9), numpy.ones(3)
+        for wrong in (numpy.nan, numpy.inf, -numpy.inf):
+            for given in ((numpy.array([0.0, 1.0, wrong]), good), (good, numpy.array([0.5, wrong, 1.0]))):
+                self.assertRaises(ValueError, AnsCoder().encode_reverse, [1, 2, 3], family, *given)
+                self.assertRaises(ValueError, AnsCoder().decode, family, *given)
+        for wrong in (0.0, -0.0, -1.0, -5e-324):
+            self.assertRaises(ValueError, AnsCoder().decode, family, good, numpy.array([0.5, wrong, 1.0]))
+        self.assertRaises(ValueError, AnsCoder().decode, family, good, good[:2])
+        self.assertRaises(ValueError, AnsCoder().encode_reverse, numpy.arange(2), family, good, good)
+        self.assertRaises(errors.ImpossibleSymbolError, AnsCoder().encode_reverse, numpy.array([1, 10, 2]), family, good, good)
+        self.assertRaises(TypeError, AnsCoder().decode, family, good.astype("complex128"), good)
+
+    def test_probabilities(self) -> None:
+        chances = numpy.array([0.1, 0.0, 0.2, 0.7])
+        for kind in ("float64", "float32", "float16", ">f8"):
+            given = chances.astype(kind)
+            self.assertEqual(list(Categorical(given).table()), list(Categorical(given.tolist()).table()))
+        self.assertEqual(list(Categorical(numpy.array([3, 1, 4])).table()), list(Categorical([3, 1, 4]).table()))
+        self.assertEqual(list(Bernoulli(numpy.float32(0.3)).table()), list(Bernoulli(float(numpy.float32(0.3))).table()))
 
     def test_rows(self) -> None:
         rows = numpy.tile(numpy.array(WEIGHTS, dtype=numpy.uint32), (10, 1))

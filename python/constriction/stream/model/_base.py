@@ -1,17 +1,17 @@
-"""What the models share: sums of weights by a growing function."""
+"""What the models share: sums of weights by a growing function, or a location and a scale for each symbol."""
 
 from __future__ import annotations
 
 import math
 from array import array
 from collections.abc import Callable, Iterator, Sequence
-from typing import Any
+from typing import Any, NamedTuple
 
-from ..._buffers import WORD
+from ..._buffers import WORD, listed
 from ..._numbers import floats_of, is_one, whole, wholes_of
 from ...errors import IMPOSSIBLE_SYMBOL, ImpossibleSymbolError
 
-__all__ = ["PRECISION", "TOTAL", "Bound", "Model", "sized", "spread"]
+__all__ = ["PRECISION", "TOTAL", "Bound", "Located", "Model", "sized", "spread"]
 
 PRECISION = 24
 TOTAL = 1 << PRECISION
@@ -20,8 +20,30 @@ _FALLS = "a cumulative distribution function never falls"
 Bound = Callable[[int], int]
 
 
+class Located(NamedTuple):
+    """A family of distributions over a range of whole numbers, and for each symbol a location and a scale, in units
+    of 2^-16."""
+
+    family: int
+    least: int
+    greatest: int
+    locations: array[int]
+    scales: array[int]
+
+    def part(self, which: slice) -> Located:
+        """The same for some of the symbols."""
+        if which == slice(0, len(self.scales)):
+            return self
+        return self._replace(locations=self.locations[which], scales=self.scales[which])
+
+    def lent(self) -> tuple[Any, ...]:
+        """All of it as C functions take it."""
+        return self.family, self.least, self.greatest, *listed(self.locations), *listed(self.scales)
+
+
 class Model:
-    """Each symbol of a range from ``first`` on has a weight. All of a model's state is plain, so it can be copied and pickled."""
+    """Each symbol of a range from ``first`` on has a weight. All of a model's state is plain, so it can be copied and
+    pickled."""
 
     #: The least symbol.
     first: int = 0
@@ -56,7 +78,8 @@ class Model:
         return left, end - left
 
     def around(self, quantile: int, parameters: tuple[Any, ...]) -> tuple[int, array[int]]:
-        """The place of the symbol whose interval has this quantile, and three weights: of all before it, its own, of all behind it."""
+        """The place of the symbol whose interval has this quantile, and three weights: of all before it, its own, of
+        all behind it."""
         count, bound = self._bounds(parameters)
         low, high, left, end = 0, count, 0, TOTAL
         while high - low > 1:
@@ -89,6 +112,10 @@ class Model:
             raise ValueError("lists of parameters have to be equally long")
         return list(zip(*lists))
 
+    def located(self, given: Sequence[Any]) -> Located | None:
+        """The parameters as C functions take them, where they make the tables themselves; else None."""
+        return None
+
     def intervals(self, symbols: Any, given: Sequence[Any]) -> tuple[array[int], array[int]]:
         """Of each symbol the sum of the weights before it, and its weight."""
         one = is_one(symbols)
@@ -104,7 +131,8 @@ class Model:
         return lefts, ps
 
     def rows(self, given: Sequence[Any]) -> Iterator[tuple[array[int], int, int]]:
-        """Of a model whose parameters are rows of weights: some at a time, with the width of a row, and how many rows."""
+        """Of a model whose parameters are rows of weights: some at a time, with the width of a row, and how many
+        rows."""
         raise NotImplementedError
 
 

@@ -1,69 +1,62 @@
-"""Models of a few symbols from 0 on: ``Categorical``, ``Bernoulli``, ``Uniform``, ``Binomial``."""
+"""Models of symbols from 0 on, by a number or two: ``Bernoulli``, ``Uniform``, ``Binomial``."""
 
 from __future__ import annotations
 
 import math
 from array import array
-from collections.abc import Sequence
+from collections.abc import Iterator, Sequence
 from itertools import accumulate
 from typing import Any
 
-from ..._buffers import List
-from ..._numbers import floats_of, rows_of, whole
+from ..._buffers import NUMBER, WORD, numpy_module, room
+from ..._numbers import floats_of, whole
+from ..._units import parts_of
 from ._base import TOTAL, Bound, Model, sized, spread
+from ._table import ROWS_AT_A_TIME, Rows
 
-__all__ = ["Bernoulli", "Binomial", "Categorical", "Uniform"]
+__all__ = ["Bernoulli", "Binomial", "Uniform"]
 
 
-class Categorical(Model):
-    """Symbols 0, 1, .. of these probabilities, which are divided by their sum.
+class Bernoulli(Rows):
+    """Symbols 0 and 1, where ``p`` is the probability of 1. Without it, it comes with each symbol. ``perfect`` is not
+    looked at.
 
-    Without probabilities they come as a row for each symbol. ``perfect`` and ``lazy``, by which the Rust crate's package chooses how to
-    round, are not looked at.
+    The weight of 1 is ``p`` rounded once to a whole multiple of 2^-24, from the middle to the even one, and brought
+    between 1 and 2^24 - 1. Raises ValueError where ``p`` doesn't lie between 0 and 1.
     """
 
-    def __init__(self, probabilities: List | None = None, *, perfect: bool | None = None, lazy: bool | None = None) -> None:
-        if probabilities is None:
-            self.missing = ("probabilities",)
-        else:
-            self._fixed = self._weights((floats_of(probabilities),))
-
-    def parameters(self, given: Sequence[Any]) -> list[tuple[Any, ...]]:
-        self._known(given)
-        return [(row,) for row in rows_of(given[0], floats_of)]
-
-    def _bounds(self, parameters: tuple[Any, ...]) -> tuple[int, Bound]:
-        (probabilities,) = parameters
-        if any(not it >= 0 for it in probabilities):
-            raise ValueError("a probability is negative, or no number")
-        sums: array[float] = array("d", accumulate(probabilities, initial=0.0))
-        total: float = sums[-1]
-        if not 0 < total < math.inf:
-            raise ValueError("the probabilities have no positive sum")
-        return len(probabilities), spread(sized(len(probabilities)), lambda place: sums[place] / total)
-
-
-class Bernoulli(Model):
-    """Symbols 0 and 1, where ``p`` is the probability of 1. Without it, it comes with each symbol. ``perfect`` is not looked at."""
-
     def __init__(self, p: float | None = None, *, perfect: bool | None = None) -> None:
-        self._p = None if p is None else float(p)
         if p is None:
             self.missing = ("p",)
         else:
-            self.table()
+            self._fixed = _pairs(parts_of(array(NUMBER, (float(p),))))
 
-    def _bounds(self, parameters: tuple[Any, ...]) -> tuple[int, Bound]:
-        p = parameters[0] if parameters else self._p
-        if not 0 <= p <= 1:
-            raise ValueError("a probability lies between 0 and 1")
-        return 2, spread(2, lambda _: float(1 - p))
+    def rows(self, given: Sequence[Any]) -> Iterator[tuple[array[int], int, int]]:
+        """Two weights for each symbol, some at a time."""
+        self._known(given)
+        ones = parts_of(floats_of(given[0]))
+        for start in range(0, len(ones), ROWS_AT_A_TIME // 2):
+            some = ones[start : start + ROWS_AT_A_TIME // 2]
+            yield _pairs(some), 2, len(some)
+
+
+def _pairs(ones: array[int]) -> array[int]:
+    """The weights of 0 and 1 behind one another, from those of 1."""
+    weights, numpy = room(WORD, 2 * len(ones)), numpy_module()
+    if numpy is not None and len(ones):
+        table = numpy.frombuffer(weights, dtype="uint32").reshape(-1, 2)
+        table[:, 1] = numpy.frombuffer(ones, dtype="uint32")
+        table[:, 0] = TOTAL - table[:, 1]
+    else:
+        weights[0::2], weights[1::2] = array(WORD, map(TOTAL.__sub__, ones)), ones
+    return weights
 
 
 class Uniform(Model):
-    """Symbols 0 .. size - 1 of equal weights, but for the last one, which also has what is left over.
+    """Symbols 0 .. size - 1 of equal weights, the whole part of 2^24 / size, but for the last one, which also has
+    what is left over.
 
-    Without a size it comes with each symbol.
+    Without a size it comes with each symbol. Raises ValueError where it isn't between 1 and 2^24.
     """
 
     def __init__(self, size: int | None = None) -> None:
@@ -76,6 +69,12 @@ class Uniform(Model):
         size = sized(_whole_float(given, "a size"))
         each = TOTAL // size
         return size, lambda place: place * each if place < size else TOTAL
+
+    def _weights(self, parameters: tuple[Any, ...]) -> array[int]:
+        size, bound = self._bounds(parameters)
+        weights = array(WORD, (bound(1),)) * size
+        weights[-1] = TOTAL - bound(size - 1)
+        return weights
 
 
 class Binomial(Model):

@@ -1,4 +1,4 @@
-"""A model by its weights themselves."""
+"""Models by a row of weights: ``WeightTable``, by the weights themselves; ``Categorical``, by probabilities."""
 
 from __future__ import annotations
 
@@ -6,40 +6,34 @@ from array import array
 from collections.abc import Iterator, Sequence
 from typing import Any
 
-from ..._buffers import WORD, List
-from ..._numbers import is_one, rows_of, words_of
-from ...errors import IMPOSSIBLE_SYMBOL, ImpossibleSymbolError
-from ._base import Model, _symbols
+from ..._buffers import WORD, List, listed, room
+from ..._library import call
+from ..._numbers import floats_of, rows_of, words_of
+from ..._units import counts_of
+from ._base import Model, sized
 
-__all__ = ["WeightTable"]
+__all__ = ["ROWS_AT_A_TIME", "Categorical", "Rows", "WeightTable"]
 
 #: Rows of weights are handed over so many weights at a time.
-_ROWS_AT_A_TIME = 1 << 16
+ROWS_AT_A_TIME = 1 << 16
 
 
-class WeightTable(Model):
-    """Whole numbers that add up to 2^24: symbol 0 has the first, symbol 1 the next, .. They are copied.
+class Rows(Model):
+    """Symbols 0, 1, .. by a row of weights, which is the model's own or comes with each symbol."""
 
-    Without weights they come as a row for each symbol.
-    """
+    has_rows = True
 
-    def __init__(self, weights: List | None = None) -> None:
-        if weights is None:
-            self.missing, self.has_rows = ("weights",), True
-        else:
-            self._fixed = words_of(weights)
-
-    def _listed(self, given: Sequence[Any]) -> list[array[int]]:
-        """The one list of rows among the parameters."""
-        self._known(given)
-        return rows_of(given[0], words_of)
+    def _row(self, numbers: List) -> array[int]:
+        """The weights that a list of parameters stands for."""
+        raise NotImplementedError
 
     def rows(self, given: Sequence[Any]) -> Iterator[tuple[array[int], int, int]]:
         """Rows one behind another, as far as they are equally long and not too many."""
+        self._known(given)
         packed: array[int] = array(WORD)
         width = 0
-        for row in self._listed(given):
-            if packed and (len(row) != width or len(packed) + width > _ROWS_AT_A_TIME):
+        for row in rows_of(given[0], self._row):
+            if packed and (len(row) != width or len(packed) + width > ROWS_AT_A_TIME):
                 yield packed, width, len(packed) // width
                 packed = array(WORD)
             width = len(row)
@@ -49,15 +43,47 @@ class WeightTable(Model):
         if packed:
             yield packed, width, len(packed) // width
 
-    def intervals(self, symbols: Any, given: Sequence[Any]) -> tuple[array[int], array[int]]:
-        lefts, ps = array(WORD), array(WORD)
-        rows = self._listed([[it] for it in given] if is_one(symbols) else given)
-        listed = _symbols(symbols)
-        if len(rows) != len(listed):
-            raise ValueError("there have to be as many symbols as rows of weights")
-        for symbol, row in zip(listed, rows):
-            if not 0 <= symbol < len(row) or not row[symbol]:
-                raise ImpossibleSymbolError(IMPOSSIBLE_SYMBOL)
-            lefts.append(sum(row[:symbol]))
-            ps.append(row[symbol])
-        return lefts, ps
+
+class WeightTable(Rows):
+    """Whole numbers that add up to 2^24: symbol 0 has the first, symbol 1 the next, .. They are copied.
+
+    Without weights they come as a row for each symbol.
+    """
+
+    def __init__(self, weights: List | None = None) -> None:
+        if weights is None:
+            self.missing = ("weights",)
+        else:
+            self._fixed = self._row(weights)
+
+    def _row(self, numbers: List) -> array[int]:
+        return words_of(numbers)
+
+
+class Categorical(Rows):
+    """Symbols 0, 1, .. of these probabilities, or of counts: of them all only the proportions matter.
+
+    Each is rounded once, to a whole multiple of 2^-62 times the power of two above the greatest one, and one such
+    multiple at least, so that a symbol of probability 0 can be coded too. All else is whole numbers: each symbol has
+    a weight of 1 at least, the others share the rest of 2^24 in proportion, and what rounding leaves goes to the
+    largest remainders, of equal ones to the first. Raises ValueError where there is no probability above 0, one that
+    is negative or not finite, or more than 2^24.
+
+    Without probabilities they come as a row for each symbol. ``perfect`` and ``lazy``, by which the Rust crate's
+    package chooses how to round, are not looked at.
+    """
+
+    def __init__(
+        self, probabilities: List | None = None, *, perfect: bool | None = None, lazy: bool | None = None
+    ) -> None:
+        if probabilities is None:
+            self.missing = ("probabilities",)
+        else:
+            self._fixed = self._row(probabilities)
+
+    def _row(self, numbers: List) -> array[int]:
+        probabilities = floats_of(numbers)
+        weights = room(WORD, sized(len(probabilities)))
+        counts = counts_of(probabilities)
+        call("weights_of_counts", *listed(counts), *listed(weights))
+        return weights

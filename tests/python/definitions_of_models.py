@@ -1,0 +1,94 @@
+"""Models in whole numbers by their definitions (docs/MODELS.md), slow and plain, and floats as whole numbers by exact
+fractions.
+
+The values of the distributions are those of their formulas, to 100 digits. Nothing of the library is used here.
+"""
+
+from __future__ import annotations
+
+import sys
+from collections.abc import Iterable
+from fractions import Fraction
+from functools import lru_cache
+from pathlib import Path
+
+sys.path.insert(0, str(Path(__file__).resolve().parents[2] / "tools"))
+import distributions  # noqa: E402
+
+ALL, UNIT = 1 << 32, 1 << 16
+GAUSSIAN, LAPLACE, LOGISTIC = FAMILIES = "gaussian", "laplace", "logistic"
+
+
+@lru_cache(maxsize=None)
+def values(family: str) -> list[int]:
+    """How much of 2^32 lies below each of 2049 places of the standard distribution."""
+    return distributions.entries(family)
+
+
+def below(family: str, location: int, scale: int, place: int) -> int:
+    """How much of 2^32 lies below a place. Location, scale and place are in units."""
+    table, width = values(family), 2 * distributions.REACH[family]
+    far = place - location + width * scale // 2
+    if far < 0:
+        return 0
+    if far >= width * scale:
+        return ALL
+    step, part = divmod(far * (2**63 // width // scale) // 2**36, UNIT)
+    return table[step] + (table[step + 1] - table[step]) * part // UNIT
+
+
+def starts(family: str, location: int, scale: int, least: int, count: int, precision: int = 24) -> list[int]:
+    """Where the interval of each symbol from the least one on begins, and where the last one ends."""
+    halves = [(least + k) * UNIT - UNIT // 2 for k in range(1, count)]
+    parts = [0, *(below(family, location, scale, place) for place in halves), ALL]
+    return [(2**precision - count) * part // ALL + k for k, part in enumerate(parts)]
+
+
+def table(family: str, location: int, scale: int, least: int, count: int, precision: int = 24) -> list[int]:
+    """The weights of the symbols from the least one on."""
+    found = starts(family, location, scale, least, count, precision)
+    return [b - a for a, b in zip(found, found[1:])]
+
+
+def location_of(mean: float) -> int:
+    """The nearest whole number of units, from the middle the even one."""
+    return round(Fraction(mean) * UNIT)
+
+
+def scale_of(deviation: float) -> int:
+    """The same, from 1 to the greatest that there is."""
+    return min(max(location_of(deviation), 1), ALL - 1)
+
+
+def table_of(family: str, mean: float, deviation: float, least: int, greatest: int) -> list[int]:
+    """The weights that floats stand for."""
+    count = greatest - least + 1
+    return table(family, location_of(mean), scale_of(deviation), least, count) if count > 1 else [1 << 24]
+
+
+def weights(counts: list[int], precision: int = 24) -> list[int]:
+    """Weights in proportion to counts: those that would get less than 1 are raised, round by round, and the others
+    share the rest."""
+    raised: set[int] = set()
+    while True:
+        mass, rest = 2**precision - len(raised), sum(count for k, count in enumerate(counts) if k not in raised)
+        low = {k for k, count in enumerate(counts) if count and k not in raised and count * mass < rest}
+        if not low:
+            break
+        raised |= low
+    found = [1 if k in raised else count * mass // rest for k, count in enumerate(counts)]
+    others = [k for k in range(len(counts)) if k not in raised]
+    for k in sorted(others, key=lambda k: (-(counts[k] * mass % rest), k))[: 2**precision - sum(found)]:
+        found[k] += 1
+    return found
+
+
+def weights_of(probabilities: Iterable[float]) -> list[int]:
+    """The weights that probabilities stand for."""
+    exact = [Fraction(it) for it in probabilities]
+    above = Fraction(1)
+    while above <= max(exact):
+        above *= 2
+    while above > 2 * max(exact):
+        above /= 2
+    return weights([max(round(it / above * 2**62), 1) for it in exact])
