@@ -5,11 +5,14 @@ usage: PYTHONPATH=python bench/python.py [PART_OF_A_NAME]
 
 The million symbols and their weights are those of bench/driver, so its lines `ans_encode_u32u64p24_table` and the like stand beside
 these. `array`: symbols come and go as array('Q'); `numpy`: as numpy arrays, where numpy is there; `list`: as a list of Python's. An encode
-begins with a new coder and ends with its words as an array; a decode begins with such words. A case begins with the model made.
+begins with a new coder and ends with its words as an array; a decode begins with such words. A case begins with the model made. Cases of
+`gaussian` have a mean and a deviation for each symbol of -100 .. 100, as bench/models.c has; in those of `array` the package doesn't see
+numpy, and all comes as array('d') and array('q').
 """
 
 from __future__ import annotations
 
+import random
 import sys
 from array import array
 from bisect import bisect_right
@@ -17,9 +20,10 @@ from collections.abc import Callable
 from itertools import accumulate
 from time import perf_counter_ns
 from typing import Any
+from unittest import mock
 
 from constriction.stream.chain import ChainCoder
-from constriction.stream.model import WeightTable
+from constriction.stream.model import Model, QuantizedGaussian, WeightTable
 from constriction.stream.queue import RangeDecoder, RangeEncoder
 from constriction.stream.stack import AnsCoder
 
@@ -62,15 +66,55 @@ def least(run: Callable[[], Any]) -> float:
     return min(times) / COUNT
 
 
-def encoded(symbols: Any, model: WeightTable, coder: str) -> Any:
+def encoded(symbols: Any, model: Model, coder: str, *given: Any) -> Any:
     """The words of a new coder after these symbols."""
     if coder == "ans":
         stack = AnsCoder()
-        stack.encode_reverse(symbols, model)
+        stack.encode_reverse(symbols, model, *given)
         return stack.get_compressed()
     queue = RangeEncoder()
-    queue.encode(symbols, model)
+    queue.encode(symbols, model, *given)
     return queue.get_compressed()
+
+
+Case = tuple[str, Callable[[], Any]]
+
+
+def without_numpy(run: Callable[[], Any]) -> Callable[[], Any]:
+    """The same where the package finds no numpy."""
+
+    def blind() -> Any:
+        with mock.patch.dict(sys.modules, numpy=None):
+            return run()
+
+    return blind
+
+
+def gaussian_cases(numpy: Any) -> list[Case]:
+    """Encodes and decodes with a mean and a deviation for each symbol."""
+    dice, model = random.Random(1), QuantizedGaussian(-100, 100)
+    means = array("d", (dice.uniform(-30, 30) for _ in range(COUNT)))
+    stds = array("d", (dice.uniform(0.3, 20.3) for _ in range(COUNT)))
+    symbols = array("q", (max(-100, min(100, round(dice.gauss(mean, std)))) for mean, std in zip(means, stds)))
+    lists: dict[str, Any] = {"array": (symbols, means, stds)}
+    if numpy:
+        lists["numpy"] = tuple(numpy.array(it) for it in (symbols, means, stds))
+    cases = []
+    for coder, make in (("ans", AnsCoder), ("range", RangeDecoder)):
+        words = encoded(symbols, model, coder, means, stds)
+        for kind, (given, *parameters) in lists.items():
+
+            def encode(given: Any = given, coder: str = coder, parameters: Any = parameters) -> Any:
+                return encoded(given, model, coder, *parameters)
+
+            def decode(make: Any = make, words: Any = words, parameters: Any = parameters) -> Any:
+                return make(words).decode(model, *parameters)
+
+            assert decode().tobytes() == symbols.tobytes()
+            for name, run in (("encode", encode), ("decode", decode)):
+                run = run if kind == "numpy" else without_numpy(run)
+                cases.append((f"python_{coder}_{name}_u32u64p24_gaussian_{kind}", run))
+    return cases
 
 
 def main() -> None:
@@ -78,14 +122,16 @@ def main() -> None:
     weights = driver_weights()
     symbols, model = driver_symbols(weights), WeightTable(weights)
     kinds: dict[str, Any] = {"array": symbols, "list": symbols.tolist()}
+    numpy: Any
     try:
         import numpy
     except ImportError:
+        numpy = None
         print("numpy is not there, so nothing of it is measured", file=sys.stderr)
     else:
         kinds["numpy"] = numpy.frombuffer(symbols, dtype=numpy.uint64)
 
-    cases: list[tuple[str, Callable[[], Any]]] = []
+    cases: list[Case] = []
     for coder, make in (("ans", AnsCoder), ("range", RangeDecoder)):
         words = encoded(symbols, model, coder)
         assert make(words).decode(model, COUNT).tobytes() == symbols.tobytes()
@@ -104,6 +150,8 @@ def main() -> None:
             lambda: ChainCoder(remainders, is_remainders=True).encode_reverse(found, model),
         )
     )
+    if "gaussian" in wanted or not wanted:
+        cases += gaussian_cases(numpy)
     for name, run in cases:
         if wanted in name:
             print(f"{name} {least(run):.3f}", flush=True)
