@@ -22,6 +22,10 @@ abbrev pub needed_by : Result (Unit {0}) Refusal → ℕ → ℕ
 needed_by (Err (NoSpace count)) old = count
 needed_by answer old = old
 
+-- a C function returned this code, and left so many words as needed, for a call of whose answer this holds
+abbrev pub Told : ℕ → ℕ → ℕ → (Result (Unit {0}) Refusal → Type 0) → Type 0
+Told code old_needed needed call = call (answer_of code needed) × (needed ≡ needed_by (answer_of code needed) old_needed)
+
 -- a version as a number
 abbrev pub version_number : ℕ → ℕ → ℕ → ℕ
 version_number major minor patch = 10000 * major + 100 * minor + patch

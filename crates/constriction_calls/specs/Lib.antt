@@ -4,10 +4,12 @@ pub mod ChainCalls
 pub mod ChainFits
 pub mod ChainIntervals
 pub mod ChainWords
+pub mod Coded
 pub mod Intervals
 pub mod Quantized
 pub mod QuantizedCalls
 pub mod RangeCalls
+pub mod Refusals
 pub mod Rows
 pub mod StoreCalls
 pub mod SymbolCalls

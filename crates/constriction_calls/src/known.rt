@@ -61,7 +61,7 @@ pub fn all_known_in_rows<P: BitArray, const PRECISION: usize>(
 }
 
 /// Whether a symbol has a weight above 0.
-fn is_known<P: BitArray, const PRECISION: usize>(weights: &[P], symbol: usize) -> bool
+pub fn is_known<P: BitArray, const PRECISION: usize>(weights: &[P], symbol: usize) -> bool
     ensures { IsTrue result ↔ Knows (weights_model PRECISION (map P.number weights.now)) symbol }
 {
     if symbol >= weights.len() {

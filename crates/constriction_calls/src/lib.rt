@@ -6,6 +6,7 @@
 //! - [`tables`]: weights as a table for all symbols.
 //! - [`known`]: whether models know symbols.
 //! - [`intervals`]: intervals without a table.
+//! - [`models`]: how a caller says the models of symbols.
 //! - [`buffers`]: words put behind others in a buffer.
 //! - [`ans`]: the stack coder.
 //! - [`symbol`]: lists of symbols as words of bits, and back.
@@ -20,6 +21,7 @@ pub mod buffers;
 pub mod chain;
 pub mod intervals;
 pub mod known;
+pub mod models;
 pub mod quantized;
 pub mod range;
 pub mod refusal;

@@ -76,7 +76,7 @@ pub fn rows_of<'a, P: BitArray, const PRECISION: usize>(
 }
 
 /// Rows that add up to two to the precision, as models.
-fn total_rows<'a, P: BitArray, const PRECISION: usize>(
+pub fn total_rows<'a, P: BitArray, const PRECISION: usize>(
     alloc: Global,
     weights: &'a [P],
     width: usize,
