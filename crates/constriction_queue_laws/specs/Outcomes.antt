@@ -63,6 +63,11 @@ abbrev pub NoneSealed : {S : Type 0} → ℕ → ℕ → (List S → List (Item 
 NoneSealed w s items old symbols e =
     Reasons ⊤ ⊤ ((words : List ℕ) × SealsAll w s (items symbols) old words × HoldNone w s words items (length symbols) (start s)) (λ taken. ⊥) e
 
+-- the same of words that an encoder lends, which is behind these symbols then
+abbrev pub NoneLent : {S : Type 0} → ℕ → ℕ → (List S → List (Item S)) → Run → Run → List S → RoundTripError → Type 0
+NoneLent w s items old new symbols e =
+    Reasons ⊤ ⊤ (NarrowsAll w s (items symbols) old new × HoldNone w s (sealed w s new) items (length symbols) (start s)) (λ taken. ⊥) e
+
 -- the words lie within the run of the items
 abbrev pub LieWithin : {S : Type 0} → ℕ → ℕ → List ℕ → List (Item S) → Type 0
 LieWithin w s words items = (last : Run) × NarrowsAll w s items (start s) last × Within w s words last

@@ -6,7 +6,7 @@ ghost use Rattle.constriction_coder_laws.specs.Outcomes.{HasImpossibleItem};
 ghost use Rattle.constriction_queue.specs.Encoder.{left_to_encode, run_by, sealed_by, HasHeads};
 ghost use Rattle.constriction_queue.specs.Range.{Run, start};
 ghost use Rattle.constriction_queue_laws.specs.Concatenated.{ReadsItems};
-ghost use Rattle.constriction_queue_laws.specs.Outcomes.{GivesNone, HoldNone, NoneSealed, NotBack, NotRead, ReadsSealed};
+ghost use Rattle.constriction_queue_laws.specs.Outcomes.{GivesNone, HoldNone, NoneLent, NoneSealed, NotBack, NotRead, ReadsSealed};
 ghost use Rattle.constriction_queue_laws.specs.Symbols.{NarrowsAll, FindsAll, StandsAt};
 
 use crate::lists::symbols_come_back;
@@ -93,9 +93,9 @@ where
     ensures read { IfOk result (λ again. ReadsItems Word.BITS State.BITS (sealed_by Word.BITS State.BITS encoder.new)
         (pairs_of PRECISION M.table again.items models.now)) }
     ensures count { IfOk result (λ again. length again.items ≡ length symbols.now) }
-    ensures none { IfErr result (NoneSealed Word.BITS State.BITS
+    ensures none { IfErr result (NoneLent Word.BITS State.BITS
         (λ symbols. pairs_of PRECISION M.table symbols models.now)
-        (run_by Word.BITS State.BITS encoder.old) symbols.now) }
+        (run_by Word.BITS State.BITS encoder.old) (run_by Word.BITS State.BITS encoder.new) symbols.now) }
     ensures err { IfErr result (NotBack (HasImpossibleItem (pairs_of PRECISION M.table symbols.now models.now))
         (left_to_encode encoder.old < length symbols.now)
         (run_by Word.BITS State.BITS encoder.old ≡ start State.BITS)) }

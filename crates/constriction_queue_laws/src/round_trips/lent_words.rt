@@ -7,7 +7,7 @@ ghost use Rattle.constriction_coder_laws.specs.Outcomes.{HasImpossible};
 ghost use Rattle.constriction_queue.specs.Encoder.{left_to_encode, run_by, sealed_by, HasHeads};
 ghost use Rattle.constriction_queue.specs.Range.{Run, start};
 ghost use Rattle.constriction_queue_laws.specs.Concatenated.{ReadsList};
-ghost use Rattle.constriction_queue_laws.specs.Outcomes.{GivesNone, HoldNone, NoneSealed, NotBack, NotRead, ReadsSealed};
+ghost use Rattle.constriction_queue_laws.specs.Outcomes.{GivesNone, HoldNone, NoneLent, NoneSealed, NotBack, NotRead, ReadsSealed};
 ghost use Rattle.constriction_queue_laws.specs.Symbols.{NarrowsAll, FindsAll, StandsAt};
 
 use crate::lists::symbols_come_back;
@@ -97,9 +97,9 @@ where
         record { precision = PRECISION; table = M.table model.now }
         (sealed_by Word.BITS State.BITS encoder.new) again.items) }
     ensures count { IfOk result (λ again. length again.items ≡ length symbols.now) }
-    ensures none { IfErr result (NoneSealed Word.BITS State.BITS
+    ensures none { IfErr result (NoneLent Word.BITS State.BITS
         (items_of record { precision = PRECISION; table = M.table model.now })
-        (run_by Word.BITS State.BITS encoder.old) symbols.now) }
+        (run_by Word.BITS State.BITS encoder.old) (run_by Word.BITS State.BITS encoder.new) symbols.now) }
     ensures err { IfErr result (NotBack (HasImpossible (M.table model.now) symbols.now)
         (left_to_encode encoder.old < length symbols.now)
         (run_by Word.BITS State.BITS encoder.old ≡ start State.BITS)) }

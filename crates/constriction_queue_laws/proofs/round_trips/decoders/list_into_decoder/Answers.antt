@@ -68,13 +68,19 @@ returns-clause-read g c =
     let stands = c.in_ok-decoder.ensures.stands in
     let words = sealed w s stands.0 in
     let decoded = c.in_ok-again.ensures.decoded g.met.Backend.IntoReadWords.BoundedReadWords.knows_words words (start s) stands.2 in
-    let told = c.has_ended-ended.ensures in
-    (c.in_ok-again.ensures.count, (words, (stands.0, stands.1, refl), (
-      decoded.0,
-      decoded.1,
-      told.ended words decoded.0 decoded.2,
-      λ yes. nears_of w s words decoded.0 c.decode_list.new.decoder (pow_pos s) decoded.2 (told.value.0 yes).1,
-    )))
+    let told = c.has_ended-ended.ensures in (
+      c.in_ok-again.ensures.count,
+      (
+        words,
+        (stands.0, stands.1, refl),
+        (
+          decoded.0,
+          decoded.1,
+          told.ended words decoded.0 decoded.2,
+          λ yes. nears_of w s words decoded.0 c.decode_list.new.decoder (pow_pos s) decoded.2 (told.value.0 yes).1,
+        ),
+      ),
+    )
 
 pub returns-in_err-again-clause-none : goal.returns-in_err-again-clause-none
 returns-in_err-again-clause-none g c =

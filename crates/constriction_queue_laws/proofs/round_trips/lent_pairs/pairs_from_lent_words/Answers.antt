@@ -7,8 +7,7 @@ use Rattle.constriction_coder_laws.specs.Outcomes.{HasImpossibleItem}
 use Rattle.constriction_queue.specs.Encoder.{left_to_encode, run_by}
 use Rattle.constriction_queue_laws.proofs.Told.{err_weaker, passed, while_coding, while_reading}
 use Rattle.std.specs.Prelude.{⊤}
-use Rattle.constriction_queue.specs.Range.{sealed}
-use Rattle.std.proofs.Common.{refl, sym, ◌∙◌}
+use Rattle.std.proofs.Common.{sym, ◌∙◌}
 use Rattle.constriction_queue_laws.proofs.Told.{ok_weaker}
 use Rattle.constriction_queue_laws.proofs.round_trips.lent_pairs.pairs_from_lent_words.Goals as goal
 
@@ -49,8 +48,7 @@ returns-clause-count g c = ok_weaker c.decode_lent_words_by_models.result c.deco
 
 pub returns-clause-none : goal.returns-clause-none
 returns-clause-none g c =
-    let w = g.Word.BitArray.BITS in
-    let s = g.State.BitArray.BITS in
-    let last : Run = run_by w s c.encode_pairs.new.encoder in
-    err_weaker c.decode_lent_words_by_models.result c.decode_lent_words_by_models.ensures.err
-    (λ e why. while_reading _ ⊤ ⊤ _ e why (λ none. (sealed w s last, (last, c.in_ok-encode_pairs.ensures.narrowed, refl), λ symbols last count. none symbols last (count ∙ c.requires))))
+    let left = c.decode_lent_words_by_models.ensures in
+    let on = c.in_ok-encode_pairs.ensures.narrowed in
+    err_weaker c.decode_lent_words_by_models.result left.err
+    (λ e why. while_reading _ ⊤ ⊤ _ e why (λ none. rw (left.heads.held, left.heads.lower, left.heads.range, left.kept) (on, λ symbols last count. none symbols last (count ∙ c.requires))))

@@ -7,7 +7,6 @@ use Rattle.constriction_coder_laws.specs.Outcomes.{HasImpossible}
 use Rattle.constriction_queue.specs.Encoder.{left_to_encode, run_by}
 use Rattle.constriction_queue_laws.proofs.Told.{err_weaker, passed, while_coding, while_reading}
 use Rattle.std.specs.Prelude.{⊤}
-use Rattle.constriction_queue.specs.Range.{sealed}
 use Rattle.constriction_queue_laws.proofs.round_trips.lent_words.list_from_lent_words.Goals as goal
 
 pub returns-clause-back : goal.returns-clause-back
@@ -45,8 +44,7 @@ returns-clause-err g c =
 
 pub returns-clause-none : goal.returns-clause-none
 returns-clause-none g c =
-    let w = g.Word.BitArray.BITS in
-    let s = g.State.BitArray.BITS in
-    let last : Run = run_by w s c.encode_list.new.encoder in
-    err_weaker c.decode_lent_words.result c.decode_lent_words.ensures.err
-    (λ e why. while_reading _ ⊤ ⊤ _ e why (λ none. (sealed w s last, (last, c.in_ok-encode_list.ensures.narrowed, refl), none)))
+    let left = c.decode_lent_words.ensures in
+    let on = c.in_ok-encode_list.ensures.narrowed in
+    err_weaker c.decode_lent_words.result left.err
+    (λ e why. while_reading _ ⊤ ⊤ _ e why (λ none. rw (left.heads.held, left.heads.lower, left.heads.range, left.kept) (on, none)))
