@@ -19,9 +19,11 @@ within_read w s words item items last z are ms h =
     ((law_reads w s words z are e es (are_steps w s (item ∷ items) (start s) last coded ms)).0 (reads_entries w s words (item ∷ items) (start s) last h))
 
 -- what holds of the decodes of symbols whose words lie within their run holds of those behind any interval
-pub read_behind : {S : Type 0} (w s : ℕ) (since : List (Item S)) (middle last : Run) → IsSizes w s → AreModels w since → IsInterval w s middle → NarrowsAll w s since middle last
+pub read_behind : {S : Type 0} (w s : ℕ) (since : List (Item S)) (middle last : Run)
+    → IsSizes w s → AreModels w since → IsInterval w s middle → NarrowsAll w s since middle last
     → (Within w s (sealed w s last) last → FindsAll w s (sealed w s last) since middle last)
     → FindsAll w s (sealed w s last) since middle last
 read_behind w s [] middle last z ss v k law = k
 read_behind w s (item ∷ since) middle last z ss v k law =
-    law (sealed_within_interval w s last z (intervals w s (item ∷ since) middle last z ss v k) (less_behind w s z item since middle last ss v k))
+    law (sealed_within_interval w s last z (intervals w s (item ∷ since) middle last z ss v k)
+    (less_behind w s z item since middle last ss v k))

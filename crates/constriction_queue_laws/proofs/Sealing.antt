@@ -45,7 +45,8 @@ sealed_words w s r = elim (cases_eq r.range (2 ^ s - 1)) [
 -- ---- the run of symbols
 module _ {S : Type 0} (w s : ℕ) (z : IsSizes w s) where
   -- behind an interval the range is shorter than the first
-  pub less_behind : (item : Item S) (items : List (Item S)) (old last : Run) → AreModels w (item ∷ items) → IsInterval w s old → NarrowsAll w s (item ∷ items) old last → last.range + 1 < 2 ^ s
+  pub less_behind : (item : Item S) (items : List (Item S)) (old last : Run)
+      → AreModels w (item ∷ items) → IsInterval w s old → NarrowsAll w s (item ∷ items) old last → last.range + 1 < 2 ^ s
   less_behind item items old last ms v h =
       let e : Step = record { precision = item.model.precision; left = h.1.0; p = h.1.1 } in
       let es : List Step = entries w s items h.0 last h.2 in
@@ -81,11 +82,15 @@ number_at_end w s r z v h =
     (seal_point w s r [] z v ∙ (ap (λ x. c * q + x) (number_zeros (2 ^ w) (s / w - 1) [] no_word) ∙ omega arith)))
 
 -- so the sealed words of any interval that is shorter than the first lie within it
-pub sealed_within_interval : (w s : ℕ) (r : Run) → IsSizes w s → IsInterval w s r → r.range + 1 < 2 ^ s → Within w s (sealed w s r) r
+pub sealed_within_interval : (w s : ℕ) (r : Run) → IsSizes w s → IsInterval w s r → r.range + 1 < 2 ^ s
+    → Within w s (sealed w s r) r
 sealed_within_interval w s r z v h =
     let some : 0 < 2 ^ (s - w) = pow_pos (s - w) in
     let read = number_at_end w s r z v h in
-    record { from = omega (arith, read, ceil_from r.low (2 ^ (s - w)) some); below = omega (arith, read, ceil_below r.low (2 ^ (s - w)) some, v.least) }
+    record {
+      from = omega (arith, read, ceil_from r.low (2 ^ (s - w)) some);
+      below = omega (arith, read, ceil_below r.low (2 ^ (s - w)) some, v.least);
+    }
 
 end_of : (w s : ℕ) (r : Run) → IsSizes w s → IsInterval w s r → r.range + 1 < 2 ^ s → MayEnd w s (sealed w s r) r
 end_of w s r z v h =

@@ -60,12 +60,13 @@ where
 }
 
 /// Symbols that are put on an encoder, which begins as a new one, come back from the decoder that it becomes:
-/// [`decoder_of_list`], `decode_iid_symbols`. The decoder then says that it may be exhausted.
+/// [`decoder_of_list`], `decode_iid_symbols`. The decoder then says that it may be exhausted. From any other encoder
+/// come as many symbols, those with which its words begin.
 ///
 /// # Errors
 /// - `ImpossibleSymbol`: the model has no entry for one of the symbols.
 /// - `TooManySymbols`: they are more than the encoder counts.
-/// - `InvalidData`: the encoder didn't begin as a new one.
+/// - `InvalidData`: the encoder didn't begin as a new one, and its words hold no list of so many symbols of the model.
 /// - `Refused`: a word, a read or memory was refused.
 pub fn list_into_decoder<
     Word: WordOf<State>,

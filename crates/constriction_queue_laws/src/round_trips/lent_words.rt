@@ -7,7 +7,8 @@ ghost use Rattle.constriction_coder_laws.specs.Outcomes.{HasImpossible};
 ghost use Rattle.constriction_queue.specs.Encoder.{left_to_encode, run_by, sealed_by, HasHeads};
 ghost use Rattle.constriction_queue.specs.Range.{Run, start};
 ghost use Rattle.constriction_queue_laws.specs.Concatenated.{ReadsList};
-ghost use Rattle.constriction_queue_laws.specs.Outcomes.{GivesNone, HoldNone, NoneLent, NoneSealed, NotBack, NotRead, ReadsSealed};
+ghost use Rattle.constriction_queue_laws.specs.Outcomes.{GivesNone, HoldNone, NoneLent, NoneSealed};
+ghost use Rattle.constriction_queue_laws.specs.Outcomes.{NotBack, NotRead, ReadsSealed};
 ghost use Rattle.constriction_queue_laws.specs.Symbols.{NarrowsAll, FindsAll, StandsAt};
 
 use crate::lists::symbols_come_back;
@@ -67,12 +68,13 @@ where
 }
 
 /// Symbols that are put on an encoder, which begins as a new one, come back from the words that it lends by
-/// `get_compressed`, and the encoder goes on behind them: [`encode_list`], [`decode_lent_words`].
+/// `get_compressed`, and the encoder goes on behind them: [`encode_list`], [`decode_lent_words`]. From any other
+/// encoder come as many symbols, those with which its words begin.
 ///
 /// # Errors
 /// - `ImpossibleSymbol`: the model has no entry for one of the symbols.
 /// - `TooManySymbols`: they are more than the encoder counts.
-/// - `InvalidData`: the encoder didn't begin as a new one.
+/// - `InvalidData`: the encoder didn't begin as a new one, and its words hold no list of so many symbols of the model.
 /// - `Refused`: memory was refused.
 pub fn list_from_lent_words<
     Word: WordOf<State>,
@@ -185,12 +187,13 @@ where
 }
 
 /// Symbols that are put on an encoder, which begins as a new one, come back from the decoder that it lends by
-/// `decoder`: [`encode_list`], [`decode_through_decoder`].
+/// `decoder`: [`encode_list`], [`decode_through_decoder`]. From any other encoder come as many symbols, those with
+/// which its words begin.
 ///
 /// # Errors
 /// - `ImpossibleSymbol`: the model has no entry for one of the symbols.
 /// - `TooManySymbols`: they are more than the encoder counts.
-/// - `InvalidData`: the encoder didn't begin as a new one.
+/// - `InvalidData`: the encoder didn't begin as a new one, and its words hold no list of so many symbols of the model.
 /// - `Refused`: memory was refused.
 pub fn list_through_decoder<
     Word: WordOf<State>,

@@ -9,7 +9,8 @@ ghost use Rattle.constriction_base.specs.Steps.{IsSizes};
 ghost use Rattle.constriction_coder_laws.specs.Outcomes.{HasImpossibleItem};
 ghost use Rattle.constriction_queue.specs.Encoder.{left_to_encode, run_by};
 ghost use Rattle.constriction_queue.specs.Range.{Run, start};
-ghost use Rattle.constriction_queue_laws.specs.Outcomes.{HoldNone, NoneSealed, NotBack, NotCoded, NotRead, ReadsAll, ReadsAllSealed, SealsAll};
+ghost use Rattle.constriction_queue_laws.specs.Outcomes.{HoldNone, NoneSealed, NotBack, NotCoded};
+ghost use Rattle.constriction_queue_laws.specs.Outcomes.{NotRead, ReadsAll, ReadsAllSealed, SealsAll};
 ghost use Rattle.constriction_queue_laws.specs.Symbols.{FindsAll};
 
 use crate::lists::symbols_come_back;
@@ -98,12 +99,12 @@ where
 
 /// Symbols that are put on an encoder, which begins as a new one, each by its own model, come back from the words that
 /// it then exports: [`compressed_words_of_pairs`], [`pairs_from_words`]. The decoder then says that it may be
-/// exhausted.
+/// exhausted. From any other encoder come as many symbols, those with which its words begin.
 ///
 /// # Errors
 /// - `ImpossibleSymbol`: a model has no entry for its symbol.
 /// - `TooManySymbols`: they are more than the encoder counts.
-/// - `InvalidData`: the encoder didn't begin as a new one.
+/// - `InvalidData`: the encoder didn't begin as a new one, and its words hold no list of symbols of the models.
 /// - `Refused`: a word, a read or memory was refused.
 pub fn pairs_through_words<
     Word: WordOf<State>,

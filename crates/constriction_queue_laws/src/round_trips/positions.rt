@@ -118,7 +118,7 @@ where
 }
 
 /// Symbols that were put on after a position was recorded come back from a decoder that seeks to it, over the
-/// words that the encoder exported later, whatever it had coded before: [`words_and_position`], [`list_from_position`].
+/// words that the encoder exported later, whatever was written before: [`words_and_position`], [`list_from_position`].
 ///
 /// # Errors
 /// - `ImpossibleSymbol`: the model has no entry for one of the symbols.

@@ -120,7 +120,7 @@ where
 }
 
 /// Symbols that were put on after a position was recorded, each by its own model, come back from a decoder that seeks to
-/// it, over the words that the encoder exported later, whatever it had coded before: [`words_and_position_of_pairs`],
+/// it, over the words that the encoder exported later, whatever was written before: [`words_and_position_of_pairs`],
 /// [`pairs_from_position`].
 ///
 /// # Errors
@@ -146,7 +146,8 @@ where
     requires since { length since.now ≡ length since_models.now }
     ensures back { IfOk result (λ again. again.items ≡ since.now) }
     ensures known { IfOk result (λ _. HasImpossibleItem
-        (pairs_of PRECISION M.table before.now before_models.now ++ pairs_of PRECISION M.table since.now since_models.now) → ⊥) }
+        (pairs_of PRECISION M.table before.now before_models.now
+        ++ pairs_of PRECISION M.table since.now since_models.now) → ⊥) }
     ensures err { IfErr result (NotCoded
         (HasImpossibleItem (pairs_of PRECISION M.table before.now before_models.now ++ pairs_of PRECISION M.table since.now since_models.now))
         (left_to_encode encoder < length before.now + length since.now)) }

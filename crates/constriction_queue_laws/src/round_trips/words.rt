@@ -9,7 +9,8 @@ ghost use Rattle.constriction_base.specs.Steps.{IsSizes};
 ghost use Rattle.constriction_coder_laws.specs.Outcomes.{HasImpossible};
 ghost use Rattle.constriction_queue.specs.Encoder.{left_to_encode, run_by};
 ghost use Rattle.constriction_queue.specs.Range.{Run, start};
-ghost use Rattle.constriction_queue_laws.specs.Outcomes.{HoldNone, NoneSealed, NotBack, NotCoded, NotRead, ReadsAll, ReadsAllSealed, SealsAll};
+ghost use Rattle.constriction_queue_laws.specs.Outcomes.{HoldNone, NoneSealed, NotBack, NotCoded};
+ghost use Rattle.constriction_queue_laws.specs.Outcomes.{NotRead, ReadsAll, ReadsAllSealed, SealsAll};
 ghost use Rattle.constriction_queue_laws.specs.Symbols.{FindsAll};
 
 use crate::lists::symbols_come_back;
@@ -101,12 +102,13 @@ where
 }
 
 /// Symbols that are put on an encoder, which begins as a new one, come back from the words that it then
-/// exports: [`compressed_words_of_list`], [`list_from_words`]. The decoder then says that it may be exhausted.
+/// exports: [`compressed_words_of_list`], [`list_from_words`]. The decoder then says that it may be exhausted. From
+/// any other encoder come as many symbols, those with which its words begin.
 ///
 /// # Errors
 /// - `ImpossibleSymbol`: the model has no entry for one of the symbols.
 /// - `TooManySymbols`: they are more than the encoder counts.
-/// - `InvalidData`: the encoder didn't begin as a new one.
+/// - `InvalidData`: the encoder didn't begin as a new one, and its words hold no list of so many symbols of the model.
 /// - `Refused`: a word, a read or memory was refused.
 pub fn list_through_words<
     Word: WordOf<State>,
