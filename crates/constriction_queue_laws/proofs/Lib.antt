@@ -1,3 +1,4 @@
+pub mod AnyEncoder
 pub mod AnyWords
 pub mod ComingBack
 pub mod Concatenating

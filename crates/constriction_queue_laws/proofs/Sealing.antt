@@ -2,15 +2,14 @@
 use Rattle.std.proofs.Common.{◌≡◌, ◌≢◌, ℕ, zero, suc, ◌+◌, ◌-◌, ◌*◌, ◌/◌, ◌^◌, ◌<◌, ◌≤◌, List, [], ◌∷◌, ◌++◌, drop, length, slice_index, refl, sym, ap, ap₂, ◌∙◌, subst, inl, inr, arith, pow_pos, eq-eqb, ne_eqb, length-append}
 use Rattle.std.proofs.lemmas.Bool.{cases_eq}
 use Rattle.constriction_base.specs.Digits.{fixed_digits}
-use Rattle.constriction_base.specs.Steps.{Step, AreSteps, IsSizes, AreWords}
+use Rattle.constriction_base.specs.Steps.{Step, IsSizes, AreWords}
 use Rattle.constriction_base.specs.Models.{Item, AreModels}
 use Rattle.constriction_base.proofs.Sizes.{Facts, facts}
-use Rattle.constriction_queue.specs.Range.{Run, IsInterval, Within, number_read, offset, run, seal_number, sealed, start}
+use Rattle.constriction_queue.specs.Range.{Run, IsInterval, Within, number_read, offset, seal_number, sealed, start}
 use Rattle.constriction_queue.specs.Encoder.{Encoder, HasHeads, Without, run_by, run_of}
 use Rattle.constriction_queue.proofs.Cuts.{offset_is}
 use Rattle.constriction_queue.proofs.Narrowing.{valid_start}
-use Rattle.constriction_queue.proofs.ReadingRuns.{law_reads}
-use Rattle.constriction_queue.proofs.SealedRuns.{ceil_below, ceil_from, length-fixed_digits, less_after, number_zeros, seal_point, sealed_reads_alone, tail, words-append, words-fixed_digits}
+use Rattle.constriction_queue.proofs.SealedRuns.{ceil_below, ceil_from, length-fixed_digits, less_after, number_zeros, seal_point, tail, words-append, words-fixed_digits}
 use Rattle.constriction_queue_laws.specs.Symbols.{NarrowsAll, MayEnd}
 use Rattle.constriction_queue_laws.proofs.Entries.{entries, are_steps, run_is, intervals}
 
@@ -45,22 +44,17 @@ sealed_words w s r = elim (cases_eq r.range (2 ^ s - 1)) [
 
 -- ---- the run of symbols
 module _ {S : Type 0} (w s : ℕ) (z : IsSizes w s) where
-  -- the sealed words of some symbols lie within their run
-  pub sealed_within : (item : Item S) (items : List (Item S)) (last : Run) → AreModels w (item ∷ items) → NarrowsAll w s (item ∷ items) (start s) last → Within w s (sealed w s last) last
-  sealed_within item items last ms h =
+  -- behind an interval the range is shorter than the first
+  pub less_behind : (item : Item S) (items : List (Item S)) (old last : Run)
+      → AreModels w (item ∷ items) → IsInterval w s old → NarrowsAll w s (item ∷ items) old last → last.range + 1 < 2 ^ s
+  less_behind item items old last ms v h =
       let e : Step = record { precision = item.model.precision; left = h.1.0; p = h.1.1 } in
       let es : List Step = entries w s items h.0 last h.2 in
-      let steps : AreSteps w (e ∷ es) = are_steps w s (item ∷ items) (start s) last h ms in
-      let r : Run = run w s (e ∷ es) (start s) in
-      subst (λ (r : Run). Within w s (sealed w s r) r) (run_is w s (item ∷ items) (start s) last h)
-      ((law_reads w s (sealed w s r) z (sealed_words w s r) e es steps).0 (sealed_reads_alone w s (e ∷ es) z steps))
+      subst (λ (r : Run). r.range + 1 < 2 ^ s) (run_is w s (item ∷ items) old last h)
+      (less_after w s e es old z (are_steps w s (item ∷ items) old last h ms) v)
 
   pub less_than_all : (item : Item S) (items : List (Item S)) (last : Run) → AreModels w (item ∷ items) → NarrowsAll w s (item ∷ items) (start s) last → last.range + 1 < 2 ^ s
-  less_than_all item items last ms h =
-      let e : Step = record { precision = item.model.precision; left = h.1.0; p = h.1.1 } in
-      let es : List Step = entries w s items h.0 last h.2 in
-      subst (λ (r : Run). r.range + 1 < 2 ^ s) (run_is w s (item ∷ items) (start s) last h)
-      (less_after w s e es (start s) z (are_steps w s (item ∷ items) (start s) last h ms) (valid_start w s z))
+  less_than_all item items last ms h = less_behind item items (start s) last ms (valid_start w s z) h
 
 -- ---- where reading ends
 pub drop_all : (n : ℕ) (ws : List ℕ) → length ws ≤ n → drop n ws ≡ []
@@ -86,6 +80,17 @@ number_at_end w s r z v h =
     (tail_is w s r (λ ws. number_read w s (ds ++ ws) r.moves ≡ c * q)
     (seal_point w s r (0 ∷ []) z v ∙ (ap (λ x. c * q + x) (number_zeros (2 ^ w) (s / w - 1) (0 ∷ []) zero_word) ∙ omega arith))
     (seal_point w s r [] z v ∙ (ap (λ x. c * q + x) (number_zeros (2 ^ w) (s / w - 1) [] no_word) ∙ omega arith)))
+
+-- so the sealed words of any interval that is shorter than the first lie within it
+pub sealed_within_interval : (w s : ℕ) (r : Run) → IsSizes w s → IsInterval w s r → r.range + 1 < 2 ^ s
+    → Within w s (sealed w s r) r
+sealed_within_interval w s r z v h =
+    let some : 0 < 2 ^ (s - w) = pow_pos (s - w) in
+    let read = number_at_end w s r z v h in
+    record {
+      from = omega (arith, read, ceil_from r.low (2 ^ (s - w)) some);
+      below = omega (arith, read, ceil_below r.low (2 ^ (s - w)) some, v.least);
+    }
 
 end_of : (w s : ℕ) (r : Run) → IsSizes w s → IsInterval w s r → r.range + 1 < 2 ^ s → MayEnd w s (sealed w s r) r
 end_of w s r z v h =

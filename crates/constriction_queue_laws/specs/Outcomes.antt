@@ -12,6 +12,7 @@ use Rattle.constriction_coder_laws.specs.declared.errors.Stopped.{Stopped}
 use Rattle.constriction_coder_laws.specs.declared.errors.Stopped.TheVariants as stopped
 use Rattle.constriction_queue_laws.specs.declared.concatenated.DecodeError.{DecodeError}
 use Rattle.constriction_queue_laws.specs.declared.concatenated.DecodeError.TheVariants.{NoSuchPlace, InvalidData}
+use Rattle.constriction_queue_laws.specs.Concatenated.{ReadsItems}
 use Rattle.constriction_queue_laws.specs.Symbols.{NarrowsAll, FindsAll, StandsAt, MayEnd, NearsEnd}
 
 -- symbols weren't coded: one has no entry, or they are more than the encoder counts
@@ -46,6 +47,30 @@ StandsBefore w s items old decoder = (last : Run) × NarrowsAll w s items old la
 abbrev pub ReadsAll : {S : Type 0} → ℕ → ℕ → List ℕ → List (Item S) → Bool → Type 0
 ReadsAll w s words items ended =
     (last : Run) × FindsAll w s words items (start s) last × (MayEnd w s words last → IsTrue ended) × (IsTrue ended → NearsEnd w s words last)
+
+-- as many symbols are read, by a new decoder, from the sealed words of these, which stand behind those of a run
+abbrev pub ReadsSealed : {S : Type 0} → ℕ → ℕ → (List S → List (Item S)) → Run → List S → List S → Type 0
+ReadsSealed w s items old symbols again =
+    (length again ≡ length symbols)
+    × ((words : List ℕ) × SealsAll w s (items symbols) old words × ReadsItems w s words (items again))
+
+-- the same, and the decoder then says whether the words may have ended
+abbrev pub ReadsAllSealed : {S : Type 0} → ℕ → ℕ → (List S → List (Item S)) → Run → List S → List S → Bool → Type 0
+ReadsAllSealed w s items old symbols again ended =
+    (length again ≡ length symbols)
+    × ((words : List ℕ) × SealsAll w s (items symbols) old words × ReadsAll w s words (items again) ended)
+
+-- where words that hold no such list stopped it: they are these sealed words, and hold none of so many symbols
+abbrev pub NoneSealed : {S : Type 0} → ℕ → ℕ → (List S → List (Item S)) → Run → List S → RoundTripError → Type 0
+NoneSealed w s items old symbols e =
+    Reasons ⊤ ⊤ ((words : List ℕ) × SealsAll w s (items symbols) old words
+    × HoldNone w s words items (length symbols) (start s)) (λ taken. ⊥) e
+
+-- the same of words that an encoder lends, which is behind these symbols then
+abbrev pub NoneLent : {S : Type 0} → ℕ → ℕ → (List S → List (Item S)) → Run → Run → List S → RoundTripError → Type 0
+NoneLent w s items old new symbols e =
+    Reasons ⊤ ⊤ (NarrowsAll w s (items symbols) old new
+    × HoldNone w s (sealed w s new) items (length symbols) (start s)) (λ taken. ⊥) e
 
 -- the words lie within the run of the items
 abbrev pub LieWithin : {S : Type 0} → ℕ → ℕ → List ℕ → List (Item S) → Type 0

@@ -8,7 +8,7 @@ ghost use Rattle.constriction_base.specs.Steps.{IsSizes};
 ghost use Rattle.constriction_coder_laws.specs.Outcomes.{HasImpossible};
 ghost use Rattle.constriction_queue.specs.Encoder.{left_to_encode, run_by};
 ghost use Rattle.constriction_queue.specs.Range.{start};
-ghost use Rattle.constriction_queue_laws.specs.Outcomes.{NotBack, NotCoded, StandsBefore};
+ghost use Rattle.constriction_queue_laws.specs.Outcomes.{NoneSealed, NotBack, NotCoded, ReadsAllSealed, StandsBefore};
 
 use crate::lists::symbols_come_back;
 use crate::round_trips::coding::{decode_list, encode_list, has_ended};
@@ -60,12 +60,13 @@ where
 }
 
 /// Symbols that are put on an encoder, which begins as a new one, come back from the decoder that it becomes:
-/// [`decoder_of_list`], `decode_iid_symbols`. The decoder then says that it may be exhausted.
+/// [`decoder_of_list`], `decode_iid_symbols`. The decoder then says that it may be exhausted. From any other encoder
+/// come as many symbols, those with which its words begin.
 ///
 /// # Errors
 /// - `ImpossibleSymbol`: the model has no entry for one of the symbols.
 /// - `TooManySymbols`: they are more than the encoder counts.
-/// - `InvalidData`: the encoder didn't begin as a new one.
+/// - `InvalidData`: the encoder didn't begin as a new one, and its words hold no list of so many symbols of the model.
 /// - `Refused`: a word, a read or memory was refused.
 pub fn list_into_decoder<
     Word: WordOf<State>,
@@ -86,6 +87,12 @@ where
     <Backend::IntoReadWords as ReadWords<Word, Queue>>::ReadError: Drop,
     ensures back { run_by Word.BITS State.BITS encoder ≡ start State.BITS →
         IfOk result (λ back. (back.0.items ≡ symbols.now) × IsTrue back.1) }
+    ensures read { IfOk result (λ back. ReadsAllSealed Word.BITS State.BITS
+        (items_of record { precision = PRECISION; table = M.table model.now })
+        (run_by Word.BITS State.BITS encoder) symbols.now back.0.items back.1) }
+    ensures none { IfErr result (NoneSealed Word.BITS State.BITS
+        (items_of record { precision = PRECISION; table = M.table model.now })
+        (run_by Word.BITS State.BITS encoder) symbols.now) }
     ensures err { IfErr result (NotBack (HasImpossible (M.table model.now) symbols.now)
         (left_to_encode encoder < length symbols.now)
         (run_by Word.BITS State.BITS encoder ≡ start State.BITS)) }

@@ -6,7 +6,8 @@ ghost use Rattle.constriction_coder_laws.specs.Outcomes.{HasImpossibleItem};
 ghost use Rattle.constriction_queue.specs.Encoder.{left_to_encode, run_by, sealed_by, HasHeads};
 ghost use Rattle.constriction_queue.specs.Range.{Run, start};
 ghost use Rattle.constriction_queue_laws.specs.Concatenated.{ReadsItems};
-ghost use Rattle.constriction_queue_laws.specs.Outcomes.{GivesNone, HoldNone, NotBack, NotRead};
+ghost use Rattle.constriction_queue_laws.specs.Outcomes.{GivesNone, HoldNone, NoneLent, NoneSealed};
+ghost use Rattle.constriction_queue_laws.specs.Outcomes.{NotBack, NotRead, ReadsSealed};
 ghost use Rattle.constriction_queue_laws.specs.Symbols.{NarrowsAll, FindsAll, StandsAt};
 
 use crate::lists::symbols_come_back;
@@ -65,11 +66,12 @@ where
 
 /// Symbols that are put on an encoder, which begins as a new one, each by its own model, come back from the words that it
 /// lends by `get_compressed`, and the encoder goes on behind them: [`encode_pairs`], [`decode_lent_words_by_models`].
+/// From any other encoder come as many symbols, those with which its words begin.
 ///
 /// # Errors
 /// - `ImpossibleSymbol`: a model has no entry for its symbol.
 /// - `TooManySymbols`: they are more than the encoder counts.
-/// - `InvalidData`: the encoder didn't begin as a new one.
+/// - `InvalidData`: the encoder didn't begin as a new one, and its words hold no list of symbols of the models.
 /// - `Refused`: memory was refused.
 pub fn pairs_from_lent_words<
     Word: WordOf<State>,
@@ -92,6 +94,10 @@ where
         (run_by Word.BITS State.BITS encoder.old) (run_by Word.BITS State.BITS encoder.new)) }
     ensures read { IfOk result (λ again. ReadsItems Word.BITS State.BITS (sealed_by Word.BITS State.BITS encoder.new)
         (pairs_of PRECISION M.table again.items models.now)) }
+    ensures count { IfOk result (λ again. length again.items ≡ length symbols.now) }
+    ensures none { IfErr result (NoneLent Word.BITS State.BITS
+        (λ symbols. pairs_of PRECISION M.table symbols models.now)
+        (run_by Word.BITS State.BITS encoder.old) (run_by Word.BITS State.BITS encoder.new) symbols.now) }
     ensures err { IfErr result (NotBack (HasImpossibleItem (pairs_of PRECISION M.table symbols.now models.now))
         (left_to_encode encoder.old < length symbols.now)
         (run_by Word.BITS State.BITS encoder.old ≡ start State.BITS)) }
@@ -172,12 +178,13 @@ where
 }
 
 /// Symbols that are put on an encoder, which begins as a new one, each by its own model, come back from the decoder that it
-/// lends by `decoder`: [`encode_pairs`], [`decode_through_decoder_by_models`].
+/// lends by `decoder`: [`encode_pairs`], [`decode_through_decoder_by_models`]. From any other encoder come as many
+/// symbols, those with which its words begin.
 ///
 /// # Errors
 /// - `ImpossibleSymbol`: a model has no entry for its symbol.
 /// - `TooManySymbols`: they are more than the encoder counts.
-/// - `InvalidData`: the encoder didn't begin as a new one.
+/// - `InvalidData`: the encoder didn't begin as a new one, and its words hold no list of symbols of the models.
 /// - `Refused`: memory was refused.
 pub fn pairs_through_decoder<
     Word: WordOf<State>,
@@ -196,6 +203,12 @@ where
     requires { length symbols.now ≡ length models.now }
     ensures back { run_by Word.BITS State.BITS encoder.old ≡ start State.BITS →
         IfOk result (λ again. again.items ≡ symbols.now) }
+    ensures read { IfOk result (λ again. ReadsSealed Word.BITS State.BITS
+        (λ symbols. pairs_of PRECISION M.table symbols models.now)
+        (run_by Word.BITS State.BITS encoder.old) symbols.now again.items) }
+    ensures none { IfErr result (NoneSealed Word.BITS State.BITS
+        (λ symbols. pairs_of PRECISION M.table symbols models.now)
+        (run_by Word.BITS State.BITS encoder.old) symbols.now) }
     ensures err { IfErr result (NotBack (HasImpossibleItem (pairs_of PRECISION M.table symbols.now models.now))
         (left_to_encode encoder.old < length symbols.now)
         (run_by Word.BITS State.BITS encoder.old ≡ start State.BITS)) }

@@ -7,7 +7,8 @@ ghost use Rattle.constriction_coder_laws.specs.Outcomes.{HasImpossible};
 ghost use Rattle.constriction_queue.specs.Encoder.{left_to_encode, run_by, sealed_by, HasHeads};
 ghost use Rattle.constriction_queue.specs.Range.{Run, start};
 ghost use Rattle.constriction_queue_laws.specs.Concatenated.{ReadsList};
-ghost use Rattle.constriction_queue_laws.specs.Outcomes.{GivesNone, HoldNone, NotBack, NotRead};
+ghost use Rattle.constriction_queue_laws.specs.Outcomes.{GivesNone, HoldNone, NoneLent, NoneSealed};
+ghost use Rattle.constriction_queue_laws.specs.Outcomes.{NotBack, NotRead, ReadsSealed};
 ghost use Rattle.constriction_queue_laws.specs.Symbols.{NarrowsAll, FindsAll, StandsAt};
 
 use crate::lists::symbols_come_back;
@@ -67,12 +68,13 @@ where
 }
 
 /// Symbols that are put on an encoder, which begins as a new one, come back from the words that it lends by
-/// `get_compressed`, and the encoder goes on behind them: [`encode_list`], [`decode_lent_words`].
+/// `get_compressed`, and the encoder goes on behind them: [`encode_list`], [`decode_lent_words`]. From any other
+/// encoder come as many symbols, those with which its words begin.
 ///
 /// # Errors
 /// - `ImpossibleSymbol`: the model has no entry for one of the symbols.
 /// - `TooManySymbols`: they are more than the encoder counts.
-/// - `InvalidData`: the encoder didn't begin as a new one.
+/// - `InvalidData`: the encoder didn't begin as a new one, and its words hold no list of so many symbols of the model.
 /// - `Refused`: memory was refused.
 pub fn list_from_lent_words<
     Word: WordOf<State>,
@@ -96,6 +98,10 @@ where
     ensures read { IfOk result (λ again. ReadsList Word.BITS State.BITS
         record { precision = PRECISION; table = M.table model.now }
         (sealed_by Word.BITS State.BITS encoder.new) again.items) }
+    ensures count { IfOk result (λ again. length again.items ≡ length symbols.now) }
+    ensures none { IfErr result (NoneLent Word.BITS State.BITS
+        (items_of record { precision = PRECISION; table = M.table model.now })
+        (run_by Word.BITS State.BITS encoder.old) (run_by Word.BITS State.BITS encoder.new) symbols.now) }
     ensures err { IfErr result (NotBack (HasImpossible (M.table model.now) symbols.now)
         (left_to_encode encoder.old < length symbols.now)
         (run_by Word.BITS State.BITS encoder.old ≡ start State.BITS)) }
@@ -181,12 +187,13 @@ where
 }
 
 /// Symbols that are put on an encoder, which begins as a new one, come back from the decoder that it lends by
-/// `decoder`: [`encode_list`], [`decode_through_decoder`].
+/// `decoder`: [`encode_list`], [`decode_through_decoder`]. From any other encoder come as many symbols, those with
+/// which its words begin.
 ///
 /// # Errors
 /// - `ImpossibleSymbol`: the model has no entry for one of the symbols.
 /// - `TooManySymbols`: they are more than the encoder counts.
-/// - `InvalidData`: the encoder didn't begin as a new one.
+/// - `InvalidData`: the encoder didn't begin as a new one, and its words hold no list of so many symbols of the model.
 /// - `Refused`: memory was refused.
 pub fn list_through_decoder<
     Word: WordOf<State>,
@@ -204,6 +211,12 @@ where
     M::Probability: WordOf<Word>,
     ensures back { run_by Word.BITS State.BITS encoder.old ≡ start State.BITS →
         IfOk result (λ again. again.items ≡ symbols.now) }
+    ensures read { IfOk result (λ again. ReadsSealed Word.BITS State.BITS
+        (items_of record { precision = PRECISION; table = M.table model.now })
+        (run_by Word.BITS State.BITS encoder.old) symbols.now again.items) }
+    ensures none { IfErr result (NoneSealed Word.BITS State.BITS
+        (items_of record { precision = PRECISION; table = M.table model.now })
+        (run_by Word.BITS State.BITS encoder.old) symbols.now) }
     ensures err { IfErr result (NotBack (HasImpossible (M.table model.now) symbols.now)
         (left_to_encode encoder.old < length symbols.now)
         (run_by Word.BITS State.BITS encoder.old ≡ start State.BITS)) }

@@ -9,7 +9,8 @@ ghost use Rattle.constriction_base.specs.Steps.{IsSizes};
 ghost use Rattle.constriction_coder_laws.specs.Outcomes.{HasImpossibleItem};
 ghost use Rattle.constriction_queue.specs.Encoder.{left_to_encode, run_by};
 ghost use Rattle.constriction_queue.specs.Range.{Run, start};
-ghost use Rattle.constriction_queue_laws.specs.Outcomes.{HoldNone, NotBack, NotCoded, NotRead, ReadsAll, SealsAll};
+ghost use Rattle.constriction_queue_laws.specs.Outcomes.{HoldNone, NoneSealed, NotBack, NotCoded};
+ghost use Rattle.constriction_queue_laws.specs.Outcomes.{NotRead, ReadsAll, ReadsAllSealed, SealsAll};
 ghost use Rattle.constriction_queue_laws.specs.Symbols.{FindsAll};
 
 use crate::lists::symbols_come_back;
@@ -98,12 +99,12 @@ where
 
 /// Symbols that are put on an encoder, which begins as a new one, each by its own model, come back from the words that
 /// it then exports: [`compressed_words_of_pairs`], [`pairs_from_words`]. The decoder then says that it may be
-/// exhausted.
+/// exhausted. From any other encoder come as many symbols, those with which its words begin.
 ///
 /// # Errors
 /// - `ImpossibleSymbol`: a model has no entry for its symbol.
 /// - `TooManySymbols`: they are more than the encoder counts.
-/// - `InvalidData`: the encoder didn't begin as a new one.
+/// - `InvalidData`: the encoder didn't begin as a new one, and its words hold no list of symbols of the models.
 /// - `Refused`: a word, a read or memory was refused.
 pub fn pairs_through_words<
     Word: WordOf<State>,
@@ -125,6 +126,12 @@ where
     requires { length symbols.now ≡ length models.now }
     ensures back { run_by Word.BITS State.BITS encoder ≡ start State.BITS →
         IfOk result (λ back. (back.0.items ≡ symbols.now) × IsTrue back.1) }
+    ensures read { IfOk result (λ back. ReadsAllSealed Word.BITS State.BITS
+        (λ symbols. pairs_of PRECISION M.table symbols models.now)
+        (run_by Word.BITS State.BITS encoder) symbols.now back.0.items back.1) }
+    ensures none { IfErr result (NoneSealed Word.BITS State.BITS
+        (λ symbols. pairs_of PRECISION M.table symbols models.now)
+        (run_by Word.BITS State.BITS encoder) symbols.now) }
     ensures err { IfErr result (NotBack (HasImpossibleItem (pairs_of PRECISION M.table symbols.now models.now))
         (left_to_encode encoder < length symbols.now) (run_by Word.BITS State.BITS encoder ≡ start State.BITS)) }
 {

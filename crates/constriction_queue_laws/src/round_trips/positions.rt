@@ -8,13 +8,13 @@ ghost use Rattle.constriction_base.specs.Models.{items_of};
 ghost use Rattle.constriction_base.specs.Steps.{IsSizes};
 ghost use Rattle.constriction_coder_laws.specs.Outcomes.{HasImpossible};
 ghost use Rattle.constriction_queue.specs.Encoder.{left_to_encode, run_by};
-ghost use Rattle.constriction_queue.specs.Range.{Run, start};
+ghost use Rattle.constriction_queue.specs.Range.{Run};
 ghost use Rattle.constriction_queue.specs.States.{IsPosition, lower_of, range_of};
-ghost use Rattle.constriction_queue_laws.specs.Outcomes.{NoneAt, NotBack, NotCoded, RecordsPlace};
+ghost use Rattle.constriction_queue_laws.specs.Outcomes.{NoneAt, NotCoded, RecordsPlace};
 ghost use Rattle.constriction_queue_laws.specs.Symbols.{FindsAll};
 
 use crate::concatenated::DecodeError;
-use crate::positions::symbols_after_a_position;
+use crate::positions::{run_of_any_encoder, symbols_after_a_position};
 use crate::round_trips::coding::{decode_list, encode_list};
 use constriction_base::backends::{Pos, Seek};
 use constriction_base::cursor::Cursor;
@@ -118,12 +118,11 @@ where
 }
 
 /// Symbols that were put on after a position was recorded come back from a decoder that seeks to it, over the
-/// words that the encoder, which begins as a new one, exported later: [`words_and_position`], [`list_from_position`].
+/// words that the encoder exported later, whatever was written before: [`words_and_position`], [`list_from_position`].
 ///
 /// # Errors
 /// - `ImpossibleSymbol`: the model has no entry for one of the symbols.
 /// - `TooManySymbols`: they are more than the encoder counts.
-/// - `InvalidData`: the encoder didn't begin as a new one.
 /// - `Refused`: memory was refused, or the number of words is no `usize`.
 pub fn list_after_a_position<
     Word: WordOf<State>,
@@ -139,12 +138,12 @@ pub fn list_after_a_position<
 ) -> Result<Vec<M::Symbol>, RoundTripError>
 where
     M::Probability: WordOf<Word>,
-    ensures back { run_by Word.BITS State.BITS encoder ≡ start State.BITS →
-        IfOk result (λ again. again.items ≡ since.now) }
-    ensures err { IfErr result (NotBack (HasImpossible (M.table model.now) (before.now ++ since.now))
-        (left_to_encode encoder < length before.now + length since.now)
-        (run_by Word.BITS State.BITS encoder ≡ start State.BITS)) }
+    ensures back { IfOk result (λ again. again.items ≡ since.now) }
+    ensures known { IfOk result (λ _. HasImpossible (M.table model.now) (before.now ++ since.now) → ⊥) }
+    ensures err { IfErr result (NotCoded (HasImpossible (M.table model.now) (before.now ++ since.now))
+        (left_to_encode encoder < length before.now + length since.now)) }
 {
+    run_of_any_encoder(&encoder);
     let (words, position) = words_and_position(encoder, before, since, model)?;
     symbols_after_a_position::<M::Symbol>();
     match list_from_position(alloc, words, position, since.len(), model) {

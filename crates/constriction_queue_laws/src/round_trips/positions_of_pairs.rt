@@ -8,13 +8,13 @@ ghost use Rattle.constriction_base.specs.Models.{pairs_of};
 ghost use Rattle.constriction_base.specs.Steps.{IsSizes};
 ghost use Rattle.constriction_coder_laws.specs.Outcomes.{HasImpossibleItem};
 ghost use Rattle.constriction_queue.specs.Encoder.{left_to_encode, run_by};
-ghost use Rattle.constriction_queue.specs.Range.{Run, start};
+ghost use Rattle.constriction_queue.specs.Range.{Run};
 ghost use Rattle.constriction_queue.specs.States.{IsPosition, lower_of, range_of};
-ghost use Rattle.constriction_queue_laws.specs.Outcomes.{NoneAt, NotBack, NotCoded, RecordsPlace};
+ghost use Rattle.constriction_queue_laws.specs.Outcomes.{NoneAt, NotCoded, RecordsPlace};
 ghost use Rattle.constriction_queue_laws.specs.Symbols.{FindsAll};
 
 use crate::concatenated::DecodeError;
-use crate::positions::symbols_after_a_position;
+use crate::positions::{run_of_any_encoder, symbols_after_a_position};
 use crate::round_trips::coding::{decode_pairs, encode_pairs};
 use constriction_base::backends::{Pos, Seek};
 use constriction_base::cursor::Cursor;
@@ -120,13 +120,12 @@ where
 }
 
 /// Symbols that were put on after a position was recorded, each by its own model, come back from a decoder that seeks to
-/// it, over the words that the encoder, which begins as a new one, exported later: [`words_and_position_of_pairs`],
+/// it, over the words that the encoder exported later, whatever was written before: [`words_and_position_of_pairs`],
 /// [`pairs_from_position`].
 ///
 /// # Errors
 /// - `ImpossibleSymbol`: a model has no entry for its symbol.
 /// - `TooManySymbols`: they are more than the encoder counts.
-/// - `InvalidData`: the encoder didn't begin as a new one.
 /// - `Refused`: memory was refused, or the number of words is no `usize`.
 pub fn pairs_after_a_position<
     Word: WordOf<State>,
@@ -145,13 +144,15 @@ where
     M::Probability: WordOf<Word>,
     requires before { length before.now ≡ length before_models.now }
     requires since { length since.now ≡ length since_models.now }
-    ensures back { run_by Word.BITS State.BITS encoder ≡ start State.BITS →
-        IfOk result (λ again. again.items ≡ since.now) }
-    ensures err { IfErr result (NotBack
+    ensures back { IfOk result (λ again. again.items ≡ since.now) }
+    ensures known { IfOk result (λ _. HasImpossibleItem
+        (pairs_of PRECISION M.table before.now before_models.now
+        ++ pairs_of PRECISION M.table since.now since_models.now) → ⊥) }
+    ensures err { IfErr result (NotCoded
         (HasImpossibleItem (pairs_of PRECISION M.table before.now before_models.now ++ pairs_of PRECISION M.table since.now since_models.now))
-        (left_to_encode encoder < length before.now + length since.now)
-        (run_by Word.BITS State.BITS encoder ≡ start State.BITS)) }
+        (left_to_encode encoder < length before.now + length since.now)) }
 {
+    run_of_any_encoder(&encoder);
     let (words, position) = words_and_position_of_pairs(
         encoder,
         before,

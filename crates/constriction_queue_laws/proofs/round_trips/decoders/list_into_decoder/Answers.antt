@@ -7,6 +7,9 @@ use Rattle.constriction_queue_laws.specs.Outcomes.{GivesNone}
 use Rattle.constriction_queue_laws.proofs.Told.{passed, while_coding, while_reading}
 use Rattle.constriction_queue_laws.specs.Symbols.{NarrowsAll}
 use Rattle.constriction_coder_laws.proofs.SameModel.{are_models}
+use Rattle.std.proofs.Common.{pow_pos}
+use Rattle.std.specs.Prelude.{⊤}
+use Rattle.constriction_queue_laws.proofs.ListCalls.{nears_of}
 use Rattle.constriction_queue_laws.proofs.round_trips.decoders.list_into_decoder.Goals as goal
 
 pub returns-clause-back : goal.returns-clause-back
@@ -57,3 +60,34 @@ returns-in_err-again-clause-err g c =
     let coded : NarrowsAll w s (items_of model symbols) (start s) last = subst (λ r. NarrowsAll w s (items_of model symbols) r last) new stands.1 in
     let found = c.symbols_come_back.ensures.decoded w s (items_of model symbols) last sizes models coded in
     none known (sealed w s last) (start s) stands.2 symbols last refl found)))
+
+pub returns-clause-read : goal.returns-clause-read
+returns-clause-read g c =
+    let w = g.Word.BitArray.BITS in
+    let s = g.State.BitArray.BITS in
+    let stands = c.in_ok-decoder.ensures.stands in
+    let words = sealed w s stands.0 in
+    let decoded = c.in_ok-again.ensures.decoded g.met.Backend.IntoReadWords.BoundedReadWords.knows_words words (start s) stands.2 in
+    let told = c.has_ended-ended.ensures in (
+      c.in_ok-again.ensures.count,
+      (
+        words,
+        (stands.0, stands.1, refl),
+        (
+          decoded.0,
+          decoded.1,
+          told.ended words decoded.0 decoded.2,
+          λ yes. nears_of w s words decoded.0 c.decode_list.new.decoder (pow_pos s) decoded.2 (told.value.0 yes).1,
+        ),
+      ),
+    )
+
+pub returns-in_err-again-clause-none : goal.returns-in_err-again-clause-none
+returns-in_err-again-clause-none g c =
+    let w = g.Word.BitArray.BITS in
+    let s = g.State.BitArray.BITS in
+    let stands = c.in_ok-decoder.ensures.stands in
+    let words = sealed w s stands.0 in
+    let known = g.met.Backend.IntoReadWords.BoundedReadWords.knows_words in
+    passed _ c.in_err-again.field-0.0 _ c.from_residual-in_err-again.ensures.1 (while_reading _ ⊤ ⊤ _ c.in_err-again.field-0.0 c.in_err-again.ensures.err
+    (λ none. (words, (stands.0, stands.1, refl), none known words (start s) stands.2)))

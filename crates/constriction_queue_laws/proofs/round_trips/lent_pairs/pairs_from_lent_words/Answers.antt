@@ -6,6 +6,9 @@ use Rattle.constriction_coder_laws.proofs.PairCalls.{are_pairs}
 use Rattle.constriction_coder_laws.specs.Outcomes.{HasImpossibleItem}
 use Rattle.constriction_queue.specs.Encoder.{left_to_encode, run_by}
 use Rattle.constriction_queue_laws.proofs.Told.{err_weaker, passed, while_coding, while_reading}
+use Rattle.std.specs.Prelude.{⊤}
+use Rattle.std.proofs.Common.{sym, ◌∙◌}
+use Rattle.constriction_queue_laws.proofs.Told.{ok_weaker}
 use Rattle.constriction_queue_laws.proofs.round_trips.lent_pairs.pairs_from_lent_words.Goals as goal
 
 pub returns-clause-back : goal.returns-clause-back
@@ -39,3 +42,13 @@ returns-clause-err g c =
     let coded : NarrowsAll w s items (start s) last = subst (λ r. NarrowsAll w s items r last) new c.in_ok-encode_pairs.ensures.narrowed in
     none symbols last c.requires (c.symbols_come_back.ensures.decoded w s items last c.bulk.ensures.coder.sizes
     (are_pairs g.row.PRECISION table w symbols c.args.models.now lawful) coded))))
+
+pub returns-clause-count : goal.returns-clause-count
+returns-clause-count g c = ok_weaker c.decode_lent_words_by_models.result c.decode_lent_words_by_models.ensures.count (λ again count. count ∙ sym c.requires)
+
+pub returns-clause-none : goal.returns-clause-none
+returns-clause-none g c =
+    let left = c.decode_lent_words_by_models.ensures in
+    let on = c.in_ok-encode_pairs.ensures.narrowed in
+    err_weaker c.decode_lent_words_by_models.result left.err
+    (λ e why. while_reading _ ⊤ ⊤ _ e why (λ none. rw (left.heads.held, left.heads.lower, left.heads.range, left.kept) (on, λ symbols last count. none symbols last (count ∙ c.requires))))

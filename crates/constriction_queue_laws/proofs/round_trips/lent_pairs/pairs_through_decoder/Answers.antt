@@ -6,6 +6,10 @@ use Rattle.constriction_coder_laws.proofs.PairCalls.{are_pairs}
 use Rattle.constriction_coder_laws.specs.Outcomes.{HasImpossibleItem}
 use Rattle.constriction_queue.specs.Encoder.{left_to_encode, run_by}
 use Rattle.constriction_queue_laws.proofs.Told.{err_weaker, passed, while_coding, while_reading}
+use Rattle.std.specs.Prelude.{⊤}
+use Rattle.constriction_queue.specs.Range.{sealed}
+use Rattle.constriction_queue_laws.proofs.Told.{ok_both}
+use Rattle.std.proofs.Common.{refl, sym, ◌∙◌}
 use Rattle.constriction_queue_laws.proofs.round_trips.lent_pairs.pairs_through_decoder.Goals as goal
 
 pub returns-clause-back : goal.returns-clause-back
@@ -39,3 +43,19 @@ returns-clause-err g c =
     let coded : NarrowsAll w s items (start s) last = subst (λ r. NarrowsAll w s items r last) new c.in_ok-encode_pairs.ensures.narrowed in
     none symbols last c.requires (c.symbols_come_back.ensures.decoded w s items last c.bulk.ensures.coder.sizes
     (are_pairs g.row.PRECISION table w symbols c.args.models.now lawful) coded))))
+
+pub returns-clause-read : goal.returns-clause-read
+returns-clause-read g c =
+    let w = g.Word.BitArray.BITS in
+    let s = g.State.BitArray.BITS in
+    let last : Run = run_by w s c.encode_pairs.new.encoder in
+    let back = c.decode_through_decoder_by_models.ensures in
+    ok_both c.decode_through_decoder_by_models.result back.count back.read (λ again count read. (count ∙ sym c.requires, (sealed w s last, (last, c.in_ok-encode_pairs.ensures.narrowed, refl), read)))
+
+pub returns-clause-none : goal.returns-clause-none
+returns-clause-none g c =
+    let w = g.Word.BitArray.BITS in
+    let s = g.State.BitArray.BITS in
+    let last : Run = run_by w s c.encode_pairs.new.encoder in
+    err_weaker c.decode_through_decoder_by_models.result c.decode_through_decoder_by_models.ensures.err
+    (λ e why. while_reading _ ⊤ ⊤ _ e why (λ none. (sealed w s last, (last, c.in_ok-encode_pairs.ensures.narrowed, refl), λ symbols last count. none symbols last (count ∙ c.requires))))

@@ -6,6 +6,7 @@ use Rattle.constriction_coder_laws.proofs.SameModel.{are_models}
 use Rattle.constriction_coder_laws.specs.Outcomes.{HasImpossible}
 use Rattle.constriction_queue.specs.Encoder.{left_to_encode, run_by}
 use Rattle.constriction_queue_laws.proofs.Told.{err_weaker, passed, while_coding, while_reading}
+use Rattle.std.specs.Prelude.{⊤}
 use Rattle.constriction_queue_laws.proofs.round_trips.lent_words.list_from_lent_words.Goals as goal
 
 pub returns-clause-back : goal.returns-clause-back
@@ -40,3 +41,10 @@ returns-clause-err g c =
     let last : Run = run_by w s c.encode_list.new.encoder in
     let coded : NarrowsAll w s (items_of model symbols) (start s) last = subst (λ r. NarrowsAll w s (items_of model symbols) r last) new c.in_ok-encode_list.ensures.narrowed in
     none symbols last refl (c.symbols_come_back.ensures.decoded w s (items_of model symbols) last c.bulk.ensures.coder.sizes (are_models w model symbols lawful) coded))))
+
+pub returns-clause-none : goal.returns-clause-none
+returns-clause-none g c =
+    let left = c.decode_lent_words.ensures in
+    let on = c.in_ok-encode_list.ensures.narrowed in
+    err_weaker c.decode_lent_words.result left.err
+    (λ e why. while_reading _ ⊤ ⊤ _ e why (λ none. rw (left.heads.held, left.heads.lower, left.heads.range, left.kept) (on, none)))

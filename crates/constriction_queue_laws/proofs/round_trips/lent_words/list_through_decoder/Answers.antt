@@ -6,6 +6,9 @@ use Rattle.constriction_coder_laws.proofs.SameModel.{are_models}
 use Rattle.constriction_coder_laws.specs.Outcomes.{HasImpossible}
 use Rattle.constriction_queue.specs.Encoder.{left_to_encode, run_by}
 use Rattle.constriction_queue_laws.proofs.Told.{err_weaker, passed, while_coding, while_reading}
+use Rattle.std.specs.Prelude.{⊤}
+use Rattle.constriction_queue.specs.Range.{sealed}
+use Rattle.constriction_queue_laws.proofs.Told.{ok_both}
 use Rattle.constriction_queue_laws.proofs.round_trips.lent_words.list_through_decoder.Goals as goal
 
 pub returns-clause-back : goal.returns-clause-back
@@ -40,3 +43,19 @@ returns-clause-err g c =
     let last : Run = run_by w s c.encode_list.new.encoder in
     let coded : NarrowsAll w s (items_of model symbols) (start s) last = subst (λ r. NarrowsAll w s (items_of model symbols) r last) new c.in_ok-encode_list.ensures.narrowed in
     none symbols last refl (c.symbols_come_back.ensures.decoded w s (items_of model symbols) last c.bulk.ensures.coder.sizes (are_models w model symbols lawful) coded))))
+
+pub returns-clause-read : goal.returns-clause-read
+returns-clause-read g c =
+    let w = g.Word.BitArray.BITS in
+    let s = g.State.BitArray.BITS in
+    let last : Run = run_by w s c.encode_list.new.encoder in
+    let back = c.decode_through_decoder.ensures in
+    ok_both c.decode_through_decoder.result back.count back.read (λ again count read. (count, (sealed w s last, (last, c.in_ok-encode_list.ensures.narrowed, refl), read)))
+
+pub returns-clause-none : goal.returns-clause-none
+returns-clause-none g c =
+    let w = g.Word.BitArray.BITS in
+    let s = g.State.BitArray.BITS in
+    let last : Run = run_by w s c.encode_list.new.encoder in
+    err_weaker c.decode_through_decoder.result c.decode_through_decoder.ensures.err
+    (λ e why. while_reading _ ⊤ ⊤ _ e why (λ none. (sealed w s last, (last, c.in_ok-encode_list.ensures.narrowed, refl), none)))

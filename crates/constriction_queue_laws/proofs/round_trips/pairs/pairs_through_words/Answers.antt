@@ -7,6 +7,8 @@ use Rattle.constriction_queue_laws.proofs.ListCalls.{queue_words, sealed_back}
 use Rattle.constriction_queue_laws.proofs.Told.{err_weaker, ok_both, passed, while_coding, while_reading}
 use Rattle.constriction_queue_laws.specs.Symbols.{FindsAll, MayEnd, NarrowsAll}
 use Rattle.constriction_coder_laws.proofs.PairCalls.{are_pairs}
+use Rattle.std.proofs.Common.{sym, ◌∙◌}
+use Rattle.std.specs.Prelude.{⊤}
 use Rattle.constriction_queue_laws.proofs.round_trips.pairs.pairs_through_words.Goals as goal
 
 pub returns-clause-back : goal.returns-clause-back
@@ -58,3 +60,20 @@ returns-clause-err g c =
     let words = queue_words number (g.Backend.Holds-1.words c.in_ok-words.words) (g.met.Backend.BothWays.turned_law c.in_ok-words.words) seals.2 in
     let found : FindsAll w s (map number (g.Backend.Holds-2.words c.in_ok-words.words)) (items symbols) (start s) last = rw words (c.symbols_come_back.ensures.decoded w s (items symbols) last sizes models coded) in
     none symbols last c.requires found)))
+
+pub returns-clause-read : goal.returns-clause-read
+returns-clause-read g c =
+    let number = g.Word.BitArray.number in
+    let seals = c.in_ok-words.ensures.words in
+    let words = queue_words number (g.Backend.Holds-1.words c.in_ok-words.words) (g.met.Backend.BothWays.turned_law c.in_ok-words.words) seals.2 in
+    let back = c.pairs_from_words.ensures in
+    ok_both c.pairs_from_words.result back.count back.read
+    (λ again count read. (count ∙ sym c.requires, (map number (g.Backend.Holds-2.words c.in_ok-words.words), (seals.0, seals.1, words), read)))
+
+pub returns-clause-none : goal.returns-clause-none
+returns-clause-none g c =
+    let number = g.Word.BitArray.number in
+    let seals = c.in_ok-words.ensures.words in
+    let words = queue_words number (g.Backend.Holds-1.words c.in_ok-words.words) (g.met.Backend.BothWays.turned_law c.in_ok-words.words) seals.2 in
+    err_weaker c.pairs_from_words.result c.pairs_from_words.ensures.err (λ e why. while_reading _ ⊤ ⊤ _ e why
+    (λ none. (map number (g.Backend.Holds-2.words c.in_ok-words.words), (seals.0, seals.1, words), λ symbols last count. none symbols last (count ∙ c.requires))))

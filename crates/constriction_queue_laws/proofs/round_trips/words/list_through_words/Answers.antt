@@ -7,6 +7,7 @@ use Rattle.constriction_queue_laws.proofs.ListCalls.{queue_words, sealed_back}
 use Rattle.constriction_queue_laws.proofs.Told.{err_weaker, ok_both, passed, while_coding, while_reading}
 use Rattle.constriction_queue_laws.specs.Symbols.{FindsAll, MayEnd, NarrowsAll}
 use Rattle.constriction_coder_laws.proofs.SameModel.{are_models}
+use Rattle.std.specs.Prelude.{⊤}
 use Rattle.constriction_queue_laws.proofs.round_trips.words.list_through_words.Goals as goal
 
 pub returns-clause-back : goal.returns-clause-back
@@ -58,3 +59,19 @@ returns-clause-err g c =
     let words = queue_words number (g.Backend.Holds-1.words c.in_ok-words.words) (g.met.Backend.BothWays.turned_law c.in_ok-words.words) seals.2 in
     let found : FindsAll w s (map number (g.Backend.Holds-2.words c.in_ok-words.words)) (items symbols) (start s) last = rw words (c.symbols_come_back.ensures.decoded w s (items symbols) last sizes models coded) in
     none symbols last refl found)))
+
+pub returns-clause-read : goal.returns-clause-read
+returns-clause-read g c =
+    let number = g.Word.BitArray.number in
+    let seals = c.in_ok-words.ensures.words in
+    let words = queue_words number (g.Backend.Holds-1.words c.in_ok-words.words) (g.met.Backend.BothWays.turned_law c.in_ok-words.words) seals.2 in
+    let back = c.list_from_words.ensures in
+    ok_both c.list_from_words.result back.count back.read (λ again count read. (count, (map number (g.Backend.Holds-2.words c.in_ok-words.words), (seals.0, seals.1, words), read)))
+
+pub returns-clause-none : goal.returns-clause-none
+returns-clause-none g c =
+    let number = g.Word.BitArray.number in
+    let seals = c.in_ok-words.ensures.words in
+    let words = queue_words number (g.Backend.Holds-1.words c.in_ok-words.words) (g.met.Backend.BothWays.turned_law c.in_ok-words.words) seals.2 in
+    err_weaker c.list_from_words.result c.list_from_words.ensures.err
+    (λ e why. while_reading _ ⊤ ⊤ _ e why (λ none. (map number (g.Backend.Holds-2.words c.in_ok-words.words), (seals.0, seals.1, words), none)))
