@@ -1,9 +1,10 @@
 mod AnsRows
+mod AnsAnswers
 mod AnsFrame
+mod Asking
 pub mod ChainFrame
 pub mod ChainRows
 pub mod ChainSteps
-mod FamilyAns
 mod FamilyAnswers
 mod FamilyChain
 mod FamilyCounts
