@@ -1,5 +1,5 @@
 -- A coder without words below its head does the same as one over any words: the words below stay.
-use Rattle.std.proofs.Common.{◌≡◌, ℕ, ◌<◌, ◌≤◌, ◌+◌, ◌^◌, List, [], ◌∷◌, ◌++◌, length, map, ap, ◌∙◌, subst, inl, inr, arith}
+use Rattle.std.proofs.Common.{◌≡◌, ℕ, zero, suc, ◌<◌, ◌≤◌, ◌+◌, ◌^◌, List, [], ◌∷◌, ◌++◌, length, map, refl, sym, ap, ◌∙◌, subst, inl, inr, arith}
 use Rattle.std.specs.Prelude.{reverse, take}
 use Rattle.std.proofs.lemmas.List.{reverse-append, reverse-reverse, map-append, length-append, length-map, length-reverse, length-take-le}
 use Rattle.constriction_base.specs.Steps.{Step, IsStep, IsSizes}
@@ -45,6 +45,22 @@ encodes_over w s rest (item ∷ items) old new z ms v all =
 pub encodes_know : {S : Type 0} (w s : ℕ) (items : List (Item S)) (old new : AnsState) → EncodesAll w s items old new → AreKnown items
 encodes_know w s [] old new all = tt
 encodes_know w s (item ∷ items) old new all = ((all.1.0, all.1.1, all.1.2), encodes_know w s items all.0 new all.2)
+
+-- the first of the first of a list
+take_of_take : {A : Type 0} (xs : List A) (len k : ℕ) → k ≤ length (take len xs) → take k (take len xs) ≡ take k xs
+take_of_take [] zero k within = refl
+take_of_take [] (suc len) k within = refl
+take_of_take (x ∷ xs) zero zero within = refl
+take_of_take (x ∷ xs) zero (suc k) within = absurd (omega arith)
+take_of_take (x ∷ xs) (suc len) zero within = refl
+take_of_take {A} (x ∷ xs) (suc len) (suc k) within = ap (λ (ys : List A). x ∷ ys) (take_of_take xs len k (omega arith))
+
+-- the state of a coder that reads the first words of a buffer
+pub lent_state : {W : Type 0} (number : W → ℕ) (head pos left len : ℕ) (lent words : List W) → lent ≡ take len words → pos ≤ length lent → left ≡ pos
+    → ◌≡◌ {A = AnsState} (record { head = head; words = map number (reverse (take pos lent)) }) (record { head = head; words = stack_in number words left })
+lent_state {W} number head pos left len lent words is within same =
+    ap (λ (ws : List W). (let state : AnsState = record { head = head; words = map number (reverse ws) } in state))
+    (ap (λ (ws : List W). take pos ws) is ∙ (take_of_take words len pos (rw is at within) ∙ ap (λ (n : ℕ). take n words) (sym same)))
 
 -- words that were put behind others lie on top of them
 pub stack_appended : {W : Type 0} (number : W → ℕ) (buffer : List W) (len : ℕ) (added new : List W) (new_len : ℕ) → Appended buffer len added new new_len

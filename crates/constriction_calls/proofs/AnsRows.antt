@@ -23,7 +23,8 @@ pairs_more {S} {M} precision table xs ms k x m within same is =
 
 -- all of them
 pub take_whole : {A : Type 0} (xs : List A) (k : ℕ) → length xs ≤ k → take k xs ≡ xs
-take_whole [] k within = refl
+take_whole [] zero within = refl
+take_whole [] (suc k) within = refl
 take_whole (x ∷ xs) zero within = absurd (omega arith)
 take_whole {A} (x ∷ xs) (suc k) within = ap (λ (ys : List A). x ∷ ys) (take_whole xs k (omega arith))
 
