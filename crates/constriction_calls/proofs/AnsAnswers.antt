@@ -1,5 +1,5 @@
 -- What calls of the stack coder say of words that were put behind a caller's, or had no room there; and of intervals.
-use Rattle.std.proofs.Common.{◌≡◌, zero, suc, ◌+◌, ◌^◌, ◌<◌, ◌≤◌, ◌∙◌, [], ◌∷◌, ◌++◌, Ok, Err, length, map, refl, sym, ap, ap₂, subst, inl, inr, append-nil, arith}
+use Rattle.std.proofs.Common.{◌≡◌, ◌+◌, ◌^◌, ◌<◌, ◌∙◌, [], ◌∷◌, ◌++◌, Ok, Err, length, map, refl, sym, ap, ap₂, subst, inl, inr, append-nil, arith}
 use Rattle.std.specs.Prelude.{ℕ, List, Result, ◌⊎◌, ◌↔◌, reverse, IfErr, OnErr, OnOk}
 use Rattle.std.proofs.lemmas.Bool.Decides.{eqb_tells, leb_tells}
 use Rattle.std.proofs.lemmas.List.{length-map}

@@ -3,7 +3,8 @@
 ghost use Rattle.std.specs.Prelude.{map};
 ghost use Rattle.constriction_base.specs.Readings.{BeginsHigh};
 ghost use Rattle.constriction_c.specs.Codes.{Told, answer_of};
-ghost use Rattle.constriction_calls.specs.AnsCalls.{AnsExports, AnsImports, AnsPuts, AnsTakes, AreBinary, AreCompressed, HasBinary};
+ghost use Rattle.constriction_calls.specs.AnsCalls.{AnsExports, AnsImports, AnsPuts, AnsTakes};
+ghost use Rattle.constriction_calls.specs.AnsCalls.{AreBinary, AreCompressed, HasBinary};
 ghost use Rattle.constriction_calls.specs.Coded.{AsIntervals, ByRows, ByWeights, InFamily};
 ghost use Rattle.constriction_stack.specs.Ans.{filled};
 ghost use Rattle.constriction_stack.specs.Binary.{binary_state};
@@ -29,7 +30,8 @@ pub extern "C" fn constriction_ans_encode_reverse_u32(
 ) -> u32
     ensures { Told result needed.old needed.new (AnsPuts ⟦<u32 as BitArray>⟧.number ⟦<u64 as BitArray>⟧.number 32 64 24
         (ByWeights (map ⟦<u32 as BitArray>⟧.number weights.now) symbols.now)
-        record { head = head.old; words = words.old; len = len.old } record { head = head.new; words = words.new; len = len.new }) }
+        record { head = head.old; words = words.old; len = len.old }
+        record { head = head.new; words = words.new; len = len.new }) }
 {
     let models = Weights { weights };
     let answer = encode_reverse::<_, _, u32, _, 24>(alloc, head, words, len, &models, symbols);
@@ -50,7 +52,8 @@ pub extern "C" fn constriction_ans_encode_each_reverse_u32(
 ) -> u32
     ensures { Told result needed.old needed.new (AnsPuts ⟦<u32 as BitArray>⟧.number ⟦<u64 as BitArray>⟧.number 32 64 24
         (ByRows width (map ⟦<u32 as BitArray>⟧.number weights.now) symbols.now)
-        record { head = head.old; words = words.old; len = len.old } record { head = head.new; words = words.new; len = len.new }) }
+        record { head = head.old; words = words.old; len = len.old }
+        record { head = head.new; words = words.new; len = len.new }) }
 {
     let models = Rows { weights, width };
     let answer = encode_reverse::<_, _, u32, _, 24>(alloc, head, words, len, &models, symbols);
@@ -70,7 +73,8 @@ pub extern "C" fn constriction_ans_encode_intervals_reverse_u32(
 ) -> u32
     ensures { Told result needed.old needed.new (AnsPuts ⟦<u32 as BitArray>⟧.number ⟦<u64 as BitArray>⟧.number 32 64 24
         (AsIntervals (map ⟦<u32 as BitArray>⟧.number lefts.now) (map ⟦<u32 as BitArray>⟧.number ps.now))
-        record { head = head.old; words = words.old; len = len.old } record { head = head.new; words = words.new; len = len.new }) }
+        record { head = head.old; words = words.old; len = len.old }
+        record { head = head.new; words = words.new; len = len.new }) }
 {
     let answer = encode_intervals_reverse::<_, _, u32, 24>(alloc, head, words, len, lefts, ps);
     code_of(answer, needed)
@@ -92,8 +96,10 @@ pub extern "C" fn constriction_ans_encode_quantized_reverse_u32(
     needed: &mut usize,
 ) -> u32
     ensures { Told result needed.old needed.new (AnsPuts ⟦<u32 as BitArray>⟧.number ⟦<u64 as BitArray>⟧.number 32 64 24
-        (InFamily record { family = family; min = min; max = max; locations = locations.now; scales = scales.now } symbols.now)
-        record { head = head.old; words = words.old; len = len.old } record { head = head.new; words = words.new; len = len.new }) }
+        (InFamily record { family = family; min = min; max = max; locations = locations.now; scales = scales.now }
+        symbols.now)
+        record { head = head.old; words = words.old; len = len.old }
+        record { head = head.new; words = words.new; len = len.new }) }
 {
     let models = Families {
         family,
@@ -118,8 +124,8 @@ pub extern "C" fn constriction_ans_decode_u32(
 ) -> u32
     ensures { AnsTakes ⟦<u32 as BitArray>⟧.number ⟦<u64 as BitArray>⟧.number 32 64 24
         (ByWeights (map ⟦<u32 as BitArray>⟧.number weights.now))
-        record { head = head.old; words = words.now; len = len.old } record { head = head.new; words = words.now; len = len.new }
-        symbols.old symbols.new (answer_of result 0) }
+        record { head = head.old; words = words.now; len = len.old }
+        record { head = head.new; words = words.now; len = len.new } symbols.old symbols.new (answer_of result 0) }
 {
     let models = Weights { weights };
     code_without_space(decode::<_, _, u32, _, 24>(alloc, head, words, len, &models, symbols))
@@ -138,8 +144,8 @@ pub extern "C" fn constriction_ans_decode_each_u32(
 ) -> u32
     ensures { AnsTakes ⟦<u32 as BitArray>⟧.number ⟦<u64 as BitArray>⟧.number 32 64 24
         (ByRows width (map ⟦<u32 as BitArray>⟧.number weights.now))
-        record { head = head.old; words = words.now; len = len.old } record { head = head.new; words = words.now; len = len.new }
-        symbols.old symbols.new (answer_of result 0) }
+        record { head = head.old; words = words.now; len = len.old }
+        record { head = head.new; words = words.now; len = len.new } symbols.old symbols.new (answer_of result 0) }
 {
     let models = Rows { weights, width };
     code_without_space(decode::<_, _, u32, _, 24>(alloc, head, words, len, &models, symbols))
@@ -161,8 +167,8 @@ pub extern "C" fn constriction_ans_decode_quantized_u32(
 ) -> u32
     ensures { AnsTakes ⟦<u32 as BitArray>⟧.number ⟦<u64 as BitArray>⟧.number 32 64 24
         (InFamily record { family = family; min = min; max = max; locations = locations.now; scales = scales.now })
-        record { head = head.old; words = words.now; len = len.old } record { head = head.new; words = words.now; len = len.new }
-        symbols.old symbols.new (answer_of result 0) }
+        record { head = head.old; words = words.now; len = len.old }
+        record { head = head.new; words = words.now; len = len.new } symbols.old symbols.new (answer_of result 0) }
 {
     let models = Families {
         family,
@@ -182,7 +188,8 @@ pub extern "C" fn constriction_ans_from_compressed_u32(
     head: &mut u64,
 ) -> u32
     ensures { AnsImports ⟦<u32 as BitArray>⟧.number ⟦<u64 as BitArray>⟧.number (filled 32 64 0) BeginsHigh
-        record { head = head.old; words = words.now; len = len.old } record { head = head.new; words = words.now; len = len.new } (answer_of result 0) }
+        record { head = head.old; words = words.now; len = len.old }
+        record { head = head.new; words = words.now; len = len.new } (answer_of result 0) }
 {
     code_without_space(from_compressed(words, len, head))
 }
@@ -195,7 +202,8 @@ pub extern "C" fn constriction_ans_from_binary_u32(
     head: &mut u64,
 ) -> u32
     ensures { AnsImports ⟦<u32 as BitArray>⟧.number ⟦<u64 as BitArray>⟧.number (binary_state 32 64) (λ all. Unit {0})
-        record { head = head.old; words = words.now; len = len.old } record { head = head.new; words = words.now; len = len.new } (answer_of result 0) }
+        record { head = head.old; words = words.now; len = len.old }
+        record { head = head.new; words = words.now; len = len.new } (answer_of result 0) }
 {
     from_binary(words, len, head);
     code_without_space(Ok(()))
@@ -212,7 +220,8 @@ pub extern "C" fn constriction_ans_into_compressed_u32(
 ) -> u32
     ensures { Told result needed.old needed.new (AnsExports ⟦<u32 as BitArray>⟧.number ⟦<u64 as BitArray>⟧.number
         (AreCompressed 32) (λ state. Unit {0})
-        record { head = head; words = words.old; len = len.old } record { head = head; words = words.new; len = len.new }) }
+        record { head = head; words = words.old; len = len.old }
+        record { head = head; words = words.new; len = len.new }) }
 {
     code_of(into_compressed(alloc, head, words, len), needed)
 }
@@ -228,7 +237,8 @@ pub extern "C" fn constriction_ans_into_binary_u32(
 ) -> u32
     ensures { Told result needed.old needed.new (AnsExports ⟦<u32 as BitArray>⟧.number ⟦<u64 as BitArray>⟧.number
         (AreBinary 32) (HasBinary 32)
-        record { head = head; words = words.old; len = len.old } record { head = head; words = words.new; len = len.new }) }
+        record { head = head; words = words.old; len = len.old }
+        record { head = head; words = words.new; len = len.new }) }
 {
     code_of(into_binary(alloc, head, words, len), needed)
 }

@@ -17,10 +17,7 @@ use constriction_words::{BitArray, WordOf};
 use std::alloc::Global;
 
 /// Takes a symbol off for each place of `symbols`, by its model. A state that holds nothing gives symbols without end.
-///
-/// # Errors
-///
-/// `WrongLength`, `WrongInterval`, `WrongWeights` and `NoMemory`.
+/// Refusals are `WrongLength`, `WrongInterval`, `WrongWeights` and `NoMemory`.
 pub fn decode<
     Word: WordOf<State>,
     State: BitArray,
@@ -44,10 +41,7 @@ pub fn decode<
     if *len > words.len() {
         return Err(Refusal::WrongLength);
     }
-    match models.check(symbols) {
-        Ok(()) => {}
-        Err(refusal) => return Err(refusal),
-    }
+    models.check(symbols)?;
     let Some(list) = models.list(alloc, symbols, false) else {
         return Err(Refusal::NoMemory);
     };

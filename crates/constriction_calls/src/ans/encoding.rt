@@ -17,7 +17,7 @@ use constriction_stream::encoding::Encode;
 use constriction_words::{BitArray, WordOf};
 use std::alloc::Global;
 
-/// Puts symbols on by their models: all refusals but `InvalidData`.
+/// Puts symbols on by their models. All refusals but `InvalidData` can come.
 pub fn encode_reverse<
     Word: WordOf<State>,
     State: BitArray,
@@ -41,10 +41,7 @@ pub fn encode_reverse<
     if *len > words.len() {
         return Err(Refusal::WrongLength);
     }
-    match models.check(symbols) {
-        Ok(()) => {}
-        Err(refusal) => return Err(refusal),
-    }
+    models.check(symbols)?;
     if let Some(list) = models.list(alloc, symbols, true)
         && let Some((added, new_head)) = coded(alloc, *head, &list, symbols)
     {
@@ -63,8 +60,8 @@ pub fn encode_reverse<
     }
 }
 
-/// Puts intervals on, each from the next of `lefts` and as long as the next of `ps`: refusals of lengths, `WrongInterval`,
-/// `NoSpace` and `NoMemory`.
+/// Puts intervals on: each begins at the next of `lefts`, and is as long as the next of `ps`. Refusals are
+/// `WrongLength`, `WrongInterval`, `NoSpace` and `NoMemory`.
 pub fn encode_intervals_reverse<
     Word: WordOf<State>,
     State: BitArray,
@@ -100,8 +97,8 @@ pub fn encode_intervals_reverse<
     }
 }
 
-/// Puts symbols on a head without words: the words that this writes, and the head. `None` comes where a model doesn't know
-/// its symbol, or for want of memory.
+/// Puts symbols on a head without words: what this writes, and the head. `None` comes where a model doesn't know its
+/// symbol, or for want of memory.
 #[inline(never)]
 fn coded<
     Word: WordOf<State>,

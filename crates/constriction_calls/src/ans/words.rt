@@ -14,7 +14,7 @@ use constriction_stack::coder::AnsCoder;
 use constriction_words::{BitArray, WordOf};
 use std::alloc::Global;
 
-/// Makes the state whose words these are, as [`into_compressed`] leaves them: the head, and how many words stay below it.
+/// Makes the state whose words these are, as [`into_compressed`] leaves them: the head, and how many words stay below.
 /// `InvalidData` says that the last word is zero.
 pub fn from_compressed<Word: WordOf<State>, State: BitArray>(
     words: &[Word],
@@ -36,7 +36,7 @@ pub fn from_compressed<Word: WordOf<State>, State: BitArray>(
     Ok(())
 }
 
-/// Makes the state that any words stand for, as [`into_binary`] leaves them: the head, and how many words stay below it.
+/// Makes the state that any words stand for, as [`into_binary`] leaves them: the head, and how many words stay below.
 pub fn from_binary<Word: WordOf<State>, State: BitArray>(
     words: &[Word],
     len: &mut usize,
@@ -53,7 +53,7 @@ pub fn from_binary<Word: WordOf<State>, State: BitArray>(
     *len = cursor.into_buf_and_pos().1;
 }
 
-/// Puts the words of a head behind those below it, without leading zero words: the words of the state. Its refusals are
+/// Puts the words of a head behind those below it, without leading zero words: the words of the state. Refusals are
 /// `WrongLength`, `NoSpace` and `NoMemory`.
 pub fn into_compressed<Word: WordOf<State>, State: BitArray>(
     alloc: Global,
@@ -76,8 +76,8 @@ pub fn into_compressed<Word: WordOf<State>, State: BitArray>(
     }
 }
 
-/// Puts the words of a head below its leading 1 behind those below it: the words of which the state was made, where it was
-/// made of whole words. Else `InvalidData` comes, behind `WrongLength`; other refusals are those of [`into_compressed`].
+/// Puts the words of a head below its leading 1 behind those below it: the words of which the state was made, where it
+/// was made of whole words. Refusals are those of [`into_compressed`], and `InvalidData` where it was not.
 pub fn into_binary<Word: WordOf<State>, State: BitArray>(
     alloc: Global,
     head: State,
