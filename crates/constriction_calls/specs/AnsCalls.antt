@@ -16,6 +16,9 @@ pub record AnsKept (Word State : Type 0) : Type 0 where
   pub words : List Word
   pub len : ℕ
 
+abbrev pub coder_of : {Word State : Type 0} → State → List Word → ℕ → AnsKept Word State
+coder_of head words len = record { head = head; words = words; len = len }
+
 -- the state that it is
 abbrev pub state_kept : {Word State : Type 0} → (Word → ℕ) → (State → ℕ) → AnsKept Word State → AnsState
 state_kept number state kept = record { head = state kept.head; words = stack_in number kept.words kept.len }

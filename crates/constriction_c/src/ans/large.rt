@@ -3,7 +3,7 @@
 ghost use Rattle.std.specs.Prelude.{map};
 ghost use Rattle.constriction_base.specs.Readings.{BeginsHigh};
 ghost use Rattle.constriction_c.specs.Codes.{Told, answer_of};
-ghost use Rattle.constriction_calls.specs.AnsCalls.{AnsExports, AnsImports, AnsPuts, AnsTakes};
+ghost use Rattle.constriction_calls.specs.AnsCalls.{AnsExports, AnsImports, AnsPuts, AnsTakes, coder_of};
 ghost use Rattle.constriction_calls.specs.AnsCalls.{AreBinary, AreCompressed, HasBinary};
 ghost use Rattle.constriction_calls.specs.Coded.{AsIntervals, ByRows, ByWeights, InFamily};
 ghost use Rattle.constriction_stack.specs.Ans.{filled};
@@ -30,11 +30,10 @@ pub extern "C" fn constriction_ans_encode_reverse_u32(
 ) -> u32
     ensures { Told result needed.old needed.new (AnsPuts ⟦<u32 as BitArray>⟧.number ⟦<u64 as BitArray>⟧.number 32 64 24
         (ByWeights (map ⟦<u32 as BitArray>⟧.number weights.now) symbols.now)
-        record { head = head.old; words = words.old; len = len.old }
-        record { head = head.new; words = words.new; len = len.new }) }
+        (coder_of head.old words.old len.old) (coder_of head.new words.new len.new)) }
 {
-    let models = Weights { weights };
-    let answer = encode_reverse::<_, _, u32, _, 24>(alloc, head, words, len, &models, symbols);
+    let table = Weights { weights };
+    let answer = encode_reverse::<_, _, u32, _, 24>(alloc, head, words, len, &table, symbols);
     code_of(answer, needed)
 }
 
@@ -52,11 +51,10 @@ pub extern "C" fn constriction_ans_encode_each_reverse_u32(
 ) -> u32
     ensures { Told result needed.old needed.new (AnsPuts ⟦<u32 as BitArray>⟧.number ⟦<u64 as BitArray>⟧.number 32 64 24
         (ByRows width (map ⟦<u32 as BitArray>⟧.number weights.now) symbols.now)
-        record { head = head.old; words = words.old; len = len.old }
-        record { head = head.new; words = words.new; len = len.new }) }
+        (coder_of head.old words.old len.old) (coder_of head.new words.new len.new)) }
 {
-    let models = Rows { weights, width };
-    let answer = encode_reverse::<_, _, u32, _, 24>(alloc, head, words, len, &models, symbols);
+    let rows = Rows { weights, width };
+    let answer = encode_reverse::<_, _, u32, _, 24>(alloc, head, words, len, &rows, symbols);
     code_of(answer, needed)
 }
 
@@ -73,8 +71,7 @@ pub extern "C" fn constriction_ans_encode_intervals_reverse_u32(
 ) -> u32
     ensures { Told result needed.old needed.new (AnsPuts ⟦<u32 as BitArray>⟧.number ⟦<u64 as BitArray>⟧.number 32 64 24
         (AsIntervals (map ⟦<u32 as BitArray>⟧.number lefts.now) (map ⟦<u32 as BitArray>⟧.number ps.now))
-        record { head = head.old; words = words.old; len = len.old }
-        record { head = head.new; words = words.new; len = len.new }) }
+        (coder_of head.old words.old len.old) (coder_of head.new words.new len.new)) }
 {
     let answer = encode_intervals_reverse::<_, _, u32, 24>(alloc, head, words, len, lefts, ps);
     code_of(answer, needed)
@@ -98,8 +95,7 @@ pub extern "C" fn constriction_ans_encode_quantized_reverse_u32(
     ensures { Told result needed.old needed.new (AnsPuts ⟦<u32 as BitArray>⟧.number ⟦<u64 as BitArray>⟧.number 32 64 24
         (InFamily record { family = family; min = min; max = max; locations = locations.now; scales = scales.now }
         symbols.now)
-        record { head = head.old; words = words.old; len = len.old }
-        record { head = head.new; words = words.new; len = len.new }) }
+        (coder_of head.old words.old len.old) (coder_of head.new words.new len.new)) }
 {
     let models = Families {
         family,
@@ -124,11 +120,11 @@ pub extern "C" fn constriction_ans_decode_u32(
 ) -> u32
     ensures { AnsTakes ⟦<u32 as BitArray>⟧.number ⟦<u64 as BitArray>⟧.number 32 64 24
         (ByWeights (map ⟦<u32 as BitArray>⟧.number weights.now))
-        record { head = head.old; words = words.now; len = len.old }
-        record { head = head.new; words = words.now; len = len.new } symbols.old symbols.new (answer_of result 0) }
+        (coder_of head.old words.now len.old) (coder_of head.new words.now len.new)
+        symbols.old symbols.new (answer_of result 0) }
 {
-    let models = Weights { weights };
-    code_without_space(decode::<_, _, u32, _, 24>(alloc, head, words, len, &models, symbols))
+    let table = Weights { weights };
+    code_without_space(decode::<_, _, u32, _, 24>(alloc, head, words, len, &table, symbols))
 }
 
 /// `decode` by the next row of `width` weights for each symbol.
@@ -144,11 +140,11 @@ pub extern "C" fn constriction_ans_decode_each_u32(
 ) -> u32
     ensures { AnsTakes ⟦<u32 as BitArray>⟧.number ⟦<u64 as BitArray>⟧.number 32 64 24
         (ByRows width (map ⟦<u32 as BitArray>⟧.number weights.now))
-        record { head = head.old; words = words.now; len = len.old }
-        record { head = head.new; words = words.now; len = len.new } symbols.old symbols.new (answer_of result 0) }
+        (coder_of head.old words.now len.old) (coder_of head.new words.now len.new)
+        symbols.old symbols.new (answer_of result 0) }
 {
-    let models = Rows { weights, width };
-    code_without_space(decode::<_, _, u32, _, 24>(alloc, head, words, len, &models, symbols))
+    let rows = Rows { weights, width };
+    code_without_space(decode::<_, _, u32, _, 24>(alloc, head, words, len, &rows, symbols))
 }
 
 /// `decode` by models of a family.
@@ -167,8 +163,8 @@ pub extern "C" fn constriction_ans_decode_quantized_u32(
 ) -> u32
     ensures { AnsTakes ⟦<u32 as BitArray>⟧.number ⟦<u64 as BitArray>⟧.number 32 64 24
         (InFamily record { family = family; min = min; max = max; locations = locations.now; scales = scales.now })
-        record { head = head.old; words = words.now; len = len.old }
-        record { head = head.new; words = words.now; len = len.new } symbols.old symbols.new (answer_of result 0) }
+        (coder_of head.old words.now len.old) (coder_of head.new words.now len.new)
+        symbols.old symbols.new (answer_of result 0) }
 {
     let models = Families {
         family,
@@ -188,8 +184,7 @@ pub extern "C" fn constriction_ans_from_compressed_u32(
     head: &mut u64,
 ) -> u32
     ensures { AnsImports ⟦<u32 as BitArray>⟧.number ⟦<u64 as BitArray>⟧.number (filled 32 64 0) BeginsHigh
-        record { head = head.old; words = words.now; len = len.old }
-        record { head = head.new; words = words.now; len = len.new } (answer_of result 0) }
+        (coder_of head.old words.now len.old) (coder_of head.new words.now len.new) (answer_of result 0) }
 {
     code_without_space(from_compressed(words, len, head))
 }
@@ -202,8 +197,7 @@ pub extern "C" fn constriction_ans_from_binary_u32(
     head: &mut u64,
 ) -> u32
     ensures { AnsImports ⟦<u32 as BitArray>⟧.number ⟦<u64 as BitArray>⟧.number (binary_state 32 64) (λ all. Unit {0})
-        record { head = head.old; words = words.now; len = len.old }
-        record { head = head.new; words = words.now; len = len.new } (answer_of result 0) }
+        (coder_of head.old words.now len.old) (coder_of head.new words.now len.new) (answer_of result 0) }
 {
     from_binary(words, len, head);
     code_without_space(Ok(()))
@@ -220,8 +214,7 @@ pub extern "C" fn constriction_ans_into_compressed_u32(
 ) -> u32
     ensures { Told result needed.old needed.new (AnsExports ⟦<u32 as BitArray>⟧.number ⟦<u64 as BitArray>⟧.number
         (AreCompressed 32) (λ state. Unit {0})
-        record { head = head; words = words.old; len = len.old }
-        record { head = head; words = words.new; len = len.new }) }
+        (coder_of head words.old len.old) (coder_of head words.new len.new)) }
 {
     code_of(into_compressed(alloc, head, words, len), needed)
 }
@@ -237,8 +230,7 @@ pub extern "C" fn constriction_ans_into_binary_u32(
 ) -> u32
     ensures { Told result needed.old needed.new (AnsExports ⟦<u32 as BitArray>⟧.number ⟦<u64 as BitArray>⟧.number
         (AreBinary 32) (HasBinary 32)
-        record { head = head; words = words.old; len = len.old }
-        record { head = head; words = words.new; len = len.new }) }
+        (coder_of head words.old len.old) (coder_of head words.new len.new)) }
 {
     code_of(into_binary(alloc, head, words, len), needed)
 }

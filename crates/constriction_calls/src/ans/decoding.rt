@@ -3,7 +3,7 @@
 ghost use Rattle.std.specs.Prelude.{◌≡◌, ◌≤◌, length};
 ghost use Rattle.constriction_base.specs.Models.{pairs_of};
 ghost use Rattle.constriction_base.specs.Steps.{IsSizes};
-ghost use Rattle.constriction_calls.specs.AnsCalls.{AnsTakes, state_kept};
+ghost use Rattle.constriction_calls.specs.AnsCalls.{AnsTakes, coder_of, state_kept};
 ghost use Rattle.constriction_stack.specs.Symbols.{Decodes, DecodesAll};
 
 use crate::models::{ModelList, Models};
@@ -35,8 +35,7 @@ pub fn decode<
     requires sizes { IsSizes Word.BITS State.BITS }
     requires precision { (1 ≤ PRECISION) × (PRECISION ≤ P.BITS) }
     ensures call { AnsTakes Word.number State.number Word.BITS State.BITS PRECISION (G.coded models.now)
-        record { head = head.old; words = words.now; len = len.old }
-        record { head = head.new; words = words.now; len = len.new } symbols.old symbols.new result }
+        (coder_of head.old words.now len.old) (coder_of head.new words.now len.new) symbols.old symbols.new result }
 {
     if *len > words.len() {
         return Err(Refusal::WrongLength);
@@ -65,8 +64,8 @@ fn decode_by<
     requires count { length symbols.now ≡ length (L.tables models.now) }
     ensures decoded { DecodesAll Word.BITS State.BITS
         (pairs_of PRECISION (λ table. table) symbols.new (L.tables models.now))
-        (state_kept Word.number State.number record { head = head; words = words.now; len = len })
-        (state_kept Word.number State.number record { head = result.0; words = words.now; len = result.1 }) }
+        (state_kept Word.number State.number (coder_of head words.now len))
+        (state_kept Word.number State.number (coder_of result.0 words.now result.1)) }
     ensures left { result.1 ≤ len }
     ensures count { length symbols.new ≡ length symbols.old }
 {

@@ -3,7 +3,7 @@
 ghost use Rattle.std.specs.Prelude.{◌≡◌, ◌≤◌, [], length, map, reverse, IfSome};
 ghost use Rattle.constriction_base.specs.Models.{AreModels, pairs_of};
 ghost use Rattle.constriction_base.specs.Steps.{IsSizes};
-ghost use Rattle.constriction_calls.specs.AnsCalls.{AnsPuts};
+ghost use Rattle.constriction_calls.specs.AnsCalls.{AnsPuts, coder_of};
 ghost use Rattle.constriction_calls.specs.Coded.{AsIntervals};
 ghost use Rattle.constriction_stack.specs.Symbols.{EncodesAll};
 
@@ -35,8 +35,7 @@ pub fn encode_reverse<
     requires sizes { IsSizes Word.BITS State.BITS }
     requires precision { (1 ≤ PRECISION) × (PRECISION ≤ P.BITS) }
     ensures call { AnsPuts Word.number State.number Word.BITS State.BITS PRECISION (G.coded models.now symbols.now)
-        record { head = head.old; words = words.old; len = len.old }
-        record { head = head.new; words = words.new; len = len.new } result }
+        (coder_of head.old words.old len.old) (coder_of head.new words.new len.new) result }
 {
     if *len > words.len() {
         return Err(Refusal::WrongLength);
@@ -79,8 +78,7 @@ pub fn encode_intervals_reverse<
     requires precision { (1 ≤ PRECISION) × (PRECISION ≤ P.BITS) }
     ensures call { AnsPuts Word.number State.number Word.BITS State.BITS PRECISION
         (AsIntervals (map P.number lefts.now) (map P.number ps.now))
-        record { head = head.old; words = words.old; len = len.old }
-        record { head = head.new; words = words.new; len = len.new } result }
+        (coder_of head.old words.old len.old) (coder_of head.new words.new len.new) result }
 {
     if *len > words.len() {
         return Err(Refusal::WrongLength);

@@ -3,7 +3,8 @@
 ghost use Rattle.std.specs.Prelude.{Ok};
 ghost use Rattle.constriction_base.specs.Readings.{BeginsHigh};
 ghost use Rattle.constriction_base.specs.Steps.{IsSizes};
-ghost use Rattle.constriction_calls.specs.AnsCalls.{AnsExports, AnsImports, AreBinary, AreCompressed, HasBinary};
+ghost use Rattle.constriction_calls.specs.AnsCalls.{AnsExports, AnsImports, coder_of};
+ghost use Rattle.constriction_calls.specs.AnsCalls.{AreBinary, AreCompressed, HasBinary};
 ghost use Rattle.constriction_stack.specs.Ans.{filled};
 ghost use Rattle.constriction_stack.specs.Binary.{binary_state};
 
@@ -23,16 +24,15 @@ pub fn from_compressed<Word: WordOf<State>, State: BitArray>(
 ) -> Result<(), Refusal>
     requires { IsSizes Word.BITS State.BITS }
     ensures { AnsImports Word.number State.number (filled Word.BITS State.BITS 0) BeginsHigh
-        record { head = head.old; words = words.now; len = len.old }
-        record { head = head.new; words = words.now; len = len.new } result }
+        (coder_of head.old words.now len.old) (coder_of head.new words.now len.new) result }
 {
     let Ok(coder) = AnsCoder::<Word, State, Cursor<Word, &[Word]>>::from_compressed_slice(words)
     else {
         return Err(Refusal::InvalidData);
     };
-    let (cursor, new_head) = coder.into_raw_parts();
+    let (below, new_head) = coder.into_raw_parts();
     *head = new_head;
-    *len = cursor.into_buf_and_pos().1;
+    *len = below.into_buf_and_pos().1;
     Ok(())
 }
 
@@ -44,8 +44,7 @@ pub fn from_binary<Word: WordOf<State>, State: BitArray>(
 )
     requires { IsSizes Word.BITS State.BITS }
     ensures { AnsImports Word.number State.number (binary_state Word.BITS State.BITS) (λ all. Unit {0})
-        record { head = head.old; words = words.now; len = len.old }
-        record { head = head.new; words = words.now; len = len.new } (Ok tt) }
+        (coder_of head.old words.now len.old) (coder_of head.new words.now len.new) (Ok tt) }
 {
     let coder = AnsCoder::<Word, State, Cursor<Word, &[Word]>>::from_binary_slice(words);
     let (cursor, new_head) = coder.into_raw_parts();
@@ -63,8 +62,7 @@ pub fn into_compressed<Word: WordOf<State>, State: BitArray>(
 ) -> Result<(), Refusal>
     requires { IsSizes Word.BITS State.BITS }
     ensures { AnsExports Word.number State.number (AreCompressed Word.BITS) (λ state. Unit {0})
-        record { head = head; words = words.old; len = len.old }
-        record { head = head; words = words.new; len = len.new } result }
+        (coder_of head words.old len.old) (coder_of head words.new len.new) result }
 {
     if *len > words.len() {
         return Err(Refusal::WrongLength);
@@ -86,14 +84,13 @@ pub fn into_binary<Word: WordOf<State>, State: BitArray>(
 ) -> Result<(), Refusal>
     requires { IsSizes Word.BITS State.BITS }
     ensures { AnsExports Word.number State.number (AreBinary Word.BITS) (HasBinary Word.BITS)
-        record { head = head; words = words.old; len = len.old }
-        record { head = head; words = words.new; len = len.new } result }
+        (coder_of head words.old len.old) (coder_of head words.new len.new) result }
 {
     if *len > words.len() {
         return Err(Refusal::WrongLength);
     }
-    let coder: AnsCoder<Word, State, Vec<Word>> = AnsCoder::from_raw_parts(Vec::new(alloc), head);
-    match coder.into_binary() {
+    let binary: AnsCoder<Word, State, Vec<Word>> = AnsCoder::from_raw_parts(Vec::new(alloc), head);
+    match binary.into_binary() {
         Ok(added) => append(&added, words, len),
         Err(None) => Err(Refusal::InvalidData),
         Err(Some(_)) => Err(Refusal::NoMemory),
