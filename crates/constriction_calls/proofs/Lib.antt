@@ -1,7 +1,6 @@
 mod AnsRows
 mod AnsAnswers
 mod AnsFrame
-mod Asking
 pub mod ChainFrame
 pub mod ChainRows
 pub mod ChainSteps
