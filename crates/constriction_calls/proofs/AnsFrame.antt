@@ -1,18 +1,15 @@
 -- A coder without words below its head does the same as one over any words: the words below stay.
-use Rattle.std.proofs.Common.{◌≡◌, ℕ, ◌≤◌, ◌<◌, ◌+◌, ◌⊎◌, Result, Ok, Err, List, [], ◌∷◌, ◌++◌, length, map, sym, ap, ◌∙◌, subst, inl, inr, arith}
-use Rattle.std.specs.Prelude.{reverse, take, OnOk, OnErr, IfErr}
+use Rattle.std.proofs.Common.{◌≡◌, ℕ, zero, suc, ◌<◌, ◌≤◌, ◌+◌, ◌^◌, List, [], ◌∷◌, ◌++◌, length, map, refl, sym, ap, ◌∙◌, subst, inl, inr, arith}
+use Rattle.std.specs.Prelude.{reverse, take}
 use Rattle.std.proofs.lemmas.List.{reverse-append, reverse-reverse, map-append, length-append, length-map, length-reverse, length-take-le}
 use Rattle.constriction_base.specs.Steps.{Step, IsStep, IsSizes}
-use Rattle.constriction_base.specs.Models.{Model, Item, Knows, AreModels, AreKnown, item_of, items_of}
+use Rattle.constriction_base.specs.Models.{Item, Knows, AreModels, AreKnown}
 use Rattle.constriction_base.proofs.Entering.{entry_is_step}
 use Rattle.constriction_stack.specs.Ans.{AnsState, IsValid, IsPush}
 use Rattle.constriction_stack.specs.Symbols.{EncodesAll}
 use Rattle.constriction_stack.proofs.Pushing.{only_push, push_written, push_kept}
 use Rattle.constriction_calls.specs.Buffers.{Appended, stack_in}
-use Rattle.constriction_calls.specs.AnsCalls.{state_in, PutOn, NeedsRoom, PutOnRefused}
-use Rattle.constriction_calls.specs.declared.refusal.Refusal.{Refusal}
-use Rattle.constriction_calls.specs.declared.refusal.Refusal.TheVariants.{ImpossibleSymbol, WrongWeights, WrongInterval, WrongLength, NoSpace, NoMemory, InvalidData, OutOfData}
-use Rattle.constriction_coder_laws.proofs.Turned.{all-reverse, map-reverse}
+use Rattle.constriction_coder_laws.proofs.Turned.{all-reverse}
 
 -- a state, and more words below it
 abbrev pub over : AnsState → List ℕ → AnsState
@@ -25,6 +22,13 @@ push_over w s e rest old new z h v push = elim (only_push w s e z h old new push
   | inl (long, is) ↦ subst (λ (x : AnsState). IsPush w s e (over old rest) (over x rest)) (sym is) (push_written w s e z h (over old rest) v long)
   | inr (short, is) ↦ subst (λ (x : AnsState). IsPush w s e (over old rest) (over x rest)) (sym is) (push_kept w s e z h (over old rest) v short)
 ]
+
+-- a state without words is valid
+pub none_below : (w s : ℕ) (x : AnsState) → x.head < 2 ^ s → x.words ≡ [] → IsValid w s x
+none_below w s x fits none = record {
+  state = record { fits = fits; are_words = rw none tt };
+  full = inr none;
+}
 
 -- encodes of items, over more words
 pub encodes_over : {S : Type 0} (w s : ℕ) (rest : List ℕ) (items : List (Item S)) (old new : AnsState) → IsSizes w s → AreModels w items → IsValid w s (over old rest)
@@ -41,6 +45,22 @@ encodes_over w s rest (item ∷ items) old new z ms v all =
 pub encodes_know : {S : Type 0} (w s : ℕ) (items : List (Item S)) (old new : AnsState) → EncodesAll w s items old new → AreKnown items
 encodes_know w s [] old new all = tt
 encodes_know w s (item ∷ items) old new all = ((all.1.0, all.1.1, all.1.2), encodes_know w s items all.0 new all.2)
+
+-- the first of the first of a list
+take_of_take : {A : Type 0} (xs : List A) (len k : ℕ) → k ≤ length (take len xs) → take k (take len xs) ≡ take k xs
+take_of_take [] zero k within = refl
+take_of_take [] (suc len) k within = refl
+take_of_take (x ∷ xs) zero zero within = refl
+take_of_take (x ∷ xs) zero (suc k) within = absurd (omega arith)
+take_of_take (x ∷ xs) (suc len) zero within = refl
+take_of_take {A} (x ∷ xs) (suc len) (suc k) within = ap (λ (ys : List A). x ∷ ys) (take_of_take xs len k (omega arith))
+
+-- the state of a coder that reads the first words of a buffer
+pub lent_state : {W : Type 0} (number : W → ℕ) (head pos left len : ℕ) (lent words : List W) → lent ≡ take len words → pos ≤ length lent → left ≡ pos
+    → ◌≡◌ {A = AnsState} (record { head = head; words = map number (reverse (take pos lent)) }) (record { head = head; words = stack_in number words left })
+lent_state {W} number head pos left len lent words is within same =
+    ap (λ (ws : List W). (let state : AnsState = record { head = head; words = map number (reverse ws) } in state))
+    (ap (λ (ws : List W). take pos ws) is ∙ (take_of_take words len pos (rw is at within) ∙ ap (λ (n : ℕ). take n words) (sym same)))
 
 -- words that were put behind others lie on top of them
 pub stack_appended : {W : Type 0} (number : W → ℕ) (buffer : List W) (len : ℕ) (added new : List W) (new_len : ℕ) → Appended buffer len added new new_len
@@ -62,55 +82,3 @@ counted number buffer len added within =
 pub known_turned : {S : Type 0} (items : List (Item S)) → AreKnown (reverse items) → AreKnown items
 known_turned {S} items all =
     subst (λ (xs : List (Item S)). AreKnown xs) (reverse-reverse items) (all-reverse (λ item. Knows item.model item.symbol) (reverse items) all)
-
-pub known_items : {S : Type 0} (model : Model S) (xs : List S) → AreKnown (items_of model (reverse xs)) → AreKnown (items_of model xs)
-known_items {S} model xs all = known_turned (items_of model xs) (subst (λ (items : List (Item S)). AreKnown items) (map-reverse (item_of model) xs) all)
-
--- what holds anyway
-pub on_ok_always : {T E P : Type 0} (r : Result T E) → P → OnOk r P
-on_ok_always (Ok x) p = p
-on_ok_always (Err e) p = tt
-
--- a refusal after what was asked for before is right
-pub refused_after : (fits right known : Type 0) (needs : ℕ → Type 0) → fits → right → (e : Refusal)
-    → PutOnRefused (Unit {0}) (Unit {0}) known needs e → PutOnRefused fits right known needs e
-refused_after fits right known needs f r WrongLength h = absurd (h tt)
-refused_after fits right known needs f r WrongWeights h = absurd (h.1 tt)
-refused_after fits right known needs f r ImpossibleSymbol h = (f, r, h.2)
-refused_after fits right known needs f r (NoSpace needed) h = (f, r, h.2, h.3)
-refused_after fits right known needs f r NoMemory h = tt
-refused_after fits right known needs f r WrongInterval h = h
-refused_after fits right known needs f r InvalidData h = h
-refused_after fits right known needs f r OutOfData h = h
-
--- what a coder without words wrote, put behind a caller's words
-module _ {W : Type 0} (number : W → ℕ) (w s : ℕ) (items : List (Item ℕ)) (head : ℕ) (buffer : List W) (len : ℕ) (added : List W) (new_head : ℕ) (z : IsSizes w s) (ms : AreModels w items)
-    (coded : EncodesAll w s items (record { head = head; words = [] }) (record { head = new_head; words = map number (reverse added) })) where
-  whole : IsValid w s (state_in number head buffer len)
-      → EncodesAll w s items (state_in number head buffer len) (record { head = new_head; words = map number (reverse added) ++ stack_in number buffer len })
-  whole v = encodes_over w s (stack_in number buffer len) items (record { head = head; words = [] }) (record { head = new_head; words = map number (reverse added) }) z ms v coded
-
-  pub put_on : (top : ℕ) → top ≡ new_head → (new : List W) (new_len : ℕ) → Appended buffer len added new new_len → PutOn number w s items head buffer len top new new_len
-  put_on top is new new_len a = record {
-    encoded = λ v. rw (is, stack_appended number buffer len added new new_len a) (whole v);
-    appended = (added, a);
-  }
-
-  pub needs_room : len ≤ length buffer → length buffer < len + length added → NeedsRoom number w s items head buffer len (len + length added)
-  needs_room within short = record {
-    short = short;
-    encoded = λ v. (record { head = new_head; words = map number (reverse added) ++ stack_in number buffer len }, whole v, counted number buffer len added within);
-  }
-
-  -- why the words were not put behind
-  pub refused : (known : Type 0) → known → len ≤ length buffer → (r : Result (Unit {0}) Refusal) → OnErr r (length buffer < len + length added)
-      → IfErr r (λ e. (e ≡ NoSpace (len + length added)) ⊎ (e ≡ NoMemory)) → IfErr r (PutOnRefused (Unit {0}) (Unit {0}) known (NeedsRoom number w s items head buffer len))
-  refused known k within (Ok u) short is = tt
-  refused known k within (Err e) short (inl is) = rw is (tt, tt, k, needs_room within short)
-  refused known k within (Err e) short (inr is) = rw is tt
-
--- the same where more was asked for before
-pub all_refused_after : (fits right known : Type 0) (needs : ℕ → Type 0) → fits → right → (r : Result (Unit {0}) Refusal)
-    → IfErr r (PutOnRefused (Unit {0}) (Unit {0}) known needs) → IfErr r (PutOnRefused fits right known needs)
-all_refused_after fits right known needs f r (Ok u) h = tt
-all_refused_after fits right known needs f r (Err e) h = refused_after fits right known needs f r e h

@@ -1,9 +1,9 @@
 mod AnsRows
+mod AnsAnswers
 mod AnsFrame
 pub mod ChainFrame
 pub mod ChainRows
 pub mod ChainSteps
-mod FamilyAns
 mod FamilyAnswers
 mod FamilyChain
 mod FamilyCounts

@@ -1,76 +1,99 @@
--- A stack coder's state in a caller's hands: a head, and the first words of a buffer, the last of them on top.
-use Rattle.std.specs.Prelude.{◌≡◌, ℕ, ◌<◌, List, length}
-use Rattle.constriction_base.specs.Models.{Item}
-use Rattle.constriction_stack.specs.Ans.{AnsState, IsValid}
-use Rattle.constriction_stack.specs.Symbols.{EncodesAll}
+-- Calls of the stack coder: what each does with a coder in a caller's hands, and which refusal comes when.
+use Rattle.std.specs.Prelude.{◌≡◌, ℕ, ◌<◌, ◌≤◌, List, Result, length, map, reverse, OnErr, OnOk}
+use Rattle.constriction_base.specs.Models.{AreKnown, Item}
+use Rattle.constriction_stack.specs.Ans.{AnsState, IsValid, exported}
+use Rattle.constriction_stack.specs.Binary.{IsBinary, binary_words}
+use Rattle.constriction_stack.specs.Symbols.{DecodesAll, EncodesAll}
 use Rattle.constriction_calls.specs.Buffers.{Appended, stack_in}
+use Rattle.constriction_calls.specs.Coded.{AsksFit, Coded, items}
+use Rattle.constriction_calls.specs.Refusals.{Asks, Else, Memory, Never, Room}
 use Rattle.constriction_calls.specs.declared.refusal.Refusal.{Refusal}
-use Rattle.constriction_calls.specs.declared.refusal.Refusal.TheVariants.{ImpossibleSymbol, WrongWeights, WrongInterval, WrongLength, NoSpace, NoMemory, InvalidData, OutOfData}
+use Rattle.constriction_calls.specs.declared.refusal.Refusal.TheVariants.{ImpossibleSymbol, InvalidData, WrongLength}
 
--- the state
-abbrev pub state_in : {W : Type 0} → (W → ℕ) → ℕ → List W → ℕ → AnsState
-state_in number head buffer len = record { head = head; words = stack_in number buffer len }
+-- a coder in a caller's hands: a head, and a buffer of which so many words are in use, the last of them on top
+pub record AnsKept (Word State : Type 0) : Type 0 where
+  pub head : State
+  pub words : List Word
+  pub len : ℕ
 
--- items were put on
-pub record PutOn {W : Type 0} (number : W → ℕ) (w s : ℕ) (items : List (Item ℕ)) (head : ℕ) (buffer : List W) (len : ℕ) (new_head : ℕ) (new_buffer : List W) (new_len : ℕ) : Type 0 where
-  -- onto a valid state: encodes of the items, one after the other, lead to the new state
-  pub encoded : IsValid w s (state_in number head buffer len) → EncodesAll w s items (state_in number head buffer len) (state_in number new_head new_buffer new_len)
-  -- words were put behind those in use, and nothing else of the buffer changed
-  pub appended : (added : List W) × Appended buffer len added new_buffer new_len
+abbrev pub coder_of : {Word State : Type 0} → State → List Word → ℕ → AnsKept Word State
+coder_of head words len = record { head = head; words = words; len = len }
 
--- the words of the state after the items would be so many, and the buffer is shorter
-pub record NeedsRoom {W : Type 0} (number : W → ℕ) (w s : ℕ) (items : List (Item ℕ)) (head : ℕ) (buffer : List W) (len needed : ℕ) : Type 0 where
-  pub short : length buffer < needed
-  pub encoded : IsValid w s (state_in number head buffer len) → (new : AnsState) × EncodesAll w s items (state_in number head buffer len) new × (length new.words ≡ needed)
+-- the state that it is
+abbrev pub state_kept : {Word State : Type 0} → (Word → ℕ) → (State → ℕ) → AnsKept Word State → AnsState
+state_kept number state kept = record { head = state kept.head; words = stack_in number kept.words kept.len }
 
--- why items weren't put on, by what a call asks for in its order: lengths that fit, weights that are right, symbols
--- that are known, and room. Of memory nothing is known.
-abbrev pub PutOnRefused : Type 0 → Type 0 → Type 0 → (ℕ → Type 0) → Refusal → Type 0
-PutOnRefused fits right known needs WrongLength = fits → ⊥
-PutOnRefused fits right known needs WrongWeights = fits × (right → ⊥)
-PutOnRefused fits right known needs ImpossibleSymbol = fits × right × (known → ⊥)
-PutOnRefused fits right known needs (NoSpace needed) = fits × right × known × needs needed
-PutOnRefused fits right known needs NoMemory = Unit {0}
-PutOnRefused fits right known needs WrongInterval = ⊥
-PutOnRefused fits right known needs InvalidData = ⊥
-PutOnRefused fits right known needs OutOfData = ⊥
+-- the words in use are within the buffer
+abbrev pub IsWithin : {Word State : Type 0} → AnsKept Word State → Type 0
+IsWithin kept = kept.len ≤ length kept.words
 
--- the same of intervals in place of weights
-abbrev pub IntervalsRefused : Type 0 → Type 0 → (ℕ → Type 0) → Refusal → Type 0
-IntervalsRefused fits right needs WrongLength = fits → ⊥
-IntervalsRefused fits right needs WrongInterval = fits × (right → ⊥)
-IntervalsRefused fits right needs (NoSpace needed) = fits × right × needs needed
-IntervalsRefused fits right needs NoMemory = Unit {0}
-IntervalsRefused fits right needs WrongWeights = ⊥
-IntervalsRefused fits right needs ImpossibleSymbol = ⊥
-IntervalsRefused fits right needs InvalidData = ⊥
-IntervalsRefused fits right needs OutOfData = ⊥
+-- words were put behind those in use, and nothing else of the buffer changed
+abbrev pub PutsBehind : {Word State : Type 0} → AnsKept Word State → AnsKept Word State → Type 0
+PutsBehind {Word} old new = (added : List Word) × Appended old.words old.len added new.words new.len
 
--- why symbols weren't taken off: a decode asks for nothing else
-abbrev pub TakeOffRefused : Type 0 → Type 0 → Refusal → Type 0
-TakeOffRefused fits right WrongLength = fits → ⊥
-TakeOffRefused fits right WrongWeights = fits × (right → ⊥)
-TakeOffRefused fits right NoMemory = Unit {0}
-TakeOffRefused fits right WrongInterval = ⊥
-TakeOffRefused fits right ImpossibleSymbol = ⊥
-TakeOffRefused fits right (NoSpace needed) = ⊥
-TakeOffRefused fits right InvalidData = ⊥
-TakeOffRefused fits right OutOfData = ⊥
+-- ---- symbols
+-- the words of the state after the items would be so many, and the buffer, which has so many, is shorter
+pub record NeedsRoom (w s : ℕ) (items : List (Item ℕ)) (room : ℕ) (old : AnsState) (needed : ℕ) : Type 0 where
+  pub short : room < needed
+  pub encoded : IsValid w s old → (new : AnsState) × EncodesAll w s items old new × (length new.words ≡ needed)
 
--- why a head's words weren't put behind the others
-abbrev pub ExportRefused : Type 0 → Type 0 → (ℕ → Type 0) → Refusal → Type 0
-ExportRefused fits right needs WrongLength = fits → ⊥
-ExportRefused fits right needs InvalidData = fits × (right → ⊥)
-ExportRefused fits right needs (NoSpace needed) = fits × right × needs needed
-ExportRefused fits right needs NoMemory = Unit {0}
-ExportRefused fits right needs WrongWeights = ⊥
-ExportRefused fits right needs WrongInterval = ⊥
-ExportRefused fits right needs ImpossibleSymbol = ⊥
-ExportRefused fits right needs OutOfData = ⊥
+-- what an encode of items asks for behind its models: symbols that these know, and room
+abbrev pub AsksItems : ℕ → ℕ → List (Item ℕ) → ℕ → AnsState → Result (Unit {0}) Refusal → Type 0
+AsksItems w s items room old = Asks ImpossibleSymbol (AreKnown items) (Else (Room (NeedsRoom w s (reverse items) room old)))
 
--- a buffer is shorter than a list of words of which this holds, and so long is that
-pub record NoRoomFor (room : ℕ) (holds : List ℕ → Type 0) (needed : ℕ) : Type 0 where
+-- an encode
+pub record AnsPuts {Word State : Type 0} (number : Word → ℕ) (state : State → ℕ) (w s precision : ℕ) (coded : Coded)
+    (old new : AnsKept Word State) (answer : Result (Unit {0}) Refusal) : Type 0 where
+  -- from a valid state encodes of the items, the last one first, lead to the new state
+  pub put : OnOk answer (IsValid w s (state_kept number state old)
+      → EncodesAll w s (reverse (items precision coded)) (state_kept number state old) (state_kept number state new))
+  pub behind : OnOk answer (PutsBehind old new)
+  pub asked : Asks WrongLength (IsWithin old)
+      (AsksFit precision coded (AsksItems w s (items precision coded) (length old.words) (state_kept number state old))) answer
+  pub kept : OnErr answer (new ≡ old)
+
+-- a decode of as many symbols as there are places for them
+pub record AnsTakes {Word State : Type 0} (number : Word → ℕ) (state : State → ℕ) (w s precision : ℕ) (coded : List ℕ → Coded)
+    (old new : AnsKept Word State) (old_symbols new_symbols : List ℕ) (answer : Result (Unit {0}) Refusal) : Type 0 where
+  -- decodes of the items, one after the other, lead to the new state
+  pub taken : OnOk answer (DecodesAll w s (items precision (coded new_symbols)) (state_kept number state old) (state_kept number state new))
+  pub within : OnOk answer ((new.words ≡ old.words) × (new.len ≤ old.len) × (length new_symbols ≡ length old_symbols))
+  pub asked : Asks WrongLength (IsWithin old) (AsksFit precision (coded old_symbols) (Else Memory)) answer
+  pub kept : OnErr answer ((new ≡ old) × (new_symbols ≡ old_symbols))
+
+-- ---- words
+-- an import, of words of which this holds: the state that they make, the last word on top
+pub record AnsImports {Word State : Type 0} (number : Word → ℕ) (state : State → ℕ) (makes : List ℕ → AnsState) (holds : List ℕ → Type 0)
+    (old new : AnsKept Word State) (answer : Result (Unit {0}) Refusal) : Type 0 where
+  pub made : OnOk answer (state_kept number state new ≡ makes (map number (reverse old.words)))
+  pub within : OnOk answer ((new.words ≡ old.words) × IsWithin new)
+  pub asked : Asks InvalidData (holds (map number (reverse old.words))) (Else Never) answer
+  pub kept : OnErr answer (new ≡ old)
+
+-- words are all those of a state, and a buffer is shorter: so many are needed
+pub record LacksRoom (are : AnsState → List ℕ → Type 0) (room : ℕ) (old : AnsState) (needed : ℕ) : Type 0 where
   pub short : room < needed
   pub all : List ℕ
-  pub are : holds all
+  pub is_all : are old all
   pub count : length all ≡ needed
+
+-- an export, of a state of which this holds: the words behind those below the head, so that these are all words of the state
+pub record AnsExports {Word State : Type 0} (number : Word → ℕ) (state : State → ℕ) (are : AnsState → List ℕ → Type 0) (holds : AnsState → Type 0)
+    (old new : AnsKept Word State) (answer : Result (Unit {0}) Refusal) : Type 0 where
+  pub all : OnOk answer (are (state_kept number state old) (stack_in number new.words new.len))
+  pub behind : OnOk answer (PutsBehind old new)
+  pub asked : Asks WrongLength (IsWithin old) (Asks InvalidData (holds (state_kept number state old))
+      (Else (Room (LacksRoom are (length old.words) (state_kept number state old))))) answer
+  pub kept : OnErr answer (new ≡ old)
+
+-- the words of a state without leading zero words
+abbrev pub AreCompressed : ℕ → AnsState → List ℕ → Type 0
+AreCompressed w state all = all ≡ exported w state
+
+-- those below a leading 1
+abbrev pub AreBinary : ℕ → AnsState → List ℕ → Type 0
+AreBinary w state all = (m : ℕ) × IsBinary w m state × (all ≡ binary_words w m state)
+
+-- the head is a 1 above whole words
+abbrev pub HasBinary : ℕ → AnsState → Type 0
+HasBinary w state = (m : ℕ) × IsBinary w m state

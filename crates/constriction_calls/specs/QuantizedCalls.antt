@@ -6,8 +6,6 @@ use Rattle.constriction_chain.specs.Symbols.{PutsBackAll, TakesOffAll}
 use Rattle.constriction_models.specs.Counts.{AllShare, AreShares, AreWeights, ServesLargest, positive}
 use Rattle.constriction_queue.specs.Range.{Run}
 use Rattle.constriction_queue_laws.specs.Symbols.{FindsAll}
-use Rattle.constriction_stack.specs.Symbols.{DecodesAll}
-use Rattle.constriction_calls.specs.AnsCalls.{NeedsRoom, PutOn, state_in}
 use Rattle.constriction_calls.specs.Buffers.{Appended, NeedsSpace}
 use Rattle.constriction_calls.specs.ChainCalls as chains
 use Rattle.constriction_calls.specs.Quantized.{AreAsMany, AreIntervalsOf, ArePlaces, AreScaled, ByFamily, IsRange, family_items}
@@ -36,46 +34,6 @@ OfChecks other = ⊥
 abbrev pub OfModels : Refusal → Type 0
 OfModels NoMemory = Unit {0}
 OfModels other = OfChecks other
-
--- ---- the stack coder
--- one in a caller's hands: a head, and a buffer of which so many words are in use
-pub record AnsKept (Word State : Type 0) : Type 0 where
-  pub head : State
-  pub words : List Word
-  pub len : ℕ
-
--- the words in use are within the buffer, and there are as many locations and scales as symbols
-abbrev pub AnsFits : {Word State : Type 0} → ByFamily → ℕ → AnsKept Word State → Type 0
-AnsFits by count kept = (kept.len ≤ length kept.words) × AreAsMany by count
-
--- a refusal behind the first three in its case: a symbol past the range, and then room. Of want of memory nothing is said
-abbrev pub PutsLater : Type 0 → (ℕ → Type 0) → Refusal → Type 0
-PutsLater places needs ImpossibleSymbol = places → ⊥
-PutsLater places needs (NoSpace needed) = places × needs needed
-PutsLater places needs InvalidData = ⊥
-PutsLater places needs OutOfData = ⊥
-PutsLater places needs other = Unit {0}
-
--- an encode of symbols, each by its own model
-pub record AnsPuts {Word State : Type 0} (number : Word → ℕ) (state : State → ℕ) (w s precision : ℕ) (by : ByFamily) (symbols : List ℕ)
-    (old new : AnsKept Word State) (answer : Result (Unit {0}) Refusal) : Type 0 where
-  -- the items are put on, the last one first
-  pub put : OnOk answer (PutOn number w s (reverse (family_items precision by symbols)) (state old.head) old.words old.len (state new.head) new.words new.len)
-  pub checks : Checks (AnsFits by (length symbols) old) (IsRange precision by.min by.max) (AreScaled by.family by.scales) answer
-  pub places : OnOk answer (ArePlaces by.min by.max symbols)
-  pub later : IfErr answer (PutsLater (ArePlaces by.min by.max symbols) (NeedsRoom number w s (reverse (family_items precision by symbols)) (state old.head) old.words old.len))
-  pub kept : OnErr answer (new ≡ old)
-
--- a decode of as many symbols as there are places for them
-pub record AnsTakes {Word State : Type 0} (number : Word → ℕ) (state : State → ℕ) (w s precision : ℕ) (by : ByFamily)
-    (old new : AnsKept Word State) (old_symbols new_symbols : List ℕ) (answer : Result (Unit {0}) Refusal) : Type 0 where
-  -- the items are taken off, one after the other
-  pub taken : OnOk answer (DecodesAll w s (family_items precision by new_symbols)
-      (state_in number (state old.head) old.words old.len) (state_in number (state new.head) new.words new.len))
-  pub within : OnOk answer ((new.words ≡ old.words) × (new.len ≤ old.len) × (length new_symbols ≡ length old_symbols))
-  pub checks : Checks (AnsFits by (length old_symbols) old) (IsRange precision by.min by.max) (AreScaled by.family by.scales) answer
-  pub err : IfErr answer OfModels
-  pub kept : OnErr answer ((new ≡ old) × (new_symbols ≡ old_symbols))
 
 -- ---- the range coder
 -- an encoder in a caller's hands, and its buffer, of which so many words are in use

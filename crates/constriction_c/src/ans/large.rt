@@ -1,28 +1,23 @@
 //! The stack coder at words of 32 bits, heads of 64 and a precision of 24.
 
-ghost use Rattle.std.specs.Prelude.{◌≡◌, ◌↔◌, ◌*◌, ◌≤◌, ℕ, List, Ok, length, map, reverse, IfErr, IsOk, OnErr, OnOk};
-ghost use Rattle.constriction_base.specs.Models.{AreKnown, items_of};
+ghost use Rattle.std.specs.Prelude.{map};
 ghost use Rattle.constriction_base.specs.Readings.{BeginsHigh};
-ghost use Rattle.constriction_c.specs.Codes.{answer_of, needed_by};
-ghost use Rattle.constriction_calls.specs.AnsCalls.{ExportRefused, IntervalsRefused, NeedsRoom, NoRoomFor, PutOn, PutOnRefused, TakeOffRefused, state_in};
-ghost use Rattle.constriction_calls.specs.Buffers.{Appended};
-ghost use Rattle.constriction_calls.specs.Intervals.{AreIntervals, interval_items};
-ghost use Rattle.constriction_calls.specs.Weights.{AreTotals, IsTotal, row_items, weights_model};
-ghost use Rattle.constriction_calls.specs.declared.refusal.Refusal.TheVariants.{InvalidData};
-ghost use Rattle.constriction_stack.specs.Ans.{exported, filled};
-ghost use Rattle.constriction_stack.specs.Binary.{IsBinary, binary_state, binary_words};
-ghost use Rattle.constriction_stack.specs.Symbols.{DecodesAll};
+ghost use Rattle.constriction_c.specs.Codes.{Told, answer_of};
+ghost use Rattle.constriction_calls.specs.AnsCalls.{AnsExports, AnsImports, AnsPuts, AnsTakes, coder_of};
+ghost use Rattle.constriction_calls.specs.AnsCalls.{AreBinary, AreCompressed, HasBinary};
+ghost use Rattle.constriction_calls.specs.Coded.{AsIntervals, ByRows, ByWeights, InFamily};
+ghost use Rattle.constriction_stack.specs.Ans.{filled};
+ghost use Rattle.constriction_stack.specs.Binary.{binary_state};
 
 use crate::codes::{code_of, code_without_space};
-use constriction_calls::ans::decoding::{decode, decode_each};
-use constriction_calls::ans::encoding::{
-    encode_each_reverse, encode_intervals_reverse, encode_reverse,
-};
+use constriction_calls::ans::decoding::decode;
+use constriction_calls::ans::encoding::{encode_intervals_reverse, encode_reverse};
 use constriction_calls::ans::words::{from_binary, from_compressed, into_binary, into_compressed};
+use constriction_calls::models::{Families, Rows, Weights};
 use constriction_words::BitArray;
 use std::alloc::Global;
 
-/// `encode_reverse`: symbols put on by the weights of one table, the last symbol first.
+/// `encode_reverse` by the weights of one table.
 #[unsafe(no_mangle)]
 pub extern "C" fn constriction_ans_encode_reverse_u32(
     alloc: Global,
@@ -33,23 +28,16 @@ pub extern "C" fn constriction_ans_encode_reverse_u32(
     symbols: &[usize],
     needed: &mut usize,
 ) -> u32
-    ensures ok { OnOk (answer_of result needed.new) (PutOn ⟦<u32 as BitArray>⟧.number 32 64 (items_of (weights_model 24 (map ⟦<u32 as BitArray>⟧.number weights.now)) (reverse symbols.now))
-        (⟦<u64 as BitArray>⟧.number head.old) words.old len.old (⟦<u64 as BitArray>⟧.number head.new) words.new len.new) }
-    ensures variant { OnOk (answer_of result needed.new) ((len.old ≤ length words.old) × IsTotal 24 (map ⟦<u32 as BitArray>⟧.number weights.now) × AreKnown (items_of (weights_model 24 (map ⟦<u32 as BitArray>⟧.number weights.now)) symbols.now)) }
-    ensures err { IfErr (answer_of result needed.new) (PutOnRefused ((len.old ≤ length words.old))
-        (IsTotal 24 (map ⟦<u32 as BitArray>⟧.number weights.now))
-        (AreKnown (items_of (weights_model 24 (map ⟦<u32 as BitArray>⟧.number weights.now)) symbols.now))
-        (NeedsRoom ⟦<u32 as BitArray>⟧.number 32 64 (items_of (weights_model 24 (map ⟦<u32 as BitArray>⟧.number weights.now)) (reverse symbols.now)) (⟦<u64 as BitArray>⟧.number head.old) words.old len.old)) }
-    ensures kept { OnErr (answer_of result needed.new) ((head.new ≡ head.old) × (words.new ≡ words.old) × (len.new ≡ len.old)) }
-    ensures needed { needed.new ≡ needed_by (answer_of result needed.new) needed.old }
+    ensures { Told result needed.old needed.new (AnsPuts ⟦<u32 as BitArray>⟧.number ⟦<u64 as BitArray>⟧.number 32 64 24
+        (ByWeights (map ⟦<u32 as BitArray>⟧.number weights.now) symbols.now)
+        (coder_of head.old words.old len.old) (coder_of head.new words.new len.new)) }
 {
-    code_of(
-        encode_reverse::<u32, u64, u32, 24>(alloc, head, words, len, weights, symbols),
-        needed,
-    )
+    let table = Weights { weights };
+    let answer = encode_reverse::<_, _, u32, _, 24>(alloc, head, words, len, &table, symbols);
+    code_of(answer, needed)
 }
 
-/// `encode_each_reverse`: symbols put on, each by the next row of `width` weights, the last symbol first.
+/// `encode_reverse` by the next row of `width` weights for each symbol.
 #[unsafe(no_mangle)]
 pub extern "C" fn constriction_ans_encode_each_reverse_u32(
     alloc: Global,
@@ -61,23 +49,16 @@ pub extern "C" fn constriction_ans_encode_each_reverse_u32(
     symbols: &[usize],
     needed: &mut usize,
 ) -> u32
-    ensures ok { OnOk (answer_of result needed.new) (PutOn ⟦<u32 as BitArray>⟧.number 32 64 (reverse (row_items 24 width (map ⟦<u32 as BitArray>⟧.number weights.now) symbols.now))
-        (⟦<u64 as BitArray>⟧.number head.old) words.old len.old (⟦<u64 as BitArray>⟧.number head.new) words.new len.new) }
-    ensures variant { OnOk (answer_of result needed.new) ((len.old ≤ length words.old) × (length weights.now ≡ width * length symbols.now) × AreTotals 24 width (length symbols.now) (map ⟦<u32 as BitArray>⟧.number weights.now) × AreKnown (row_items 24 width (map ⟦<u32 as BitArray>⟧.number weights.now) symbols.now)) }
-    ensures err { IfErr (answer_of result needed.new) (PutOnRefused ((len.old ≤ length words.old) × (length weights.now ≡ width * length symbols.now))
-        (AreTotals 24 width (length symbols.now) (map ⟦<u32 as BitArray>⟧.number weights.now))
-        (AreKnown (row_items 24 width (map ⟦<u32 as BitArray>⟧.number weights.now) symbols.now))
-        (NeedsRoom ⟦<u32 as BitArray>⟧.number 32 64 (reverse (row_items 24 width (map ⟦<u32 as BitArray>⟧.number weights.now) symbols.now)) (⟦<u64 as BitArray>⟧.number head.old) words.old len.old)) }
-    ensures kept { OnErr (answer_of result needed.new) ((head.new ≡ head.old) × (words.new ≡ words.old) × (len.new ≡ len.old)) }
-    ensures needed { needed.new ≡ needed_by (answer_of result needed.new) needed.old }
+    ensures { Told result needed.old needed.new (AnsPuts ⟦<u32 as BitArray>⟧.number ⟦<u64 as BitArray>⟧.number 32 64 24
+        (ByRows width (map ⟦<u32 as BitArray>⟧.number weights.now) symbols.now)
+        (coder_of head.old words.old len.old) (coder_of head.new words.new len.new)) }
 {
-    code_of(
-        encode_each_reverse::<u32, u64, u32, 24>(alloc, head, words, len, weights, width, symbols),
-        needed,
-    )
+    let rows = Rows { weights, width };
+    let answer = encode_reverse::<_, _, u32, _, 24>(alloc, head, words, len, &rows, symbols);
+    code_of(answer, needed)
 }
 
-/// `encode_intervals_reverse`: intervals put on, the last one first.
+/// `encode_intervals_reverse`.
 #[unsafe(no_mangle)]
 pub extern "C" fn constriction_ans_encode_intervals_reverse_u32(
     alloc: Global,
@@ -88,22 +69,46 @@ pub extern "C" fn constriction_ans_encode_intervals_reverse_u32(
     ps: &[u32],
     needed: &mut usize,
 ) -> u32
-    ensures ok { OnOk (answer_of result needed.new) (PutOn ⟦<u32 as BitArray>⟧.number 32 64 (reverse (interval_items 24 (map ⟦<u32 as BitArray>⟧.number lefts.now) (map ⟦<u32 as BitArray>⟧.number ps.now)))
-        (⟦<u64 as BitArray>⟧.number head.old) words.old len.old (⟦<u64 as BitArray>⟧.number head.new) words.new len.new) }
-    ensures variant { OnOk (answer_of result needed.new) ((len.old ≤ length words.old) × (length lefts.now ≡ length ps.now) × AreIntervals 24 (map ⟦<u32 as BitArray>⟧.number lefts.now) (map ⟦<u32 as BitArray>⟧.number ps.now)) }
-    ensures err { IfErr (answer_of result needed.new) (IntervalsRefused ((len.old ≤ length words.old) × (length lefts.now ≡ length ps.now))
-        (AreIntervals 24 (map ⟦<u32 as BitArray>⟧.number lefts.now) (map ⟦<u32 as BitArray>⟧.number ps.now))
-        (NeedsRoom ⟦<u32 as BitArray>⟧.number 32 64 (reverse (interval_items 24 (map ⟦<u32 as BitArray>⟧.number lefts.now) (map ⟦<u32 as BitArray>⟧.number ps.now))) (⟦<u64 as BitArray>⟧.number head.old) words.old len.old)) }
-    ensures kept { OnErr (answer_of result needed.new) ((head.new ≡ head.old) × (words.new ≡ words.old) × (len.new ≡ len.old)) }
-    ensures needed { needed.new ≡ needed_by (answer_of result needed.new) needed.old }
+    ensures { Told result needed.old needed.new (AnsPuts ⟦<u32 as BitArray>⟧.number ⟦<u64 as BitArray>⟧.number 32 64 24
+        (AsIntervals (map ⟦<u32 as BitArray>⟧.number lefts.now) (map ⟦<u32 as BitArray>⟧.number ps.now))
+        (coder_of head.old words.old len.old) (coder_of head.new words.new len.new)) }
 {
-    code_of(
-        encode_intervals_reverse::<u32, u64, u32, 24>(alloc, head, words, len, lefts, ps),
-        needed,
-    )
+    let answer = encode_intervals_reverse::<_, _, u32, 24>(alloc, head, words, len, lefts, ps);
+    code_of(answer, needed)
 }
 
-/// `decode`: a symbol taken off for each place of `symbols`, by the weights of one table.
+/// `encode_reverse` by models of a family.
+#[unsafe(no_mangle)]
+pub extern "C" fn constriction_ans_encode_quantized_reverse_u32(
+    alloc: Global,
+    head: &mut u64,
+    words: &mut [u32],
+    len: &mut usize,
+    family: u32,
+    min: i32,
+    max: i32,
+    locations: &[i64],
+    scales: &[u32],
+    symbols: &[usize],
+    needed: &mut usize,
+) -> u32
+    ensures { Told result needed.old needed.new (AnsPuts ⟦<u32 as BitArray>⟧.number ⟦<u64 as BitArray>⟧.number 32 64 24
+        (InFamily record { family = family; min = min; max = max; locations = locations.now; scales = scales.now }
+        symbols.now)
+        (coder_of head.old words.old len.old) (coder_of head.new words.new len.new)) }
+{
+    let models = Families {
+        family,
+        min,
+        max,
+        locations,
+        scales,
+    };
+    let answer = encode_reverse::<_, _, u32, _, 24>(alloc, head, words, len, &models, symbols);
+    code_of(answer, needed)
+}
+
+/// `decode` by the weights of one table.
 #[unsafe(no_mangle)]
 pub extern "C" fn constriction_ans_decode_u32(
     alloc: Global,
@@ -113,17 +118,16 @@ pub extern "C" fn constriction_ans_decode_u32(
     weights: &[u32],
     symbols: &mut [usize],
 ) -> u32
-    ensures ok { OnOk (answer_of result 0) (DecodesAll 32 64 (items_of (weights_model 24 (map ⟦<u32 as BitArray>⟧.number weights.now)) symbols.new)
-        (state_in ⟦<u32 as BitArray>⟧.number (⟦<u64 as BitArray>⟧.number head.old) words.now len.old) (state_in ⟦<u32 as BitArray>⟧.number (⟦<u64 as BitArray>⟧.number head.new) words.now len.new)) }
-    ensures within { OnOk (answer_of result 0) ((len.new ≤ len.old) × (length symbols.new ≡ length symbols.old)) }
-    ensures variant { OnOk (answer_of result 0) ((len.old ≤ length words.now) × IsTotal 24 (map ⟦<u32 as BitArray>⟧.number weights.now)) }
-    ensures err { IfErr (answer_of result 0) (TakeOffRefused ((len.old ≤ length words.now)) (IsTotal 24 (map ⟦<u32 as BitArray>⟧.number weights.now))) }
-    ensures kept { OnErr (answer_of result 0) ((head.new ≡ head.old) × (len.new ≡ len.old) × (symbols.new ≡ symbols.old)) }
+    ensures { AnsTakes ⟦<u32 as BitArray>⟧.number ⟦<u64 as BitArray>⟧.number 32 64 24
+        (ByWeights (map ⟦<u32 as BitArray>⟧.number weights.now))
+        (coder_of head.old words.now len.old) (coder_of head.new words.now len.new)
+        symbols.old symbols.new (answer_of result 0) }
 {
-    code_without_space(decode::<u32, u64, u32, 24>(alloc, head, words, len, weights, symbols))
+    let table = Weights { weights };
+    code_without_space(decode::<_, _, u32, _, 24>(alloc, head, words, len, &table, symbols))
 }
 
-/// `decode_each`: a symbol taken off for each place of `symbols`, each by the next row of `width` weights.
+/// `decode` by the next row of `width` weights for each symbol.
 #[unsafe(no_mangle)]
 pub extern "C" fn constriction_ans_decode_each_u32(
     alloc: Global,
@@ -134,59 +138,72 @@ pub extern "C" fn constriction_ans_decode_each_u32(
     width: usize,
     symbols: &mut [usize],
 ) -> u32
-    ensures ok { OnOk (answer_of result 0) (DecodesAll 32 64 (row_items 24 width (map ⟦<u32 as BitArray>⟧.number weights.now) symbols.new)
-        (state_in ⟦<u32 as BitArray>⟧.number (⟦<u64 as BitArray>⟧.number head.old) words.now len.old) (state_in ⟦<u32 as BitArray>⟧.number (⟦<u64 as BitArray>⟧.number head.new) words.now len.new)) }
-    ensures within { OnOk (answer_of result 0) ((len.new ≤ len.old) × (length symbols.new ≡ length symbols.old)) }
-    ensures variant { OnOk (answer_of result 0) ((len.old ≤ length words.now) × (length weights.now ≡ width * length symbols.old) × AreTotals 24 width (length symbols.old) (map ⟦<u32 as BitArray>⟧.number weights.now)) }
-    ensures err { IfErr (answer_of result 0) (TakeOffRefused ((len.old ≤ length words.now) × (length weights.now ≡ width * length symbols.old)) (AreTotals 24 width (length symbols.old) (map ⟦<u32 as BitArray>⟧.number weights.now))) }
-    ensures kept { OnErr (answer_of result 0) ((head.new ≡ head.old) × (len.new ≡ len.old) × (symbols.new ≡ symbols.old)) }
+    ensures { AnsTakes ⟦<u32 as BitArray>⟧.number ⟦<u64 as BitArray>⟧.number 32 64 24
+        (ByRows width (map ⟦<u32 as BitArray>⟧.number weights.now))
+        (coder_of head.old words.now len.old) (coder_of head.new words.now len.new)
+        symbols.old symbols.new (answer_of result 0) }
 {
-    code_without_space(decode_each::<u32, u64, u32, 24>(
-        alloc, head, words, len, weights, width, symbols,
-    ))
+    let rows = Rows { weights, width };
+    code_without_space(decode::<_, _, u32, _, 24>(alloc, head, words, len, &rows, symbols))
 }
 
-/// `from_compressed`: the state whose words these are.
+/// `decode` by models of a family.
+#[unsafe(no_mangle)]
+pub extern "C" fn constriction_ans_decode_quantized_u32(
+    alloc: Global,
+    head: &mut u64,
+    words: &[u32],
+    len: &mut usize,
+    family: u32,
+    min: i32,
+    max: i32,
+    locations: &[i64],
+    scales: &[u32],
+    symbols: &mut [usize],
+) -> u32
+    ensures { AnsTakes ⟦<u32 as BitArray>⟧.number ⟦<u64 as BitArray>⟧.number 32 64 24
+        (InFamily record { family = family; min = min; max = max; locations = locations.now; scales = scales.now })
+        (coder_of head.old words.now len.old) (coder_of head.new words.now len.new)
+        symbols.old symbols.new (answer_of result 0) }
+{
+    let models = Families {
+        family,
+        min,
+        max,
+        locations,
+        scales,
+    };
+    code_without_space(decode::<_, _, u32, _, 24>(alloc, head, words, len, &models, symbols))
+}
+
+/// `from_compressed`.
 #[unsafe(no_mangle)]
 pub extern "C" fn constriction_ans_from_compressed_u32(
     words: &[u32],
     len: &mut usize,
     head: &mut u64,
 ) -> u32
-    ensures ok { OnOk (answer_of result 0) (state_in ⟦<u32 as BitArray>⟧.number (⟦<u64 as BitArray>⟧.number head.new) words.now len.new ≡ filled 32 64 0 (map ⟦<u32 as BitArray>⟧.number (reverse words.now))) }
-    ensures within { OnOk (answer_of result 0) (len.new ≤ length words.now) }
-    ensures variant { IsOk (answer_of result 0) ↔ BeginsHigh (map ⟦<u32 as BitArray>⟧.number (reverse words.now)) }
-    ensures err { IfErr (answer_of result 0) (λ e. e ≡ InvalidData) }
-    ensures kept { OnErr (answer_of result 0) ((head.new ≡ head.old) × (len.new ≡ len.old)) }
+    ensures { AnsImports ⟦<u32 as BitArray>⟧.number ⟦<u64 as BitArray>⟧.number (filled 32 64 0) BeginsHigh
+        (coder_of head.old words.now len.old) (coder_of head.new words.now len.new) (answer_of result 0) }
 {
-    match from_compressed::<u32, u64>(words) {
-        Ok((new_head, new_len)) => {
-            *head = new_head;
-            *len = new_len;
-            code_without_space(Ok(()))
-        }
-        Err(refusal) => code_without_space(Err(refusal)),
-    }
+    code_without_space(from_compressed(words, len, head))
 }
 
-/// `from_binary`: the state that any words stand for.
+/// `from_binary`.
 #[unsafe(no_mangle)]
 pub extern "C" fn constriction_ans_from_binary_u32(
     words: &[u32],
     len: &mut usize,
     head: &mut u64,
 ) -> u32
-    ensures done { answer_of result 0 ≡ Ok tt }
-    ensures state { state_in ⟦<u32 as BitArray>⟧.number (⟦<u64 as BitArray>⟧.number head.new) words.now len.new ≡ binary_state 32 64 (map ⟦<u32 as BitArray>⟧.number (reverse words.now)) }
-    ensures within { len.new ≤ length words.now }
+    ensures { AnsImports ⟦<u32 as BitArray>⟧.number ⟦<u64 as BitArray>⟧.number (binary_state 32 64) (λ all. Unit {0})
+        (coder_of head.old words.now len.old) (coder_of head.new words.now len.new) (answer_of result 0) }
 {
-    let (new_head, new_len) = from_binary::<u32, u64>(words);
-    *head = new_head;
-    *len = new_len;
+    from_binary(words, len, head);
     code_without_space(Ok(()))
 }
 
-/// `into_compressed`: the words of a head put behind those below it.
+/// `into_compressed`.
 #[unsafe(no_mangle)]
 pub extern "C" fn constriction_ans_into_compressed_u32(
     alloc: Global,
@@ -195,18 +212,14 @@ pub extern "C" fn constriction_ans_into_compressed_u32(
     len: &mut usize,
     needed: &mut usize,
 ) -> u32
-    ensures ok { OnOk (answer_of result needed.new) ((state_in ⟦<u32 as BitArray>⟧.number (⟦<u64 as BitArray>⟧.number head) words.new len.new).words ≡ exported 32 (state_in ⟦<u32 as BitArray>⟧.number (⟦<u64 as BitArray>⟧.number head) words.old len.old)) }
-    ensures appended { OnOk (answer_of result needed.new) ((added : List ℕ) × Appended words.old len.old added words.new len.new) }
-    ensures variant { OnOk (answer_of result needed.new) (len.old ≤ length words.old) }
-    ensures err { IfErr (answer_of result needed.new) (ExportRefused (len.old ≤ length words.old) (Unit {0})
-        (NoRoomFor (length words.old) (λ all. all ≡ exported 32 (state_in ⟦<u32 as BitArray>⟧.number (⟦<u64 as BitArray>⟧.number head) words.old len.old)))) }
-    ensures kept { OnErr (answer_of result needed.new) ((words.new ≡ words.old) × (len.new ≡ len.old)) }
-    ensures needed { needed.new ≡ needed_by (answer_of result needed.new) needed.old }
+    ensures { Told result needed.old needed.new (AnsExports ⟦<u32 as BitArray>⟧.number ⟦<u64 as BitArray>⟧.number
+        (AreCompressed 32) (λ state. Unit {0})
+        (coder_of head words.old len.old) (coder_of head words.new len.new)) }
 {
-    code_of(into_compressed::<u32, u64>(alloc, head, words, len), needed)
+    code_of(into_compressed(alloc, head, words, len), needed)
 }
 
-/// `into_binary`: the words of a head below its leading 1 put behind those below it.
+/// `into_binary`.
 #[unsafe(no_mangle)]
 pub extern "C" fn constriction_ans_into_binary_u32(
     alloc: Global,
@@ -215,16 +228,9 @@ pub extern "C" fn constriction_ans_into_binary_u32(
     len: &mut usize,
     needed: &mut usize,
 ) -> u32
-    ensures ok { OnOk (answer_of result needed.new) ((m : ℕ) × IsBinary 32 m (state_in ⟦<u32 as BitArray>⟧.number (⟦<u64 as BitArray>⟧.number head) words.old len.old)
-        × ((state_in ⟦<u32 as BitArray>⟧.number (⟦<u64 as BitArray>⟧.number head) words.new len.new).words ≡ binary_words 32 m (state_in ⟦<u32 as BitArray>⟧.number (⟦<u64 as BitArray>⟧.number head) words.old len.old))) }
-    ensures appended { OnOk (answer_of result needed.new) ((added : List ℕ) × Appended words.old len.old added words.new len.new) }
-    ensures variant { OnOk (answer_of result needed.new) (len.old ≤ length words.old) }
-    ensures err { IfErr (answer_of result needed.new) (ExportRefused (len.old ≤ length words.old)
-        ((m : ℕ) × IsBinary 32 m (state_in ⟦<u32 as BitArray>⟧.number (⟦<u64 as BitArray>⟧.number head) words.old len.old))
-        (NoRoomFor (length words.old) (λ all. (m : ℕ) × IsBinary 32 m (state_in ⟦<u32 as BitArray>⟧.number (⟦<u64 as BitArray>⟧.number head) words.old len.old)
-        × (all ≡ binary_words 32 m (state_in ⟦<u32 as BitArray>⟧.number (⟦<u64 as BitArray>⟧.number head) words.old len.old))))) }
-    ensures kept { OnErr (answer_of result needed.new) ((words.new ≡ words.old) × (len.new ≡ len.old)) }
-    ensures needed { needed.new ≡ needed_by (answer_of result needed.new) needed.old }
+    ensures { Told result needed.old needed.new (AnsExports ⟦<u32 as BitArray>⟧.number ⟦<u64 as BitArray>⟧.number
+        (AreBinary 32) (HasBinary 32)
+        (coder_of head words.old len.old) (coder_of head words.new len.new)) }
 {
-    code_of(into_binary::<u32, u64>(alloc, head, words, len), needed)
+    code_of(into_binary(alloc, head, words, len), needed)
 }

@@ -1,28 +1,23 @@
 //! The stack coder at words of 16 bits, heads of 32 and a precision of 12.
 
-ghost use Rattle.std.specs.Prelude.{◌≡◌, ◌↔◌, ◌*◌, ◌≤◌, ℕ, List, Ok, length, map, reverse, IfErr, IsOk, OnErr, OnOk};
-ghost use Rattle.constriction_base.specs.Models.{AreKnown, items_of};
+ghost use Rattle.std.specs.Prelude.{map};
 ghost use Rattle.constriction_base.specs.Readings.{BeginsHigh};
-ghost use Rattle.constriction_c.specs.Codes.{answer_of, needed_by};
-ghost use Rattle.constriction_calls.specs.AnsCalls.{ExportRefused, IntervalsRefused, NeedsRoom, NoRoomFor, PutOn, PutOnRefused, TakeOffRefused, state_in};
-ghost use Rattle.constriction_calls.specs.Buffers.{Appended};
-ghost use Rattle.constriction_calls.specs.Intervals.{AreIntervals, interval_items};
-ghost use Rattle.constriction_calls.specs.Weights.{AreTotals, IsTotal, row_items, weights_model};
-ghost use Rattle.constriction_calls.specs.declared.refusal.Refusal.TheVariants.{InvalidData};
-ghost use Rattle.constriction_stack.specs.Ans.{exported, filled};
-ghost use Rattle.constriction_stack.specs.Binary.{IsBinary, binary_state, binary_words};
-ghost use Rattle.constriction_stack.specs.Symbols.{DecodesAll};
+ghost use Rattle.constriction_c.specs.Codes.{Told, answer_of};
+ghost use Rattle.constriction_calls.specs.AnsCalls.{AnsExports, AnsImports, AnsPuts, AnsTakes, coder_of};
+ghost use Rattle.constriction_calls.specs.AnsCalls.{AreBinary, AreCompressed, HasBinary};
+ghost use Rattle.constriction_calls.specs.Coded.{AsIntervals, ByRows, ByWeights, InFamily};
+ghost use Rattle.constriction_stack.specs.Ans.{filled};
+ghost use Rattle.constriction_stack.specs.Binary.{binary_state};
 
 use crate::codes::{code_of, code_without_space};
-use constriction_calls::ans::decoding::{decode, decode_each};
-use constriction_calls::ans::encoding::{
-    encode_each_reverse, encode_intervals_reverse, encode_reverse,
-};
+use constriction_calls::ans::decoding::decode;
+use constriction_calls::ans::encoding::{encode_intervals_reverse, encode_reverse};
 use constriction_calls::ans::words::{from_binary, from_compressed, into_binary, into_compressed};
+use constriction_calls::models::{Families, Rows, Weights};
 use constriction_words::BitArray;
 use std::alloc::Global;
 
-/// `encode_reverse`: symbols put on by the weights of one table, the last symbol first.
+/// `encode_reverse` by the weights of one table.
 #[unsafe(no_mangle)]
 pub extern "C" fn constriction_ans_encode_reverse_u16(
     alloc: Global,
@@ -33,23 +28,16 @@ pub extern "C" fn constriction_ans_encode_reverse_u16(
     symbols: &[usize],
     needed: &mut usize,
 ) -> u32
-    ensures ok { OnOk (answer_of result needed.new) (PutOn ⟦<u16 as BitArray>⟧.number 16 32 (items_of (weights_model 12 (map ⟦<u16 as BitArray>⟧.number weights.now)) (reverse symbols.now))
-        (⟦<u32 as BitArray>⟧.number head.old) words.old len.old (⟦<u32 as BitArray>⟧.number head.new) words.new len.new) }
-    ensures variant { OnOk (answer_of result needed.new) ((len.old ≤ length words.old) × IsTotal 12 (map ⟦<u16 as BitArray>⟧.number weights.now) × AreKnown (items_of (weights_model 12 (map ⟦<u16 as BitArray>⟧.number weights.now)) symbols.now)) }
-    ensures err { IfErr (answer_of result needed.new) (PutOnRefused ((len.old ≤ length words.old))
-        (IsTotal 12 (map ⟦<u16 as BitArray>⟧.number weights.now))
-        (AreKnown (items_of (weights_model 12 (map ⟦<u16 as BitArray>⟧.number weights.now)) symbols.now))
-        (NeedsRoom ⟦<u16 as BitArray>⟧.number 16 32 (items_of (weights_model 12 (map ⟦<u16 as BitArray>⟧.number weights.now)) (reverse symbols.now)) (⟦<u32 as BitArray>⟧.number head.old) words.old len.old)) }
-    ensures kept { OnErr (answer_of result needed.new) ((head.new ≡ head.old) × (words.new ≡ words.old) × (len.new ≡ len.old)) }
-    ensures needed { needed.new ≡ needed_by (answer_of result needed.new) needed.old }
+    ensures { Told result needed.old needed.new (AnsPuts ⟦<u16 as BitArray>⟧.number ⟦<u32 as BitArray>⟧.number 16 32 12
+        (ByWeights (map ⟦<u16 as BitArray>⟧.number weights.now) symbols.now)
+        (coder_of head.old words.old len.old) (coder_of head.new words.new len.new)) }
 {
-    code_of(
-        encode_reverse::<u16, u32, u16, 12>(alloc, head, words, len, weights, symbols),
-        needed,
-    )
+    let table = Weights { weights };
+    let answer = encode_reverse::<_, _, u16, _, 12>(alloc, head, words, len, &table, symbols);
+    code_of(answer, needed)
 }
 
-/// `encode_each_reverse`: symbols put on, each by the next row of `width` weights, the last symbol first.
+/// `encode_reverse` by the next row of `width` weights for each symbol.
 #[unsafe(no_mangle)]
 pub extern "C" fn constriction_ans_encode_each_reverse_u16(
     alloc: Global,
@@ -61,23 +49,16 @@ pub extern "C" fn constriction_ans_encode_each_reverse_u16(
     symbols: &[usize],
     needed: &mut usize,
 ) -> u32
-    ensures ok { OnOk (answer_of result needed.new) (PutOn ⟦<u16 as BitArray>⟧.number 16 32 (reverse (row_items 12 width (map ⟦<u16 as BitArray>⟧.number weights.now) symbols.now))
-        (⟦<u32 as BitArray>⟧.number head.old) words.old len.old (⟦<u32 as BitArray>⟧.number head.new) words.new len.new) }
-    ensures variant { OnOk (answer_of result needed.new) ((len.old ≤ length words.old) × (length weights.now ≡ width * length symbols.now) × AreTotals 12 width (length symbols.now) (map ⟦<u16 as BitArray>⟧.number weights.now) × AreKnown (row_items 12 width (map ⟦<u16 as BitArray>⟧.number weights.now) symbols.now)) }
-    ensures err { IfErr (answer_of result needed.new) (PutOnRefused ((len.old ≤ length words.old) × (length weights.now ≡ width * length symbols.now))
-        (AreTotals 12 width (length symbols.now) (map ⟦<u16 as BitArray>⟧.number weights.now))
-        (AreKnown (row_items 12 width (map ⟦<u16 as BitArray>⟧.number weights.now) symbols.now))
-        (NeedsRoom ⟦<u16 as BitArray>⟧.number 16 32 (reverse (row_items 12 width (map ⟦<u16 as BitArray>⟧.number weights.now) symbols.now)) (⟦<u32 as BitArray>⟧.number head.old) words.old len.old)) }
-    ensures kept { OnErr (answer_of result needed.new) ((head.new ≡ head.old) × (words.new ≡ words.old) × (len.new ≡ len.old)) }
-    ensures needed { needed.new ≡ needed_by (answer_of result needed.new) needed.old }
+    ensures { Told result needed.old needed.new (AnsPuts ⟦<u16 as BitArray>⟧.number ⟦<u32 as BitArray>⟧.number 16 32 12
+        (ByRows width (map ⟦<u16 as BitArray>⟧.number weights.now) symbols.now)
+        (coder_of head.old words.old len.old) (coder_of head.new words.new len.new)) }
 {
-    code_of(
-        encode_each_reverse::<u16, u32, u16, 12>(alloc, head, words, len, weights, width, symbols),
-        needed,
-    )
+    let rows = Rows { weights, width };
+    let answer = encode_reverse::<_, _, u16, _, 12>(alloc, head, words, len, &rows, symbols);
+    code_of(answer, needed)
 }
 
-/// `encode_intervals_reverse`: intervals put on, the last one first.
+/// `encode_intervals_reverse`.
 #[unsafe(no_mangle)]
 pub extern "C" fn constriction_ans_encode_intervals_reverse_u16(
     alloc: Global,
@@ -88,22 +69,46 @@ pub extern "C" fn constriction_ans_encode_intervals_reverse_u16(
     ps: &[u16],
     needed: &mut usize,
 ) -> u32
-    ensures ok { OnOk (answer_of result needed.new) (PutOn ⟦<u16 as BitArray>⟧.number 16 32 (reverse (interval_items 12 (map ⟦<u16 as BitArray>⟧.number lefts.now) (map ⟦<u16 as BitArray>⟧.number ps.now)))
-        (⟦<u32 as BitArray>⟧.number head.old) words.old len.old (⟦<u32 as BitArray>⟧.number head.new) words.new len.new) }
-    ensures variant { OnOk (answer_of result needed.new) ((len.old ≤ length words.old) × (length lefts.now ≡ length ps.now) × AreIntervals 12 (map ⟦<u16 as BitArray>⟧.number lefts.now) (map ⟦<u16 as BitArray>⟧.number ps.now)) }
-    ensures err { IfErr (answer_of result needed.new) (IntervalsRefused ((len.old ≤ length words.old) × (length lefts.now ≡ length ps.now))
-        (AreIntervals 12 (map ⟦<u16 as BitArray>⟧.number lefts.now) (map ⟦<u16 as BitArray>⟧.number ps.now))
-        (NeedsRoom ⟦<u16 as BitArray>⟧.number 16 32 (reverse (interval_items 12 (map ⟦<u16 as BitArray>⟧.number lefts.now) (map ⟦<u16 as BitArray>⟧.number ps.now))) (⟦<u32 as BitArray>⟧.number head.old) words.old len.old)) }
-    ensures kept { OnErr (answer_of result needed.new) ((head.new ≡ head.old) × (words.new ≡ words.old) × (len.new ≡ len.old)) }
-    ensures needed { needed.new ≡ needed_by (answer_of result needed.new) needed.old }
+    ensures { Told result needed.old needed.new (AnsPuts ⟦<u16 as BitArray>⟧.number ⟦<u32 as BitArray>⟧.number 16 32 12
+        (AsIntervals (map ⟦<u16 as BitArray>⟧.number lefts.now) (map ⟦<u16 as BitArray>⟧.number ps.now))
+        (coder_of head.old words.old len.old) (coder_of head.new words.new len.new)) }
 {
-    code_of(
-        encode_intervals_reverse::<u16, u32, u16, 12>(alloc, head, words, len, lefts, ps),
-        needed,
-    )
+    let answer = encode_intervals_reverse::<_, _, u16, 12>(alloc, head, words, len, lefts, ps);
+    code_of(answer, needed)
 }
 
-/// `decode`: a symbol taken off for each place of `symbols`, by the weights of one table.
+/// `encode_reverse` by models of a family.
+#[unsafe(no_mangle)]
+pub extern "C" fn constriction_ans_encode_quantized_reverse_u16(
+    alloc: Global,
+    head: &mut u32,
+    words: &mut [u16],
+    len: &mut usize,
+    family: u32,
+    min: i32,
+    max: i32,
+    locations: &[i64],
+    scales: &[u32],
+    symbols: &[usize],
+    needed: &mut usize,
+) -> u32
+    ensures { Told result needed.old needed.new (AnsPuts ⟦<u16 as BitArray>⟧.number ⟦<u32 as BitArray>⟧.number 16 32 12
+        (InFamily record { family = family; min = min; max = max; locations = locations.now; scales = scales.now }
+        symbols.now)
+        (coder_of head.old words.old len.old) (coder_of head.new words.new len.new)) }
+{
+    let models = Families {
+        family,
+        min,
+        max,
+        locations,
+        scales,
+    };
+    let answer = encode_reverse::<_, _, u16, _, 12>(alloc, head, words, len, &models, symbols);
+    code_of(answer, needed)
+}
+
+/// `decode` by the weights of one table.
 #[unsafe(no_mangle)]
 pub extern "C" fn constriction_ans_decode_u16(
     alloc: Global,
@@ -113,17 +118,16 @@ pub extern "C" fn constriction_ans_decode_u16(
     weights: &[u16],
     symbols: &mut [usize],
 ) -> u32
-    ensures ok { OnOk (answer_of result 0) (DecodesAll 16 32 (items_of (weights_model 12 (map ⟦<u16 as BitArray>⟧.number weights.now)) symbols.new)
-        (state_in ⟦<u16 as BitArray>⟧.number (⟦<u32 as BitArray>⟧.number head.old) words.now len.old) (state_in ⟦<u16 as BitArray>⟧.number (⟦<u32 as BitArray>⟧.number head.new) words.now len.new)) }
-    ensures within { OnOk (answer_of result 0) ((len.new ≤ len.old) × (length symbols.new ≡ length symbols.old)) }
-    ensures variant { OnOk (answer_of result 0) ((len.old ≤ length words.now) × IsTotal 12 (map ⟦<u16 as BitArray>⟧.number weights.now)) }
-    ensures err { IfErr (answer_of result 0) (TakeOffRefused ((len.old ≤ length words.now)) (IsTotal 12 (map ⟦<u16 as BitArray>⟧.number weights.now))) }
-    ensures kept { OnErr (answer_of result 0) ((head.new ≡ head.old) × (len.new ≡ len.old) × (symbols.new ≡ symbols.old)) }
+    ensures { AnsTakes ⟦<u16 as BitArray>⟧.number ⟦<u32 as BitArray>⟧.number 16 32 12
+        (ByWeights (map ⟦<u16 as BitArray>⟧.number weights.now))
+        (coder_of head.old words.now len.old) (coder_of head.new words.now len.new)
+        symbols.old symbols.new (answer_of result 0) }
 {
-    code_without_space(decode::<u16, u32, u16, 12>(alloc, head, words, len, weights, symbols))
+    let table = Weights { weights };
+    code_without_space(decode::<_, _, u16, _, 12>(alloc, head, words, len, &table, symbols))
 }
 
-/// `decode_each`: a symbol taken off for each place of `symbols`, each by the next row of `width` weights.
+/// `decode` by the next row of `width` weights for each symbol.
 #[unsafe(no_mangle)]
 pub extern "C" fn constriction_ans_decode_each_u16(
     alloc: Global,
@@ -134,59 +138,72 @@ pub extern "C" fn constriction_ans_decode_each_u16(
     width: usize,
     symbols: &mut [usize],
 ) -> u32
-    ensures ok { OnOk (answer_of result 0) (DecodesAll 16 32 (row_items 12 width (map ⟦<u16 as BitArray>⟧.number weights.now) symbols.new)
-        (state_in ⟦<u16 as BitArray>⟧.number (⟦<u32 as BitArray>⟧.number head.old) words.now len.old) (state_in ⟦<u16 as BitArray>⟧.number (⟦<u32 as BitArray>⟧.number head.new) words.now len.new)) }
-    ensures within { OnOk (answer_of result 0) ((len.new ≤ len.old) × (length symbols.new ≡ length symbols.old)) }
-    ensures variant { OnOk (answer_of result 0) ((len.old ≤ length words.now) × (length weights.now ≡ width * length symbols.old) × AreTotals 12 width (length symbols.old) (map ⟦<u16 as BitArray>⟧.number weights.now)) }
-    ensures err { IfErr (answer_of result 0) (TakeOffRefused ((len.old ≤ length words.now) × (length weights.now ≡ width * length symbols.old)) (AreTotals 12 width (length symbols.old) (map ⟦<u16 as BitArray>⟧.number weights.now))) }
-    ensures kept { OnErr (answer_of result 0) ((head.new ≡ head.old) × (len.new ≡ len.old) × (symbols.new ≡ symbols.old)) }
+    ensures { AnsTakes ⟦<u16 as BitArray>⟧.number ⟦<u32 as BitArray>⟧.number 16 32 12
+        (ByRows width (map ⟦<u16 as BitArray>⟧.number weights.now))
+        (coder_of head.old words.now len.old) (coder_of head.new words.now len.new)
+        symbols.old symbols.new (answer_of result 0) }
 {
-    code_without_space(decode_each::<u16, u32, u16, 12>(
-        alloc, head, words, len, weights, width, symbols,
-    ))
+    let rows = Rows { weights, width };
+    code_without_space(decode::<_, _, u16, _, 12>(alloc, head, words, len, &rows, symbols))
 }
 
-/// `from_compressed`: the state whose words these are.
+/// `decode` by models of a family.
+#[unsafe(no_mangle)]
+pub extern "C" fn constriction_ans_decode_quantized_u16(
+    alloc: Global,
+    head: &mut u32,
+    words: &[u16],
+    len: &mut usize,
+    family: u32,
+    min: i32,
+    max: i32,
+    locations: &[i64],
+    scales: &[u32],
+    symbols: &mut [usize],
+) -> u32
+    ensures { AnsTakes ⟦<u16 as BitArray>⟧.number ⟦<u32 as BitArray>⟧.number 16 32 12
+        (InFamily record { family = family; min = min; max = max; locations = locations.now; scales = scales.now })
+        (coder_of head.old words.now len.old) (coder_of head.new words.now len.new)
+        symbols.old symbols.new (answer_of result 0) }
+{
+    let models = Families {
+        family,
+        min,
+        max,
+        locations,
+        scales,
+    };
+    code_without_space(decode::<_, _, u16, _, 12>(alloc, head, words, len, &models, symbols))
+}
+
+/// `from_compressed`.
 #[unsafe(no_mangle)]
 pub extern "C" fn constriction_ans_from_compressed_u16(
     words: &[u16],
     len: &mut usize,
     head: &mut u32,
 ) -> u32
-    ensures ok { OnOk (answer_of result 0) (state_in ⟦<u16 as BitArray>⟧.number (⟦<u32 as BitArray>⟧.number head.new) words.now len.new ≡ filled 16 32 0 (map ⟦<u16 as BitArray>⟧.number (reverse words.now))) }
-    ensures within { OnOk (answer_of result 0) (len.new ≤ length words.now) }
-    ensures variant { IsOk (answer_of result 0) ↔ BeginsHigh (map ⟦<u16 as BitArray>⟧.number (reverse words.now)) }
-    ensures err { IfErr (answer_of result 0) (λ e. e ≡ InvalidData) }
-    ensures kept { OnErr (answer_of result 0) ((head.new ≡ head.old) × (len.new ≡ len.old)) }
+    ensures { AnsImports ⟦<u16 as BitArray>⟧.number ⟦<u32 as BitArray>⟧.number (filled 16 32 0) BeginsHigh
+        (coder_of head.old words.now len.old) (coder_of head.new words.now len.new) (answer_of result 0) }
 {
-    match from_compressed::<u16, u32>(words) {
-        Ok((new_head, new_len)) => {
-            *head = new_head;
-            *len = new_len;
-            code_without_space(Ok(()))
-        }
-        Err(refusal) => code_without_space(Err(refusal)),
-    }
+    code_without_space(from_compressed(words, len, head))
 }
 
-/// `from_binary`: the state that any words stand for.
+/// `from_binary`.
 #[unsafe(no_mangle)]
 pub extern "C" fn constriction_ans_from_binary_u16(
     words: &[u16],
     len: &mut usize,
     head: &mut u32,
 ) -> u32
-    ensures done { answer_of result 0 ≡ Ok tt }
-    ensures state { state_in ⟦<u16 as BitArray>⟧.number (⟦<u32 as BitArray>⟧.number head.new) words.now len.new ≡ binary_state 16 32 (map ⟦<u16 as BitArray>⟧.number (reverse words.now)) }
-    ensures within { len.new ≤ length words.now }
+    ensures { AnsImports ⟦<u16 as BitArray>⟧.number ⟦<u32 as BitArray>⟧.number (binary_state 16 32) (λ all. Unit {0})
+        (coder_of head.old words.now len.old) (coder_of head.new words.now len.new) (answer_of result 0) }
 {
-    let (new_head, new_len) = from_binary::<u16, u32>(words);
-    *head = new_head;
-    *len = new_len;
+    from_binary(words, len, head);
     code_without_space(Ok(()))
 }
 
-/// `into_compressed`: the words of a head put behind those below it.
+/// `into_compressed`.
 #[unsafe(no_mangle)]
 pub extern "C" fn constriction_ans_into_compressed_u16(
     alloc: Global,
@@ -195,18 +212,14 @@ pub extern "C" fn constriction_ans_into_compressed_u16(
     len: &mut usize,
     needed: &mut usize,
 ) -> u32
-    ensures ok { OnOk (answer_of result needed.new) ((state_in ⟦<u16 as BitArray>⟧.number (⟦<u32 as BitArray>⟧.number head) words.new len.new).words ≡ exported 16 (state_in ⟦<u16 as BitArray>⟧.number (⟦<u32 as BitArray>⟧.number head) words.old len.old)) }
-    ensures appended { OnOk (answer_of result needed.new) ((added : List ℕ) × Appended words.old len.old added words.new len.new) }
-    ensures variant { OnOk (answer_of result needed.new) (len.old ≤ length words.old) }
-    ensures err { IfErr (answer_of result needed.new) (ExportRefused (len.old ≤ length words.old) (Unit {0})
-        (NoRoomFor (length words.old) (λ all. all ≡ exported 16 (state_in ⟦<u16 as BitArray>⟧.number (⟦<u32 as BitArray>⟧.number head) words.old len.old)))) }
-    ensures kept { OnErr (answer_of result needed.new) ((words.new ≡ words.old) × (len.new ≡ len.old)) }
-    ensures needed { needed.new ≡ needed_by (answer_of result needed.new) needed.old }
+    ensures { Told result needed.old needed.new (AnsExports ⟦<u16 as BitArray>⟧.number ⟦<u32 as BitArray>⟧.number
+        (AreCompressed 16) (λ state. Unit {0})
+        (coder_of head words.old len.old) (coder_of head words.new len.new)) }
 {
-    code_of(into_compressed::<u16, u32>(alloc, head, words, len), needed)
+    code_of(into_compressed(alloc, head, words, len), needed)
 }
 
-/// `into_binary`: the words of a head below its leading 1 put behind those below it.
+/// `into_binary`.
 #[unsafe(no_mangle)]
 pub extern "C" fn constriction_ans_into_binary_u16(
     alloc: Global,
@@ -215,16 +228,9 @@ pub extern "C" fn constriction_ans_into_binary_u16(
     len: &mut usize,
     needed: &mut usize,
 ) -> u32
-    ensures ok { OnOk (answer_of result needed.new) ((m : ℕ) × IsBinary 16 m (state_in ⟦<u16 as BitArray>⟧.number (⟦<u32 as BitArray>⟧.number head) words.old len.old)
-        × ((state_in ⟦<u16 as BitArray>⟧.number (⟦<u32 as BitArray>⟧.number head) words.new len.new).words ≡ binary_words 16 m (state_in ⟦<u16 as BitArray>⟧.number (⟦<u32 as BitArray>⟧.number head) words.old len.old))) }
-    ensures appended { OnOk (answer_of result needed.new) ((added : List ℕ) × Appended words.old len.old added words.new len.new) }
-    ensures variant { OnOk (answer_of result needed.new) (len.old ≤ length words.old) }
-    ensures err { IfErr (answer_of result needed.new) (ExportRefused (len.old ≤ length words.old)
-        ((m : ℕ) × IsBinary 16 m (state_in ⟦<u16 as BitArray>⟧.number (⟦<u32 as BitArray>⟧.number head) words.old len.old))
-        (NoRoomFor (length words.old) (λ all. (m : ℕ) × IsBinary 16 m (state_in ⟦<u16 as BitArray>⟧.number (⟦<u32 as BitArray>⟧.number head) words.old len.old)
-        × (all ≡ binary_words 16 m (state_in ⟦<u16 as BitArray>⟧.number (⟦<u32 as BitArray>⟧.number head) words.old len.old))))) }
-    ensures kept { OnErr (answer_of result needed.new) ((words.new ≡ words.old) × (len.new ≡ len.old)) }
-    ensures needed { needed.new ≡ needed_by (answer_of result needed.new) needed.old }
+    ensures { Told result needed.old needed.new (AnsExports ⟦<u16 as BitArray>⟧.number ⟦<u32 as BitArray>⟧.number
+        (AreBinary 16) (HasBinary 16)
+        (coder_of head words.old len.old) (coder_of head words.new len.new)) }
 {
-    code_of(into_binary::<u16, u32>(alloc, head, words, len), needed)
+    code_of(into_binary(alloc, head, words, len), needed)
 }

@@ -1,9 +1,11 @@
-use Rattle.std.proofs.Common.{◌≤◌, arith, length}
-use Rattle.constriction_calls.proofs.AnsRows.{binary_refused}
+use Rattle.std.proofs.Common.{◌≡◌, ◌≤◌, [], arith, length, refl}
+use Rattle.constriction_calls.proofs.AnsAnswers.{binary_exported}
 use Rattle.constriction_calls.proofs.ans.words.into_binary.Goals as goal
 
-pub returns-in-Ok-clause-err : goal.returns-in-Ok-clause-err
-returns-in-Ok-clause-err g c =
+pub returns-in-Ok : goal.returns-in-Ok
+returns-in-Ok g c =
     let within : c.args.len.now ≤ length c.args.words.now = omega (arith, c.if-len-words.false) in
-    binary_refused g.Word.BitArray.number g.Word.BitArray.BITS (g.State.BitArray.number c.args.head) c.args.words.now c.args.len.now c.in-Ok.added.items within c.in-Ok.ensures.ok
-    c.append.result (rw c.deref.ensures.value at c.append.ensures.full) _ (rw c.deref.ensures.value at c.append.ensures.err)
+    let state : c.from_raw_parts-binary.result.state ≡ record { head = g.State.BitArray.number c.args.head; words = [] } = rw (c.from_raw_parts-binary.ensures.state, c.new.ensures.items) refl in
+    binary_exported g.Word.BitArray.number g.State.BitArray.number g.Word.BitArray.BITS (record { head = c.args.head; words = c.args.words.now; len = c.args.len.now }) within c.in-Ok.added.items
+    (rw state at c.in-Ok.ensures.ok) _ c.append.new.buffer c.append.new.len c.append.result (rw c.deref.ensures.value at c.append.ensures.ok) (rw c.deref.ensures.value at c.append.ensures.err)
+    (rw c.deref.ensures.value at c.append.ensures.full) c.append.ensures.kept

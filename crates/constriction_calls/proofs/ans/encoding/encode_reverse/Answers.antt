@@ -1,0 +1,27 @@
+use Rattle.std.proofs.Common.{◌≤◌, arith, length, refl}
+use Rattle.constriction_calls.specs.Refusals.{Else, Never}
+use Rattle.constriction_calls.proofs.AnsAnswers.{puts_done, puts_short}
+use Rattle.constriction_calls.proofs.Asking.{fit_ok}
+use Rattle.constriction_calls.proofs.ans.encoding.encode_reverse.Goals.{in-Ok, in-Err}
+use Rattle.constriction_calls.proofs.ans.encoding.encode_reverse.Goals as goal
+
+pub returns : goal.returns
+returns g c =
+    let coded = g.G.Models.coded c.args.models.now c.args.symbols.now in
+    let within : c.args.len.now ≤ length c.args.words.now = omega (arith, c.if-len-words.false) in
+    let fit = fit_ok g.row.PRECISION coded (Else Never) tt c.in_ok-check.ensures in
+    let items = c.in-Some.ensures.items c.args.symbols.now refl in
+    let made = c.in-Some-coded.ensures in
+    elim c.match-append.branch [
+      | in-Ok w ↦ rw (w.head-is, w.result-is) (record {
+        call = puts_done g.Word.BitArray.number g.State.BitArray.number g.Word.BitArray.BITS g.State.BitArray.BITS g.row.PRECISION coded
+            (record { head = c.args.head.now; words = c.args.words.now; len = c.args.len.now }) within fit c.requires.sizes _ items made.models c.in-Some-coded.added.items c.in-Some-coded.new_head made.coded
+            c.append.new.buffer c.append.new.len (rw c.deref.ensures.value at w.in-Ok.ensures.ok);
+      })
+      | in-Err w ↦ rw (w.head-is, w.result-is) (record {
+        call = puts_short g.Word.BitArray.number g.State.BitArray.number g.Word.BitArray.BITS g.State.BitArray.BITS g.row.PRECISION coded
+            (record { head = c.args.head.now; words = c.args.words.now; len = c.args.len.now }) within fit c.requires.sizes _ items made.models c.in-Some-coded.added.items c.in-Some-coded.new_head made.coded
+            _ c.append.new.buffer c.append.new.len w.in-Err.refusal w.in-Err.ensures.kept.0 w.in-Err.ensures.kept.1 (rw c.deref.ensures.value at w.in-Err.ensures.full)
+            (rw c.deref.ensures.value at w.in-Err.ensures.err);
+      })
+    ]
