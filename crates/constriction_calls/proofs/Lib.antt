@@ -29,3 +29,5 @@ mod StoreIndex
 mod SymbolLists
 mod SymbolTrees
 mod Totals
+mod Asking
+mod Listing
