@@ -1,16 +1,16 @@
--- Items that each have a model of their own: pairs, rows of weights, and intervals.
-use Rattle.std.proofs.Common.{◌≡◌, ℕ, zero, suc, ◌+◌, ◌-◌, ◌<◌, ◌≤◌, ◌∙◌, List, [], ◌∷◌, ◌++◌, length, map, drop, take, get_or, refl, sym, ap, subst, arith, append_assoc, inl, inr, replicate}
-use Rattle.std.specs.Prelude.{min, reverse}
+-- Items that each have a model of their own, as pairs.
+use Rattle.std.proofs.Common.{◌≡◌, ℕ, zero, suc, ◌+◌, ◌-◌, ◌<◌, ◌≤◌, ◌∙◌, List, [], ◌∷◌, ◌++◌, length, map, drop, take, get_or, refl, sym, ap, subst, arith, append_assoc, replicate}
+use Rattle.std.specs.Prelude.{reverse}
 use Rattle.std.proofs.lemmas.List.{drop_more, length-append, length-replicate, reverse-append}
 use Rattle.constriction_base.specs.Models.{AreKnown, Item, item_of, pairs_of}
-use Rattle.constriction_base.specs.Tables.{Has, Impossible, table_of}
+use Rattle.constriction_base.specs.Tables.{Impossible}
 use Rattle.constriction_base.proofs.Turns.{reverse_at}
 use Rattle.constriction_chain.specs.Chain.{ChainState}
 use Rattle.constriction_chain.specs.Symbols.{TakesOffAll}
 use Rattle.constriction_chain.specs.Walk.{NeedsWord}
 use Rattle.constriction_calls.specs.ChainCalls.{EndsEarly}
 use Rattle.constriction_calls.specs.Coded.{AsIntervals, ByRows, ByWeights, Coded, InFamily, items}
-use Rattle.constriction_calls.specs.Intervals.{AreIntervals, interval_items}
+use Rattle.constriction_calls.specs.Intervals.{interval_items}
 use Rattle.constriction_calls.specs.Quantized.{family_tables}
 use Rattle.constriction_calls.specs.Weights.{row_items, weights_model}
 use Rattle.constriction_calls.proofs.ChainFrame.{AreWithin, within_of}
@@ -48,22 +48,11 @@ pairs_long precision table (x ∷ xs) [] k within within' = within'
 pairs_long precision table (x ∷ xs) (m ∷ ms) zero within within' = omega arith
 pairs_long precision table (x ∷ xs) (m ∷ ms) (suc k) within within' = (let few = pairs_long precision table xs ms k (omega arith) (omega arith) in omega (arith, few))
 
--- and none behind them
-pairs_few : {M : Type 0} (precision : ℕ) (table : M → List (ℕ × ℕ × ℕ)) (xs : List ℕ) (ms : List M) → (length (pairs_of precision table xs ms) ≤ length xs) × (length (pairs_of precision table xs ms) ≤ length ms)
-pairs_few precision table [] ms = (omega arith, omega arith)
-pairs_few precision table (x ∷ xs) [] = (omega arith, omega arith)
-pairs_few precision table (x ∷ xs) (m ∷ ms) = (let few = pairs_few precision table xs ms in (omega (arith, few.0), omega (arith, few.1)))
-
-none_behind : {A : Type 0} (items : List A) (k : ℕ) → length items ≤ k → drop k items ≡ []
-none_behind [] zero within = refl
-none_behind [] (suc k) within = refl
-none_behind (i ∷ items) zero within = absurd (omega arith)
-none_behind (i ∷ items) (suc k) within = none_behind items k (omega arith)
-
-pub pairs_end : {M : Type 0} (precision : ℕ) (table : M → List (ℕ × ℕ × ℕ)) (xs : List ℕ) (ms : List M) (k : ℕ) → k ≡ min (length xs) (length ms) → drop k (pairs_of precision table xs ms) ≡ []
-pairs_end precision table xs ms k is =
-    let few = pairs_few precision table xs ms in
-    none_behind (pairs_of precision table xs ms) k (omega (arith, is, few.0, few.1))
+-- and none behind the symbols
+pub pairs_end : {M : Type 0} (precision : ℕ) (table : M → List (ℕ × ℕ × ℕ)) (xs : List ℕ) (ms : List M) → drop (length xs) (pairs_of precision table xs ms) ≡ []
+pairs_end precision table [] ms = refl
+pairs_end precision table (x ∷ xs) [] = refl
+pairs_end precision table (x ∷ xs) (m ∷ ms) = pairs_end precision table xs ms
 
 -- words have room for their precision
 within_pairs : {M : Type 0} (w precision : ℕ) (table : M → List (ℕ × ℕ × ℕ)) (xs : List ℕ) (ms : List M) → precision ≤ w → AreWithin w (pairs_of precision table xs ms)
@@ -131,7 +120,7 @@ ends_pairs w s P table xs ms count k x last counted few many taken needs ended =
       symbols = xs ++ replicate (count - k) 0;
       done = length xs;
       last = last;
-      count_is = omega (arith, length-append xs (replicate (count - k) 0), length-replicate (count - k) 0, counted, few);
+      count_is = omega (arith, length-append xs (replicate (count - k) 0), length-replicate {A = ℕ} (count - k) 0, counted, few);
       fewer = omega (arith, counted, few);
       taken = subst (λ (items : List (Item ℕ)). TakesOffAll w s items x last) (sym (pairs_begin P table xs (replicate (count - k) 0) ms (omega (arith, counted, few, many)))) taken;
       needs = needs;
@@ -152,16 +141,3 @@ ends_as w s P items others count x same e =
       needs = e.needs;
       ended = e.ended;
     }
-
--- ---- intervals
-
--- each interval is known, as symbol 1
-has_interval : (left p rest : ℕ) → 0 < p → Has (table_of (left ∷ p ∷ rest ∷ [])) 1 left p
-has_interval left zero rest h = absurd (omega arith)
-has_interval zero (suc p) rest h = inl refl
-has_interval (suc left) (suc p) rest h = inr (inl (ap (λ (n : ℕ). (let entry : ℕ × ℕ × ℕ = (1, n, suc p) in entry)) (let e : 0 + suc left ≡ suc left = omega arith in e)))
-
-pub intervals_known : (precision : ℕ) (lefts ps : List ℕ) → AreIntervals precision lefts ps → AreKnown (interval_items precision lefts ps)
-intervals_known precision [] ps all = tt
-intervals_known precision (left ∷ lefts) [] all = tt
-intervals_known precision (left ∷ lefts) (p ∷ ps) all = ((left, p, has_interval left p _ all.0.not_empty), intervals_known precision lefts ps all.1)

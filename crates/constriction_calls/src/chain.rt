@@ -1,11 +1,13 @@
-//! The chain coder's calls. The caller keeps two heads, and two buffers with their numbers of words: the first so many words are
-//! in use, the last one on top. A decode takes compressed words and puts remainders on, an encode does the contrary.
+//! The chain coder's calls. The caller keeps two heads, and two buffers with their numbers of words: the first so many
+//! words are in use, the last one on top. A decode takes compressed words and puts remainders on, an encode does the
+//! contrary.
 //!
 //! # Errors
 //!
 //! A refused call leaves all as it was. It looks for these in this order, and each but the last comes just in its case:
 //!
-//! - `WrongLength`: a number of words is past its buffer's end, or what makes the models doesn't have the number of the symbols.
+//! - `WrongLength`: a number of words is past its buffer's end, or what makes the models doesn't have the number of the
+//!   symbols.
 //! - `WrongInterval`, `WrongWeights`: nothing makes the models, as each kind of [`crate::models`] says.
 //! - `InvalidData`: the heads are no coder's.
 //! - `ImpossibleSymbol`: a model doesn't know its symbol.

@@ -34,7 +34,7 @@ pub extern "C" fn constriction_chain_decode_u32(
         (keeps heads.new compressed.now compressed_len.new remainders.new remainders_len.new) symbols.old symbols.new) }
 {
     let models = Weights { weights };
-    let answer = decode::<_, _, u32, _, 24>(
+    let answer = decode::<_, _, u32, Weights<'_, u32>, 24>(
         alloc,
         heads,
         compressed,
@@ -67,7 +67,7 @@ pub extern "C" fn constriction_chain_decode_each_u32(
         (keeps heads.new compressed.now compressed_len.new remainders.new remainders_len.new) symbols.old symbols.new) }
 {
     let models = Rows { weights, width };
-    let answer = decode::<_, _, u32, _, 24>(
+    let answer = decode::<_, _, u32, Rows<'_, u32>, 24>(
         alloc,
         heads,
         compressed,
@@ -109,7 +109,7 @@ pub extern "C" fn constriction_chain_decode_quantized_u32(
         locations,
         scales,
     };
-    let answer = decode::<_, _, u32, _, 24>(
+    let answer = decode::<_, _, u32, Families<'_>, 24>(
         alloc,
         heads,
         compressed,
@@ -141,7 +141,7 @@ pub extern "C" fn constriction_chain_encode_reverse_u32(
         (keeps heads.new compressed.new compressed_len.new remainders.now remainders_len.new)) }
 {
     let models = Weights { weights };
-    let answer = encode_reverse::<_, _, u32, _, 24>(
+    let answer = encode_reverse::<_, _, u32, Weights<'_, u32>, 24>(
         alloc,
         heads,
         compressed,
@@ -174,7 +174,7 @@ pub extern "C" fn constriction_chain_encode_each_reverse_u32(
         (keeps heads.new compressed.new compressed_len.new remainders.now remainders_len.new)) }
 {
     let models = Rows { weights, width };
-    let answer = encode_reverse::<_, _, u32, _, 24>(
+    let answer = encode_reverse::<_, _, u32, Rows<'_, u32>, 24>(
         alloc,
         heads,
         compressed,
@@ -216,7 +216,7 @@ pub extern "C" fn constriction_chain_encode_quantized_reverse_u32(
         locations,
         scales,
     };
-    let answer = encode_reverse::<_, _, u32, _, 24>(
+    let answer = encode_reverse::<_, _, u32, Families<'_>, 24>(
         alloc,
         heads,
         compressed,

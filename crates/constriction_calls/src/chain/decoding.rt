@@ -106,9 +106,11 @@ fn take_by<
     requires sizes { (1 ≤ PRECISION) × (PRECISION ≤ P.BITS) }
     requires fit { AreFit PRECISION (G.coded models.now places.now) }
     ensures count { IfOk result (λ symbols. length symbols.items ≡ length places.now) }
-    ensures ok { IfOk result (λ symbols. TakesOffAll Word.BITS State.BITS (items PRECISION (G.coded models.now symbols.items)) coder.old.state coder.new.state) }
+    ensures ok { IfOk result (λ symbols. TakesOffAll Word.BITS State.BITS
+        (items PRECISION (G.coded models.now symbols.items)) coder.old.state coder.new.state) }
     ensures err { IfErr result (λ e. (e ≡ refusals.NoMemory) ⊎ ((e ≡ refusals.OutOfData)
-        × EndsEarly Word.BITS State.BITS PRECISION (λ symbols. items PRECISION (G.coded models.now symbols)) (length places.now) coder.old.state)) }
+        × EndsEarly Word.BITS State.BITS PRECISION
+        (λ symbols. items PRECISION (G.coded models.now symbols)) (length places.now) coder.old.state)) }
 {
     match models.list(alloc, places, false) {
         Some(list) => take_symbols(alloc, coder, &list, places.len()),
@@ -137,9 +139,11 @@ fn take_symbols<
 ) -> Result<Vec<usize>, Refusal>
     requires { length (L.tables models.now) ≡ count }
     ensures count { IfOk result (λ symbols. length symbols.items ≡ count) }
-    ensures ok { IfOk result (λ symbols. TakesOffAll Word.BITS State.BITS (pairs_of PRECISION (λ table. table) symbols.items (L.tables models.now)) coder.old.state coder.new.state) }
+    ensures ok { IfOk result (λ symbols. TakesOffAll Word.BITS State.BITS
+        (pairs_of PRECISION (λ table. table) symbols.items (L.tables models.now)) coder.old.state coder.new.state) }
     ensures err { IfErr result (λ e. (e ≡ refusals.NoMemory) ⊎ ((e ≡ refusals.OutOfData)
-        × EndsEarly Word.BITS State.BITS PRECISION (λ symbols. pairs_of PRECISION (λ table. table) symbols (L.tables models.now)) count coder.old.state)) }
+        × EndsEarly Word.BITS State.BITS PRECISION
+        (λ symbols. pairs_of PRECISION (λ table. table) symbols (L.tables models.now)) count coder.old.state)) }
 {
     let Ok(mut symbols) = Vec::with_capacity(alloc, count) else {
         return Err(Refusal::NoMemory);
@@ -167,11 +171,14 @@ fn end_taking<'a, Word: WordOf<State>, State: BitArray, const PRECISION: usize>(
     remainders_len: &mut usize,
 ) -> Result<(), Refusal>
     requires { remainders_len.now ≤ length remainders.now }
-    ensures heads { OnOk result ((Word.number heads.new.compressed ≡ coder.entry.state.h) × (State.number heads.new.remainders ≡ coder.entry.state.r)) }
+    ensures heads { OnOk result ((Word.number heads.new.compressed ≡ coder.entry.state.h)
+        × (State.number heads.new.remainders ≡ coder.entry.state.r)) }
     ensures compressed { OnOk result (compressed_len.new ≡ length coder.entry.state.compressed) }
-    ensures remainders { OnOk result ((added : List Word) × (map Word.number (reverse added) ≡ coder.entry.state.remainders)
+    ensures remainders { OnOk result ((added : List Word)
+        × (map Word.number (reverse added) ≡ coder.entry.state.remainders)
         × Appended remainders.old remainders_len.old added remainders.new remainders_len.new) }
-    ensures err { IfErr result (λ e. (e ≡ refusals.NoMemory) ⊎ ((e ≡ refusals.NoSpace (remainders_len.old + length coder.entry.state.remainders))
+    ensures err { IfErr result (λ e. (e ≡ refusals.NoMemory)
+        ⊎ ((e ≡ refusals.NoSpace (remainders_len.old + length coder.entry.state.remainders))
         × (length remainders.old < remainders_len.old + length coder.entry.state.remainders))) }
     ensures kept { OnErr result ((heads.new ≡ heads.old) × (compressed_len.new ≡ compressed_len.old)
         × (remainders.new ≡ remainders.old) × (remainders_len.new ≡ remainders_len.old)) }

@@ -57,7 +57,8 @@ pub fn encode_reverse<
     requires sized { IsSized Word.BITS State.BITS PRECISION }
     requires within { PRECISION ≤ P.BITS }
     requires fits { CoderFits Word.row State.row }
-    ensures call { ChainPuts Word.number State.number Word.BITS State.BITS PRECISION (G.coded models.now symbols.now)
+    ensures call { ChainPuts Word.number State.number Word.BITS State.BITS PRECISION
+        (G.coded models.now symbols.now)
         (keeps heads.old compressed.old compressed_len.old remainders.now remainders_len.old)
         (keeps heads.new compressed.new compressed_len.new remainders.now remainders_len.new) result }
 {
@@ -87,8 +88,8 @@ pub fn encode_reverse<
 ///
 /// # Errors
 ///
-/// Those of the [coder](crate::chain), but for `WrongWeights` and `ImpossibleSymbol`: `WrongInterval`, where an interval is
-/// empty, or ends past two to the precision.
+/// Those of the [coder](crate::chain), but for `WrongWeights` and `ImpossibleSymbol`. `WrongInterval` comes where an
+/// interval is empty, or ends past two to the precision.
 pub fn encode_intervals_reverse<
     Word: WordOf<State>,
     State: BitArray,
@@ -107,7 +108,8 @@ pub fn encode_intervals_reverse<
     requires sized { IsSized Word.BITS State.BITS PRECISION }
     requires within { PRECISION ≤ P.BITS }
     requires fits { CoderFits Word.row State.row }
-    ensures call { ChainPuts Word.number State.number Word.BITS State.BITS PRECISION (AsIntervals (map P.number lefts.now) (map P.number ps.now))
+    ensures call { ChainPuts Word.number State.number Word.BITS State.BITS PRECISION
+        (AsIntervals (map P.number lefts.now) (map P.number ps.now))
         (keeps heads.old compressed.old compressed_len.old remainders.now remainders_len.old)
         (keeps heads.new compressed.new compressed_len.new remainders.now remainders_len.new) result }
 {
@@ -116,12 +118,14 @@ pub fn encode_intervals_reverse<
     }
     let (rows, ones) = match rows_by_intervals::<P, PRECISION>(alloc, lefts, ps) {
         Ok(made) => made,
-        Err(Refusal::NoMemory)
-            if ChainCoderHeads::<Word, State, PRECISION>::new(
+        Err(Refusal::NoMemory) => {
+            return match ChainCoderHeads::<Word, State, PRECISION>::new(
                 heads.compressed,
                 heads.remainders,
-            ).is_none() => {
-            return Err(Refusal::InvalidData);
+            ) {
+                Some(_) => Err(Refusal::NoMemory),
+                None => Err(Refusal::InvalidData),
+            };
         }
         Err(refusal) => return Err(refusal),
     };
@@ -161,9 +165,12 @@ fn put_by<
 ) -> Result<(), Refusal>
     requires sizes { (1 ≤ PRECISION) × (PRECISION ≤ P.BITS) }
     requires fit { AreFit PRECISION (G.coded models.now symbols.now) }
-    ensures ok { OnOk result (PutsBackAll Word.BITS State.BITS (reverse (items PRECISION (G.coded models.now symbols.now))) coder.old.state coder.new.state) }
-    ensures asked { Asks refusals.ImpossibleSymbol (AreKnown (items PRECISION (G.coded models.now symbols.now))) (Else (λ e. (e ≡ refusals.NoMemory)
-        ⊎ ((e ≡ refusals.OutOfData) × LacksRemainders Word.BITS State.BITS (reverse (items PRECISION (G.coded models.now symbols.now))) coder.old.state))) result }
+    ensures ok { OnOk result (PutsBackAll Word.BITS State.BITS
+        (reverse (items PRECISION (G.coded models.now symbols.now))) coder.old.state coder.new.state) }
+    ensures asked { Asks refusals.ImpossibleSymbol
+        (AreKnown (items PRECISION (G.coded models.now symbols.now))) (Else
+        (λ e. (e ≡ refusals.NoMemory) ⊎ ((e ≡ refusals.OutOfData) × LacksRemainders Word.BITS State.BITS
+        (reverse (items PRECISION (G.coded models.now symbols.now))) coder.old.state))) result }
 {
     let refusal = match models.list(alloc, symbols, true) {
         Some(list) => match put_symbols(coder, &list, symbols) {
@@ -198,11 +205,14 @@ fn put_symbols<
     symbols: &[usize],
 ) -> Result<(), Refusal>
     requires { length (L.tables models.now) ≡ length symbols.now }
-    ensures ok { OnOk result (PutsBackAll Word.BITS State.BITS (reverse (pairs_of PRECISION (λ table. table) symbols.now (L.tables models.now))) coder.old.state coder.new.state) }
+    ensures ok { OnOk result (PutsBackAll Word.BITS State.BITS
+        (reverse (pairs_of PRECISION (λ table. table) symbols.now (L.tables models.now)))
+        coder.old.state coder.new.state) }
     ensures err { IfErr result (λ e. (e ≡ refusals.NoMemory)
-        ⊎ ((e ≡ refusals.ImpossibleSymbol) × (AreKnown (pairs_of PRECISION (λ table. table) symbols.now (L.tables models.now)) → ⊥))
-        ⊎ ((e ≡ refusals.OutOfData)
-        × LacksRemainders Word.BITS State.BITS (reverse (pairs_of PRECISION (λ table. table) symbols.now (L.tables models.now))) coder.old.state)) }
+        ⊎ ((e ≡ refusals.ImpossibleSymbol)
+        × (AreKnown (pairs_of PRECISION (λ table. table) symbols.now (L.tables models.now)) → ⊥))
+        ⊎ ((e ≡ refusals.OutOfData) × LacksRemainders Word.BITS State.BITS
+        (reverse (pairs_of PRECISION (λ table. table) symbols.now (L.tables models.now))) coder.old.state)) }
 {
     let mut left = symbols.len();
     'symbols: while left > 0 {
@@ -234,11 +244,14 @@ fn end_putting<'a, Word: WordOf<State>, State: BitArray, const PRECISION: usize>
     remainders_len: &mut usize,
 ) -> Result<(), Refusal>
     requires { compressed_len.now ≤ length compressed.now }
-    ensures heads { OnOk result ((Word.number heads.new.compressed ≡ coder.entry.state.h) × (State.number heads.new.remainders ≡ coder.entry.state.r)) }
+    ensures heads { OnOk result ((Word.number heads.new.compressed ≡ coder.entry.state.h)
+        × (State.number heads.new.remainders ≡ coder.entry.state.r)) }
     ensures remainders { OnOk result (remainders_len.new ≡ length coder.entry.state.remainders) }
-    ensures compressed { OnOk result ((added : List Word) × (map Word.number (reverse added) ≡ coder.entry.state.compressed)
+    ensures compressed { OnOk result ((added : List Word)
+        × (map Word.number (reverse added) ≡ coder.entry.state.compressed)
         × Appended compressed.old compressed_len.old added compressed.new compressed_len.new) }
-    ensures err { IfErr result (λ e. (e ≡ refusals.NoMemory) ⊎ ((e ≡ refusals.NoSpace (compressed_len.old + length coder.entry.state.compressed))
+    ensures err { IfErr result (λ e. (e ≡ refusals.NoMemory)
+        ⊎ ((e ≡ refusals.NoSpace (compressed_len.old + length coder.entry.state.compressed))
         × (length compressed.old < compressed_len.old + length coder.entry.state.compressed))) }
     ensures kept { OnErr result ((heads.new ≡ heads.old) × (remainders_len.new ≡ remainders_len.old)
         × (compressed.new ≡ compressed.old) × (compressed_len.new ≡ compressed_len.old)) }

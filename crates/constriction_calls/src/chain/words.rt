@@ -133,9 +133,9 @@ pub fn from_remainders<Word: WordOf<State>, State: BitArray, const PRECISION: us
 ///
 /// # Errors
 ///
-/// Looked for in this order: `WrongLength` just where `compressed_len` is past the buffer's end; `InvalidData` just where
-/// the heads are no coder's, or bits are left over; `NoSpace`, where the buffer is too short: it names how many words the
-/// coder has; `NoMemory`.
+/// Looked for in this order: `WrongLength` just where `compressed_len` is past the buffer's end; `InvalidData` just
+/// where the heads are no coder's, or bits are left over; `NoSpace`, where the buffer is too short: it names how many
+/// words the coder has; `NoMemory`.
 pub fn into_compressed<Word: WordOf<State>, State: BitArray, const PRECISION: usize>(
     alloc: Global,
     heads: &ChainHeads<Word, State>,
@@ -145,18 +145,19 @@ pub fn into_compressed<Word: WordOf<State>, State: BitArray, const PRECISION: us
     requires sized { IsSized Word.BITS State.BITS PRECISION }
     requires fits { CoderFits Word.row State.row }
     ensures call { ChainEnds Word.number State.number Word.BITS State.BITS PRECISION InCompressed heads.now
-        record { words = compressed.old; len = compressed_len.old } record { words = compressed.new; len = compressed_len.new } result }
+        record { words = compressed.old; len = compressed_len.old }
+        record { words = compressed.new; len = compressed_len.new } result }
 {
     if *compressed_len > compressed.len() {
         return Err(Refusal::WrongLength);
     }
-    let Some(both) = ChainCoderHeads::new(heads.compressed, heads.remainders) else {
+    let Some(whole) = ChainCoderHeads::new(heads.compressed, heads.remainders) else {
         return Err(Refusal::InvalidData);
     };
     let coder = Bare::<Word, State, PRECISION>::from_raw_parts(
         Vec::new(alloc),
         Vec::new(alloc),
-        both,
+        whole,
     );
     match coder.into_compressed() {
         Ok((_, added)) => append(&added, compressed, compressed_len),
@@ -180,18 +181,19 @@ pub fn into_binary<Word: WordOf<State>, State: BitArray, const PRECISION: usize>
     requires sized { IsSized Word.BITS State.BITS PRECISION }
     requires fits { CoderFits Word.row State.row }
     ensures call { ChainEnds Word.number State.number Word.BITS State.BITS PRECISION InBinary heads.now
-        record { words = compressed.old; len = compressed_len.old } record { words = compressed.new; len = compressed_len.new } result }
+        record { words = compressed.old; len = compressed_len.old }
+        record { words = compressed.new; len = compressed_len.new } result }
 {
     if *compressed_len > compressed.len() {
         return Err(Refusal::WrongLength);
     }
-    let Some(both) = ChainCoderHeads::new(heads.compressed, heads.remainders) else {
+    let Some(checked) = ChainCoderHeads::new(heads.compressed, heads.remainders) else {
         return Err(Refusal::InvalidData);
     };
     let coder = Bare::<Word, State, PRECISION>::from_raw_parts(
         Vec::new(alloc),
         Vec::new(alloc),
-        both,
+        checked,
     );
     match coder.into_binary() {
         Ok((_, added)) => append(&added, compressed, compressed_len),
@@ -215,7 +217,8 @@ pub fn into_remainders<Word: WordOf<State>, State: BitArray, const PRECISION: us
     requires sized { IsSized Word.BITS State.BITS PRECISION }
     requires fits { CoderFits Word.row State.row }
     ensures call { ChainEnds Word.number State.number Word.BITS State.BITS PRECISION InRemainders heads.now
-        record { words = remainders.old; len = remainders_len.old } record { words = remainders.new; len = remainders_len.new } result }
+        record { words = remainders.old; len = remainders_len.old }
+        record { words = remainders.new; len = remainders_len.new } result }
 {
     if *remainders_len > remainders.len() {
         return Err(Refusal::WrongLength);

@@ -1,0 +1,26 @@
+use Rattle.std.proofs.Common.{◌≡◌, ◌∙◌, ◌*◌, ℕ, List, arith, inl, inr, length, map, refl, sym, subst}
+use Rattle.std.proofs.lemmas.List.{length-map}
+use Rattle.constriction_calls.specs.ChainCalls.{keeps}
+use Rattle.constriction_calls.specs.Coded.{AreFit, AsIntervals, ByRows, items}
+use Rattle.constriction_calls.specs.Weights.{AreTotals}
+use Rattle.constriction_calls.proofs.ChainAnswers.{puts_as}
+use Rattle.constriction_calls.proofs.chain.encoding.encode_intervals_reverse.Goals as goal
+
+pub returns : goal.returns
+returns g c =
+    let p = g.P.BitArray.number in
+    let now = c.encode_reverse.new in
+    let made = c.in-Ok.ensures in
+    let given : List ℕ = map p c.as_slice.result.now in
+    let ones : List ℕ = c.as_slice-2.result.now in
+    let is : items g.row.PRECISION (ByRows 3 given ones) ≡ items g.row.PRECISION (AsIntervals (map p c.args.lefts.now) (map p c.args.ps.now)) = rw (c.as_slice.ensures.value, c.as_slice-2.ensures.value) made.ok in
+    let many : length ones ≡ length c.args.lefts.now = rw c.as_slice-2.ensures.value made.counted.1 in
+    let counted : length given ≡ 3 * length ones = rw (many, c.as_slice.ensures.value) (length-map c.in-Ok.made.0.items p ∙ made.counted.0) in
+    let totals : AreTotals g.row.PRECISION 3 (length ones) given = rw (many, c.as_slice.ensures.value) made.totals in
+    let fit : AreFit g.row.PRECISION (ByRows 3 given ones) = (counted, tt, totals) in
+    let fit' : AreFit g.row.PRECISION (AsIntervals (map p c.args.lefts.now) (map p c.args.ps.now)) = (length-map c.args.lefts.now p ∙ (made.intervals.0 ∙ sym (length-map c.args.ps.now p)), made.intervals.1, tt) in
+    record {
+      call = puts_as g.Word.BitArray.number g.State.BitArray.number g.Word.BitArray.BITS g.State.BitArray.BITS g.row.PRECISION
+          (keeps c.args.heads.now c.args.compressed.now c.args.compressed_len.now c.args.remainders.now c.args.remainders_len.now) (ByRows 3 given ones)
+          (AsIntervals (map p c.args.lefts.now) (map p c.args.ps.now)) is fit fit' (keeps now.heads now.compressed now.compressed_len c.args.remainders.now now.remainders_len) c.encode_reverse.result c.encode_reverse.ensures.call;
+    }
