@@ -1,4 +1,90 @@
-//! Calls by models of families, the intervals of such models, and weights of counts.
+//! The intervals of models of families, and weights of counts, at both sizes.
 
-pub mod large;
-pub mod small;
+ghost use Rattle.std.specs.Prelude.{map};
+ghost use Rattle.constriction_c.specs.Codes.{answer_of};
+ghost use Rattle.constriction_calls.specs.QuantizedCalls.{GivesIntervals, GivesWeights};
+
+use crate::codes::code_without_space;
+use constriction_calls::models::Families;
+use constriction_calls::quantized::counts::put_weights_of_counts;
+use constriction_calls::quantized::intervals::intervals_of_quantized;
+use constriction_words::BitArray;
+use std::alloc::Global;
+
+/// `intervals_of_quantized`, at 24 bits.
+#[unsafe(no_mangle)]
+pub extern "C" fn constriction_quantized_intervals_u32(
+    family: u32,
+    min: i32,
+    max: i32,
+    locations: &[i64],
+    scales: &[u32],
+    symbols: &[usize],
+    lefts: &mut [u32],
+    ps: &mut [u32],
+) -> u32
+    ensures { GivesIntervals ⟦<u32 as BitArray>⟧.number 24
+        record { family = family; min = min; max = max; locations = locations.now; scales = scales.now } symbols.now
+        record { lefts = lefts.old; ps = ps.old } record { lefts = lefts.new; ps = ps.new } (answer_of result 0) }
+{
+    let models = Families {
+        family,
+        min,
+        max,
+        locations,
+        scales,
+    };
+    code_without_space(intervals_of_quantized::<u32, 24>(&models, symbols, lefts, ps))
+}
+
+/// `intervals_of_quantized`, at 12 bits.
+#[unsafe(no_mangle)]
+pub extern "C" fn constriction_quantized_intervals_u16(
+    family: u32,
+    min: i32,
+    max: i32,
+    locations: &[i64],
+    scales: &[u32],
+    symbols: &[usize],
+    lefts: &mut [u16],
+    ps: &mut [u16],
+) -> u32
+    ensures { GivesIntervals ⟦<u16 as BitArray>⟧.number 12
+        record { family = family; min = min; max = max; locations = locations.now; scales = scales.now } symbols.now
+        record { lefts = lefts.old; ps = ps.old } record { lefts = lefts.new; ps = ps.new } (answer_of result 0) }
+{
+    let models = Families {
+        family,
+        min,
+        max,
+        locations,
+        scales,
+    };
+    code_without_space(intervals_of_quantized::<u16, 12>(&models, symbols, lefts, ps))
+}
+
+/// `put_weights_of_counts`, which add up to `2^24`.
+#[unsafe(no_mangle)]
+pub extern "C" fn constriction_weights_of_counts_u32(
+    alloc: Global,
+    counts: &[u64],
+    weights: &mut [u32],
+) -> u32
+    ensures { GivesWeights 24 counts.now (map ⟦<u32 as BitArray>⟧.number weights.old) (map ⟦<u32 as BitArray>⟧.number weights.new)
+        (answer_of result 0) }
+{
+    code_without_space(put_weights_of_counts::<u32, 24>(alloc, counts, weights))
+}
+
+/// `put_weights_of_counts`, which add up to `2^12`.
+#[unsafe(no_mangle)]
+pub extern "C" fn constriction_weights_of_counts_u16(
+    alloc: Global,
+    counts: &[u64],
+    weights: &mut [u16],
+) -> u32
+    ensures { GivesWeights 12 counts.now (map ⟦<u16 as BitArray>⟧.number weights.old) (map ⟦<u16 as BitArray>⟧.number weights.new)
+        (answer_of result 0) }
+{
+    code_without_space(put_weights_of_counts::<u16, 12>(alloc, counts, weights))
+}

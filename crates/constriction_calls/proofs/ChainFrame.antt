@@ -1,6 +1,6 @@
 -- Words that lie below those that a chain coder's steps read and write stay there.
-use Rattle.std.proofs.Common.{◌≡◌, ◌⊎◌, ℕ, ◌+◌, ◌-◌, ◌^◌, ◌<◌, ◌≤◌, List, [], ◌∷◌, ◌++◌, length, map, take, drop, refl, sym, ap, ◌∙◌, subst, arith, inl, inr, append_assoc}
-use Rattle.std.specs.Prelude.{Err, IfErr, Ok, Result, reverse}
+use Rattle.std.proofs.Common.{◌≡◌, ℕ, ◌+◌, ◌-◌, ◌^◌, ◌<◌, ◌≤◌, List, [], ◌∷◌, ◌++◌, length, map, take, drop, refl, sym, ap, ◌∙◌, subst, arith, inl, inr, append_assoc}
+use Rattle.std.specs.Prelude.{reverse}
 use Rattle.std.specs.List.{AllByRecursion}
 use Rattle.std.proofs.lemmas.List.{drop-map, length-append, length-map, length-reverse, length-take-le, map-append, reverse-append, take-append-drop, take-append-le}
 use Rattle.std.proofs.Math.Seq.{drop-append_seam}
@@ -13,9 +13,7 @@ use Rattle.constriction_chain.proofs.Below.{decodes_part}
 use Rattle.constriction_chain.proofs.Chains.{decode_from, state, state_same, words_fit}
 use Rattle.constriction_chain.proofs.Walks.{quantile_over}
 use Rattle.constriction_calls.specs.Buffers.{Appended, stack_in}
-use Rattle.constriction_calls.specs.ChainCalls.{EndsEarly, LacksRemainders, NeedsRoom, NeedsSpace, Refused, chain_in}
-use Rattle.constriction_calls.specs.declared.refusal.Refusal.{Refusal}
-use Rattle.constriction_calls.specs.declared.refusal.Refusal.TheVariants as refusals
+use Rattle.constriction_calls.specs.ChainCalls.{EndsEarly, LacksRemainders, NeedsRoom, NeedsSpace, chain_in}
 
 -- ---- decodes
 
@@ -143,12 +141,15 @@ pub ends_in : {W : Type 0} (number : W → ℕ) (w s P : ℕ) (items : List ℕ 
 ends_in {W} number w s P items count h r compressed len remainders rlen x is e =
     let below : List ℕ = stack_in number remainders rlen in
     let from : ChainState = state h r (stack_in number compressed len) [] in
-    let all : TakesOffAll w s (items e.symbols) from e.last = subst (λ (z : ChainState). TakesOffAll w s (items e.symbols) z e.last) is e.taken in
+    let first : List (Item ℕ) = take e.done (items e.symbols) in
+    let all : TakesOffAll w s first from e.last = subst (λ (z : ChainState). TakesOffAll w s first z e.last) is e.taken in
     record {
       symbols = e.symbols;
+      done = e.done;
       last = state e.last.h e.last.r e.last.compressed (e.last.remainders ++ below);
+      count_is = e.count_is;
       fewer = e.fewer;
-      taken = taken_over w s (items e.symbols) from e.last below all;
+      taken = taken_over w s first from e.last below all;
       needs = e.needs;
       ended = e.ended;
     }
@@ -226,36 +227,3 @@ needs_room_in {W} number w s law items h r remainders rlen compressed len n x y 
       is = omega (arith, en, length-append y.compressed below, length_in number compressed len within);
       past = past;
     }
-
--- ---- refusals
-pub refused_put : (heads known lacks : Type 0) (full : ℕ → Type 0) (e : Refusal) → heads → known → (e ≡ refusals.NoMemory) ⊎ ((e ≡ refusals.ImpossibleSymbol) × (known → ⊥)) ⊎ ((e ≡ refusals.OutOfData) × lacks)
-    → Refused (Unit {0}) (Unit {0}) heads (known → ⊥) (known × lacks) full e
-refused_put heads known lacks full e ok is_known (inl is) = rw is tt
-refused_put heads known lacks full e ok is_known (inr (inl (is, never))) = absurd (never is_known)
-refused_put heads known lacks full e ok is_known (inr (inr (is, early))) = rw is (tt, tt, ok, (is_known, early))
-
-pub refused_list : (heads unknown ends : Type 0) (full : ℕ → Type 0) (e : Refusal) → heads → (e ≡ refusals.NoMemory) ⊎ ((e ≡ refusals.OutOfData) × ends) → Refused (Unit {0}) (Unit {0}) heads unknown ends full e
-refused_list heads unknown ends full e ok (inl is) = rw is tt
-refused_list heads unknown ends full e ok (inr (is, early)) = rw is (tt, tt, ok, early)
-
-pub refused_space : (heads unknown ends : Type 0) (full : ℕ → Type 0) (n : ℕ) (e : Refusal) → heads → (past : Type 0) → (past → full n) → (e ≡ refusals.NoMemory) ⊎ ((e ≡ refusals.NoSpace n) × past)
-    → Refused (Unit {0}) (Unit {0}) heads unknown ends full e
-refused_space heads unknown ends full n e ok past then (inl is) = rw is tt
-refused_space heads unknown ends full n e ok past then (inr (is, over)) = rw is (tt, tt, ok, then over)
-
--- the lengths and the weights were right
-pub refused_later : (lengths weights heads unknown ends : Type 0) (full : ℕ → Type 0) (e : Refusal) → lengths → weights → Refused (Unit {0}) (Unit {0}) heads unknown ends full e
-    → Refused lengths weights heads unknown ends full e
-refused_later lengths weights heads unknown ends full refusals.WrongLength l t r = absurd (r tt)
-refused_later lengths weights heads unknown ends full refusals.WrongWeights l t r = absurd (r.1 tt)
-refused_later lengths weights heads unknown ends full refusals.WrongInterval l t r = r
-refused_later lengths weights heads unknown ends full refusals.InvalidData l t r = (l, t, r.2)
-refused_later lengths weights heads unknown ends full refusals.ImpossibleSymbol l t r = (l, t, r.2, r.3)
-refused_later lengths weights heads unknown ends full refusals.OutOfData l t r = (l, t, r.2, r.3)
-refused_later lengths weights heads unknown ends full (refusals.NoSpace n) l t r = (l, t, r.2, r.3)
-refused_later lengths weights heads unknown ends full refusals.NoMemory l t r = tt
-
-pub err_later : (lengths weights heads unknown ends : Type 0) (full : ℕ → Type 0) (r : Result (Unit {0}) Refusal) → lengths → weights → IfErr r (Refused (Unit {0}) (Unit {0}) heads unknown ends full)
-    → IfErr r (Refused lengths weights heads unknown ends full)
-err_later lengths weights heads unknown ends full (Ok x) l t h = tt
-err_later lengths weights heads unknown ends full (Err e) l t h = refused_later lengths weights heads unknown ends full e l t h

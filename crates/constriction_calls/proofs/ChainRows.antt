@@ -1,18 +1,19 @@
--- Items that each have a model of their own: pairs, rows of weights, and intervals.
-use Rattle.std.proofs.Common.{◌≡◌, ℕ, zero, suc, ◌+◌, ◌-◌, ◌<◌, ◌≤◌, ◌∙◌, List, [], ◌∷◌, ◌++◌, Result, Ok, Err, length, map, drop, take, get_or, refl, sym, ap, arith, append_assoc, inl, inr}
-use Rattle.std.specs.Prelude.{IfErr, OnOk, min, reverse}
-use Rattle.std.proofs.lemmas.List.{drop_more, length-map, reverse-append}
+-- Items that each have a model of their own, as pairs.
+use Rattle.std.proofs.Common.{◌≡◌, ℕ, zero, suc, ◌+◌, ◌-◌, ◌<◌, ◌≤◌, ◌∙◌, List, [], ◌∷◌, ◌++◌, length, map, drop, take, get_or, refl, sym, ap, subst, arith, append_assoc, replicate}
+use Rattle.std.specs.Prelude.{reverse}
+use Rattle.std.proofs.lemmas.List.{drop_more, length-append, length-replicate, reverse-append}
 use Rattle.constriction_base.specs.Models.{AreKnown, Item, item_of, pairs_of}
-use Rattle.constriction_base.specs.Tables.{Has, Impossible, table_of}
+use Rattle.constriction_base.specs.Tables.{Impossible}
 use Rattle.constriction_base.proofs.Turns.{reverse_at}
 use Rattle.constriction_chain.specs.Chain.{ChainState}
-use Rattle.constriction_calls.specs.ChainCalls.{EndsEarly, NeedsSpace, Refused}
-use Rattle.constriction_calls.specs.ChainIntervals.{IntervalsRefused}
-use Rattle.constriction_calls.specs.Intervals.{AreIntervals, interval_items}
-use Rattle.constriction_calls.specs.Weights.{row_items, row_tables}
-use Rattle.constriction_calls.specs.declared.refusal.Refusal.{Refusal}
-use Rattle.constriction_calls.specs.declared.refusal.Refusal.TheVariants as refusals
-use Rattle.constriction_calls.proofs.ChainFrame.{AreWithin}
+use Rattle.constriction_chain.specs.Symbols.{TakesOffAll}
+use Rattle.constriction_chain.specs.Walk.{NeedsWord}
+use Rattle.constriction_calls.specs.ChainCalls.{EndsEarly}
+use Rattle.constriction_calls.specs.Coded.{AsIntervals, ByRows, ByWeights, Coded, InFamily, items}
+use Rattle.constriction_calls.specs.Intervals.{interval_items}
+use Rattle.constriction_calls.specs.Quantized.{family_tables}
+use Rattle.constriction_calls.specs.Weights.{row_items, weights_model}
+use Rattle.constriction_calls.proofs.ChainFrame.{AreWithin, within_of}
 use Rattle.constriction_calls.proofs.RowItems.{all_reversed}
 
 -- ---- pairs
@@ -47,22 +48,11 @@ pairs_long precision table (x ∷ xs) [] k within within' = within'
 pairs_long precision table (x ∷ xs) (m ∷ ms) zero within within' = omega arith
 pairs_long precision table (x ∷ xs) (m ∷ ms) (suc k) within within' = (let few = pairs_long precision table xs ms k (omega arith) (omega arith) in omega (arith, few))
 
--- and none behind them
-pairs_few : {M : Type 0} (precision : ℕ) (table : M → List (ℕ × ℕ × ℕ)) (xs : List ℕ) (ms : List M) → (length (pairs_of precision table xs ms) ≤ length xs) × (length (pairs_of precision table xs ms) ≤ length ms)
-pairs_few precision table [] ms = (omega arith, omega arith)
-pairs_few precision table (x ∷ xs) [] = (omega arith, omega arith)
-pairs_few precision table (x ∷ xs) (m ∷ ms) = (let few = pairs_few precision table xs ms in (omega (arith, few.0), omega (arith, few.1)))
-
-none_behind : {A : Type 0} (items : List A) (k : ℕ) → length items ≤ k → drop k items ≡ []
-none_behind [] zero within = refl
-none_behind [] (suc k) within = refl
-none_behind (i ∷ items) zero within = absurd (omega arith)
-none_behind (i ∷ items) (suc k) within = none_behind items k (omega arith)
-
-pub pairs_end : {M : Type 0} (precision : ℕ) (table : M → List (ℕ × ℕ × ℕ)) (xs : List ℕ) (ms : List M) (k : ℕ) → k ≡ min (length xs) (length ms) → drop k (pairs_of precision table xs ms) ≡ []
-pairs_end precision table xs ms k is =
-    let few = pairs_few precision table xs ms in
-    none_behind (pairs_of precision table xs ms) k (omega (arith, is, few.0, few.1))
+-- and none behind the symbols
+pub pairs_end : {M : Type 0} (precision : ℕ) (table : M → List (ℕ × ℕ × ℕ)) (xs : List ℕ) (ms : List M) → drop (length xs) (pairs_of precision table xs ms) ≡ []
+pairs_end precision table [] ms = refl
+pairs_end precision table (x ∷ xs) [] = refl
+pairs_end precision table (x ∷ xs) (m ∷ ms) = pairs_end precision table xs ms
 
 -- words have room for their precision
 within_pairs : {M : Type 0} (w precision : ℕ) (table : M → List (ℕ × ℕ × ℕ)) (xs : List ℕ) (ms : List M) → precision ≤ w → AreWithin w (pairs_of precision table xs ms)
@@ -70,8 +60,23 @@ within_pairs w precision table [] ms h = tt
 within_pairs w precision table (x ∷ xs) [] h = tt
 within_pairs w precision table (x ∷ xs) (m ∷ ms) h = (h, within_pairs w precision table xs ms h)
 
-pub within_turned : {M : Type 0} (w precision : ℕ) (table : M → List (ℕ × ℕ × ℕ)) (xs : List ℕ) (ms : List M) → precision ≤ w → AreWithin w (reverse (pairs_of precision table xs ms))
-within_turned w precision table xs ms h = all_reversed (λ item. item.model.precision ≤ w) (pairs_of precision table xs ms) (within_pairs w precision table xs ms h)
+within_rows : (w precision width : ℕ) (weights symbols : List ℕ) → precision ≤ w → AreWithin w (row_items precision width weights symbols)
+within_rows w precision width weights [] h = tt
+within_rows w precision width weights (symbol ∷ symbols) h = (h, within_rows w precision width (drop width weights) symbols h)
+
+within_intervals : (w precision : ℕ) (lefts ps : List ℕ) → precision ≤ w → AreWithin w (interval_items precision lefts ps)
+within_intervals w precision [] ps h = tt
+within_intervals w precision (left ∷ lefts) [] h = tt
+within_intervals w precision (left ∷ lefts) (p ∷ ps) h = (h, within_intervals w precision lefts ps h)
+
+within_items : (w precision : ℕ) (coded : Coded) → precision ≤ w → AreWithin w (items precision coded)
+within_items w precision (ByWeights weights symbols) h = within_of w (weights_model precision weights) symbols h
+within_items w precision (ByRows width weights symbols) h = within_rows w precision width weights symbols h
+within_items w precision (AsIntervals lefts ps) h = within_intervals w precision lefts ps h
+within_items w precision (InFamily by symbols) h = within_pairs w precision (λ table. table) symbols (family_tables precision by) h
+
+pub within_turned : (w precision : ℕ) (coded : Coded) → precision ≤ w → AreWithin w (reverse (items precision coded))
+within_turned w precision coded h = all_reversed (λ item. item.model.precision ≤ w) (items precision coded) (within_items w precision coded h)
 
 -- ---- items from the last to the first
 
@@ -97,117 +102,42 @@ unknown_item [] k item within is never all = absurd (omega arith)
 unknown_item (i ∷ items) zero item within is never all = (let known = rw is at all.0 in never known.0 known.1 known.2)
 unknown_item (i ∷ items) (suc k) item within is never all = unknown_item items k item (omega arith) is never all.1
 
--- ---- rows of weights
+-- ---- items of symbols
 
-first_same : {A : Type 0} {x y : A} {xs ys : List A} → x ∷ xs ≡ y ∷ ys → x ≡ y
-first_same is = cc
+-- symbols and others behind them begin with the pairs of the first
+pub pairs_begin : {M : Type 0} (precision : ℕ) (table : M → List (ℕ × ℕ × ℕ)) (xs ys : List ℕ) (ms : List M) → length xs ≤ length ms
+    → take (length xs) (pairs_of precision table (xs ++ ys) ms) ≡ pairs_of precision table xs ms
+pairs_begin precision table [] ys ms within = refl
+pairs_begin precision table (x ∷ xs) ys [] within = absurd (omega arith)
+pairs_begin precision table (x ∷ xs) ys (m ∷ ms) within =
+    ap (λ (items : List (Item ℕ)). item_of (record { precision = precision; table = table m }) x ∷ items) (pairs_begin precision table xs ys ms (omega arith))
 
-rest_same : {A : Type 0} {x y : A} {xs ys : List A} → x ∷ xs ≡ y ∷ ys → xs ≡ ys
-rest_same is = cc
+-- symbols that end early, with others behind them
+pub ends_pairs : {M : Type 0} (w s P : ℕ) (table : M → List (ℕ × ℕ × ℕ)) (xs : List ℕ) (ms : List M) (count k : ℕ) (x last : ChainState) → length xs ≡ k → k < count → length ms ≡ count
+    → TakesOffAll w s (pairs_of P table xs ms) x last → NeedsWord w P last.h → last.compressed ≡ [] → EndsEarly w s P (λ symbols. pairs_of P table symbols ms) count x
+ends_pairs w s P table xs ms count k x last counted few many taken needs ended =
+    record {
+      symbols = xs ++ replicate (count - k) 0;
+      done = length xs;
+      last = last;
+      count_is = omega (arith, length-append xs (replicate (count - k) 0), length-replicate {A = ℕ} (count - k) 0, counted, few);
+      fewer = omega (arith, counted, few);
+      taken = subst (λ (items : List (Item ℕ)). TakesOffAll w s items x last) (sym (pairs_begin P table xs (replicate (count - k) 0) ms (omega (arith, counted, few, many)))) taken;
+      needs = needs;
+      ended = ended;
+    }
 
-both_same : {A : Type 0} {x y : A} {xs ys : List A} → x ≡ y → xs ≡ ys → x ∷ xs ≡ y ∷ ys
-both_same first rest = cc
-
-none_some : {A : Type 0} {y : A} {ys : List A} → ◌≡◌ {A = List A} [] (y ∷ ys) → ⊥
-none_some is = cc
-
--- symbols under the first of the rows are items of rows of weights
-pub rows_begin_items : {M : Type 0} (precision width count : ℕ) (table : M → List (ℕ × ℕ × ℕ)) (weights : List ℕ) (rows : List M) → map table rows ≡ row_tables width count weights
-    → (symbols : List ℕ) → length symbols ≤ count → pairs_of precision table symbols rows ≡ row_items precision width weights symbols
-rows_begin_items precision width count table weights rows is [] within = refl
-rows_begin_items precision width zero table weights rows is (symbol ∷ symbols) within = absurd (omega arith)
-rows_begin_items precision width (suc count) table weights [] is (symbol ∷ symbols) within = absurd (none_some is)
-rows_begin_items precision width (suc count) table weights (row ∷ rows) is (symbol ∷ symbols) within =
-    both_same (ap (λ (entries : List (ℕ × ℕ × ℕ)). item_of (record { precision = precision; table = entries }) symbol) (first_same is))
-    (rows_begin_items precision width count table (drop width weights) rows (rest_same is) symbols (omega arith))
-
--- how many rows there are
-tables_counted : (width count : ℕ) (weights : List ℕ) → length (row_tables width count weights) ≡ count
-tables_counted width zero weights = refl
-tables_counted width (suc count) weights = ap suc (tables_counted width count (drop width weights))
-
-pub rows_counted : {M : Type 0} (table : M → List (ℕ × ℕ × ℕ)) (width count : ℕ) (weights : List ℕ) (rows : List M) → map table rows ≡ row_tables width count weights → length rows ≡ count
-rows_counted table width count weights rows is = sym (length-map rows table) ∙ (ap length is ∙ tables_counted width count weights)
-
--- items that are the same as far as they go end as early, and need as much space
-pub ends_as : (w s P : ℕ) (items others : List ℕ → List (Item ℕ)) (count : ℕ) (x : ChainState) → ((symbols : List ℕ) → length symbols ≤ count → items symbols ≡ others symbols)
+-- items that are the same of as many symbols end as early, and need as much space
+pub ends_as : (w s P : ℕ) (items others : List ℕ → List (Item ℕ)) (count : ℕ) (x : ChainState) → ((symbols : List ℕ) → length symbols ≡ count → items symbols ≡ others symbols)
     → EndsEarly w s P items count x → EndsEarly w s P others count x
 ends_as w s P items others count x same e =
     record {
       symbols = e.symbols;
+      done = e.done;
       last = e.last;
+      count_is = e.count_is;
       fewer = e.fewer;
-      taken = rw (same e.symbols (omega (arith, e.fewer))) at e.taken;
+      taken = rw (same e.symbols e.count_is) at e.taken;
       needs = e.needs;
       ended = e.ended;
     }
-
-pub needs_as : (w s : ℕ) (items others : List ℕ → List (Item ℕ)) (count : ℕ) (x : ChainState) (size n : ℕ) → ((symbols : List ℕ) → length symbols ≤ count → items symbols ≡ others symbols)
-    → NeedsSpace w s items count x size n → NeedsSpace w s others count x size n
-needs_as w s items others count x size n same e =
-    record {
-      symbols = e.symbols;
-      new = e.new;
-      count_is = e.count_is;
-      taken = rw (same e.symbols (omega (arith, e.count_is))) at e.taken;
-      is = e.is;
-      past = e.past;
-    }
-
--- what holds of a list that is as long holds where a call went well
-pub ok_as : (r : Result (Unit {0}) Refusal) (A B : Type 0) (k count : ℕ) → (k ≤ count → A → B) → OnOk r (k ≡ count) → OnOk r A → OnOk r B
-ok_as (Ok x) A B k count f counted h = f (omega (arith, counted)) h
-ok_as (Err e) A B k count f counted h = tt
-
--- the same of a number that is another
-pub ends_counted : (w s P : ℕ) (items : List ℕ → List (Item ℕ)) (count other : ℕ) (x : ChainState) → other ≡ count → EndsEarly w s P items count x → EndsEarly w s P items other x
-ends_counted w s P items count other x same e = record {
-  symbols = e.symbols;
-  last = e.last;
-  fewer = omega (arith, e.fewer, same);
-  taken = e.taken;
-  needs = e.needs;
-  ended = e.ended;
-}
-
--- ---- intervals
-
--- each interval is known, as symbol 1
-has_interval : (left p rest : ℕ) → 0 < p → Has (table_of (left ∷ p ∷ rest ∷ [])) 1 left p
-has_interval left zero rest h = absurd (omega arith)
-has_interval zero (suc p) rest h = inl refl
-has_interval (suc left) (suc p) rest h = inr (inl (ap (λ (n : ℕ). (let entry : ℕ × ℕ × ℕ = (1, n, suc p) in entry)) (let e : 0 + suc left ≡ suc left = omega arith in e)))
-
-pub intervals_known : (precision : ℕ) (lefts ps : List ℕ) → AreIntervals precision lefts ps → AreKnown (interval_items precision lefts ps)
-intervals_known precision [] ps all = tt
-intervals_known precision (left ∷ lefts) [] all = tt
-intervals_known precision (left ∷ lefts) (p ∷ ps) all = ((left, p, has_interval left p _ all.0.not_empty), intervals_known precision lefts ps all.1)
-
--- ---- refusals
-
--- the lengths and the weights were right, and data and space are wanted for other items
-pub err_as : (lengths weights heads unknown ends ends' : Type 0) (full full' : ℕ → Type 0) (r : Result (Unit {0}) Refusal) → lengths → weights → (ends → ends') → ((n : ℕ) → full n → full' n)
-    → IfErr r (Refused (Unit {0}) (Unit {0}) heads unknown ends full) → IfErr r (Refused lengths weights heads unknown ends' full')
-err_as lengths weights heads unknown ends ends' full full' (Ok x) l t f g h = tt
-err_as lengths weights heads unknown ends ends' full full' (Err refusals.WrongLength) l t f g h = absurd (h tt)
-err_as lengths weights heads unknown ends ends' full full' (Err refusals.WrongWeights) l t f g h = absurd (h.1 tt)
-err_as lengths weights heads unknown ends ends' full full' (Err refusals.WrongInterval) l t f g h = h
-err_as lengths weights heads unknown ends ends' full full' (Err refusals.InvalidData) l t f g h = (l, t, h.2)
-err_as lengths weights heads unknown ends ends' full full' (Err refusals.ImpossibleSymbol) l t f g h = (l, t, h.2, h.3)
-err_as lengths weights heads unknown ends ends' full full' (Err refusals.OutOfData) l t f g h = (l, t, h.2, f h.3)
-err_as lengths weights heads unknown ends ends' full full' (Err (refusals.NoSpace n)) l t f g h = (l, t, h.2, g n h.3)
-err_as lengths weights heads unknown ends ends' full full' (Err refusals.NoMemory) l t f g h = tt
-
--- a refusal of the rows of intervals
-pub intervals_refused : (rows totals heads known lengths intervals ends ends' : Type 0) (full full' : ℕ → Type 0) (r : Result (Unit {0}) Refusal) → rows → totals → known → lengths → intervals
-    → (ends → ends') → ((n : ℕ) → full n → full' n)
-    → IfErr r (Refused rows totals heads (known → ⊥) ends full) → IfErr r (IntervalsRefused lengths intervals heads ends' full')
-intervals_refused rows totals heads known lengths intervals ends ends' full full' (Ok x) a b k l t f g h = tt
-intervals_refused rows totals heads known lengths intervals ends ends' full full' (Err refusals.WrongLength) a b k l t f g h = absurd (h a)
-intervals_refused rows totals heads known lengths intervals ends ends' full full' (Err refusals.WrongWeights) a b k l t f g h = absurd (h.1 b)
-intervals_refused rows totals heads known lengths intervals ends ends' full full' (Err refusals.WrongInterval) a b k l t f g h = absurd h
-intervals_refused rows totals heads known lengths intervals ends ends' full full' (Err refusals.InvalidData) a b k l t f g h = (l, t, h.2)
-intervals_refused rows totals heads known lengths intervals ends ends' full full' (Err refusals.ImpossibleSymbol) a b k l t f g h = absurd (h.3 k)
-intervals_refused rows totals heads known lengths intervals ends ends' full full' (Err refusals.OutOfData) a b k l t f g h = (l, t, h.2, f h.3)
-intervals_refused rows totals heads known lengths intervals ends ends' full full' (Err (refusals.NoSpace n)) a b k l t f g h = (l, t, h.2, g n h.3)
-intervals_refused rows totals heads known lengths intervals ends ends' full full' (Err refusals.NoMemory) a b k l t f g h = tt

@@ -1,12 +1,9 @@
 -- Steps of a chain coder over lent words, and what stops them.
-use Rattle.std.proofs.Common.{◌≡◌, ℕ, zero, suc, ◌+◌, ◌-◌, ◌*◌, ◌<◌, ◌≤◌, List, [], ◌∷◌, ◌++◌, Option, Result, Ok, Err, None, inl, inr, map, drop, take, length, get_or, ap, subst, arith, append_assoc, ◌∙◌}
-use Rattle.std.specs.Prelude.{reverse}
-use Rattle.std.proofs.lemmas.List.{drop_more, map-append, reverse-append, reverse-reverse}
+use Rattle.std.proofs.Common.{◌≡◌, ℕ, ◌*◌, ◌<◌, List, [], ◌∷◌, Option, Result, Ok, Err, None, inl, inr, map, ◌∙◌}
 use Rattle.constriction_base.specs.declared.errors.CoderError.{CoderError}
 use Rattle.constriction_base.specs.declared.errors.CoderError.TheVariants.{Frontend}
-use Rattle.constriction_base.specs.Models.{AreKnown, Item, Knows, Model, item_of, items_of}
+use Rattle.constriction_base.specs.Models.{AreKnown, Item, Model}
 use Rattle.constriction_base.specs.Tables.{AtEntry, Impossible}
-use Rattle.constriction_base.proofs.Turns.{reverse_at}
 use Rattle.constriction_stream.specs.Symbols.{DecodesSymbol, EncodesSymbol}
 use Rattle.constriction_chain.specs.Chain.{ChainState, ChainValue, least}
 use Rattle.constriction_chain.specs.Steps.{DecodeCall, EncodeCall, Halted}
@@ -75,53 +72,7 @@ module _ {W C R E F : Type 0} (number : W → ℕ) (is_list : Type 0) (held : C 
     | inr never ↦ absurd (other never.1 never.2 never.3)
   ]
 
--- ---- symbols from the last to the first
-
--- one more of them
-pub dropped : (xs : List ℕ) (left : ℕ) → 0 < left → left ≤ length xs → drop (left - 1) xs ≡ get_or xs (left - 1) 0 ∷ drop left xs
-dropped xs left some within =
-    let e : left - 1 + 1 ≡ left = omega arith in
-    drop_more xs (left - 1) 0 (omega arith) ∙ ap (λ (n : ℕ). get_or xs (left - 1) 0 ∷ drop n xs) e
-
-pub turned : (xs : List ℕ) (left : ℕ) → 0 < left → left ≤ length xs → reverse (drop (left - 1) xs) ≡ reverse (drop left xs) ++ get_or xs (left - 1) 0 ∷ []
-turned xs left some within =
-    ap (λ (ys : List ℕ). reverse ys) (dropped xs left some within) ∙ reverse-append (get_or xs (left - 1) 0 ∷ []) (drop left xs)
-
--- all of them
-pub parted : (model : Model ℕ) (xs : List ℕ) (left : ℕ) → 0 < left → left ≤ length xs
-    → items_of model (reverse xs) ≡ items_of model (reverse (drop left xs)) ++ item_of model (get_or xs (left - 1) 0) ∷ items_of model (reverse (take (left - 1) xs))
-parted model xs left some within =
-    let x : ℕ = get_or xs (left - 1) 0 in
-    let behind : List ℕ = reverse (drop left xs) in
-    let before : List ℕ = reverse (take (left - 1) xs) in
-    let whole : reverse xs ≡ (behind ++ x ∷ []) ++ before = reverse_at (left - 1) xs ∙ ap (λ (ys : List ℕ). ys ++ before) (turned xs left some within) in
-    ap (λ (ys : List ℕ). items_of model ys) (whole ∙ append_assoc behind (x ∷ []) before) ∙ map-append (item_of model) behind (x ∷ before)
-
--- a known one
-pub known_at : (model : Model ℕ) (xs : List ℕ) (k : ℕ) → k < length xs → AreKnown (items_of model xs) → Knows model (get_or xs k 0)
-known_at model [] k within all = absurd (omega arith)
-known_at model (x ∷ xs) zero within all = all.0
-known_at model (x ∷ xs) (suc k) within all = known_at model xs k (omega arith) all.1
-
--- one symbol that isn't known
-pub unknown_at : (model : Model ℕ) (xs : List ℕ) (k : ℕ) → k < length xs → Impossible model.table (get_or xs k 0) → AreKnown (items_of model xs) → ⊥
-unknown_at model xs k within never all = (let known = known_at model xs k within all in never known.0 known.1 known.2)
-
 -- encodes of symbols were of known ones
 pub known_of : (w s : ℕ) (items : List (Item ℕ)) (old new : ChainState) → PutsBackAll w s items old new → AreKnown items
 known_of w s [] old new all = tt
 known_of w s (item ∷ items) old new (next, (left, p, has, i), all) = ((left, p, has), known_of w s items next new all)
-
-known_append : (xs ys : List (Item ℕ)) → AreKnown xs → AreKnown ys → AreKnown (xs ++ ys)
-known_append [] ys h k = k
-known_append (x ∷ xs) ys h k = (h.0, known_append xs ys h.1 k)
-
-known_reverse : (model : Model ℕ) (xs : List ℕ) → AreKnown (items_of model xs) → AreKnown (items_of model (reverse xs))
-known_reverse model [] known = tt
-known_reverse model (x ∷ xs) known =
-    let same : items_of model (reverse (x ∷ xs)) ≡ items_of model (reverse xs) ++ item_of model x ∷ [] =
-    ap (λ (ys : List ℕ). items_of model ys) (reverse-append (x ∷ []) xs) ∙ map-append (item_of model) (reverse xs) (x ∷ []) in
-    rw same (known_append (items_of model (reverse xs)) (item_of model x ∷ []) (known_reverse model xs known.1) (known.0, tt))
-
-pub known_turned : (model : Model ℕ) (xs : List ℕ) → AreKnown (items_of model (reverse xs)) → AreKnown (items_of model xs)
-known_turned model xs known = subst (λ (ys : List ℕ). AreKnown (items_of model ys)) (reverse-reverse xs) (known_reverse model (reverse xs) known)

@@ -1,6 +1,6 @@
 -- Words that stand for a chain coder, and words of heads behind a caller's.
-use Rattle.std.proofs.Common.{◌≡◌, ◌⊎◌, ℕ, ◌+◌, ◌^◌, ◌<◌, ◌≤◌, List, [], ◌∷◌, ◌++◌, Result, Ok, Err, length, map, take, Option, sym, ap, ◌∙◌, subst, arith, inl, inr}
-use Rattle.std.specs.Prelude.{IfErr, OnErr, reverse}
+use Rattle.std.proofs.Common.{◌≡◌, ◌⊎◌, refl, ℕ, ◌+◌, ◌^◌, ◌<◌, ◌≤◌, List, [], ◌∷◌, ◌++◌, Result, Ok, Err, length, map, take, append-nil, Option, sym, ap, ◌∙◌, subst, arith, inl, inr}
+use Rattle.std.specs.Prelude.{IfErr, OnErr, OnOk, reverse}
 use Rattle.std.specs.Int.Digits.{digits_of}
 use Rattle.std.proofs.Math.Seq.{take-length}
 use Rattle.std.proofs.lemmas.List.{length-append, length-map, length-reverse, length-take-le}
@@ -12,11 +12,13 @@ use Rattle.constriction_chain.specs.Imports.{FromBinary, FromCompressed, FromRem
 use Rattle.constriction_chain.specs.Words.{IsOneAbove, NoHeads, NoStart, TooFew, remainder_words}
 use Rattle.constriction_chain.proofs.Chains.{state, state_same}
 use Rattle.constriction_chain_laws.proofs.NoCoder as laws
-use Rattle.constriction_calls.specs.Buffers.{stack_in}
-use Rattle.constriction_calls.specs.ChainWords.{ExportRefused, NoRoomFor, over_compressed, over_remainders}
+use Rattle.constriction_calls.specs.Buffers.{Appended, stack_in}
+use Rattle.constriction_calls.specs.ChainWords.{AreWordsOf, Begins, ChainBegins, ChainEnds, Form, HaveWords, HeadsOver, NoRoomFor, WordsKept, heads_over}
+use Rattle.constriction_calls.specs.Refusals.{Room}
+use Rattle.constriction_calls.specs.declared.chain.ChainHeads.{ChainHeads}
 use Rattle.constriction_calls.specs.declared.refusal.Refusal.{Refusal}
 use Rattle.constriction_calls.specs.declared.refusal.Refusal.TheVariants as refusals
-use Rattle.constriction_calls.proofs.ChainFrame.{length_in, rest_in}
+use Rattle.constriction_calls.proofs.ChainFrame.{appended_in, length_in, rest_in}
 
 -- ---- words that begin no coder
 
@@ -37,6 +39,13 @@ module _ {W E B : Type 0} (number : W → ℕ) (held : B → List W) (is_list : 
   no_heads old (Frontend rest) two stop h r cs some pos le is = laws.no_heads number held is_list reads w bound list old rest two stop h r cs some pos le is
 
 -- ---- coders of a caller's words
+
+-- the states of heads over the words in use
+abbrev over_compressed : {W : Type 0} → (W → ℕ) → ℕ → ℕ → List W → ℕ → ChainState
+over_compressed number h r buffer len = state h r (stack_in number buffer len) []
+
+abbrev over_remainders : {W : Type 0} → (W → ℕ) → ℕ → ℕ → List W → ℕ → ChainState
+over_remainders number h r buffer len = state h r [] (stack_in number buffer len)
 
 -- the words that a cursor has left are the first of a buffer
 left_in : {W : Type 0} (number : W → ℕ) (words buf : List W) (pos : ℕ) (t cs : List ℕ) → cs ≡ map number (reverse (take pos buf)) → pos ≤ length buf
@@ -79,18 +88,50 @@ of_remainders {W} number w s P words buf others h r pos x is within chain none a
     let from : FromRemainders w s P (map number (reverse words)) x = record { chain = chain; compressed = none; are = sym (all_taken number words) ∙ are } in
     (found.0, subst (λ (z : ChainState). FromRemainders w s P (map number (reverse words)) z) same from)
 
--- ---- words behind a caller's
+-- ---- words of heads
 
--- why words were not put behind a caller's
-pub no_room : {W : Type 0} (number : W → ℕ) (old : List W) (len : ℕ) (added : List W) (all : List ℕ) (heads : Type 0) (holds : List ℕ → Type 0)
-    → len ≤ length old → heads → map number (reverse added) ≡ all → holds (all ++ stack_in number old len)
-    → (r : Result (Unit {0}) Refusal) → OnErr r (length old < len + length added) → (past : Type 0)
-    → IfErr r (λ e. (e ≡ refusals.NoSpace (len + length added)) ⊎ ((e ≡ refusals.NoMemory) × past))
-    → IfErr r (ExportRefused (len ≤ length old) heads (NoRoomFor (length old) holds))
-no_room number old len added all heads holds within h are is (Ok u) full past e = tt
-no_room number old len added all heads holds within h are is (Err refusal) full past (inr (e, more)) = rw e tt
-no_room {W} number old len added all heads holds within h are is (Err refusal) full past (inl e) =
-    let count : length (all ++ stack_in number old len) ≡ len + length added = (
-    let above : length all ≡ length added = ap length (sym are) ∙ (length-map (reverse added) number ∙ length-reverse added) in
-    omega (arith, above, length-append all (stack_in number old len), length_in number old len within)) in
-    rw e (within, h, record { past = full; words = all ++ stack_in number old len; are = is; count = count })
+-- those of heads over no others, with a caller's below them
+pub binary_above : {W A : Type 0} (number : W → ℕ) (w h r : ℕ) (added : List W) (below : List ℕ) (x : ChainState) → x ≡ state h r [] []
+    → (x.h ≡ 1) × A × ((m : ℕ) × IsOneAbove w m x.r × (map number (reverse added) ≡ fixed_digits (2 ^ w) m x.r ++ x.compressed))
+    → (h ≡ 1) × ((m : ℕ) × IsOneAbove w m r × (map number (reverse added) ++ below ≡ fixed_digits (2 ^ w) m r ++ below))
+binary_above number w h r added below x is words =
+    let found = rw is at words in
+    (found.0, (found.2.0, found.2.1, ap (λ (ys : List ℕ). ys ++ below) (found.2.2 ∙ append-nil (fixed_digits (2 ^ w) found.2.0 r))))
+
+pub heads_above : {W : Type 0} (number : W → ℕ) (w h r : ℕ) (added : List W) (below : List ℕ) (x : ChainState) → x ≡ state h r [] [] → map number (reverse added) ≡ remainder_words w x
+    → map number (reverse added) ++ below ≡ h ∷ (digits_of (2 ^ w) r ++ below)
+heads_above number w h r added below x is words =
+    let found = rw is at words in
+    ap (λ (ys : List ℕ). ys ++ below) found ∙ ap (λ (ys : List ℕ). h ∷ (ys ++ below)) (append-nil (digits_of (2 ^ w) r))
+
+-- ---- what calls say of each answer
+module _ {Word State : Type 0} (number : Word → ℕ) (state' : State → ℕ) (w s P : ℕ) (form : Form) where
+  module _ (words : List Word) (old : HeadsOver Word State) where
+    pub begins_at : (new : HeadsOver Word State) → (new.len ≤ length words) × Begins form w s P (map number (reverse words)) (heads_over number state' form new.heads words new.len)
+        → ChainBegins number state' w s P form words old new (Ok tt)
+    begins_at new made = record { begun = made.1; within = made.0; asked = inr ((heads_over number state' form new.heads words new.len, made.1), tt); kept = tt }
+
+    pub begins_none : ((x : ChainState) × Begins form w s P (map number (reverse words)) x → ⊥) → ChainBegins number state' w s P form words old old (Err refusals.InvalidData)
+    begins_none none = record { begun = tt; within = tt; asked = inl (none, refl); kept = refl }
+
+  module _ (heads : ChainHeads Word State) (old new : WordsKept Word) (added : List Word) where
+    -- words that were put behind a caller's, or found no room there
+    pub ends_at : old.len ≤ length old.words → HaveWords number state' w s P form heads
+        → AreWordsOf form w (map number (reverse added) ++ stack_in number old.words old.len) (heads_over number state' form heads old.words old.len)
+        → (r : Result (Unit {0}) Refusal) → OnOk r (Appended old.words old.len added new.words new.len) → OnErr r (length old.words < old.len + length added) → (past : Type 0)
+        → IfErr r (λ e. (e ≡ refusals.NoSpace (old.len + length added)) ⊎ ((e ≡ refusals.NoMemory) × past)) → OnErr r ((new.words ≡ old.words) × (new.len ≡ old.len))
+        → ChainEnds number state' w s P form heads old new r
+    ends_at within have are (Ok u) appended full past why kept = record {
+      ended = subst (λ (ws : List ℕ). AreWordsOf form w ws (heads_over number state' form heads old.words old.len)) (sym (appended_in number old.words old.len added new.words new.len appended)) are;
+      appended = (added, appended);
+      asked = inr (within, inr (have, tt));
+      kept = tt;
+    }
+    ends_at within have are (Err e) appended full past why kept =
+        let count : length (map number (reverse added) ++ stack_in number old.words old.len) ≡ old.len + length added =
+        omega (arith, length-append (map number (reverse added)) (stack_in number old.words old.len), length-map (reverse added) number, length-reverse added, length_in number old.words old.len within) in
+        let room : Room (NoRoomFor (length old.words) (λ words. AreWordsOf form w words (heads_over number state' form heads old.words old.len))) e = elim why [
+          | inl is ↦ rw is (record { past = full; words = map number (reverse added) ++ stack_in number old.words old.len; are = are; count = count })
+          | inr more ↦ rw more.0 tt
+        ] in
+        record { ended = tt; appended = tt; asked = inr (within, inr (have, room)); kept = rw (kept.0, kept.1) refl }

@@ -1,11 +1,12 @@
+pub mod Asking
 mod AnsRows
 mod AnsAnswers
 mod AnsFrame
+mod ChainAnswers
 pub mod ChainFrame
 pub mod ChainRows
 pub mod ChainSteps
 mod FamilyAnswers
-mod FamilyChain
 mod FamilyCounts
 mod FamilyIntervals
 mod FamilyRange

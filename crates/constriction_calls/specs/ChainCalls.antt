@@ -1,15 +1,20 @@
--- A chain coder in a caller's hands: two heads, and two buffers with their numbers of words, the last word on top.
-use Rattle.std.specs.Prelude.{◌≡◌, ℕ, ◌*◌, ◌<◌, List, ◌∷◌, ◌++◌, [], length}
-use Rattle.constriction_base.specs.Models.{Item}
+-- A chain coder in a caller's hands: two heads, and two buffers with their numbers of words, the last word on top. What calls do with it, and which
+-- refusal comes when.
+use Rattle.std.specs.Prelude.{◌≡◌, ℕ, ◌*◌, ◌<◌, ◌≤◌, List, ◌∷◌, ◌++◌, [], length, reverse, take, Result, OnErr, OnOk}
+use Rattle.constriction_base.specs.Models.{AreKnown, Item}
 use Rattle.constriction_base.specs.Tables.{AtEntry}
 use Rattle.constriction_base.specs.Windows.{IsInWindow}
 use Rattle.constriction_chain.specs.Chain.{ChainState, least}
 use Rattle.constriction_chain.specs.Symbols.{TakesOffAll, PutsBackAll}
 use Rattle.constriction_chain.specs.Walk.{NeedsWord}
-use Rattle.constriction_calls.specs.Buffers.{stack_in}
+use Rattle.constriction_calls.specs.Buffers.{Appended, stack_in}
+use Rattle.constriction_calls.specs.Coded.{AsksFit, Coded, items}
+use Rattle.constriction_calls.specs.Refusals.{Asks, DataOrRoom, Else}
+use Rattle.constriction_calls.specs.declared.chain.ChainHeads.{ChainHeads}
 use Rattle.constriction_calls.specs.declared.refusal.Refusal.{Refusal}
-use Rattle.constriction_calls.specs.declared.refusal.Refusal.TheVariants.{ImpossibleSymbol, InvalidData, NoMemory, NoSpace, OutOfData, WrongInterval, WrongLength, WrongWeights}
+use Rattle.constriction_calls.specs.declared.refusal.Refusal.TheVariants.{ImpossibleSymbol, InvalidData, WrongLength}
 
+-- ---- states
 -- the state of heads over the words in use of two buffers
 abbrev pub chain_in : {W : Type 0} → (W → ℕ) → ℕ → ℕ → List W → ℕ → List W → ℕ → ChainState
 chain_in number h r compressed len remainders len' = record {
@@ -19,17 +24,42 @@ chain_in number h r compressed len remainders len' = record {
   remainders = stack_in number remainders len';
 }
 
+-- what a caller keeps: the heads, and two buffers of which so many words are in use
+pub record ChainKept (Word State : Type 0) : Type 0 where
+  pub heads : ChainHeads Word State
+  pub compressed : List Word
+  pub compressed_len : ℕ
+  pub remainders : List Word
+  pub remainders_len : ℕ
+
+abbrev pub keeps : {Word State : Type 0} → ChainHeads Word State → List Word → ℕ → List Word → ℕ → ChainKept Word State
+keeps heads compressed len remainders len' = record { heads = heads; compressed = compressed; compressed_len = len; remainders = remainders; remainders_len = len' }
+
+abbrev pub chain_kept : {Word State : Type 0} → (Word → ℕ) → (State → ℕ) → ChainKept Word State → ChainState
+chain_kept number state kept =
+    chain_in number (number kept.heads.compressed) (state kept.heads.remainders) kept.compressed kept.compressed_len kept.remainders kept.remainders_len
+
+-- the words in use are within the buffers
+abbrev pub AreInUse : {Word State : Type 0} → ChainKept Word State → Type 0
+AreInUse kept = (kept.compressed_len ≤ length kept.compressed) × (kept.remainders_len ≤ length kept.remainders)
+
 -- numbers that are the heads of a coder
 pub record AreHeads (w s P h r : ℕ) : Type 0 where
   pub some : 0 < h
   pub window : IsInWindow w (least w s P) r
 
--- the compressed words end before so many symbols: behind fewer a word is needed, and none is left
+abbrev pub HeadsKept : {Word State : Type 0} → (Word → ℕ) → (State → ℕ) → ℕ → ℕ → ℕ → ChainHeads Word State → Type 0
+HeadsKept number state w s P heads = AreHeads w s P (number heads.compressed) (state heads.remainders)
+
+-- ---- ends
+-- the compressed words end before so many symbols: behind fewer of them a word is needed, and none is left
 pub record EndsEarly (w s P : ℕ) (items : List ℕ → List (Item ℕ)) (count : ℕ) (old : ChainState) : Type 0 where
   pub symbols : List ℕ
+  pub done : ℕ
   pub last : ChainState
-  pub fewer : length symbols < count
-  pub taken : TakesOffAll w s (items symbols) old last
+  pub count_is : length symbols ≡ count
+  pub fewer : done < count
+  pub taken : TakesOffAll w s (take done (items symbols)) old last
   pub needs : NeedsWord w P last.h
   pub ended : last.compressed ≡ []
 
@@ -43,18 +73,6 @@ pub record LacksRemainders (w s : ℕ) (items : List (Item ℕ)) (old : ChainSta
   pub put : PutsBackAll w s first old last
   pub needs : AtEntry item.model.precision item.model.table item.symbol (λ e. last.r < e.p * least w s e.precision)
   pub ended : last.remainders ≡ []
-
--- a refusal in its case, looked for in this order: lengths, weights, heads, symbols, data, space. Of want
--- of memory nothing is said
-abbrev pub Refused : Type 0 → Type 0 → Type 0 → Type 0 → Type 0 → (ℕ → Type 0) → Refusal → Type 0
-Refused lengths weights heads unknown ends full WrongLength = lengths → ⊥
-Refused lengths weights heads unknown ends full WrongWeights = lengths × (weights → ⊥)
-Refused lengths weights heads unknown ends full WrongInterval = ⊥
-Refused lengths weights heads unknown ends full InvalidData = lengths × weights × (heads → ⊥)
-Refused lengths weights heads unknown ends full ImpossibleSymbol = lengths × weights × heads × unknown
-Refused lengths weights heads unknown ends full OutOfData = lengths × weights × heads × ends
-Refused lengths weights heads unknown ends full (NoSpace n) = lengths × weights × heads × full n
-Refused lengths weights heads unknown ends full NoMemory = Unit {0}
 
 -- a buffer is too short for the remainders of the state that decodes of so many symbols lead to: it would need n words
 pub record NeedsSpace (w s : ℕ) (items : List ℕ → List (Item ℕ)) (count : ℕ) (old : ChainState) (size n : ℕ) : Type 0 where
@@ -71,3 +89,36 @@ pub record NeedsRoom (w s : ℕ) (items : List (Item ℕ)) (old : ChainState) (s
   pub put : PutsBackAll w s items old new
   pub is : n ≡ length new.compressed
   pub past : size < n
+
+-- ---- calls
+-- what an encode asks for behind its lengths and its models, in this order
+abbrev pub AsksToPut : {Word State : Type 0} → (Word → ℕ) → (State → ℕ) → ℕ → ℕ → ℕ → List (Item ℕ) → ChainKept Word State → Result (Unit {0}) Refusal → Type 0
+AsksToPut number state w s P items old = Asks InvalidData (HeadsKept number state w s P old.heads) (Asks ImpossibleSymbol (AreKnown items)
+    (Else (DataOrRoom (LacksRemainders w s (reverse items) (chain_kept number state old)) (NeedsRoom w s (reverse items) (chain_kept number state old) (length old.compressed)))))
+
+-- an encode
+pub record ChainPuts {Word State : Type 0} (number : Word → ℕ) (state : State → ℕ) (w s P : ℕ) (coded : Coded) (old new : ChainKept Word State)
+    (answer : Result (Unit {0}) Refusal) : Type 0 where
+  -- the items are put back, the last one first
+  pub put : OnOk answer (PutsBackAll w s (reverse (items P coded)) (chain_kept number state old) (chain_kept number state new))
+  pub taken : OnOk answer ((new.remainders ≡ old.remainders) × (new.remainders_len ≤ old.remainders_len))
+  pub appended : OnOk answer ((added : List Word) × Appended old.compressed old.compressed_len added new.compressed new.compressed_len)
+  pub asked : Asks WrongLength (AreInUse old) (AsksFit P coded (AsksToPut number state w s P (items P coded) old)) answer
+  pub kept : OnErr answer (new ≡ old)
+
+-- what a decode asks for
+abbrev pub AsksToTake : {Word State : Type 0} → (Word → ℕ) → (State → ℕ) → ℕ → ℕ → ℕ → (List ℕ → List (Item ℕ)) → ℕ → ChainKept Word State → Result (Unit {0}) Refusal → Type 0
+AsksToTake number state w s P items count old = Asks InvalidData (HeadsKept number state w s P old.heads)
+    (Else (DataOrRoom (EndsEarly w s P items count (chain_kept number state old)) (NeedsSpace w s items count (chain_kept number state old) (length old.remainders))))
+
+-- a decode of as many symbols as there are places for them
+pub record ChainTakes {Word State : Type 0} (number : Word → ℕ) (state : State → ℕ) (w s P : ℕ) (coded : List ℕ → Coded) (old new : ChainKept Word State)
+    (old_symbols new_symbols : List ℕ) (answer : Result (Unit {0}) Refusal) : Type 0 where
+  -- the items are taken off, one after the other
+  pub taken : OnOk answer (TakesOffAll w s (items P (coded new_symbols)) (chain_kept number state old) (chain_kept number state new))
+  pub count : OnOk answer (length new_symbols ≡ length old_symbols)
+  pub fewer : OnOk answer ((new.compressed ≡ old.compressed) × (new.compressed_len ≤ old.compressed_len))
+  pub appended : OnOk answer ((added : List Word) × Appended old.remainders old.remainders_len added new.remainders new.remainders_len)
+  pub asked : Asks WrongLength (AreInUse old)
+      (AsksFit P (coded old_symbols) (AsksToTake number state w s P (λ symbols. items P (coded symbols)) (length old_symbols) old)) answer
+  pub kept : OnErr answer ((new ≡ old) × (new_symbols ≡ old_symbols))

@@ -1,20 +1,50 @@
 -- The words of a chain coder in a caller's hands: heads over the words of one buffer, the last word on top.
-use Rattle.std.specs.Prelude.{◌≡◌, ℕ, ◌<◌, List, [], length}
+use Rattle.std.specs.Prelude.{◌≡◌, ℕ, ◌<◌, ◌≤◌, List, [], length, map, reverse, Result, OnErr, OnOk}
 use Rattle.constriction_chain.specs.Chain.{ChainState}
-use Rattle.constriction_chain.specs.Words.{IsOneAbove}
-use Rattle.constriction_calls.specs.Buffers.{stack_in}
+use Rattle.constriction_chain.specs.Imports.{AreBinaryWords, FromBinary, FromCompressed, FromRemainders, compressed_words}
+use Rattle.constriction_chain.specs.Words.{IsOneAbove, remainder_words}
+use Rattle.constriction_calls.specs.Buffers.{Appended, stack_in}
 use Rattle.constriction_calls.specs.ChainCalls.{AreHeads}
+use Rattle.constriction_calls.specs.Refusals.{Asks, Else, Never, Room}
+use Rattle.constriction_calls.specs.declared.chain.ChainHeads.{ChainHeads}
 use Rattle.constriction_calls.specs.declared.refusal.Refusal.{Refusal}
-use Rattle.constriction_calls.specs.declared.refusal.Refusal.TheVariants.{ImpossibleSymbol, InvalidData, NoMemory, NoSpace, OutOfData, WrongInterval, WrongLength, WrongWeights}
+use Rattle.constriction_calls.specs.declared.refusal.Refusal.TheVariants.{InvalidData, WrongLength}
 
--- the state of heads over the compressed words in use, with no remainders
-abbrev pub over_compressed : {W : Type 0} → (W → ℕ) → ℕ → ℕ → List W → ℕ → ChainState
-over_compressed number h r buffer len = record { h = h; r = r; compressed = stack_in number buffer len; remainders = [] }
+-- what the words are: compressed ones, with the number of the remainders above them as its words or in binary form; or remainders, with both heads above
+-- them
+pub data Form : Type 0 where
+  InCompressed : Form
+  InBinary : Form
+  InRemainders : Form
 
--- the state of heads over the remainders in use, with no compressed words
-abbrev pub over_remainders : {W : Type 0} → (W → ℕ) → ℕ → ℕ → List W → ℕ → ChainState
-over_remainders number h r buffer len = record { h = h; r = r; compressed = []; remainders = stack_in number buffer len }
+-- the state of heads over the words in use, with no others
+abbrev pub heads_over : {Word State : Type 0} → (Word → ℕ) → (State → ℕ) → Form → ChainHeads Word State → List Word → ℕ → ChainState
+heads_over number state InRemainders heads words len =
+    record { h = number heads.compressed; r = state heads.remainders; compressed = []; remainders = stack_in number words len }
+heads_over number state form heads words len =
+    record { h = number heads.compressed; r = state heads.remainders; compressed = stack_in number words len; remainders = [] }
 
+-- ---- coders from words
+-- the coder that words stand for
+abbrev pub Begins : Form → ℕ → ℕ → ℕ → List ℕ → ChainState → Type 0
+Begins InCompressed w s P words x = FromCompressed w s P words x
+Begins InBinary w s P words x = FromBinary w s P words x
+Begins InRemainders w s P words x = FromRemainders w s P words x
+
+-- where a caller keeps its heads, and how many of the words stay below them
+pub record HeadsOver (Word State : Type 0) : Type 0 where
+  pub heads : ChainHeads Word State
+  pub len : ℕ
+
+-- a coder from words
+pub record ChainBegins {Word State : Type 0} (number : Word → ℕ) (state : State → ℕ) (w s P : ℕ) (form : Form) (words : List Word)
+    (old new : HeadsOver Word State) (answer : Result (Unit {0}) Refusal) : Type 0 where
+  pub begun : OnOk answer (Begins form w s P (map number (reverse words)) (heads_over number state form new.heads words new.len))
+  pub within : OnOk answer (new.len ≤ length words)
+  pub asked : Asks InvalidData ((x : ChainState) × Begins form w s P (map number (reverse words)) x) (Else Never) answer
+  pub kept : OnErr answer (new ≡ old)
+
+-- ---- words of heads
 -- heads of a coder that has no bits left over
 pub record AreWholeHeads (w s P h r : ℕ) : Type 0 where
   pub heads : AreHeads w s P h r
@@ -26,17 +56,17 @@ pub record AreBinaryHeads (w s P h r : ℕ) : Type 0 where
   pub whole : h ≡ 1
   pub above : (m : ℕ) × IsOneAbove w m r
 
--- a refusal to put the words of heads behind others, in its case, looked for in this order: lengths, heads, space. Of
--- want of memory nothing is said
-abbrev pub ExportRefused : Type 0 → Type 0 → (ℕ → Type 0) → Refusal → Type 0
-ExportRefused lengths heads full WrongLength = lengths → ⊥
-ExportRefused lengths heads full InvalidData = lengths × (heads → ⊥)
-ExportRefused lengths heads full (NoSpace n) = lengths × heads × full n
-ExportRefused lengths heads full NoMemory = Unit {0}
-ExportRefused lengths heads full ImpossibleSymbol = ⊥
-ExportRefused lengths heads full WrongWeights = ⊥
-ExportRefused lengths heads full WrongInterval = ⊥
-ExportRefused lengths heads full OutOfData = ⊥
+-- heads that have words of a form
+abbrev pub HaveWords : {Word State : Type 0} → (Word → ℕ) → (State → ℕ) → ℕ → ℕ → ℕ → Form → ChainHeads Word State → Type 0
+HaveWords number state w s P InCompressed heads = AreWholeHeads w s P (number heads.compressed) (state heads.remainders)
+HaveWords number state w s P InBinary heads = AreBinaryHeads w s P (number heads.compressed) (state heads.remainders)
+HaveWords number state w s P InRemainders heads = AreHeads w s P (number heads.compressed) (state heads.remainders)
+
+-- the words of a coder
+abbrev pub AreWordsOf : Form → ℕ → List ℕ → ChainState → Type 0
+AreWordsOf InCompressed w words x = words ≡ compressed_words w x
+AreWordsOf InBinary w words x = AreBinaryWords w words x
+AreWordsOf InRemainders w words x = words ≡ remainder_words w x
 
 -- a buffer is too short for the words of which this holds: it would need n
 pub record NoRoomFor (size : ℕ) (holds : List ℕ → Type 0) (n : ℕ) : Type 0 where
@@ -44,3 +74,17 @@ pub record NoRoomFor (size : ℕ) (holds : List ℕ → Type 0) (n : ℕ) : Type
   pub words : List ℕ
   pub are : holds words
   pub count : length words ≡ n
+
+-- a caller's buffer, of which so many words are in use
+pub record WordsKept (Word : Type 0) : Type 0 where
+  pub words : List Word
+  pub len : ℕ
+
+-- words of heads put behind a caller's
+pub record ChainEnds {Word State : Type 0} (number : Word → ℕ) (state : State → ℕ) (w s P : ℕ) (form : Form) (heads : ChainHeads Word State)
+    (old new : WordsKept Word) (answer : Result (Unit {0}) Refusal) : Type 0 where
+  pub ended : OnOk answer (AreWordsOf form w (stack_in number new.words new.len) (heads_over number state form heads old.words old.len))
+  pub appended : OnOk answer ((added : List Word) × Appended old.words old.len added new.words new.len)
+  pub asked : Asks WrongLength (old.len ≤ length old.words) (Asks InvalidData (HaveWords number state w s P form heads)
+      (Else (Room (NoRoomFor (length old.words) (λ words. AreWordsOf form w words (heads_over number state form heads old.words old.len)))))) answer
+  pub kept : OnErr answer (new ≡ old)

@@ -2,7 +2,6 @@ pub mod AnsCalls
 pub mod Buffers
 pub mod ChainCalls
 pub mod ChainFits
-pub mod ChainIntervals
 pub mod ChainWords
 pub mod Coded
 pub mod Intervals

@@ -1,13 +1,10 @@
 -- Calls by models of families: what each does with a coder in a caller's hands, and which refusal comes when.
 use Rattle.std.specs.Prelude.{◌≡◌, ◌↔◌, ℕ, ◌<◌, ◌≤◌, ◌^◌, List, Result, IfErr, IsErrOf, OnErr, OnOk, length, map, reverse, slice_index}
 use Rattle.std.specs.List.{sum, sum_by}
-use Rattle.constriction_chain.specs.Chain.{ChainState}
-use Rattle.constriction_chain.specs.Symbols.{PutsBackAll, TakesOffAll}
 use Rattle.constriction_models.specs.Counts.{AllShare, AreShares, AreWeights, ServesLargest, positive}
 use Rattle.constriction_queue.specs.Range.{Run}
 use Rattle.constriction_queue_laws.specs.Symbols.{FindsAll}
 use Rattle.constriction_calls.specs.Buffers.{Appended, NeedsSpace}
-use Rattle.constriction_calls.specs.ChainCalls as chains
 use Rattle.constriction_calls.specs.Quantized.{AreAsMany, AreIntervalsOf, ArePlaces, AreScaled, ByFamily, IsRange, family_items}
 use Rattle.constriction_calls.specs.RangeCalls.{CanEncode, IsDecoderKept, IsEncodedBy, LacksRoom, StandsKept}
 use Rattle.constriction_calls.specs.declared.range.parts.DecoderParts.{DecoderParts}
@@ -90,63 +87,6 @@ pub record RangeTakes {Word State : Type 0} (number : Word → ℕ) (state : Sta
       (others : List ℕ) (run last : Run) → StandsKept number state w s words run old →
       FindsAll w s (map number words) (family_items precision by others) run last → length others ≡ length old_symbols → ⊥
   pub err : IfErr answer OfRangeTakes
-  pub kept : OnErr answer ((new ≡ old) × (new_symbols ≡ old_symbols))
-
--- ---- the chain coder
--- one in a caller's hands: two heads, and two buffers of which so many words are in use
-pub record ChainKept (Word State : Type 0) : Type 0 where
-  pub left_over : Word
-  pub number : State
-  pub compressed : List Word
-  pub compressed_len : ℕ
-  pub remainders : List Word
-  pub remainders_len : ℕ
-
-abbrev pub chain_kept : {Word State : Type 0} → (Word → ℕ) → (State → ℕ) → ChainKept Word State → ChainState
-chain_kept number state kept = chains.chain_in number (number kept.left_over) (state kept.number) kept.compressed kept.compressed_len kept.remainders kept.remainders_len
-
-abbrev pub ChainFits : {Word State : Type 0} → ByFamily → ℕ → ChainKept Word State → Type 0
-ChainFits by count kept = (kept.compressed_len ≤ length kept.compressed) × (kept.remainders_len ≤ length kept.remainders) × AreAsMany by count
-
--- the heads are those of a coder
-abbrev pub HeadsKept : {Word State : Type 0} → (Word → ℕ) → (State → ℕ) → ℕ → ℕ → ℕ → ChainKept Word State → Type 0
-HeadsKept number state w s precision kept = chains.AreHeads w s precision (number kept.left_over) (state kept.number)
-
--- a refusal behind the first three in its case: heads, then symbols, then data, then room. Of want of memory nothing is said
-abbrev pub ChainLater : Type 0 → Type 0 → Type 0 → (ℕ → Type 0) → Refusal → Type 0
-ChainLater heads unknown ends needs InvalidData = heads → ⊥
-ChainLater heads unknown ends needs ImpossibleSymbol = heads × unknown
-ChainLater heads unknown ends needs OutOfData = heads × ends
-ChainLater heads unknown ends needs (NoSpace needed) = heads × needs needed
-ChainLater heads unknown ends needs other = Unit {0}
-
--- an encode of symbols, each by its own model
-pub record ChainPuts {Word State : Type 0} (number : Word → ℕ) (state : State → ℕ) (w s precision : ℕ) (by : ByFamily) (symbols : List ℕ)
-    (old new : ChainKept Word State) (answer : Result (Unit {0}) Refusal) : Type 0 where
-  -- the items are put back, the last one first
-  pub put : OnOk answer (PutsBackAll w s (reverse (family_items precision by symbols)) (chain_kept number state old) (chain_kept number state new))
-  pub checks : Checks (ChainFits by (length symbols) old) (IsRange precision by.min by.max) (AreScaled by.family by.scales) answer
-  pub valid : OnOk answer (HeadsKept number state w s precision old × ArePlaces by.min by.max symbols)
-  pub taken : OnOk answer ((new.remainders ≡ old.remainders) × (new.remainders_len ≤ old.remainders_len))
-  pub appended : OnOk answer ((added : List Word) × Appended old.compressed old.compressed_len added new.compressed new.compressed_len)
-  pub later : IfErr answer (ChainLater (HeadsKept number state w s precision old) (ArePlaces by.min by.max symbols → ⊥)
-      (ArePlaces by.min by.max symbols × chains.LacksRemainders w s (reverse (family_items precision by symbols)) (chain_kept number state old))
-      (chains.NeedsRoom w s (reverse (family_items precision by symbols)) (chain_kept number state old) (length old.compressed)))
-  pub kept : OnErr answer (new ≡ old)
-
--- a decode of as many symbols as there are places for them
-pub record ChainTakes {Word State : Type 0} (number : Word → ℕ) (state : State → ℕ) (w s precision : ℕ) (by : ByFamily)
-    (old new : ChainKept Word State) (old_symbols new_symbols : List ℕ) (answer : Result (Unit {0}) Refusal) : Type 0 where
-  -- the items are taken off, one after the other
-  pub taken : OnOk answer (TakesOffAll w s (family_items precision by new_symbols) (chain_kept number state old) (chain_kept number state new))
-  pub count : OnOk answer (length new_symbols ≡ length old_symbols)
-  pub checks : Checks (ChainFits by (length old_symbols) old) (IsRange precision by.min by.max) (AreScaled by.family by.scales) answer
-  pub valid : OnOk answer (HeadsKept number state w s precision old)
-  pub fewer : OnOk answer ((new.compressed ≡ old.compressed) × (new.compressed_len ≤ old.compressed_len))
-  pub appended : OnOk answer ((added : List Word) × Appended old.remainders old.remainders_len added new.remainders new.remainders_len)
-  pub later : IfErr answer (ChainLater (HeadsKept number state w s precision old) ⊥
-      (chains.EndsEarly w s precision (family_items precision by) (length old_symbols) (chain_kept number state old))
-      (chains.NeedsSpace w s (family_items precision by) (length old_symbols) (chain_kept number state old) (length old.remainders)))
   pub kept : OnErr answer ((new ≡ old) × (new_symbols ≡ old_symbols))
 
 -- ---- the numbers of models

@@ -1,28 +1,25 @@
 //! The chain coder at words of 16 bits, heads of 32 and 16, and a precision of 12.
 
-ghost use Rattle.std.specs.Prelude.{◌≡◌, ◌*◌, ◌≤◌, ℕ, List, length, map, reverse, IfErr, OnErr, OnOk};
-ghost use Rattle.constriction_base.specs.Models.{AreKnown, items_of};
-ghost use Rattle.constriction_c.specs.Codes.{answer_of, needed_by};
-ghost use Rattle.constriction_calls.specs.Buffers.{Appended};
-ghost use Rattle.constriction_calls.specs.ChainCalls.{AreHeads, EndsEarly, LacksRemainders, NeedsRoom, NeedsSpace, Refused, chain_in};
-ghost use Rattle.constriction_calls.specs.ChainIntervals.{IntervalsRefused};
-ghost use Rattle.constriction_calls.specs.Intervals.{AreIntervals, interval_items};
-ghost use Rattle.constriction_calls.specs.Weights.{AreTotals, IsTotal, row_items, weights_model};
-ghost use Rattle.constriction_chain.specs.Symbols.{PutsBackAll, TakesOffAll};
+ghost use Rattle.std.specs.Prelude.{map};
+ghost use Rattle.constriction_c.specs.Codes.{Told, answer_of};
+ghost use Rattle.constriction_calls.specs.ChainCalls.{ChainPuts, ChainTakes, keeps};
+ghost use Rattle.constriction_calls.specs.ChainWords.{ChainBegins, ChainEnds, InBinary, InCompressed, InRemainders};
+ghost use Rattle.constriction_calls.specs.Coded.{AsIntervals, ByRows, ByWeights, InFamily};
 
-use crate::chain::ChainHeadsU16;
-use crate::codes::code_of;
+use crate::codes::{code_of, code_without_space};
 use constriction_calls::chain::{
-    decode, decode_each, encode_each_reverse, encode_intervals_reverse, encode_reverse,
+    ChainHeads, decode, encode_intervals_reverse, encode_reverse, from_binary, from_compressed,
+    from_remainders, into_binary, into_compressed, into_remainders,
 };
+use constriction_calls::models::{Families, Rows, Weights};
 use constriction_words::BitArray;
 use std::alloc::Global;
 
-/// `decode`: symbols decoded by the weights of one table, one after the other.
+/// Symbols decoded, by the weights of one table, one after the other.
 #[unsafe(no_mangle)]
 pub extern "C" fn constriction_chain_decode_u16(
     alloc: Global,
-    heads: &mut ChainHeadsU16,
+    heads: &mut ChainHeads<u16, u32>,
     compressed: &[u16],
     compressed_len: &mut usize,
     remainders: &mut [u16],
@@ -31,48 +28,30 @@ pub extern "C" fn constriction_chain_decode_u16(
     symbols: &mut [usize],
     needed: &mut usize,
 ) -> u32
-    ensures ok { OnOk (answer_of result needed.new) (TakesOffAll 16 32
-        (items_of (weights_model 12 (map ⟦<u16 as BitArray>⟧.number weights.now)) symbols.new)
-        (chain_in ⟦<u16 as BitArray>⟧.number (⟦<u16 as BitArray>⟧.number heads.old.compressed) (⟦<u32 as BitArray>⟧.number heads.old.remainders) compressed.now compressed_len.old remainders.old remainders_len.old)
-        (chain_in ⟦<u16 as BitArray>⟧.number (⟦<u16 as BitArray>⟧.number heads.new.compressed) (⟦<u32 as BitArray>⟧.number heads.new.remainders) compressed.now compressed_len.new remainders.new remainders_len.new)) }
-    ensures valid { OnOk (answer_of result needed.new) ((compressed_len.old ≤ length compressed.now) × (remainders_len.old ≤ length remainders.old)
-        × IsTotal 12 (map ⟦<u16 as BitArray>⟧.number weights.now)
-        × AreHeads 16 32 12 (⟦<u16 as BitArray>⟧.number heads.old.compressed) (⟦<u32 as BitArray>⟧.number heads.old.remainders)) }
-    ensures count { OnOk (answer_of result needed.new) (length symbols.new ≡ length symbols.old) }
-    ensures fewer { OnOk (answer_of result needed.new) (compressed_len.new ≤ compressed_len.old) }
-    ensures appended { OnOk (answer_of result needed.new) ((added : List ℕ) × Appended remainders.old remainders_len.old added remainders.new remainders_len.new) }
-    ensures err { IfErr (answer_of result needed.new) (Refused ((compressed_len.old ≤ length compressed.now) × (remainders_len.old ≤ length remainders.old))
-        (IsTotal 12 (map ⟦<u16 as BitArray>⟧.number weights.now))
-        (AreHeads 16 32 12 (⟦<u16 as BitArray>⟧.number heads.old.compressed) (⟦<u32 as BitArray>⟧.number heads.old.remainders)) ⊥
-        (EndsEarly 16 32 12 (items_of (weights_model 12 (map ⟦<u16 as BitArray>⟧.number weights.now))) (length symbols.old)
-        (chain_in ⟦<u16 as BitArray>⟧.number (⟦<u16 as BitArray>⟧.number heads.old.compressed) (⟦<u32 as BitArray>⟧.number heads.old.remainders) compressed.now compressed_len.old remainders.old remainders_len.old))
-        (NeedsSpace 16 32 (items_of (weights_model 12 (map ⟦<u16 as BitArray>⟧.number weights.now))) (length symbols.old)
-        (chain_in ⟦<u16 as BitArray>⟧.number (⟦<u16 as BitArray>⟧.number heads.old.compressed) (⟦<u32 as BitArray>⟧.number heads.old.remainders) compressed.now compressed_len.old remainders.old remainders_len.old)
-        (length remainders.old))) }
-    ensures kept { OnErr (answer_of result needed.new) ((heads.new ≡ heads.old) × (compressed_len.new ≡ compressed_len.old)
-        × (remainders.new ≡ remainders.old) × (remainders_len.new ≡ remainders_len.old) × (symbols.new ≡ symbols.old)) }
-    ensures needed { needed.new ≡ needed_by (answer_of result needed.new) needed.old }
+    ensures call { Told result needed.old needed.new (ChainTakes ⟦<u16 as BitArray>⟧.number ⟦<u32 as BitArray>⟧.number 16 32 12
+        (ByWeights (map ⟦<u16 as BitArray>⟧.number weights.now))
+        (keeps heads.old compressed.now compressed_len.old remainders.old remainders_len.old)
+        (keeps heads.new compressed.now compressed_len.new remainders.new remainders_len.new) symbols.old symbols.new) }
 {
-    let mut both = heads.parts();
-    let answer = decode::<u16, u32, u16, 12>(
+    let models = Weights { weights };
+    let answer = decode::<_, _, u16, Weights<'_, u16>, 12>(
         alloc,
-        &mut both,
+        heads,
         compressed,
         compressed_len,
         remainders,
         remainders_len,
-        weights,
+        &models,
         symbols,
     );
-    *heads = ChainHeadsU16::of(both);
     code_of(answer, needed)
 }
 
-/// `decode_each`: symbols decoded, each by the next row of `width` weights, one after the other.
+/// Symbols decoded, each by the next row of `width` weights, one after the other.
 #[unsafe(no_mangle)]
 pub extern "C" fn constriction_chain_decode_each_u16(
     alloc: Global,
-    heads: &mut ChainHeadsU16,
+    heads: &mut ChainHeads<u16, u32>,
     compressed: &[u16],
     compressed_len: &mut usize,
     remainders: &mut [u16],
@@ -82,49 +61,72 @@ pub extern "C" fn constriction_chain_decode_each_u16(
     symbols: &mut [usize],
     needed: &mut usize,
 ) -> u32
-    ensures ok { OnOk (answer_of result needed.new) (TakesOffAll 16 32
-        (row_items 12 width (map ⟦<u16 as BitArray>⟧.number weights.now) symbols.new)
-        (chain_in ⟦<u16 as BitArray>⟧.number (⟦<u16 as BitArray>⟧.number heads.old.compressed) (⟦<u32 as BitArray>⟧.number heads.old.remainders) compressed.now compressed_len.old remainders.old remainders_len.old)
-        (chain_in ⟦<u16 as BitArray>⟧.number (⟦<u16 as BitArray>⟧.number heads.new.compressed) (⟦<u32 as BitArray>⟧.number heads.new.remainders) compressed.now compressed_len.new remainders.new remainders_len.new)) }
-    ensures valid { OnOk (answer_of result needed.new) ((compressed_len.old ≤ length compressed.now) × (remainders_len.old ≤ length remainders.old)
-        × (length weights.now ≡ width * length symbols.old) × AreTotals 12 width (length symbols.old) (map ⟦<u16 as BitArray>⟧.number weights.now)
-        × AreHeads 16 32 12 (⟦<u16 as BitArray>⟧.number heads.old.compressed) (⟦<u32 as BitArray>⟧.number heads.old.remainders)) }
-    ensures count { OnOk (answer_of result needed.new) (length symbols.new ≡ length symbols.old) }
-    ensures fewer { OnOk (answer_of result needed.new) (compressed_len.new ≤ compressed_len.old) }
-    ensures appended { OnOk (answer_of result needed.new) ((added : List ℕ) × Appended remainders.old remainders_len.old added remainders.new remainders_len.new) }
-    ensures err { IfErr (answer_of result needed.new) (Refused ((compressed_len.old ≤ length compressed.now) × (remainders_len.old ≤ length remainders.old) × (length weights.now ≡ width * length symbols.old))
-        (AreTotals 12 width (length symbols.old) (map ⟦<u16 as BitArray>⟧.number weights.now))
-        (AreHeads 16 32 12 (⟦<u16 as BitArray>⟧.number heads.old.compressed) (⟦<u32 as BitArray>⟧.number heads.old.remainders)) ⊥
-        (EndsEarly 16 32 12 (row_items 12 width (map ⟦<u16 as BitArray>⟧.number weights.now)) (length symbols.old)
-        (chain_in ⟦<u16 as BitArray>⟧.number (⟦<u16 as BitArray>⟧.number heads.old.compressed) (⟦<u32 as BitArray>⟧.number heads.old.remainders) compressed.now compressed_len.old remainders.old remainders_len.old))
-        (NeedsSpace 16 32 (row_items 12 width (map ⟦<u16 as BitArray>⟧.number weights.now)) (length symbols.old)
-        (chain_in ⟦<u16 as BitArray>⟧.number (⟦<u16 as BitArray>⟧.number heads.old.compressed) (⟦<u32 as BitArray>⟧.number heads.old.remainders) compressed.now compressed_len.old remainders.old remainders_len.old)
-        (length remainders.old))) }
-    ensures kept { OnErr (answer_of result needed.new) ((heads.new ≡ heads.old) × (compressed_len.new ≡ compressed_len.old)
-        × (remainders.new ≡ remainders.old) × (remainders_len.new ≡ remainders_len.old) × (symbols.new ≡ symbols.old)) }
-    ensures needed { needed.new ≡ needed_by (answer_of result needed.new) needed.old }
+    ensures call { Told result needed.old needed.new (ChainTakes ⟦<u16 as BitArray>⟧.number ⟦<u32 as BitArray>⟧.number 16 32 12
+        (ByRows width (map ⟦<u16 as BitArray>⟧.number weights.now))
+        (keeps heads.old compressed.now compressed_len.old remainders.old remainders_len.old)
+        (keeps heads.new compressed.now compressed_len.new remainders.new remainders_len.new) symbols.old symbols.new) }
 {
-    let mut both = heads.parts();
-    let answer = decode_each::<u16, u32, u16, 12>(
+    let models = Rows { weights, width };
+    let answer = decode::<_, _, u16, Rows<'_, u16>, 12>(
         alloc,
-        &mut both,
+        heads,
         compressed,
         compressed_len,
         remainders,
         remainders_len,
-        weights,
-        width,
+        &models,
         symbols,
     );
-    *heads = ChainHeadsU16::of(both);
     code_of(answer, needed)
 }
 
-/// `encode_reverse`: symbols encoded by the weights of one table, the last one first.
+/// Symbols decoded, each by the model of its own location and scale, one after the other.
+#[unsafe(no_mangle)]
+pub extern "C" fn constriction_chain_decode_quantized_u16(
+    alloc: Global,
+    heads: &mut ChainHeads<u16, u32>,
+    compressed: &[u16],
+    compressed_len: &mut usize,
+    remainders: &mut [u16],
+    remainders_len: &mut usize,
+    family: u32,
+    min: i32,
+    max: i32,
+    locations: &[i64],
+    scales: &[u32],
+    symbols: &mut [usize],
+    needed: &mut usize,
+) -> u32
+    ensures call { Told result needed.old needed.new (ChainTakes ⟦<u16 as BitArray>⟧.number ⟦<u32 as BitArray>⟧.number 16 32 12
+        (InFamily record { family = family; min = min; max = max; locations = locations.now; scales = scales.now })
+        (keeps heads.old compressed.now compressed_len.old remainders.old remainders_len.old)
+        (keeps heads.new compressed.now compressed_len.new remainders.new remainders_len.new) symbols.old symbols.new) }
+{
+    let models = Families {
+        family,
+        min,
+        max,
+        locations,
+        scales,
+    };
+    let answer = decode::<_, _, u16, Families<'_>, 12>(
+        alloc,
+        heads,
+        compressed,
+        compressed_len,
+        remainders,
+        remainders_len,
+        &models,
+        symbols,
+    );
+    code_of(answer, needed)
+}
+
+/// Symbols encoded, by the weights of one table, the last one first.
 #[unsafe(no_mangle)]
 pub extern "C" fn constriction_chain_encode_reverse_u16(
     alloc: Global,
-    heads: &mut ChainHeadsU16,
+    heads: &mut ChainHeads<u16, u32>,
     compressed: &mut [u16],
     compressed_len: &mut usize,
     remainders: &[u16],
@@ -133,47 +135,30 @@ pub extern "C" fn constriction_chain_encode_reverse_u16(
     symbols: &[usize],
     needed: &mut usize,
 ) -> u32
-    ensures ok { OnOk (answer_of result needed.new) (PutsBackAll 16 32 (items_of (weights_model 12 (map ⟦<u16 as BitArray>⟧.number weights.now)) (reverse symbols.now))
-        (chain_in ⟦<u16 as BitArray>⟧.number (⟦<u16 as BitArray>⟧.number heads.old.compressed) (⟦<u32 as BitArray>⟧.number heads.old.remainders) compressed.old compressed_len.old remainders.now remainders_len.old)
-        (chain_in ⟦<u16 as BitArray>⟧.number (⟦<u16 as BitArray>⟧.number heads.new.compressed) (⟦<u32 as BitArray>⟧.number heads.new.remainders) compressed.new compressed_len.new remainders.now remainders_len.new)) }
-    ensures valid { OnOk (answer_of result needed.new) ((compressed_len.old ≤ length compressed.old) × (remainders_len.old ≤ length remainders.now)
-        × IsTotal 12 (map ⟦<u16 as BitArray>⟧.number weights.now) × AreHeads 16 32 12 (⟦<u16 as BitArray>⟧.number heads.old.compressed) (⟦<u32 as BitArray>⟧.number heads.old.remainders)) }
-    ensures known { OnOk (answer_of result needed.new) (AreKnown (items_of (weights_model 12 (map ⟦<u16 as BitArray>⟧.number weights.now)) symbols.now)) }
-    ensures fewer { OnOk (answer_of result needed.new) (remainders_len.new ≤ remainders_len.old) }
-    ensures appended { OnOk (answer_of result needed.new) ((added : List ℕ) × Appended compressed.old compressed_len.old added compressed.new compressed_len.new) }
-    ensures err { IfErr (answer_of result needed.new) (Refused ((compressed_len.old ≤ length compressed.old) × (remainders_len.old ≤ length remainders.now))
-        (IsTotal 12 (map ⟦<u16 as BitArray>⟧.number weights.now))
-        (AreHeads 16 32 12 (⟦<u16 as BitArray>⟧.number heads.old.compressed) (⟦<u32 as BitArray>⟧.number heads.old.remainders))
-        (AreKnown (items_of (weights_model 12 (map ⟦<u16 as BitArray>⟧.number weights.now)) symbols.now) → ⊥)
-        (AreKnown (items_of (weights_model 12 (map ⟦<u16 as BitArray>⟧.number weights.now)) symbols.now) × LacksRemainders 16 32 (items_of (weights_model 12 (map ⟦<u16 as BitArray>⟧.number weights.now)) (reverse symbols.now))
-        (chain_in ⟦<u16 as BitArray>⟧.number (⟦<u16 as BitArray>⟧.number heads.old.compressed) (⟦<u32 as BitArray>⟧.number heads.old.remainders) compressed.old compressed_len.old remainders.now remainders_len.old))
-        (NeedsRoom 16 32 (items_of (weights_model 12 (map ⟦<u16 as BitArray>⟧.number weights.now)) (reverse symbols.now))
-        (chain_in ⟦<u16 as BitArray>⟧.number (⟦<u16 as BitArray>⟧.number heads.old.compressed) (⟦<u32 as BitArray>⟧.number heads.old.remainders) compressed.old compressed_len.old remainders.now remainders_len.old)
-        (length compressed.old))) }
-    ensures kept { OnErr (answer_of result needed.new) ((heads.new ≡ heads.old) × (compressed.new ≡ compressed.old)
-        × (compressed_len.new ≡ compressed_len.old) × (remainders_len.new ≡ remainders_len.old)) }
-    ensures needed { needed.new ≡ needed_by (answer_of result needed.new) needed.old }
+    ensures call { Told result needed.old needed.new (ChainPuts ⟦<u16 as BitArray>⟧.number ⟦<u32 as BitArray>⟧.number 16 32 12
+        (ByWeights (map ⟦<u16 as BitArray>⟧.number weights.now) symbols.now)
+        (keeps heads.old compressed.old compressed_len.old remainders.now remainders_len.old)
+        (keeps heads.new compressed.new compressed_len.new remainders.now remainders_len.new)) }
 {
-    let mut both = heads.parts();
-    let answer = encode_reverse::<u16, u32, u16, 12>(
+    let models = Weights { weights };
+    let answer = encode_reverse::<_, _, u16, Weights<'_, u16>, 12>(
         alloc,
-        &mut both,
+        heads,
         compressed,
         compressed_len,
         remainders,
         remainders_len,
-        weights,
+        &models,
         symbols,
     );
-    *heads = ChainHeadsU16::of(both);
     code_of(answer, needed)
 }
 
-/// `encode_each_reverse`: symbols encoded, each by the next row of `width` weights, the last one first.
+/// Symbols encoded, each by the next row of `width` weights, the last one first.
 #[unsafe(no_mangle)]
 pub extern "C" fn constriction_chain_encode_each_reverse_u16(
     alloc: Global,
-    heads: &mut ChainHeadsU16,
+    heads: &mut ChainHeads<u16, u32>,
     compressed: &mut [u16],
     compressed_len: &mut usize,
     remainders: &[u16],
@@ -183,49 +168,72 @@ pub extern "C" fn constriction_chain_encode_each_reverse_u16(
     symbols: &[usize],
     needed: &mut usize,
 ) -> u32
-    ensures ok { OnOk (answer_of result needed.new) (PutsBackAll 16 32 (reverse (row_items 12 width (map ⟦<u16 as BitArray>⟧.number weights.now) symbols.now))
-        (chain_in ⟦<u16 as BitArray>⟧.number (⟦<u16 as BitArray>⟧.number heads.old.compressed) (⟦<u32 as BitArray>⟧.number heads.old.remainders) compressed.old compressed_len.old remainders.now remainders_len.old)
-        (chain_in ⟦<u16 as BitArray>⟧.number (⟦<u16 as BitArray>⟧.number heads.new.compressed) (⟦<u32 as BitArray>⟧.number heads.new.remainders) compressed.new compressed_len.new remainders.now remainders_len.new)) }
-    ensures valid { OnOk (answer_of result needed.new) ((compressed_len.old ≤ length compressed.old) × (remainders_len.old ≤ length remainders.now)
-        × (length weights.now ≡ width * length symbols.now) × AreTotals 12 width (length symbols.now) (map ⟦<u16 as BitArray>⟧.number weights.now)
-        × AreHeads 16 32 12 (⟦<u16 as BitArray>⟧.number heads.old.compressed) (⟦<u32 as BitArray>⟧.number heads.old.remainders)) }
-    ensures known { OnOk (answer_of result needed.new) (AreKnown (row_items 12 width (map ⟦<u16 as BitArray>⟧.number weights.now) symbols.now)) }
-    ensures fewer { OnOk (answer_of result needed.new) (remainders_len.new ≤ remainders_len.old) }
-    ensures appended { OnOk (answer_of result needed.new) ((added : List ℕ) × Appended compressed.old compressed_len.old added compressed.new compressed_len.new) }
-    ensures err { IfErr (answer_of result needed.new) (Refused ((compressed_len.old ≤ length compressed.old) × (remainders_len.old ≤ length remainders.now) × (length weights.now ≡ width * length symbols.now))
-        (AreTotals 12 width (length symbols.now) (map ⟦<u16 as BitArray>⟧.number weights.now))
-        (AreHeads 16 32 12 (⟦<u16 as BitArray>⟧.number heads.old.compressed) (⟦<u32 as BitArray>⟧.number heads.old.remainders))
-        (AreKnown (row_items 12 width (map ⟦<u16 as BitArray>⟧.number weights.now) symbols.now) → ⊥)
-        (AreKnown (row_items 12 width (map ⟦<u16 as BitArray>⟧.number weights.now) symbols.now) × LacksRemainders 16 32 (reverse (row_items 12 width (map ⟦<u16 as BitArray>⟧.number weights.now) symbols.now))
-        (chain_in ⟦<u16 as BitArray>⟧.number (⟦<u16 as BitArray>⟧.number heads.old.compressed) (⟦<u32 as BitArray>⟧.number heads.old.remainders) compressed.old compressed_len.old remainders.now remainders_len.old))
-        (NeedsRoom 16 32 (reverse (row_items 12 width (map ⟦<u16 as BitArray>⟧.number weights.now) symbols.now))
-        (chain_in ⟦<u16 as BitArray>⟧.number (⟦<u16 as BitArray>⟧.number heads.old.compressed) (⟦<u32 as BitArray>⟧.number heads.old.remainders) compressed.old compressed_len.old remainders.now remainders_len.old)
-        (length compressed.old))) }
-    ensures kept { OnErr (answer_of result needed.new) ((heads.new ≡ heads.old) × (compressed.new ≡ compressed.old)
-        × (compressed_len.new ≡ compressed_len.old) × (remainders_len.new ≡ remainders_len.old)) }
-    ensures needed { needed.new ≡ needed_by (answer_of result needed.new) needed.old }
+    ensures call { Told result needed.old needed.new (ChainPuts ⟦<u16 as BitArray>⟧.number ⟦<u32 as BitArray>⟧.number 16 32 12
+        (ByRows width (map ⟦<u16 as BitArray>⟧.number weights.now) symbols.now)
+        (keeps heads.old compressed.old compressed_len.old remainders.now remainders_len.old)
+        (keeps heads.new compressed.new compressed_len.new remainders.now remainders_len.new)) }
 {
-    let mut both = heads.parts();
-    let answer = encode_each_reverse::<u16, u32, u16, 12>(
+    let models = Rows { weights, width };
+    let answer = encode_reverse::<_, _, u16, Rows<'_, u16>, 12>(
         alloc,
-        &mut both,
+        heads,
         compressed,
         compressed_len,
         remainders,
         remainders_len,
-        weights,
-        width,
+        &models,
         symbols,
     );
-    *heads = ChainHeadsU16::of(both);
     code_of(answer, needed)
 }
 
-/// `encode_intervals_reverse`: intervals encoded, the last one first.
+/// Symbols encoded, each by the model of its own location and scale, the last one first.
+#[unsafe(no_mangle)]
+pub extern "C" fn constriction_chain_encode_quantized_reverse_u16(
+    alloc: Global,
+    heads: &mut ChainHeads<u16, u32>,
+    compressed: &mut [u16],
+    compressed_len: &mut usize,
+    remainders: &[u16],
+    remainders_len: &mut usize,
+    family: u32,
+    min: i32,
+    max: i32,
+    locations: &[i64],
+    scales: &[u32],
+    symbols: &[usize],
+    needed: &mut usize,
+) -> u32
+    ensures call { Told result needed.old needed.new (ChainPuts ⟦<u16 as BitArray>⟧.number ⟦<u32 as BitArray>⟧.number 16 32 12
+        (InFamily record { family = family; min = min; max = max; locations = locations.now; scales = scales.now } symbols.now)
+        (keeps heads.old compressed.old compressed_len.old remainders.now remainders_len.old)
+        (keeps heads.new compressed.new compressed_len.new remainders.now remainders_len.new)) }
+{
+    let models = Families {
+        family,
+        min,
+        max,
+        locations,
+        scales,
+    };
+    let answer = encode_reverse::<_, _, u16, Families<'_>, 12>(
+        alloc,
+        heads,
+        compressed,
+        compressed_len,
+        remainders,
+        remainders_len,
+        &models,
+        symbols,
+    );
+    code_of(answer, needed)
+}
+
+/// Intervals encoded, the last one first.
 #[unsafe(no_mangle)]
 pub extern "C" fn constriction_chain_encode_intervals_reverse_u16(
     alloc: Global,
-    heads: &mut ChainHeadsU16,
+    heads: &mut ChainHeads<u16, u32>,
     compressed: &mut [u16],
     compressed_len: &mut usize,
     remainders: &[u16],
@@ -234,30 +242,14 @@ pub extern "C" fn constriction_chain_encode_intervals_reverse_u16(
     ps: &[u16],
     needed: &mut usize,
 ) -> u32
-    ensures ok { OnOk (answer_of result needed.new) (PutsBackAll 16 32 (reverse (interval_items 12 (map ⟦<u16 as BitArray>⟧.number lefts.now) (map ⟦<u16 as BitArray>⟧.number ps.now)))
-        (chain_in ⟦<u16 as BitArray>⟧.number (⟦<u16 as BitArray>⟧.number heads.old.compressed) (⟦<u32 as BitArray>⟧.number heads.old.remainders) compressed.old compressed_len.old remainders.now remainders_len.old)
-        (chain_in ⟦<u16 as BitArray>⟧.number (⟦<u16 as BitArray>⟧.number heads.new.compressed) (⟦<u32 as BitArray>⟧.number heads.new.remainders) compressed.new compressed_len.new remainders.now remainders_len.new)) }
-    ensures valid { OnOk (answer_of result needed.new) ((compressed_len.old ≤ length compressed.old) × (remainders_len.old ≤ length remainders.now) × (length lefts.now ≡ length ps.now)
-        × AreIntervals 12 (map ⟦<u16 as BitArray>⟧.number lefts.now) (map ⟦<u16 as BitArray>⟧.number ps.now)
-        × AreHeads 16 32 12 (⟦<u16 as BitArray>⟧.number heads.old.compressed) (⟦<u32 as BitArray>⟧.number heads.old.remainders)) }
-    ensures fewer { OnOk (answer_of result needed.new) (remainders_len.new ≤ remainders_len.old) }
-    ensures appended { OnOk (answer_of result needed.new) ((added : List ℕ) × Appended compressed.old compressed_len.old added compressed.new compressed_len.new) }
-    ensures err { IfErr (answer_of result needed.new) (IntervalsRefused ((compressed_len.old ≤ length compressed.old) × (remainders_len.old ≤ length remainders.now) × (length lefts.now ≡ length ps.now))
-        (AreIntervals 12 (map ⟦<u16 as BitArray>⟧.number lefts.now) (map ⟦<u16 as BitArray>⟧.number ps.now))
-        (AreHeads 16 32 12 (⟦<u16 as BitArray>⟧.number heads.old.compressed) (⟦<u32 as BitArray>⟧.number heads.old.remainders))
-        (LacksRemainders 16 32 (reverse (interval_items 12 (map ⟦<u16 as BitArray>⟧.number lefts.now) (map ⟦<u16 as BitArray>⟧.number ps.now)))
-        (chain_in ⟦<u16 as BitArray>⟧.number (⟦<u16 as BitArray>⟧.number heads.old.compressed) (⟦<u32 as BitArray>⟧.number heads.old.remainders) compressed.old compressed_len.old remainders.now remainders_len.old))
-        (NeedsRoom 16 32 (reverse (interval_items 12 (map ⟦<u16 as BitArray>⟧.number lefts.now) (map ⟦<u16 as BitArray>⟧.number ps.now)))
-        (chain_in ⟦<u16 as BitArray>⟧.number (⟦<u16 as BitArray>⟧.number heads.old.compressed) (⟦<u32 as BitArray>⟧.number heads.old.remainders) compressed.old compressed_len.old remainders.now remainders_len.old)
-        (length compressed.old))) }
-    ensures kept { OnErr (answer_of result needed.new) ((heads.new ≡ heads.old) × (compressed.new ≡ compressed.old)
-        × (compressed_len.new ≡ compressed_len.old) × (remainders_len.new ≡ remainders_len.old)) }
-    ensures needed { needed.new ≡ needed_by (answer_of result needed.new) needed.old }
+    ensures call { Told result needed.old needed.new (ChainPuts ⟦<u16 as BitArray>⟧.number ⟦<u32 as BitArray>⟧.number 16 32 12
+        (AsIntervals (map ⟦<u16 as BitArray>⟧.number lefts.now) (map ⟦<u16 as BitArray>⟧.number ps.now))
+        (keeps heads.old compressed.old compressed_len.old remainders.now remainders_len.old)
+        (keeps heads.new compressed.new compressed_len.new remainders.now remainders_len.new)) }
 {
-    let mut both = heads.parts();
-    let answer = encode_intervals_reverse::<u16, u32, u16, 12>(
+    let answer = encode_intervals_reverse::<_, _, u16, 12>(
         alloc,
-        &mut both,
+        heads,
         compressed,
         compressed_len,
         remainders,
@@ -265,6 +257,101 @@ pub extern "C" fn constriction_chain_encode_intervals_reverse_u16(
         lefts,
         ps,
     );
-    *heads = ChainHeadsU16::of(both);
     code_of(answer, needed)
+}
+
+/// The coder that compressed words stand for, with no remainders.
+#[unsafe(no_mangle)]
+pub extern "C" fn constriction_chain_from_compressed_u16(
+    alloc: Global,
+    words: &[u16],
+    compressed_len: &mut usize,
+    heads: &mut ChainHeads<u16, u32>,
+) -> u32
+    ensures call { ChainBegins ⟦<u16 as BitArray>⟧.number ⟦<u32 as BitArray>⟧.number 16 32 12 InCompressed words.now
+        record { heads = heads.old; len = compressed_len.old } record { heads = heads.new; len = compressed_len.new } (answer_of result 0) }
+{
+    code_without_space(from_compressed::<_, _, 12>(alloc, words, heads, compressed_len))
+}
+
+/// The coder that words stand for in binary form, with no remainders.
+#[unsafe(no_mangle)]
+pub extern "C" fn constriction_chain_from_binary_u16(
+    alloc: Global,
+    words: &[u16],
+    compressed_len: &mut usize,
+    heads: &mut ChainHeads<u16, u32>,
+) -> u32
+    ensures call { ChainBegins ⟦<u16 as BitArray>⟧.number ⟦<u32 as BitArray>⟧.number 16 32 12 InBinary words.now
+        record { heads = heads.old; len = compressed_len.old } record { heads = heads.new; len = compressed_len.new } (answer_of result 0) }
+{
+    code_without_space(from_binary::<_, _, 12>(alloc, words, heads, compressed_len))
+}
+
+/// The coder that remainders stand for, with no compressed words.
+#[unsafe(no_mangle)]
+pub extern "C" fn constriction_chain_from_remainders_u16(
+    alloc: Global,
+    words: &[u16],
+    remainders_len: &mut usize,
+    heads: &mut ChainHeads<u16, u32>,
+) -> u32
+    ensures call { ChainBegins ⟦<u16 as BitArray>⟧.number ⟦<u32 as BitArray>⟧.number 16 32 12 InRemainders words.now
+        record { heads = heads.old; len = remainders_len.old } record { heads = heads.new; len = remainders_len.new } (answer_of result 0) }
+{
+    code_without_space(from_remainders::<_, _, 12>(alloc, words, heads, remainders_len))
+}
+
+/// The words of the number of the remainders put behind the compressed words.
+#[unsafe(no_mangle)]
+pub extern "C" fn constriction_chain_into_compressed_u16(
+    alloc: Global,
+    heads: &ChainHeads<u16, u32>,
+    compressed: &mut [u16],
+    compressed_len: &mut usize,
+    needed: &mut usize,
+) -> u32
+    ensures call { Told result needed.old needed.new (ChainEnds ⟦<u16 as BitArray>⟧.number ⟦<u32 as BitArray>⟧.number 16 32 12 InCompressed heads.now
+        record { words = compressed.old; len = compressed_len.old } record { words = compressed.new; len = compressed_len.new }) }
+{
+    code_of(
+        into_compressed::<_, _, 12>(alloc, heads, compressed, compressed_len),
+        needed,
+    )
+}
+
+/// Those of them that are below the number's leading 1.
+#[unsafe(no_mangle)]
+pub extern "C" fn constriction_chain_into_binary_u16(
+    alloc: Global,
+    heads: &ChainHeads<u16, u32>,
+    compressed: &mut [u16],
+    compressed_len: &mut usize,
+    needed: &mut usize,
+) -> u32
+    ensures call { Told result needed.old needed.new (ChainEnds ⟦<u16 as BitArray>⟧.number ⟦<u32 as BitArray>⟧.number 16 32 12 InBinary heads.now
+        record { words = compressed.old; len = compressed_len.old } record { words = compressed.new; len = compressed_len.new }) }
+{
+    code_of(
+        into_binary::<_, _, 12>(alloc, heads, compressed, compressed_len),
+        needed,
+    )
+}
+
+/// Both heads put behind the remainders.
+#[unsafe(no_mangle)]
+pub extern "C" fn constriction_chain_into_remainders_u16(
+    alloc: Global,
+    heads: &ChainHeads<u16, u32>,
+    remainders: &mut [u16],
+    remainders_len: &mut usize,
+    needed: &mut usize,
+) -> u32
+    ensures call { Told result needed.old needed.new (ChainEnds ⟦<u16 as BitArray>⟧.number ⟦<u32 as BitArray>⟧.number 16 32 12 InRemainders heads.now
+        record { words = remainders.old; len = remainders_len.old } record { words = remainders.new; len = remainders_len.new }) }
+{
+    code_of(
+        into_remainders::<_, _, 12>(alloc, heads, remainders, remainders_len),
+        needed,
+    )
 }

@@ -1,164 +1,47 @@
-//! Decodes over a caller's buffers.
+//! Decodes: symbols that are taken out of the compressed words.
 
-ghost use Rattle.std.specs.Prelude.{◌≡◌, ◌≤◌, ◌*◌, List, length, map, IfErr, OnErr, OnOk};
-ghost use Rattle.constriction_base.specs.Models.{items_of, pairs_of};
+ghost use Rattle.std.specs.Prelude.{◌≡◌, ◌⊎◌, ◌+◌, ◌<◌, ◌≤◌, List, length, map, reverse, IfErr, IfOk, OnErr, OnOk};
+ghost use Rattle.constriction_base.specs.Models.{pairs_of};
 ghost use Rattle.constriction_chain.specs.Chain.{IsSized};
 ghost use Rattle.constriction_chain.specs.Symbols.{TakesOffAll};
 ghost use Rattle.constriction_calls.specs.Buffers.{Appended};
-ghost use Rattle.constriction_calls.specs.ChainCalls.{AreHeads, EndsEarly, NeedsSpace, Refused, chain_in};
+ghost use Rattle.constriction_calls.specs.ChainCalls.{ChainTakes, EndsEarly, keeps};
 ghost use Rattle.constriction_calls.specs.ChainFits.{CoderFits};
-ghost use Rattle.constriction_calls.specs.Weights.{AreTotals, IsTotal, row_items, weights_model};
+ghost use Rattle.constriction_calls.specs.Coded.{AreFit, items};
+ghost use Rattle.constriction_calls.specs.declared.refusal.Refusal.TheVariants as refusals;
 
+use crate::buffers::append;
 use crate::chain::ChainHeads;
-use crate::chain::lending::{begin_taking, end_taking};
-use crate::chain::taking::{take_symbols, take_symbols_each};
+use crate::models::{ModelList, Models};
 use crate::refusal::Refusal;
-use crate::rows::{Row, rows_of};
-use crate::tables::decoding_table_by;
+use constriction_base::backends::{Holds, ReadWords, Stack, WriteWords};
+use constriction_base::cursor::Cursor;
+use constriction_base::errors::CoderError;
 use constriction_base::model::{DecoderModel, EntropyModel};
+use constriction_chain::{ChainCoder, ChainCoderHeads};
+use constriction_stream::decoding::Decode;
 use constriction_words::{BitArray, WordOf};
 use std::alloc::Global;
 
-/// Decodes symbols by the weights of one table, one after the other, as many as `symbols` has places. The first
-/// `compressed_len` compressed words and the first `remainders_len` remainders are in use, the last one on top.
-///
-/// # Errors
-///
-/// Looked for in this order. Each leaves all as it was.
-///
-/// - `WrongLength`, where a number of words is past its buffer's end.
-/// - `WrongWeights`, where the weights don't add up to two to the precision.
-/// - `InvalidData`, where the heads are no coder's.
-/// - `OutOfData`, where the compressed words end before all symbols.
-/// - `NoSpace`, where the remainders' buffer is too short: it names the number of words that it would need.
-/// - `NoMemory`, for want of memory.
-pub fn decode<Word: WordOf<State>, State: BitArray, P: WordOf<Word>, const PRECISION: usize>(
-    alloc: Global,
-    heads: &mut ChainHeads<Word, State>,
-    compressed: &[Word],
-    compressed_len: &mut usize,
-    remainders: &mut [Word],
-    remainders_len: &mut usize,
-    weights: &[P],
-    symbols: &mut [usize],
-) -> Result<(), Refusal>
-    requires sized { IsSized Word.BITS State.BITS PRECISION }
-    requires within { PRECISION ≤ P.BITS }
-    requires fits { CoderFits Word.row State.row }
-    ensures ok { OnOk result (TakesOffAll Word.BITS State.BITS
-        (items_of (weights_model PRECISION (map P.number weights.now)) symbols.new)
-        (chain_in Word.number (Word.number heads.old.compressed) (State.number heads.old.remainders) compressed.now compressed_len.old remainders.old remainders_len.old)
-        (chain_in Word.number (Word.number heads.new.compressed) (State.number heads.new.remainders) compressed.now compressed_len.new remainders.new remainders_len.new)) }
-    ensures valid { OnOk result ((compressed_len.old ≤ length compressed.now) × (remainders_len.old ≤ length remainders.old)
-        × IsTotal PRECISION (map P.number weights.now)
-        × AreHeads Word.BITS State.BITS PRECISION (Word.number heads.old.compressed) (State.number heads.old.remainders)) }
-    ensures count { OnOk result (length symbols.new ≡ length symbols.old) }
-    ensures fewer { OnOk result (compressed_len.new ≤ compressed_len.old) }
-    ensures appended { OnOk result ((added : List Word) × Appended remainders.old remainders_len.old added remainders.new remainders_len.new) }
-    ensures err { IfErr result (Refused ((compressed_len.old ≤ length compressed.now) × (remainders_len.old ≤ length remainders.old))
-        (IsTotal PRECISION (map P.number weights.now))
-        (AreHeads Word.BITS State.BITS PRECISION (Word.number heads.old.compressed) (State.number heads.old.remainders)) ⊥
-        (EndsEarly Word.BITS State.BITS PRECISION (items_of (weights_model PRECISION (map P.number weights.now))) (length symbols.old)
-        (chain_in Word.number (Word.number heads.old.compressed) (State.number heads.old.remainders) compressed.now compressed_len.old remainders.old remainders_len.old))
-        (NeedsSpace Word.BITS State.BITS (items_of (weights_model PRECISION (map P.number weights.now))) (length symbols.old)
-        (chain_in Word.number (Word.number heads.old.compressed) (State.number heads.old.remainders) compressed.now compressed_len.old remainders.old remainders_len.old)
-        (length remainders.old))) }
-    ensures kept { OnErr result ((heads.new ≡ heads.old) × (compressed_len.new ≡ compressed_len.old)
-        × (remainders.new ≡ remainders.old) × (remainders_len.new ≡ remainders_len.old) × (symbols.new ≡ symbols.old)) }
-{
-    if *compressed_len > compressed.len() || *remainders_len > remainders.len() {
-        return Err(Refusal::WrongLength);
-    }
-    match decoding_table_by::<P, PRECISION>(alloc, weights) {
-        Ok(table) => decode_by(
-            alloc,
-            heads,
-            compressed,
-            compressed_len,
-            remainders,
-            remainders_len,
-            &table,
-            symbols,
-        ),
-        Err(refusal) => Err(refusal),
-    }
-}
+/// A coder over compressed words that a caller lends, with the remainders that it writes.
+pub(crate) type Taking<'a, Word, State, const PRECISION: usize> = ChainCoder<
+    Word,
+    State,
+    Cursor<Word, &'a [Word]>,
+    Vec<Word>,
+    PRECISION,
+>;
 
-/// Decodes symbols, each by the next row of `width` weights, one after the other, as many as `symbols` has places.
+/// Decodes symbols, each by its model, one after the other, as many as `symbols` has places.
 ///
 /// # Errors
 ///
-/// Looked for in this order. Each leaves all as it was.
-///
-/// - `WrongLength`, where a number of words is past its buffer's end, or there are not `width` weights for each symbol.
-/// - `WrongWeights`, where a row doesn't add up to two to the precision.
-/// - `InvalidData`, where the heads are no coder's.
-/// - `OutOfData`, where the compressed words end before all symbols.
-/// - `NoSpace`, where the remainders' buffer is too short: it names the number of words that it would need.
-/// - `NoMemory`, for want of memory.
-pub fn decode_each<Word: WordOf<State>, State: BitArray, P: WordOf<Word>, const PRECISION: usize>(
-    alloc: Global,
-    heads: &mut ChainHeads<Word, State>,
-    compressed: &[Word],
-    compressed_len: &mut usize,
-    remainders: &mut [Word],
-    remainders_len: &mut usize,
-    weights: &[P],
-    width: usize,
-    symbols: &mut [usize],
-) -> Result<(), Refusal>
-    requires sized { IsSized Word.BITS State.BITS PRECISION }
-    requires within { PRECISION ≤ P.BITS }
-    requires fits { CoderFits Word.row State.row }
-    ensures ok { OnOk result (TakesOffAll Word.BITS State.BITS
-        (row_items PRECISION width (map P.number weights.now) symbols.new)
-        (chain_in Word.number (Word.number heads.old.compressed) (State.number heads.old.remainders) compressed.now compressed_len.old remainders.old remainders_len.old)
-        (chain_in Word.number (Word.number heads.new.compressed) (State.number heads.new.remainders) compressed.now compressed_len.new remainders.new remainders_len.new)) }
-    ensures valid { OnOk result ((compressed_len.old ≤ length compressed.now) × (remainders_len.old ≤ length remainders.old)
-        × (length weights.now ≡ width * length symbols.old) × AreTotals PRECISION width (length symbols.old) (map P.number weights.now)
-        × AreHeads Word.BITS State.BITS PRECISION (Word.number heads.old.compressed) (State.number heads.old.remainders)) }
-    ensures count { OnOk result (length symbols.new ≡ length symbols.old) }
-    ensures fewer { OnOk result (compressed_len.new ≤ compressed_len.old) }
-    ensures appended { OnOk result ((added : List Word) × Appended remainders.old remainders_len.old added remainders.new remainders_len.new) }
-    ensures err { IfErr result (Refused ((compressed_len.old ≤ length compressed.now) × (remainders_len.old ≤ length remainders.old) × (length weights.now ≡ width * length symbols.old))
-        (AreTotals PRECISION width (length symbols.old) (map P.number weights.now))
-        (AreHeads Word.BITS State.BITS PRECISION (Word.number heads.old.compressed) (State.number heads.old.remainders)) ⊥
-        (EndsEarly Word.BITS State.BITS PRECISION (row_items PRECISION width (map P.number weights.now)) (length symbols.old)
-        (chain_in Word.number (Word.number heads.old.compressed) (State.number heads.old.remainders) compressed.now compressed_len.old remainders.old remainders_len.old))
-        (NeedsSpace Word.BITS State.BITS (row_items PRECISION width (map P.number weights.now)) (length symbols.old)
-        (chain_in Word.number (Word.number heads.old.compressed) (State.number heads.old.remainders) compressed.now compressed_len.old remainders.old remainders_len.old)
-        (length remainders.old))) }
-    ensures kept { OnErr result ((heads.new ≡ heads.old) × (compressed_len.new ≡ compressed_len.old)
-        × (remainders.new ≡ remainders.old) × (remainders_len.new ≡ remainders_len.old) × (symbols.new ≡ symbols.old)) }
-{
-    if *compressed_len > compressed.len() || *remainders_len > remainders.len() {
-        return Err(Refusal::WrongLength);
-    }
-    let rows = match rows_of::<P, PRECISION>(alloc, weights, width, symbols.len()) {
-        Ok(rows) => rows,
-        Err(refusal) => return Err(refusal),
-    };
-    decode_by_each::<Word, State, Row<'_, P, PRECISION>, PRECISION>(
-        alloc,
-        heads,
-        compressed,
-        compressed_len,
-        remainders,
-        remainders_len,
-        rows.as_slice(),
-        symbols,
-    )
-}
-
-/// Decodes symbols by one model, one after the other, as many as `symbols` has places.
-///
-/// # Errors
-///
-/// As [`decode`], but for the lengths and the weights.
-fn decode_by<
+/// Those of the [coder](crate::chain), but for `ImpossibleSymbol`.
+pub fn decode<
     Word: WordOf<State>,
     State: BitArray,
-    M: DecoderModel<PRECISION> + EntropyModel<PRECISION, Symbol = usize>,
+    P: WordOf<Word>,
+    G: Models<P, PRECISION>,
     const PRECISION: usize,
 >(
     alloc: Global,
@@ -167,42 +50,30 @@ fn decode_by<
     compressed_len: &mut usize,
     remainders: &mut [Word],
     remainders_len: &mut usize,
-    model: &M,
+    models: &G,
     symbols: &mut [usize],
 ) -> Result<(), Refusal>
-where
-    M::Probability: WordOf<Word>,
     requires sized { IsSized Word.BITS State.BITS PRECISION }
+    requires within { PRECISION ≤ P.BITS }
     requires fits { CoderFits Word.row State.row }
-    requires compressed_within { compressed_len.now ≤ length compressed.now }
-    requires remainders_within { remainders_len.now ≤ length remainders.now }
-    ensures ok { OnOk result (TakesOffAll Word.BITS State.BITS
-        (items_of record { precision = PRECISION; table = M.table model.now } symbols.new)
-        (chain_in Word.number (Word.number heads.old.compressed) (State.number heads.old.remainders) compressed.now compressed_len.old remainders.old remainders_len.old)
-        (chain_in Word.number (Word.number heads.new.compressed) (State.number heads.new.remainders) compressed.now compressed_len.new remainders.new remainders_len.new)) }
-    ensures valid { OnOk result (AreHeads Word.BITS State.BITS PRECISION (Word.number heads.old.compressed) (State.number heads.old.remainders)) }
-    ensures count { OnOk result (length symbols.new ≡ length symbols.old) }
-    ensures fewer { OnOk result (compressed_len.new ≤ compressed_len.old) }
-    ensures appended { OnOk result ((added : List Word) × Appended remainders.old remainders_len.old added remainders.new remainders_len.new) }
-    ensures err { IfErr result (Refused (Unit {0}) (Unit {0})
-        (AreHeads Word.BITS State.BITS PRECISION (Word.number heads.old.compressed) (State.number heads.old.remainders)) ⊥
-        (EndsEarly Word.BITS State.BITS PRECISION (items_of record { precision = PRECISION; table = M.table model.now }) (length symbols.old)
-        (chain_in Word.number (Word.number heads.old.compressed) (State.number heads.old.remainders) compressed.now compressed_len.old remainders.old remainders_len.old))
-        (NeedsSpace Word.BITS State.BITS (items_of record { precision = PRECISION; table = M.table model.now }) (length symbols.old)
-        (chain_in Word.number (Word.number heads.old.compressed) (State.number heads.old.remainders) compressed.now compressed_len.old remainders.old remainders_len.old)
-        (length remainders.old))) }
-    ensures kept { OnErr result ((heads.new ≡ heads.old) × (compressed_len.new ≡ compressed_len.old)
-        × (remainders.new ≡ remainders.old) × (remainders_len.new ≡ remainders_len.old) × (symbols.new ≡ symbols.old)) }
+    ensures call { ChainTakes Word.number State.number Word.BITS State.BITS PRECISION (G.coded models.now)
+        (keeps heads.old compressed.now compressed_len.old remainders.old remainders_len.old)
+        (keeps heads.new compressed.now compressed_len.new remainders.new remainders_len.new)
+        symbols.old symbols.new result }
 {
-    let Some(mut coder) = begin_taking::<Word, State, PRECISION>(
-        alloc,
-        *heads,
-        compressed,
-        *compressed_len,
-    ) else {
+    if *compressed_len > compressed.len() || *remainders_len > remainders.len() {
+        return Err(Refusal::WrongLength);
+    }
+    match models.check(symbols) {
+        Ok(()) => {}
+        Err(wrong) => return Err(wrong),
+    }
+    let Some(both) = ChainCoderHeads::new(heads.compressed, heads.remainders) else {
         return Err(Refusal::InvalidData);
     };
-    let again = match take_symbols(alloc, &mut coder, model, symbols.len()) {
+    let lent = Cursor::new_at_write_end(&compressed[..*compressed_len]);
+    let mut coder = ChainCoder::from_raw_parts(lent, Vec::new(alloc), both);
+    let again = match take_by(alloc, &mut coder, models, symbols) {
         Ok(again) => again,
         Err(refusal) => return Err(refusal),
     };
@@ -214,67 +85,115 @@ where
     Ok(())
 }
 
-/// Decodes a symbol by each of these models, one after the other.
+/// Takes as many symbols out as there are places, each by its model, one after the other.
 ///
 /// # Errors
 ///
-/// As [`decode_each`], but for the lengths and the weights.
-pub(crate) fn decode_by_each<
+/// `OutOfData` and `NoMemory`.
+fn take_by<
+    'a,
     Word: WordOf<State>,
     State: BitArray,
-    M: DecoderModel<PRECISION> + EntropyModel<PRECISION, Symbol = usize>,
+    P: WordOf<Word>,
+    G: Models<P, PRECISION>,
     const PRECISION: usize,
 >(
     alloc: Global,
+    coder: &mut Taking<'a, Word, State, PRECISION>,
+    models: &G,
+    places: &[usize],
+) -> Result<Vec<usize>, Refusal>
+    requires sizes { (1 ≤ PRECISION) × (PRECISION ≤ P.BITS) }
+    requires fit { AreFit PRECISION (G.coded models.now places.now) }
+    ensures count { IfOk result (λ symbols. length symbols.items ≡ length places.now) }
+    ensures ok { IfOk result (λ symbols. TakesOffAll Word.BITS State.BITS
+        (items PRECISION (G.coded models.now symbols.items)) coder.old.state coder.new.state) }
+    ensures err { IfErr result (λ e. (e ≡ refusals.NoMemory) ⊎ ((e ≡ refusals.OutOfData)
+        × EndsEarly Word.BITS State.BITS PRECISION
+        (λ symbols. items PRECISION (G.coded models.now symbols)) (length places.now) coder.old.state)) }
+{
+    match models.list(alloc, places, false) {
+        Some(list) => take_symbols(alloc, coder, &list, places.len()),
+        None => Err(Refusal::NoMemory),
+    }
+}
+
+/// Takes so many symbols out, each by the model at its place, one after the other.
+///
+/// # Errors
+///
+/// As [`take_by`].
+#[inline(never)]
+fn take_symbols<
+    'a,
+    Word: WordOf<State>,
+    State: BitArray,
+    P: WordOf<Word>,
+    L: ModelList<P, PRECISION>,
+    const PRECISION: usize,
+>(
+    alloc: Global,
+    coder: &mut Taking<'a, Word, State, PRECISION>,
+    models: &L,
+    count: usize,
+) -> Result<Vec<usize>, Refusal>
+    requires { length (L.tables models.now) ≡ count }
+    ensures count { IfOk result (λ symbols. length symbols.items ≡ count) }
+    ensures ok { IfOk result (λ symbols. TakesOffAll Word.BITS State.BITS
+        (pairs_of PRECISION (λ table. table) symbols.items (L.tables models.now)) coder.old.state coder.new.state) }
+    ensures err { IfErr result (λ e. (e ≡ refusals.NoMemory) ⊎ ((e ≡ refusals.OutOfData)
+        × EndsEarly Word.BITS State.BITS PRECISION
+        (λ symbols. pairs_of PRECISION (λ table. table) symbols (L.tables models.now)) count coder.old.state)) }
+{
+    let Ok(mut symbols) = Vec::with_capacity(alloc, count) else {
+        return Err(Refusal::NoMemory);
+    };
+    for place in 0..count {
+        match coder.decode_symbol(models.at(place)) {
+            Ok(symbol) => symbols.push_reserved(symbol),
+            Err(CoderError::Frontend(_)) => return Err(Refusal::OutOfData),
+            Err(CoderError::Backend(_)) => return Err(Refusal::NoMemory),
+        }
+    }
+    Ok(symbols)
+}
+
+/// Puts a coder's remainders behind those of a caller, and sets the heads and the number of compressed words.
+///
+/// # Errors
+///
+/// As [`append`]. Nothing changed then.
+fn end_taking<'a, Word: WordOf<State>, State: BitArray, const PRECISION: usize>(
+    coder: Taking<'a, Word, State, PRECISION>,
     heads: &mut ChainHeads<Word, State>,
-    compressed: &[Word],
     compressed_len: &mut usize,
     remainders: &mut [Word],
     remainders_len: &mut usize,
-    models: &[M],
-    symbols: &mut [usize],
 ) -> Result<(), Refusal>
-where
-    M::Probability: WordOf<Word>,
-    requires sized { IsSized Word.BITS State.BITS PRECISION }
-    requires fits { CoderFits Word.row State.row }
-    requires compressed_within { compressed_len.now ≤ length compressed.now }
-    requires remainders_within { remainders_len.now ≤ length remainders.now }
-    requires pairs { length symbols.now ≡ length models.now }
-    ensures ok { OnOk result (TakesOffAll Word.BITS State.BITS
-        (pairs_of PRECISION M.table symbols.new models.now)
-        (chain_in Word.number (Word.number heads.old.compressed) (State.number heads.old.remainders) compressed.now compressed_len.old remainders.old remainders_len.old)
-        (chain_in Word.number (Word.number heads.new.compressed) (State.number heads.new.remainders) compressed.now compressed_len.new remainders.new remainders_len.new)) }
-    ensures valid { OnOk result (AreHeads Word.BITS State.BITS PRECISION (Word.number heads.old.compressed) (State.number heads.old.remainders)) }
-    ensures count { OnOk result (length symbols.new ≡ length symbols.old) }
-    ensures fewer { OnOk result (compressed_len.new ≤ compressed_len.old) }
-    ensures appended { OnOk result ((added : List Word) × Appended remainders.old remainders_len.old added remainders.new remainders_len.new) }
-    ensures err { IfErr result (Refused (Unit {0}) (Unit {0})
-        (AreHeads Word.BITS State.BITS PRECISION (Word.number heads.old.compressed) (State.number heads.old.remainders)) ⊥
-        (EndsEarly Word.BITS State.BITS PRECISION (λ symbols. pairs_of PRECISION M.table symbols models.now) (length symbols.old)
-        (chain_in Word.number (Word.number heads.old.compressed) (State.number heads.old.remainders) compressed.now compressed_len.old remainders.old remainders_len.old))
-        (NeedsSpace Word.BITS State.BITS (λ symbols. pairs_of PRECISION M.table symbols models.now) (length symbols.old)
-        (chain_in Word.number (Word.number heads.old.compressed) (State.number heads.old.remainders) compressed.now compressed_len.old remainders.old remainders_len.old)
-        (length remainders.old))) }
+    requires { remainders_len.now ≤ length remainders.now }
+    ensures heads { OnOk result ((Word.number heads.new.compressed ≡ coder.entry.state.h)
+        × (State.number heads.new.remainders ≡ coder.entry.state.r)) }
+    ensures compressed { OnOk result (compressed_len.new ≡ length coder.entry.state.compressed) }
+    ensures remainders { OnOk result ((added : List Word)
+        × (map Word.number (reverse added) ≡ coder.entry.state.remainders)
+        × Appended remainders.old remainders_len.old added remainders.new remainders_len.new) }
+    ensures err { IfErr result (λ e. (e ≡ refusals.NoMemory)
+        ⊎ ((e ≡ refusals.NoSpace (remainders_len.old + length coder.entry.state.remainders))
+        × (length remainders.old < remainders_len.old + length coder.entry.state.remainders))) }
     ensures kept { OnErr result ((heads.new ≡ heads.old) × (compressed_len.new ≡ compressed_len.old)
-        × (remainders.new ≡ remainders.old) × (remainders_len.new ≡ remainders_len.old) × (symbols.new ≡ symbols.old)) }
+        × (remainders.new ≡ remainders.old) × (remainders_len.new ≡ remainders_len.old)) }
 {
-    let Some(mut coder) = begin_taking::<Word, State, PRECISION>(
-        alloc,
-        *heads,
-        compressed,
-        *compressed_len,
-    ) else {
-        return Err(Refusal::InvalidData);
-    };
-    let again = match take_symbols_each(alloc, &mut coder, models) {
-        Ok(again) => again,
-        Err(refusal) => return Err(refusal),
-    };
-    match end_taking(coder, heads, compressed_len, remainders, remainders_len) {
+    let (words, written, both) = coder.into_raw_parts();
+    match append(written.as_slice(), remainders, remainders_len) {
         Ok(()) => {}
-        Err(error) => return Err(error),
+        Err(refusal) => return Err(refusal),
     }
-    symbols.copy_from_slice(again.as_slice());
+    let (_, pos) = words.into_buf_and_pos();
+    let (left_over, number) = both.parts();
+    *compressed_len = pos;
+    *heads = ChainHeads {
+        remainders: number,
+        compressed: left_over,
+    };
     Ok(())
 }

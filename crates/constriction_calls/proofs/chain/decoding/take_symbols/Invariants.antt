@@ -1,0 +1,13 @@
+use Rattle.std.proofs.Common.{◌≡◌, ℕ, List, length, vec_capacity}
+use Rattle.constriction_base.specs.Models.{pairs_of}
+use Rattle.constriction_chain.specs.Symbols.{TakesOffAll}
+use Rattle.constriction_calls.proofs.chain.decoding.take_symbols.Given as goal
+
+abbrev pub invariant-loop-place : goal.invariant-loop-place
+invariant-loop-place g l =
+    record {
+      count : length l.symbols.items ≡ l.place;
+      capacity : vec_capacity l.symbols ≡ l.fn.count;
+      taken : TakesOffAll g.Word.BitArray.BITS g.State.BitArray.BITS (pairs_of g.row.PRECISION (λ (table : List (ℕ × ℕ × ℕ)). table) l.symbols.items (g.L.ModelList.tables l.fn.models))
+          l.fn.coder.state l.coder.state;
+    }
