@@ -1,5 +1,6 @@
 mod AnsRows
 mod AnsFrame
+mod Asking
 pub mod ChainFrame
 pub mod ChainRows
 pub mod ChainSteps
@@ -8,15 +9,11 @@ mod FamilyAnswers
 mod FamilyChain
 mod FamilyCounts
 mod FamilyIntervals
-mod FamilyRange
 mod FamilyTables
 pub mod IntervalRows
 pub mod KnownRows
-pub mod RangeEncoded
-pub mod RangeEnding
-pub mod RangeFollowed
 pub mod RangeFrame
-pub mod RangeIntervals
+pub mod RangeKept
 pub mod RangeTaking
 pub mod RowItems
 pub mod RowTables

@@ -4,16 +4,11 @@ use Rattle.std.specs.List.{sum, sum_by}
 use Rattle.constriction_chain.specs.Chain.{ChainState}
 use Rattle.constriction_chain.specs.Symbols.{PutsBackAll, TakesOffAll}
 use Rattle.constriction_models.specs.Counts.{AllShare, AreShares, AreWeights, ServesLargest, positive}
-use Rattle.constriction_queue.specs.Range.{Run}
-use Rattle.constriction_queue_laws.specs.Symbols.{FindsAll}
 use Rattle.constriction_stack.specs.Symbols.{DecodesAll}
 use Rattle.constriction_calls.specs.AnsCalls.{NeedsRoom, PutOn, state_in}
-use Rattle.constriction_calls.specs.Buffers.{Appended, NeedsSpace}
+use Rattle.constriction_calls.specs.Buffers.{Appended}
 use Rattle.constriction_calls.specs.ChainCalls as chains
 use Rattle.constriction_calls.specs.Quantized.{AreAsMany, AreIntervalsOf, ArePlaces, AreScaled, ByFamily, IsRange, family_items}
-use Rattle.constriction_calls.specs.RangeCalls.{CanEncode, IsDecoderKept, IsEncodedBy, LacksRoom, StandsKept}
-use Rattle.constriction_calls.specs.declared.range.parts.DecoderParts.{DecoderParts}
-use Rattle.constriction_calls.specs.declared.range.parts.EncoderParts.{EncoderParts}
 use Rattle.constriction_calls.specs.declared.refusal.Refusal.{Refusal}
 use Rattle.constriction_calls.specs.declared.refusal.Refusal.TheVariants.{ImpossibleSymbol, InvalidData, NoMemory, NoSpace, OutOfData, WrongInterval, WrongLength, WrongWeights}
 
@@ -75,63 +70,6 @@ pub record AnsTakes {Word State : Type 0} (number : Word → ℕ) (state : State
   pub within : OnOk answer ((new.words ≡ old.words) × (new.len ≤ old.len) × (length new_symbols ≡ length old_symbols))
   pub checks : Checks (AnsFits by (length old_symbols) old) (IsRange precision by.min by.max) (AreScaled by.family by.scales) answer
   pub err : IfErr answer OfModels
-  pub kept : OnErr answer ((new ≡ old) × (new_symbols ≡ old_symbols))
-
--- ---- the range coder
--- an encoder in a caller's hands, and its buffer, of which so many words are in use
-pub record RangeKept (Word State : Type 0) : Type 0 where
-  pub encoder : EncoderParts Word State
-  pub words : List Word
-  pub len : ℕ
-
-abbrev pub RangeFits : {Word State : Type 0} → ByFamily → ℕ → RangeKept Word State → Type 0
-RangeFits by count kept = (kept.len ≤ length kept.words) × AreAsMany by count
-
--- a refusal of an encode
-abbrev pub OfRangePuts : Refusal → Type 0
-OfRangePuts OutOfData = ⊥
-OfRangePuts other = Unit {0}
-
--- an encode of symbols, each by its own model
-pub record RangePuts {Word State : Type 0} (number : Word → ℕ) (state : State → ℕ) (w s precision : ℕ) (by : ByFamily) (symbols : List ℕ)
-    (old new : RangeKept Word State) (answer : Result (Unit {0}) Refusal) : Type 0 where
-  -- the items are put behind the others, the first one first
-  pub put : OnOk answer (IsEncodedBy number state w s (family_items precision by symbols) old.encoder old.words old.len new.encoder new.words new.len)
-  pub checks : Checks (RangeFits by (length symbols) old) (IsRange precision by.min by.max) (AreScaled by.family by.scales) answer
-  pub valid : OnOk answer (CanEncode number state w s old.encoder (length symbols) × ArePlaces by.min by.max symbols)
-  pub invalid_data : IsErrOf answer InvalidData ↔ (RangeFits by (length symbols) old × IsRange precision by.min by.max × AreScaled by.family by.scales
-      × (CanEncode number state w s old.encoder (length symbols) → ⊥))
-  pub impossible : IsErrOf answer ImpossibleSymbol ↔ (RangeFits by (length symbols) old × IsRange precision by.min by.max × AreScaled by.family by.scales
-      × CanEncode number state w s old.encoder (length symbols) × (ArePlaces by.min by.max symbols → ⊥))
-  pub no_space : NeedsSpace answer (LacksRoom number state w s (family_items precision by symbols) old.encoder old.words old.len)
-  pub err : IfErr answer OfRangePuts
-  pub kept : OnErr answer (new ≡ old)
-
--- the decoder's place is within the words, and there are as many locations and scales as symbols
-abbrev pub DecoderFits : {Word State : Type 0} → ByFamily → ℕ → List Word → DecoderParts State → Type 0
-DecoderFits by count words decoder = (decoder.pos ≤ length words) × AreAsMany by count
-
--- a refusal of a decode
-abbrev pub OfRangeTakes : Refusal → Type 0
-OfRangeTakes InvalidData = Unit {0}
-OfRangeTakes other = OfModels other
-
--- a decode of as many symbols as there are places for them
-pub record RangeTakes {Word State : Type 0} (number : Word → ℕ) (state : State → ℕ) (w s precision : ℕ) (by : ByFamily) (words : List Word)
-    (old new : DecoderParts State) (old_symbols new_symbols : List ℕ) (answer : Result (Unit {0}) Refusal) : Type 0 where
-  -- the words are those of the items, from where the decoder stands
-  pub taken : OnOk answer ((run : Run) → StandsKept number state w s words run old → (last : Run)
-      × FindsAll w s (map number words) (family_items precision by new_symbols) run last × StandsKept number state w s words last new)
-  pub within : OnOk answer ((new.pos ≤ length words) × (length new_symbols ≡ length old_symbols))
-  pub checks : Checks (DecoderFits by (length old_symbols) words old) (IsRange precision by.min by.max) (AreScaled by.family by.scales) answer
-  -- the numbers are those of no decoder
-  pub no_decoder : DecoderFits by (length old_symbols) words old × IsRange precision by.min by.max × AreScaled by.family by.scales
-      × (IsDecoderKept state w s old → ⊥) → IsErrOf answer InvalidData
-  -- else the words aren't those of so many symbols
-  pub invalid_data : IsErrOf answer InvalidData → IsDecoderKept state w s old →
-      (others : List ℕ) (run last : Run) → StandsKept number state w s words run old →
-      FindsAll w s (map number words) (family_items precision by others) run last → length others ≡ length old_symbols → ⊥
-  pub err : IfErr answer OfRangeTakes
   pub kept : OnErr answer ((new ≡ old) × (new_symbols ≡ old_symbols))
 
 -- ---- the chain coder
