@@ -25,3 +25,5 @@ mod StoreIndex
 mod SymbolLists
 mod SymbolTrees
 mod Totals
+mod Asking
+mod Listing

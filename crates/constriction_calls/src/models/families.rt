@@ -50,7 +50,7 @@ impl<'a, P: WordOf<u32>, const PRECISION: usize> Models<P, PRECISION> for Famili
     }
 
     fn know(&self, symbols: &[usize]) -> bool {
-        are_places(self.min, self.max, symbols)
+        self.are_places(symbols)
     }
 
     fn list(
@@ -102,6 +102,20 @@ impl<'a> Families<'a> {
         }
         Ok((family, quantizer))
     }
+
+    /// Whether each symbol is the place of one of the range: 0 is that of `min`.
+    fn are_places(&self, symbols: &[usize]) -> bool
+        requires { self.now.min <ℤ self.now.max }
+        ensures { IsTrue result ↔ ArePlaces self.now.min self.now.max symbols.now }
+    {
+        let count = (self.max as i64 - self.min as i64) as usize + 1;
+        for symbol in symbols {
+            if *symbol >= count {
+                return false;
+            }
+        }
+        true
+    }
 }
 
 /// The family of a code; `None` where it is that of none.
@@ -122,20 +136,6 @@ fn are_above_zero(scales: &[u32]) -> bool
 {
     for scale in scales {
         if *scale == 0 {
-            return false;
-        }
-    }
-    true
-}
-
-/// Whether each symbol is the place of one of the range from `min` to `max`: 0 is that of `min`.
-fn are_places(min: i32, max: i32, symbols: &[usize]) -> bool
-    requires { min <ℤ max }
-    ensures { IsTrue result ↔ ArePlaces min max symbols.now }
-{
-    let count = (max as i64 - min as i64) as usize + 1;
-    for symbol in symbols {
-        if *symbol >= count {
             return false;
         }
     }

@@ -1,6 +1,8 @@
 //! One table of weights for all symbols.
 
-ghost use Rattle.std.specs.Prelude.{map};
+ghost use Rattle.std.specs.Prelude.{◌≡◌, ◌≤◌, map, IfSome};
+ghost use Rattle.constriction_base.specs.Tables.{table_of};
+ghost use Rattle.constriction_base.specs.WeightTables.{entries};
 ghost use Rattle.constriction_calls.specs.Coded.{ByWeights};
 
 use crate::known::is_known;
@@ -45,17 +47,33 @@ impl<'a, P: BitArray, const PRECISION: usize> Models<P, PRECISION> for Weights<'
         symbols: &[usize],
         divides: bool,
     ) -> Option<One<WeightTable<P, PRECISION>>> {
-        let made = if divides {
-            WeightTable::new(alloc, self.weights)
-        } else {
-            WeightTable::for_decoding(alloc, self.weights)
-        };
-        match made {
-            Ok(model) => Some(One {
+        match table_by(alloc, self.weights, divides) {
+            Some(model) => Some(One {
                 model,
                 count: symbols.len(),
             }),
-            Err(_) => None,
+            None => None,
         }
+    }
+}
+
+/// The table of weights, with their reciprocals where steps divide by them. `None` says that the weights don't add up, or that memory is
+/// missing.
+fn table_by<P: BitArray, const PRECISION: usize>(
+    alloc: Global,
+    weights: &[P],
+    divides: bool,
+) -> Option<WeightTable<P, PRECISION>>
+    requires { (1 ≤ PRECISION) × (PRECISION ≤ P.BITS) }
+    ensures { IfSome result (λ table. entries table ≡ table_of (map P.number weights.now)) }
+{
+    let made = if divides {
+        WeightTable::new(alloc, weights)
+    } else {
+        WeightTable::for_decoding(alloc, weights)
+    };
+    match made {
+        Ok(table) => Some(table),
+        Err(_) => None,
     }
 }
