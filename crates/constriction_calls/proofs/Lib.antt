@@ -1,6 +1,5 @@
 mod AnsRows
 mod AnsFrame
-mod Asking
 pub mod ChainFrame
 pub mod ChainRows
 pub mod ChainSteps
@@ -12,7 +11,9 @@ mod FamilyIntervals
 mod FamilyTables
 pub mod IntervalRows
 pub mod KnownRows
+mod RangeAnswers
 pub mod RangeFrame
+mod RangeIntervals
 pub mod RangeKept
 pub mod RangeTaking
 pub mod RowItems

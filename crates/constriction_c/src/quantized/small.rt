@@ -2,15 +2,13 @@
 
 ghost use Rattle.std.specs.Prelude.{◌≡◌, map};
 ghost use Rattle.constriction_c.specs.Codes.{answer_of, needed_by};
-ghost use Rattle.constriction_c.specs.Ranges.{small_decoder, small_encoder};
-ghost use Rattle.constriction_calls.specs.QuantizedCalls.{AnsPuts, AnsTakes, ChainPuts, ChainTakes, GivesIntervals, GivesWeights, RangePuts, RangeTakes};
+ghost use Rattle.constriction_calls.specs.QuantizedCalls.{AnsPuts, AnsTakes, ChainPuts, ChainTakes, GivesIntervals, GivesWeights};
 
 use crate::chain::ChainHeadsU16;
 use crate::codes::{code_of, code_without_space};
-use crate::range::small::{RangeDecoderU16, RangeEncoderU16};
 use constriction_calls::quantized::counts::put_weights_of_counts;
 use constriction_calls::quantized::intervals::intervals_of_quantized;
-use constriction_calls::{ans, chain, range};
+use constriction_calls::{ans, chain};
 use constriction_words::BitArray;
 use std::alloc::Global;
 
@@ -64,60 +62,6 @@ pub extern "C" fn constriction_ans_decode_quantized_u16(
     code_without_space(ans::quantized::decode_quantized::<u16, u32, u16, 12>(
         alloc, head, words, len, family, min, max, locations, scales, symbols,
     ))
-}
-
-/// `encode_quantized`: symbols put behind the others, each by the model of its own location and scale, the first
-/// symbol first.
-#[unsafe(no_mangle)]
-pub extern "C" fn constriction_range_encode_quantized_u16(
-    alloc: Global,
-    encoder: &mut RangeEncoderU16,
-    words: &mut [u16],
-    len: &mut usize,
-    family: u32,
-    min: i32,
-    max: i32,
-    locations: &[i64],
-    scales: &[u32],
-    symbols: &[usize],
-    needed: &mut usize,
-) -> u32
-    ensures call { RangePuts ⟦<u16 as BitArray>⟧.number ⟦<u32 as BitArray>⟧.number 16 32 12
-        record { family = family; min = min; max = max; locations = locations.now; scales = scales.now } symbols.now
-        record { encoder = small_encoder encoder.old; words = words.old; len = len.old } record { encoder = small_encoder encoder.new; words = words.new; len = len.new } (answer_of result needed.new) }
-    ensures needed { needed.new ≡ needed_by (answer_of result needed.new) needed.old }
-{
-    let mut parts = encoder.parts();
-    let answer = range::quantized::encode_quantized::<u16, u32, u16, 12>(
-        alloc, &mut parts, words, len, family, min, max, locations, scales, symbols,
-    );
-    *encoder = RangeEncoderU16::of(parts);
-    code_of(answer, needed)
-}
-
-/// `decode_quantized`: as many symbols as the buffer has places, each by the model of its own location and scale.
-#[unsafe(no_mangle)]
-pub extern "C" fn constriction_range_decode_quantized_u16(
-    alloc: Global,
-    decoder: &mut RangeDecoderU16,
-    words: &[u16],
-    family: u32,
-    min: i32,
-    max: i32,
-    locations: &[i64],
-    scales: &[u32],
-    symbols: &mut [usize],
-) -> u32
-    ensures call { RangeTakes ⟦<u16 as BitArray>⟧.number ⟦<u32 as BitArray>⟧.number 16 32 12
-        record { family = family; min = min; max = max; locations = locations.now; scales = scales.now } words.now
-        (small_decoder decoder.old) (small_decoder decoder.new) symbols.old symbols.new (answer_of result 0) }
-{
-    let mut parts = decoder.parts();
-    let answer = range::quantized::decode_quantized::<u16, u32, u16, 12>(
-        alloc, &mut parts, words, family, min, max, locations, scales, symbols,
-    );
-    *decoder = RangeDecoderU16::of(parts);
-    code_without_space(answer)
 }
 
 /// `encode_quantized_reverse`: symbols encoded, each by the model of its own location and scale, the last one first.

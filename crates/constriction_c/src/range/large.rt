@@ -45,10 +45,8 @@ pub extern "C" fn constriction_range_encode_u32(
         32 64 24 (ByWeights (map ⟦<u32 as BitArray>⟧.number weights.now)) symbols.now
         (kept_in encoder.old words.old len.old) (kept_in encoder.new words.new len.new)) }
 {
-    code_of(
-        encode::<_, _, u32, _, 24>(alloc, encoder, words, len, &Weights { weights }, symbols),
-        needed,
-    )
+    let one = Weights { weights };
+    code_of(encode::<_, _, u32, _, 24>(alloc, encoder, words, len, &one, symbols), needed)
 }
 
 /// `encode`, each symbol by the next row of `width` weights.
@@ -67,8 +65,8 @@ pub extern "C" fn constriction_range_encode_each_u32(
         32 64 24 (ByRows width (map ⟦<u32 as BitArray>⟧.number weights.now)) symbols.now
         (kept_in encoder.old words.old len.old) (kept_in encoder.new words.new len.new)) }
 {
-    let models = Rows { weights, width };
-    code_of(encode::<_, _, u32, _, 24>(alloc, encoder, words, len, &models, symbols), needed)
+    let rows = Rows { weights, width };
+    code_of(encode::<_, _, u32, _, 24>(alloc, encoder, words, len, &rows, symbols), needed)
 }
 
 /// `encode_intervals`: intervals put behind the others, by where they begin and how long they are.
@@ -167,8 +165,8 @@ pub extern "C" fn constriction_range_decode_u32(
     ensures call { RangeTakes ⟦<u64 as BitArray>⟧.number 32 64 24 (ByWeights (map ⟦<u32 as BitArray>⟧.number weights.now))
         (map ⟦<u32 as BitArray>⟧.number words.now) decoder.old decoder.new symbols.old symbols.new (answer_of result 0) }
 {
-    let models = Weights { weights };
-    code_without_space(decode::<_, _, u32, _, 24>(alloc, decoder, words, &models, symbols))
+    let one = Weights { weights };
+    code_without_space(decode::<_, _, u32, _, 24>(alloc, decoder, words, &one, symbols))
 }
 
 /// `decode`, each symbol by the next row of `width` weights.
@@ -184,8 +182,8 @@ pub extern "C" fn constriction_range_decode_each_u32(
     ensures call { RangeTakes ⟦<u64 as BitArray>⟧.number 32 64 24 (ByRows width (map ⟦<u32 as BitArray>⟧.number weights.now))
         (map ⟦<u32 as BitArray>⟧.number words.now) decoder.old decoder.new symbols.old symbols.new (answer_of result 0) }
 {
-    let models = Rows { weights, width };
-    code_without_space(decode::<_, _, u32, _, 24>(alloc, decoder, words, &models, symbols))
+    let rows = Rows { weights, width };
+    code_without_space(decode::<_, _, u32, _, 24>(alloc, decoder, words, &rows, symbols))
 }
 
 /// `decode`, each symbol by the model of its own location and scale.

@@ -166,7 +166,13 @@ pub fn encode_intervals<
             };
             encode::<Word, State, P, _, PRECISION>(alloc, encoder, buffer, len, &models, &symbols)
         }
-        Err(Refusal::NoMemory) if !can => Err(Refusal::InvalidData),
+        Err(Refusal::NoMemory) => {
+            if can {
+                Err(Refusal::NoMemory)
+            } else {
+                Err(Refusal::InvalidData)
+            }
+        }
         Err(refusal) => Err(refusal),
     }
 }

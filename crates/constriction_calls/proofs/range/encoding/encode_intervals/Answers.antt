@@ -1,0 +1,42 @@
+use Rattle.std.proofs.Common.{◌≤◌, arith, length, map, refl, rules, subst, sym}
+use Rattle.std.proofs.lemmas.List.{length-map}
+use Rattle.constriction_calls.specs.Coded.{AsIntervals}
+use Rattle.constriction_calls.specs.RangeCalls.{CanEncode, RangeKept}
+use Rattle.constriction_calls.specs.declared.refusal.Refusal.TheVariants as refusals
+use Rattle.constriction_calls.proofs.RangeAnswers.{puts_numbers, puts_room}
+use Rattle.constriction_calls.proofs.RangeIntervals.{fit_known, memory_fit}
+use Rattle.constriction_calls.proofs.range.encoding.encode_intervals.Goals as goal
+
+pub returns-then-can : goal.returns-then-can
+returns-then-can g c =
+    let number = g.Word.BitArray.number in
+    let state = g.State.BitArray.number in
+    let w = g.Word.BitArray.BITS in
+    let s = g.State.BitArray.BITS in
+    let P = g.row.PRECISION in
+    let lefts = map g.P.BitArray.number c.args.lefts.now in
+    let ps = map g.P.BitArray.number c.args.ps.now in
+    let old : RangeKept g.row.Word.Denot g.row.State.Denot = record { encoder = c.args.encoder.now; words = c.args.buffer.now; len = c.args.len.now } in
+    let within : c.args.len.now ≤ length c.args.buffer.now = omega (arith, c.if-len-buffer.false) in
+    let fit = memory_fit g.P.BitArray.number P c.args.lefts.now c.args.ps.now c.in-Err-NoMemory.field-0 c.in-Err-NoMemory.field-0-is c.in-Err-NoMemory.ensures.wrong_length c.in-Err-NoMemory.ensures.wrong_interval in
+    let can : CanEncode number state w s c.args.encoder.now (length c.args.ps.now) = search rules in
+    let counted : CanEncode number state w s c.args.encoder.now (length ps) = subst (λ n. CanEncode number state w s c.args.encoder.now n) (sym (length-map c.args.ps.now g.P.BitArray.number)) can in
+    record { call = puts_room number state w s P (AsIntervals lefts) ps old within fit counted (fit_known P lefts ps fit) old refl refusals.NoMemory tt; }
+
+pub returns-else-can : goal.returns-else-can
+returns-else-can g c =
+    let number = g.Word.BitArray.number in
+    let state = g.State.BitArray.number in
+    let w = g.Word.BitArray.BITS in
+    let s = g.State.BitArray.BITS in
+    let P = g.row.PRECISION in
+    let lefts = map g.P.BitArray.number c.args.lefts.now in
+    let ps = map g.P.BitArray.number c.args.ps.now in
+    let old : RangeKept g.row.Word.Denot g.row.State.Denot = record { encoder = c.args.encoder.now; words = c.args.buffer.now; len = c.args.len.now } in
+    let within : c.args.len.now ≤ length c.args.buffer.now = omega (arith, c.if-len-buffer.false) in
+    let fit = memory_fit g.P.BitArray.number P c.args.lefts.now c.args.ps.now c.in-Err-NoMemory.field-0 c.in-Err-NoMemory.field-0-is c.in-Err-NoMemory.ensures.wrong_length c.in-Err-NoMemory.ensures.wrong_interval in
+    let none : CanEncode number state w s c.args.encoder.now (length c.args.ps.now) → ⊥ = search rules in
+    record {
+      call = puts_numbers number state w s P (AsIntervals lefts) ps old within fit
+          (λ counted. none (subst (λ n. CanEncode number state w s c.args.encoder.now n) (length-map c.args.ps.now g.P.BitArray.number) counted));
+    }
