@@ -71,6 +71,10 @@ pub record RangeKept (Word State : Type 0) : Type 0 where
   pub words : List Word
   pub len : ℕ
 
+-- they together
+abbrev pub kept_in : {Word State : Type 0} → EncoderParts Word State → List Word → ℕ → RangeKept Word State
+kept_in encoder words len = record { encoder = encoder; words = words; len = len }
+
 -- one without symbols
 abbrev pub IsNew : {Word State : Type 0} → (Word → ℕ) → (State → ℕ) → ℕ → ℕ → EncoderParts Word State → Type 0
 IsNew number state w s e = IsEncoderKept number state w s e × (run_kept number state w s e [] ≡ start s)

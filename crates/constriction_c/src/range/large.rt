@@ -46,7 +46,8 @@ pub extern "C" fn constriction_range_encode_u32(
         (kept_in encoder.old words.old len.old) (kept_in encoder.new words.new len.new)) }
 {
     let one = Weights { weights };
-    code_of(encode::<_, _, u32, _, 24>(alloc, encoder, words, len, &one, symbols), needed)
+    let answer = encode::<_, _, u32, _, 24>(alloc, encoder, words, len, &one, symbols);
+    code_of(answer, needed)
 }
 
 /// `encode`, each symbol by the next row of `width` weights.
@@ -66,7 +67,8 @@ pub extern "C" fn constriction_range_encode_each_u32(
         (kept_in encoder.old words.old len.old) (kept_in encoder.new words.new len.new)) }
 {
     let rows = Rows { weights, width };
-    code_of(encode::<_, _, u32, _, 24>(alloc, encoder, words, len, &rows, symbols), needed)
+    let answer = encode::<_, _, u32, _, 24>(alloc, encoder, words, len, &rows, symbols);
+    code_of(answer, needed)
 }
 
 /// `encode_intervals`: intervals put behind the others, by where they begin and how long they are.
@@ -84,7 +86,8 @@ pub extern "C" fn constriction_range_encode_intervals_u32(
         32 64 24 (AsIntervals (map ⟦<u32 as BitArray>⟧.number lefts.now)) (map ⟦<u32 as BitArray>⟧.number ps.now)
         (kept_in encoder.old words.old len.old) (kept_in encoder.new words.new len.new)) }
 {
-    code_of(encode_intervals::<_, _, _, 24>(alloc, encoder, words, len, lefts, ps), needed)
+    let answer = encode_intervals::<_, _, _, 24>(alloc, encoder, words, len, lefts, ps);
+    code_of(answer, needed)
 }
 
 /// `encode`, each symbol by the model of its own location and scale.
@@ -106,8 +109,15 @@ pub extern "C" fn constriction_range_encode_quantized_u32(
         (InFamily record { family = family; min = min; max = max; locations = locations.now; scales = scales.now }) symbols.now
         (kept_in encoder.old words.old len.old) (kept_in encoder.new words.new len.new)) }
 {
-    let models = Families { family, min, max, locations, scales };
-    code_of(encode::<_, _, u32, _, 24>(alloc, encoder, words, len, &models, symbols), needed)
+    let models = Families {
+        family,
+        min,
+        max,
+        locations,
+        scales,
+    };
+    let answer = encode::<_, _, u32, _, 24>(alloc, encoder, words, len, &models, symbols);
+    code_of(answer, needed)
 }
 
 /// `into_compressed`: the words that an encoder holds back, and a seal, put behind the others.
@@ -203,7 +213,13 @@ pub extern "C" fn constriction_range_decode_quantized_u32(
         (InFamily record { family = family; min = min; max = max; locations = locations.now; scales = scales.now })
         (map ⟦<u32 as BitArray>⟧.number words.now) decoder.old decoder.new symbols.old symbols.new (answer_of result 0) }
 {
-    let models = Families { family, min, max, locations, scales };
+    let models = Families {
+        family,
+        min,
+        max,
+        locations,
+        scales,
+    };
     code_without_space(decode::<_, _, u32, _, 24>(alloc, decoder, words, &models, symbols))
 }
 

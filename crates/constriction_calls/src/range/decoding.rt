@@ -1,16 +1,64 @@
 //! Decodes of the words of a caller's buffer.
 
-ghost use Rattle.std.specs.Prelude.{◌≤◌, map};
+ghost use Rattle.std.specs.Prelude.{◌≡◌, ◌≤◌, ℕ, List, length, map, IfErr, IfOk};
+ghost use Rattle.constriction_base.specs.Models.{pairs_of};
 ghost use Rattle.constriction_base.specs.Steps.{IsSizes};
+ghost use Rattle.constriction_queue.specs.Range.{Run};
+ghost use Rattle.constriction_queue_laws.specs.Symbols.{FindsAll, StandsAt};
 ghost use Rattle.constriction_calls.specs.RangeCalls.{RangeTakes};
+ghost use Rattle.constriction_calls.specs.Refusals.{Words};
 
-use crate::models::Models;
-use crate::range::parts::DecoderParts;
-use crate::range::reading::{decoder_of, decoder_parts};
-use crate::range::taking::take_list;
+use crate::models::{ModelList, Models};
+use crate::range::parts::{DecoderParts, Reading, decoder_of, decoder_parts};
 use crate::refusal::Refusal;
+use constriction_stream::decoding::Decode;
 use constriction_words::{BitArray, WordOf};
 use std::alloc::Global;
+
+/// Takes so many symbols by a list of models. The decoder comes back as it is then.
+///
+/// # Errors
+///
+/// - `InvalidData`, where the words, from where the decoder stands, aren't those of so many symbols.
+/// - `NoMemory`, for want of memory.
+#[inline(never)]
+pub(crate) fn take_list<
+    'a,
+    Word: WordOf<State>,
+    State: BitArray,
+    P: WordOf<Word>,
+    L: ModelList<P, PRECISION>,
+    const PRECISION: usize,
+>(
+    alloc: Global,
+    decoder: Reading<'a, Word, State>,
+    list: &L,
+    count: usize,
+) -> Result<(Vec<usize>, Reading<'a, Word, State>), Refusal>
+    requires { count ≡ length (L.tables list.now) }
+    ensures count { IfOk result (λ taken. length taken.0.items ≡ count) }
+    ensures decoded { (words : List ℕ) (old : Run) → StandsAt Word.BITS State.BITS words old decoder.entry →
+        IfOk result (λ taken. (last : Run)
+        × FindsAll Word.BITS State.BITS words
+        (pairs_of PRECISION (λ table. table) taken.0.items (L.tables list.now)) old last
+        × StandsAt Word.BITS State.BITS words last taken.1) }
+    ensures err { IfErr result (Words ((words symbols : List ℕ) (old last : Run) →
+        StandsAt Word.BITS State.BITS words old decoder.entry →
+        FindsAll Word.BITS State.BITS words (pairs_of PRECISION (λ table. table) symbols (L.tables list.now)) old last →
+        length symbols ≡ count → ⊥)) }
+{
+    let mut decoder = decoder;
+    let Ok(mut again) = Vec::with_capacity(alloc, count) else {
+        return Err(Refusal::NoMemory);
+    };
+    for i in 0..count {
+        match Decode::<PRECISION>::decode_symbol(&mut decoder, list.at(i)) {
+            Ok(symbol) => again.push_reserved(symbol),
+            Err(_) => return Err(Refusal::InvalidData),
+        }
+    }
+    Ok((again, decoder))
+}
 
 /// Takes as many symbols as the list has places, the first one first.
 ///
@@ -33,8 +81,8 @@ pub fn decode<
 ) -> Result<(), Refusal>
     requires sizes { IsSizes Word.BITS State.BITS }
     requires precision { (1 ≤ PRECISION) × (PRECISION ≤ P.BITS) }
-    ensures call { RangeTakes State.number Word.BITS State.BITS PRECISION (G.coded models.now) (map Word.number words.now)
-        decoder.old decoder.new symbols.old symbols.new result }
+    ensures call { RangeTakes State.number Word.BITS State.BITS PRECISION (G.coded models.now)
+        (map Word.number words.now) decoder.old decoder.new symbols.old symbols.new result }
 {
     if decoder.pos > words.len() {
         return Err(Refusal::WrongLength);

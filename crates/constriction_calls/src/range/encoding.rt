@@ -6,7 +6,7 @@ ghost use Rattle.constriction_base.specs.Steps.{IsSizes};
 ghost use Rattle.constriction_queue.specs.Encoder.{left_to_encode, run_by};
 ghost use Rattle.constriction_queue_laws.specs.Symbols.{NarrowsAll};
 ghost use Rattle.constriction_calls.specs.Coded.{AreFit, AsIntervals, items};
-ghost use Rattle.constriction_calls.specs.RangeCalls.{CanEncode, IsEncoderKept, RangePuts, run_kept};
+ghost use Rattle.constriction_calls.specs.RangeCalls.{IsEncoderKept, RangePuts, kept_in, run_kept};
 
 use crate::buffers::append;
 use crate::intervals::rows_by_intervals;
@@ -100,8 +100,7 @@ pub fn encode<
     requires sizes { IsSizes Word.BITS State.BITS }
     requires precision { (1 ≤ PRECISION) × (PRECISION ≤ P.BITS) }
     ensures call { RangePuts Word.number State.number Word.BITS State.BITS PRECISION (G.coded models.now) symbols.now
-        record { encoder = encoder.old; words = buffer.old; len = len.old }
-        record { encoder = encoder.new; words = buffer.new; len = len.new } result }
+        (kept_in encoder.old buffer.old len.old) (kept_in encoder.new buffer.new len.new) result }
 {
     if *len > buffer.len() {
         return Err(Refusal::WrongLength);
@@ -129,12 +128,12 @@ pub fn encode<
     }
 }
 
-/// Puts intervals behind the others, given by where they begin and how long they are, without a table that they stand in.
+/// Puts intervals behind the others, given by where they begin and how long they are, without a table.
 ///
 /// # Errors
 ///
-/// As [`encode`]: `WrongLength` also exactly where the lists don't have one length, and `WrongInterval` exactly where an
-/// interval is empty, or ends past two to the precision. There are no impossible symbols.
+/// As [`encode`]; `WrongLength` where the lists don't have one length, and `WrongInterval` where an interval is empty, or
+/// ends past two to the precision. No symbol is impossible.
 pub fn encode_intervals<
     Word: WordOf<State>,
     State: BitArray,
@@ -150,9 +149,9 @@ pub fn encode_intervals<
 ) -> Result<(), Refusal>
     requires sizes { IsSizes Word.BITS State.BITS }
     requires precision { (1 ≤ PRECISION) × (PRECISION ≤ P.BITS) }
-    ensures call { RangePuts Word.number State.number Word.BITS State.BITS PRECISION (AsIntervals (map P.number lefts.now)) (map P.number ps.now)
-        record { encoder = encoder.old; words = buffer.old; len = len.old }
-        record { encoder = encoder.new; words = buffer.new; len = len.new } result }
+    ensures call { RangePuts Word.number State.number Word.BITS State.BITS PRECISION
+        (AsIntervals (map P.number lefts.now)) (map P.number ps.now)
+        (kept_in encoder.old buffer.old len.old) (kept_in encoder.new buffer.new len.new) result }
 {
     if *len > buffer.len() {
         return Err(Refusal::WrongLength);

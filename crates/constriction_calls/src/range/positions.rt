@@ -1,16 +1,27 @@
-//! Going to positions, and where words may end.
+//! Decoders of words: at their beginning, at a position, and at their end.
 
 ghost use Rattle.std.specs.Prelude.{map};
 ghost use Rattle.constriction_base.specs.Steps.{IsSizes};
-ghost use Rattle.constriction_calls.specs.RangeCalls.{RangeMayEnd, RangeSeeks};
+ghost use Rattle.constriction_calls.specs.RangeCalls.{RangeBegins, RangeMayEnd, RangeSeeks};
 
-use crate::range::parts::DecoderParts;
-use crate::range::reading::decoder_of;
-use crate::range::words::from_compressed;
+use crate::range::parts::{DecoderParts, decoder_of, decoder_parts};
 use crate::refusal::Refusal;
-use constriction_queue::RangeCoderState;
+use constriction_base::cursor::Cursor;
+use constriction_queue::{RangeCoderState, RangeDecoder};
 use constriction_stream::decoding::Decode;
 use constriction_words::{BitArray, WordOf};
+
+/// A decoder of words, such as a seal completes, before its first symbol.
+pub fn from_compressed<Word: WordOf<State>, State: BitArray>(words: &[Word]) -> DecoderParts<State>
+    requires { IsSizes Word.BITS State.BITS }
+    ensures call { RangeBegins Word.number State.number Word.BITS State.BITS words.now result }
+{
+    let cursor = Cursor::new_at_write_beginning(words);
+    match RangeDecoder::<Word, State, Cursor<Word, &[Word]>>::with_backend(cursor) {
+        Ok(decoder) => decoder_parts(decoder, words.len()),
+        Err(never) => match never {},
+    }
+}
 
 /// Makes a decoder of the words at a position: how many words an encoder had written and held, and its interval.
 ///
@@ -25,7 +36,8 @@ pub fn seek<Word: WordOf<State>, State: BitArray>(
     range: State,
 ) -> Result<(), Refusal>
     requires { IsSizes Word.BITS State.BITS }
-    ensures call { RangeSeeks Word.number State.number Word.BITS State.BITS words.now pos lower range decoder.old decoder.new result }
+    ensures call { RangeSeeks Word.number State.number Word.BITS State.BITS words.now pos lower range
+        decoder.old decoder.new result }
 {
     if pos > words.len() {
         return Err(Refusal::WrongLength);
@@ -51,7 +63,8 @@ pub fn maybe_exhausted<Word: WordOf<State>, State: BitArray>(
     maybe: &mut u32,
 ) -> Result<(), Refusal>
     requires { IsSizes Word.BITS State.BITS }
-    ensures call { RangeMayEnd State.number Word.BITS State.BITS (map Word.number words.now) decoder.now maybe.old maybe.new result }
+    ensures call { RangeMayEnd State.number Word.BITS State.BITS (map Word.number words.now) decoder.now
+        maybe.old maybe.new result }
 {
     if decoder.pos > words.len() {
         return Err(Refusal::WrongLength);

@@ -1,15 +1,12 @@
-//! The words of an encoder, and a decoder of words.
+//! The words of an encoder.
 
 ghost use Rattle.std.specs.Prelude.{◌≡◌, ◌/◌};
 ghost use Rattle.constriction_base.specs.Steps.{IsSizes};
-ghost use Rattle.constriction_calls.specs.RangeCalls.{IsSealed, IsSelfSealed, RangeBegins, RangeSeals};
+ghost use Rattle.constriction_calls.specs.RangeCalls.{IsSealed, IsSelfSealed, RangeSeals, kept_in};
 
 use crate::buffers::{append, room_for};
-use crate::range::parts::{DecoderParts, EncoderParts, encoder_for};
-use crate::range::reading::decoder_parts;
+use crate::range::parts::{EncoderParts, encoder_for};
 use crate::refusal::Refusal;
-use constriction_base::cursor::Cursor;
-use constriction_queue::RangeDecoder;
 use constriction_words::{BitArray, WordOf};
 use std::alloc::Global;
 
@@ -29,8 +26,7 @@ pub fn into_compressed<Word: WordOf<State>, State: BitArray>(
 ) -> Result<(), Refusal>
     requires { IsSizes Word.BITS State.BITS }
     ensures call { RangeSeals Word.number State.number Word.BITS State.BITS (IsSealed Word.BITS State.BITS)
-        record { encoder = encoder.now; words = buffer.old; len = len.old }
-        record { encoder = encoder.now; words = buffer.new; len = len.new } result }
+        (kept_in encoder.now buffer.old len.old) (kept_in encoder.now buffer.new len.new) result }
 {
     if *len > buffer.len() {
         return Err(Refusal::WrongLength);
@@ -51,8 +47,8 @@ pub fn into_compressed<Word: WordOf<State>, State: BitArray>(
     }
 }
 
-/// The same for states of two words. There the seal of [`into_compressed`] holds whatever words follow: a decoder of the
-/// buffer's first `len` words and any others behind them gives the same symbols.
+/// The same for states of two words. There the seal holds whatever words follow: a decoder of the buffer's first `len`
+/// words and any others behind them gives the same symbols.
 ///
 /// # Errors
 ///
@@ -66,20 +62,7 @@ pub fn into_self_delimited<Word: WordOf<State>, State: BitArray>(
     requires sizes { IsSizes Word.BITS State.BITS }
     requires two_words { State.BITS / Word.BITS ≡ 2 }
     ensures call { RangeSeals Word.number State.number Word.BITS State.BITS (IsSelfSealed Word.BITS State.BITS)
-        record { encoder = encoder.now; words = buffer.old; len = len.old }
-        record { encoder = encoder.now; words = buffer.new; len = len.new } result }
+        (kept_in encoder.now buffer.old len.old) (kept_in encoder.now buffer.new len.new) result }
 {
     into_compressed(alloc, encoder, buffer, len)
-}
-
-/// A decoder of words, such as [`into_compressed`] gives, before its first symbol.
-pub fn from_compressed<Word: WordOf<State>, State: BitArray>(words: &[Word]) -> DecoderParts<State>
-    requires { IsSizes Word.BITS State.BITS }
-    ensures call { RangeBegins Word.number State.number Word.BITS State.BITS words.now result }
-{
-    let cursor = Cursor::new_at_write_beginning(words);
-    match RangeDecoder::<Word, State, Cursor<Word, &[Word]>>::with_backend(cursor) {
-        Ok(decoder) => decoder_parts(decoder, words.len()),
-        Err(never) => match never {},
-    }
 }

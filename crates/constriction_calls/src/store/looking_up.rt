@@ -8,7 +8,7 @@ ghost use Rattle.constriction_store.specs.Stores.{run_from};
 ghost use Rattle.constriction_calls.specs.StoreCalls.{StoreGives};
 
 use crate::models::{Models, Weights};
-use crate::range::taking::take_list;
+use crate::range::decoding::take_list;
 use crate::refusal::Refusal;
 use crate::rows::adding::is_total;
 use constriction_base::backends::Seek;
@@ -75,7 +75,8 @@ pub fn chunk<Word: WordOf<State>, State: BitArray, P: WordOf<Word>, const PRECIS
     let Ok(state) = RangeCoderState::<Word, State>::new(lower, range) else {
         return Err(Refusal::InvalidData);
     };
-    let Some(list) = Models::<P, PRECISION>::list(&Weights { weights }, alloc, symbols, false) else {
+    let Some(list) = Models::<P, PRECISION>::list(&Weights { weights }, alloc, symbols, false)
+    else {
         return Err(Refusal::NoMemory);
     };
     let decoder = decoder_at::<Word, State>(words, pos, state);

@@ -21,7 +21,7 @@ returns-then-can g c =
     let fit = memory_fit g.P.BitArray.number P c.args.lefts.now c.args.ps.now c.in-Err-NoMemory.field-0 c.in-Err-NoMemory.field-0-is c.in-Err-NoMemory.ensures.wrong_length c.in-Err-NoMemory.ensures.wrong_interval in
     let can : CanEncode number state w s c.args.encoder.now (length c.args.ps.now) = search rules in
     let counted : CanEncode number state w s c.args.encoder.now (length ps) = subst (λ n. CanEncode number state w s c.args.encoder.now n) (sym (length-map c.args.ps.now g.P.BitArray.number)) can in
-    record { call = puts_room number state w s P (AsIntervals lefts) ps old within fit counted (fit_known P lefts ps fit) old refl refusals.NoMemory tt; }
+    record { call = puts_room number state w s P (AsIntervals lefts) ps old within fit counted (fit_known P lefts ps fit) old refl refusals.NoMemory tt }
 
 pub returns-else-can : goal.returns-else-can
 returns-else-can g c =

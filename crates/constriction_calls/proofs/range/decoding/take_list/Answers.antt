@@ -2,7 +2,7 @@ use Rattle.std.proofs.Common.{◌+◌, ◌∷◌, ℕ, List, ap, drop, subst, sy
 use Rattle.constriction_base.specs.Models.{Item, Model, IsModel, item_of, pairs_of}
 use Rattle.constriction_queue_laws.specs.Symbols.{FindsAll}
 use Rattle.constriction_calls.proofs.RangeTaking.{pairs_more, pairs_next, never_refused, next_found, one_more}
-use Rattle.constriction_calls.proofs.range.taking.take_list.Goals as goal
+use Rattle.constriction_calls.proofs.range.decoding.take_list.Goals as goal
 
 pub returns-in-Err-clause-err : goal.returns-in-Err-clause-err
 returns-in-Err-clause-err g c = λ words symbols old last at all count.
