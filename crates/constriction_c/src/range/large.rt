@@ -2,6 +2,7 @@
 
 ghost use Rattle.std.specs.Prelude.{◌≡◌, map};
 ghost use Rattle.constriction_c.specs.Codes.{Told, answer_of};
+ghost use Rattle.constriction_c.specs.Ranges.{large_decoder, large_encoder};
 ghost use Rattle.constriction_calls.specs.Coded.{AsIntervals, ByRows, ByWeights, InFamily};
 ghost use Rattle.constriction_calls.specs.RangeCalls.{IsNew, IsSealed, IsSelfSealed, RangeBegins, RangeMayEnd, RangePuts, RangeSeals, RangeSeeks, RangeTakes, kept_in};
 
@@ -10,18 +11,94 @@ use constriction_calls::models::{Families, Rows, Weights};
 use constriction_calls::range::decoding::decode;
 use constriction_calls::range::encoding::{encode, encode_intervals};
 use constriction_calls::range::parts::{DecoderParts, EncoderParts};
-use constriction_calls::range::positions::{maybe_exhausted, seek};
-use constriction_calls::range::words::{from_compressed, into_compressed, into_self_delimited};
+use constriction_calls::range::positions::{from_compressed, maybe_exhausted, seek};
+use constriction_calls::range::words::{into_compressed, into_self_delimited};
 use constriction_words::BitArray;
 use std::alloc::Global;
 
+/// A range encoder between two calls, as [`EncoderParts`] is one.
+#[repr(C)]
+#[derive(Drop, Clone, Copy)]
+pub struct RangeEncoderU32 {
+    pub lower: u64,
+    pub range: u64,
+    pub held: usize,
+    pub first: u32,
+}
+
+/// A range decoder between two calls, as [`DecoderParts`] is one.
+#[repr(C)]
+#[derive(Drop, Clone, Copy)]
+pub struct RangeDecoderU32 {
+    pub lower: u64,
+    pub range: u64,
+    pub point: u64,
+    pub pos: usize,
+}
+
+impl RangeEncoderU32 {
+    /// Its numbers, as the calls take them.
+    #[inline]
+    fn parts(&self) -> EncoderParts<u32, u64>
+        ensures { result ≡ large_encoder self.now }
+    {
+        EncoderParts {
+            lower: self.lower,
+            range: self.range,
+            held: self.held,
+            first: self.first,
+        }
+    }
+
+    /// The encoder of these numbers.
+    #[inline]
+    fn of(parts: EncoderParts<u32, u64>) -> Self
+        ensures { large_encoder result ≡ parts }
+    {
+        RangeEncoderU32 {
+            lower: parts.lower,
+            range: parts.range,
+            held: parts.held,
+            first: parts.first,
+        }
+    }
+}
+
+impl RangeDecoderU32 {
+    /// Its numbers, as the calls take them.
+    #[inline]
+    fn parts(&self) -> DecoderParts<u64>
+        ensures { result ≡ large_decoder self.now }
+    {
+        DecoderParts {
+            lower: self.lower,
+            range: self.range,
+            point: self.point,
+            pos: self.pos,
+        }
+    }
+
+    /// The decoder of these numbers.
+    #[inline]
+    fn of(parts: DecoderParts<u64>) -> Self
+        ensures { large_decoder result ≡ parts }
+    {
+        RangeDecoderU32 {
+            lower: parts.lower,
+            range: parts.range,
+            point: parts.point,
+            pos: parts.pos,
+        }
+    }
+}
+
 /// An encoder without symbols.
 #[unsafe(no_mangle)]
-pub extern "C" fn constriction_range_encoder_u32(encoder: &mut EncoderParts<u32, u64>) -> u32
+pub extern "C" fn constriction_range_encoder_u32(encoder: &mut RangeEncoderU32) -> u32
     ensures done { result ≡ 0 }
-    ensures call { IsNew ⟦<u32 as BitArray>⟧.number ⟦<u64 as BitArray>⟧.number 32 64 encoder.new }
+    ensures call { IsNew ⟦<u32 as BitArray>⟧.number ⟦<u64 as BitArray>⟧.number 32 64 (large_encoder encoder.new) }
 {
-    *encoder = EncoderParts {
+    *encoder = RangeEncoderU32 {
         lower: 0,
         range: u64::MAX,
         held: 0,
@@ -34,7 +111,7 @@ pub extern "C" fn constriction_range_encoder_u32(encoder: &mut EncoderParts<u32,
 #[unsafe(no_mangle)]
 pub extern "C" fn constriction_range_encode_u32(
     alloc: Global,
-    encoder: &mut EncoderParts<u32, u64>,
+    encoder: &mut RangeEncoderU32,
     words: &mut [u32],
     len: &mut usize,
     weights: &[u32],
@@ -43,10 +120,12 @@ pub extern "C" fn constriction_range_encode_u32(
 ) -> u32
     ensures call { Told result needed.old needed.new (RangePuts ⟦<u32 as BitArray>⟧.number ⟦<u64 as BitArray>⟧.number
         32 64 24 (ByWeights (map ⟦<u32 as BitArray>⟧.number weights.now)) symbols.now
-        (kept_in encoder.old words.old len.old) (kept_in encoder.new words.new len.new)) }
+        (kept_in (large_encoder encoder.old) words.old len.old) (kept_in (large_encoder encoder.new) words.new len.new)) }
 {
     let one = Weights { weights };
-    let answer = encode::<_, _, u32, _, 24>(alloc, encoder, words, len, &one, symbols);
+    let mut parts = encoder.parts();
+    let answer = encode::<_, _, u32, _, 24>(alloc, &mut parts, words, len, &one, symbols);
+    *encoder = RangeEncoderU32::of(parts);
     code_of(answer, needed)
 }
 
@@ -54,7 +133,7 @@ pub extern "C" fn constriction_range_encode_u32(
 #[unsafe(no_mangle)]
 pub extern "C" fn constriction_range_encode_each_u32(
     alloc: Global,
-    encoder: &mut EncoderParts<u32, u64>,
+    encoder: &mut RangeEncoderU32,
     words: &mut [u32],
     len: &mut usize,
     weights: &[u32],
@@ -64,10 +143,12 @@ pub extern "C" fn constriction_range_encode_each_u32(
 ) -> u32
     ensures call { Told result needed.old needed.new (RangePuts ⟦<u32 as BitArray>⟧.number ⟦<u64 as BitArray>⟧.number
         32 64 24 (ByRows width (map ⟦<u32 as BitArray>⟧.number weights.now)) symbols.now
-        (kept_in encoder.old words.old len.old) (kept_in encoder.new words.new len.new)) }
+        (kept_in (large_encoder encoder.old) words.old len.old) (kept_in (large_encoder encoder.new) words.new len.new)) }
 {
     let rows = Rows { weights, width };
-    let answer = encode::<_, _, u32, _, 24>(alloc, encoder, words, len, &rows, symbols);
+    let mut parts = encoder.parts();
+    let answer = encode::<_, _, u32, _, 24>(alloc, &mut parts, words, len, &rows, symbols);
+    *encoder = RangeEncoderU32::of(parts);
     code_of(answer, needed)
 }
 
@@ -75,7 +156,7 @@ pub extern "C" fn constriction_range_encode_each_u32(
 #[unsafe(no_mangle)]
 pub extern "C" fn constriction_range_encode_intervals_u32(
     alloc: Global,
-    encoder: &mut EncoderParts<u32, u64>,
+    encoder: &mut RangeEncoderU32,
     words: &mut [u32],
     len: &mut usize,
     lefts: &[u32],
@@ -84,9 +165,11 @@ pub extern "C" fn constriction_range_encode_intervals_u32(
 ) -> u32
     ensures call { Told result needed.old needed.new (RangePuts ⟦<u32 as BitArray>⟧.number ⟦<u64 as BitArray>⟧.number
         32 64 24 (AsIntervals (map ⟦<u32 as BitArray>⟧.number lefts.now)) (map ⟦<u32 as BitArray>⟧.number ps.now)
-        (kept_in encoder.old words.old len.old) (kept_in encoder.new words.new len.new)) }
+        (kept_in (large_encoder encoder.old) words.old len.old) (kept_in (large_encoder encoder.new) words.new len.new)) }
 {
-    let answer = encode_intervals::<_, _, _, 24>(alloc, encoder, words, len, lefts, ps);
+    let mut parts = encoder.parts();
+    let answer = encode_intervals::<_, _, _, 24>(alloc, &mut parts, words, len, lefts, ps);
+    *encoder = RangeEncoderU32::of(parts);
     code_of(answer, needed)
 }
 
@@ -94,7 +177,7 @@ pub extern "C" fn constriction_range_encode_intervals_u32(
 #[unsafe(no_mangle)]
 pub extern "C" fn constriction_range_encode_quantized_u32(
     alloc: Global,
-    encoder: &mut EncoderParts<u32, u64>,
+    encoder: &mut RangeEncoderU32,
     words: &mut [u32],
     len: &mut usize,
     family: u32,
@@ -107,7 +190,7 @@ pub extern "C" fn constriction_range_encode_quantized_u32(
 ) -> u32
     ensures call { Told result needed.old needed.new (RangePuts ⟦<u32 as BitArray>⟧.number ⟦<u64 as BitArray>⟧.number 32 64 24
         (InFamily record { family = family; min = min; max = max; locations = locations.now; scales = scales.now }) symbols.now
-        (kept_in encoder.old words.old len.old) (kept_in encoder.new words.new len.new)) }
+        (kept_in (large_encoder encoder.old) words.old len.old) (kept_in (large_encoder encoder.new) words.new len.new)) }
 {
     let models = Families {
         family,
@@ -116,7 +199,9 @@ pub extern "C" fn constriction_range_encode_quantized_u32(
         locations,
         scales,
     };
-    let answer = encode::<_, _, u32, _, 24>(alloc, encoder, words, len, &models, symbols);
+    let mut parts = encoder.parts();
+    let answer = encode::<_, _, u32, _, 24>(alloc, &mut parts, words, len, &models, symbols);
+    *encoder = RangeEncoderU32::of(parts);
     code_of(answer, needed)
 }
 
@@ -124,42 +209,45 @@ pub extern "C" fn constriction_range_encode_quantized_u32(
 #[unsafe(no_mangle)]
 pub extern "C" fn constriction_range_into_compressed_u32(
     alloc: Global,
-    encoder: &EncoderParts<u32, u64>,
+    encoder: &RangeEncoderU32,
     words: &mut [u32],
     len: &mut usize,
     needed: &mut usize,
 ) -> u32
     ensures call { Told result needed.old needed.new (RangeSeals ⟦<u32 as BitArray>⟧.number ⟦<u64 as BitArray>⟧.number
-        32 64 (IsSealed 32 64) (kept_in encoder.now words.old len.old) (kept_in encoder.now words.new len.new)) }
+        32 64 (IsSealed 32 64) (kept_in (large_encoder encoder.now) words.old len.old) (kept_in (large_encoder encoder.now) words.new len.new)) }
 {
-    code_of(into_compressed(alloc, encoder, words, len), needed)
+    code_of(into_compressed(alloc, &encoder.parts(), words, len), needed)
 }
 
 /// `into_self_delimited`: the same with a seal that holds whatever words follow. It is the other seal, since a state is two words.
 #[unsafe(no_mangle)]
 pub extern "C" fn constriction_range_into_self_delimited_u32(
     alloc: Global,
-    encoder: &EncoderParts<u32, u64>,
+    encoder: &RangeEncoderU32,
     words: &mut [u32],
     len: &mut usize,
     needed: &mut usize,
 ) -> u32
     ensures call { Told result needed.old needed.new (RangeSeals ⟦<u32 as BitArray>⟧.number ⟦<u64 as BitArray>⟧.number
-        32 64 (IsSelfSealed 32 64) (kept_in encoder.now words.old len.old) (kept_in encoder.now words.new len.new)) }
+        32 64 (IsSelfSealed 32 64) (kept_in (large_encoder encoder.now) words.old len.old) (kept_in (large_encoder encoder.now) words.new len.new)) }
 {
-    code_of(into_self_delimited(alloc, encoder, words, len), needed)
+    code_of(
+        into_self_delimited(alloc, &encoder.parts(), words, len),
+        needed,
+    )
 }
 
 /// `from_compressed`: a decoder of words, before its first symbol.
 #[unsafe(no_mangle)]
 pub extern "C" fn constriction_range_from_compressed_u32(
     words: &[u32],
-    decoder: &mut DecoderParts<u64>,
+    decoder: &mut RangeDecoderU32,
 ) -> u32
     ensures done { result ≡ 0 }
-    ensures call { RangeBegins ⟦<u32 as BitArray>⟧.number ⟦<u64 as BitArray>⟧.number 32 64 words.now decoder.new }
+    ensures call { RangeBegins ⟦<u32 as BitArray>⟧.number ⟦<u64 as BitArray>⟧.number 32 64 words.now (large_decoder decoder.new) }
 {
-    *decoder = from_compressed(words);
+    *decoder = RangeDecoderU32::of(from_compressed(words));
     0
 }
 
@@ -167,40 +255,46 @@ pub extern "C" fn constriction_range_from_compressed_u32(
 #[unsafe(no_mangle)]
 pub extern "C" fn constriction_range_decode_u32(
     alloc: Global,
-    decoder: &mut DecoderParts<u64>,
+    decoder: &mut RangeDecoderU32,
     words: &[u32],
     weights: &[u32],
     symbols: &mut [usize],
 ) -> u32
     ensures call { RangeTakes ⟦<u64 as BitArray>⟧.number 32 64 24 (ByWeights (map ⟦<u32 as BitArray>⟧.number weights.now))
-        (map ⟦<u32 as BitArray>⟧.number words.now) decoder.old decoder.new symbols.old symbols.new (answer_of result 0) }
+        (map ⟦<u32 as BitArray>⟧.number words.now) (large_decoder decoder.old) (large_decoder decoder.new) symbols.old symbols.new (answer_of result 0) }
 {
     let one = Weights { weights };
-    code_without_space(decode::<_, _, u32, _, 24>(alloc, decoder, words, &one, symbols))
+    let mut parts = decoder.parts();
+    let answer = decode::<_, _, u32, _, 24>(alloc, &mut parts, words, &one, symbols);
+    *decoder = RangeDecoderU32::of(parts);
+    code_without_space(answer)
 }
 
 /// `decode`, each symbol by the next row of `width` weights.
 #[unsafe(no_mangle)]
 pub extern "C" fn constriction_range_decode_each_u32(
     alloc: Global,
-    decoder: &mut DecoderParts<u64>,
+    decoder: &mut RangeDecoderU32,
     words: &[u32],
     weights: &[u32],
     width: usize,
     symbols: &mut [usize],
 ) -> u32
     ensures call { RangeTakes ⟦<u64 as BitArray>⟧.number 32 64 24 (ByRows width (map ⟦<u32 as BitArray>⟧.number weights.now))
-        (map ⟦<u32 as BitArray>⟧.number words.now) decoder.old decoder.new symbols.old symbols.new (answer_of result 0) }
+        (map ⟦<u32 as BitArray>⟧.number words.now) (large_decoder decoder.old) (large_decoder decoder.new) symbols.old symbols.new (answer_of result 0) }
 {
     let rows = Rows { weights, width };
-    code_without_space(decode::<_, _, u32, _, 24>(alloc, decoder, words, &rows, symbols))
+    let mut parts = decoder.parts();
+    let answer = decode::<_, _, u32, _, 24>(alloc, &mut parts, words, &rows, symbols);
+    *decoder = RangeDecoderU32::of(parts);
+    code_without_space(answer)
 }
 
 /// `decode`, each symbol by the model of its own location and scale.
 #[unsafe(no_mangle)]
 pub extern "C" fn constriction_range_decode_quantized_u32(
     alloc: Global,
-    decoder: &mut DecoderParts<u64>,
+    decoder: &mut RangeDecoderU32,
     words: &[u32],
     family: u32,
     min: i32,
@@ -211,7 +305,7 @@ pub extern "C" fn constriction_range_decode_quantized_u32(
 ) -> u32
     ensures call { RangeTakes ⟦<u64 as BitArray>⟧.number 32 64 24
         (InFamily record { family = family; min = min; max = max; locations = locations.now; scales = scales.now })
-        (map ⟦<u32 as BitArray>⟧.number words.now) decoder.old decoder.new symbols.old symbols.new (answer_of result 0) }
+        (map ⟦<u32 as BitArray>⟧.number words.now) (large_decoder decoder.old) (large_decoder decoder.new) symbols.old symbols.new (answer_of result 0) }
 {
     let models = Families {
         family,
@@ -220,33 +314,39 @@ pub extern "C" fn constriction_range_decode_quantized_u32(
         locations,
         scales,
     };
-    code_without_space(decode::<_, _, u32, _, 24>(alloc, decoder, words, &models, symbols))
+    let mut parts = decoder.parts();
+    let answer = decode::<_, _, u32, _, 24>(alloc, &mut parts, words, &models, symbols);
+    *decoder = RangeDecoderU32::of(parts);
+    code_without_space(answer)
 }
 
 /// `seek`: a decoder at the position that an encoder had.
 #[unsafe(no_mangle)]
 pub extern "C" fn constriction_range_seek_u32(
-    decoder: &mut DecoderParts<u64>,
+    decoder: &mut RangeDecoderU32,
     words: &[u32],
     pos: usize,
     lower: u64,
     range: u64,
 ) -> u32
     ensures call { RangeSeeks ⟦<u32 as BitArray>⟧.number ⟦<u64 as BitArray>⟧.number 32 64 words.now pos lower range
-        decoder.old decoder.new (answer_of result 0) }
+        (large_decoder decoder.old) (large_decoder decoder.new) (answer_of result 0) }
 {
-    code_without_space(seek(decoder, words, pos, lower, range))
+    let mut parts = decoder.parts();
+    let answer = seek(&mut parts, words, pos, lower, range);
+    *decoder = RangeDecoderU32::of(parts);
+    code_without_space(answer)
 }
 
 /// `maybe_exhausted`: whether the words may have ended where the decoder stands, as 1 or 0.
 #[unsafe(no_mangle)]
 pub extern "C" fn constriction_range_maybe_exhausted_u32(
-    decoder: &DecoderParts<u64>,
+    decoder: &RangeDecoderU32,
     words: &[u32],
     maybe: &mut u32,
 ) -> u32
-    ensures call { RangeMayEnd ⟦<u64 as BitArray>⟧.number 32 64 (map ⟦<u32 as BitArray>⟧.number words.now) decoder.now
+    ensures call { RangeMayEnd ⟦<u64 as BitArray>⟧.number 32 64 (map ⟦<u32 as BitArray>⟧.number words.now) (large_decoder decoder.now)
         maybe.old maybe.new (answer_of result 0) }
 {
-    code_without_space(maybe_exhausted(decoder, words, maybe))
+    code_without_space(maybe_exhausted(&decoder.parts(), words, maybe))
 }

@@ -2,6 +2,7 @@
 
 ghost use Rattle.std.specs.Prelude.{◌≡◌, map};
 ghost use Rattle.constriction_c.specs.Codes.{Told, answer_of};
+ghost use Rattle.constriction_c.specs.Ranges.{small_decoder, small_encoder};
 ghost use Rattle.constriction_calls.specs.Coded.{AsIntervals, ByRows, ByWeights, InFamily};
 ghost use Rattle.constriction_calls.specs.RangeCalls.{IsNew, IsSealed, IsSelfSealed, RangeBegins, RangeMayEnd, RangePuts, RangeSeals, RangeSeeks, RangeTakes, kept_in};
 
@@ -10,18 +11,94 @@ use constriction_calls::models::{Families, Rows, Weights};
 use constriction_calls::range::decoding::decode;
 use constriction_calls::range::encoding::{encode, encode_intervals};
 use constriction_calls::range::parts::{DecoderParts, EncoderParts};
-use constriction_calls::range::positions::{maybe_exhausted, seek};
-use constriction_calls::range::words::{from_compressed, into_compressed, into_self_delimited};
+use constriction_calls::range::positions::{from_compressed, maybe_exhausted, seek};
+use constriction_calls::range::words::{into_compressed, into_self_delimited};
 use constriction_words::BitArray;
 use std::alloc::Global;
 
+/// A range encoder between two calls, as [`EncoderParts`] is one.
+#[repr(C)]
+#[derive(Drop, Clone, Copy)]
+pub struct RangeEncoderU16 {
+    pub lower: u32,
+    pub range: u32,
+    pub held: usize,
+    pub first: u16,
+}
+
+/// A range decoder between two calls, as [`DecoderParts`] is one.
+#[repr(C)]
+#[derive(Drop, Clone, Copy)]
+pub struct RangeDecoderU16 {
+    pub lower: u32,
+    pub range: u32,
+    pub point: u32,
+    pub pos: usize,
+}
+
+impl RangeEncoderU16 {
+    /// Its numbers, as the calls take them.
+    #[inline]
+    fn parts(&self) -> EncoderParts<u16, u32>
+        ensures { result ≡ small_encoder self.now }
+    {
+        EncoderParts {
+            lower: self.lower,
+            range: self.range,
+            held: self.held,
+            first: self.first,
+        }
+    }
+
+    /// The encoder of these numbers.
+    #[inline]
+    fn of(parts: EncoderParts<u16, u32>) -> Self
+        ensures { small_encoder result ≡ parts }
+    {
+        RangeEncoderU16 {
+            lower: parts.lower,
+            range: parts.range,
+            held: parts.held,
+            first: parts.first,
+        }
+    }
+}
+
+impl RangeDecoderU16 {
+    /// Its numbers, as the calls take them.
+    #[inline]
+    fn parts(&self) -> DecoderParts<u32>
+        ensures { result ≡ small_decoder self.now }
+    {
+        DecoderParts {
+            lower: self.lower,
+            range: self.range,
+            point: self.point,
+            pos: self.pos,
+        }
+    }
+
+    /// The decoder of these numbers.
+    #[inline]
+    fn of(parts: DecoderParts<u32>) -> Self
+        ensures { small_decoder result ≡ parts }
+    {
+        RangeDecoderU16 {
+            lower: parts.lower,
+            range: parts.range,
+            point: parts.point,
+            pos: parts.pos,
+        }
+    }
+}
+
 /// An encoder without symbols.
 #[unsafe(no_mangle)]
-pub extern "C" fn constriction_range_encoder_u16(encoder: &mut EncoderParts<u16, u32>) -> u32
+pub extern "C" fn constriction_range_encoder_u16(encoder: &mut RangeEncoderU16) -> u32
     ensures done { result ≡ 0 }
-    ensures call { IsNew ⟦<u16 as BitArray>⟧.number ⟦<u32 as BitArray>⟧.number 16 32 encoder.new }
+    ensures call { IsNew ⟦<u16 as BitArray>⟧.number ⟦<u32 as BitArray>⟧.number 16 32 (small_encoder encoder.new) }
 {
-    *encoder = EncoderParts {
+    *encoder = RangeEncoderU16 {
         lower: 0,
         range: u32::MAX,
         held: 0,
@@ -34,7 +111,7 @@ pub extern "C" fn constriction_range_encoder_u16(encoder: &mut EncoderParts<u16,
 #[unsafe(no_mangle)]
 pub extern "C" fn constriction_range_encode_u16(
     alloc: Global,
-    encoder: &mut EncoderParts<u16, u32>,
+    encoder: &mut RangeEncoderU16,
     words: &mut [u16],
     len: &mut usize,
     weights: &[u16],
@@ -43,10 +120,12 @@ pub extern "C" fn constriction_range_encode_u16(
 ) -> u32
     ensures call { Told result needed.old needed.new (RangePuts ⟦<u16 as BitArray>⟧.number ⟦<u32 as BitArray>⟧.number
         16 32 12 (ByWeights (map ⟦<u16 as BitArray>⟧.number weights.now)) symbols.now
-        (kept_in encoder.old words.old len.old) (kept_in encoder.new words.new len.new)) }
+        (kept_in (small_encoder encoder.old) words.old len.old) (kept_in (small_encoder encoder.new) words.new len.new)) }
 {
     let one = Weights { weights };
-    let answer = encode::<_, _, u16, _, 12>(alloc, encoder, words, len, &one, symbols);
+    let mut parts = encoder.parts();
+    let answer = encode::<_, _, u16, _, 12>(alloc, &mut parts, words, len, &one, symbols);
+    *encoder = RangeEncoderU16::of(parts);
     code_of(answer, needed)
 }
 
@@ -54,7 +133,7 @@ pub extern "C" fn constriction_range_encode_u16(
 #[unsafe(no_mangle)]
 pub extern "C" fn constriction_range_encode_each_u16(
     alloc: Global,
-    encoder: &mut EncoderParts<u16, u32>,
+    encoder: &mut RangeEncoderU16,
     words: &mut [u16],
     len: &mut usize,
     weights: &[u16],
@@ -64,10 +143,12 @@ pub extern "C" fn constriction_range_encode_each_u16(
 ) -> u32
     ensures call { Told result needed.old needed.new (RangePuts ⟦<u16 as BitArray>⟧.number ⟦<u32 as BitArray>⟧.number
         16 32 12 (ByRows width (map ⟦<u16 as BitArray>⟧.number weights.now)) symbols.now
-        (kept_in encoder.old words.old len.old) (kept_in encoder.new words.new len.new)) }
+        (kept_in (small_encoder encoder.old) words.old len.old) (kept_in (small_encoder encoder.new) words.new len.new)) }
 {
     let rows = Rows { weights, width };
-    let answer = encode::<_, _, u16, _, 12>(alloc, encoder, words, len, &rows, symbols);
+    let mut parts = encoder.parts();
+    let answer = encode::<_, _, u16, _, 12>(alloc, &mut parts, words, len, &rows, symbols);
+    *encoder = RangeEncoderU16::of(parts);
     code_of(answer, needed)
 }
 
@@ -75,7 +156,7 @@ pub extern "C" fn constriction_range_encode_each_u16(
 #[unsafe(no_mangle)]
 pub extern "C" fn constriction_range_encode_intervals_u16(
     alloc: Global,
-    encoder: &mut EncoderParts<u16, u32>,
+    encoder: &mut RangeEncoderU16,
     words: &mut [u16],
     len: &mut usize,
     lefts: &[u16],
@@ -84,9 +165,11 @@ pub extern "C" fn constriction_range_encode_intervals_u16(
 ) -> u32
     ensures call { Told result needed.old needed.new (RangePuts ⟦<u16 as BitArray>⟧.number ⟦<u32 as BitArray>⟧.number
         16 32 12 (AsIntervals (map ⟦<u16 as BitArray>⟧.number lefts.now)) (map ⟦<u16 as BitArray>⟧.number ps.now)
-        (kept_in encoder.old words.old len.old) (kept_in encoder.new words.new len.new)) }
+        (kept_in (small_encoder encoder.old) words.old len.old) (kept_in (small_encoder encoder.new) words.new len.new)) }
 {
-    let answer = encode_intervals::<_, _, _, 12>(alloc, encoder, words, len, lefts, ps);
+    let mut parts = encoder.parts();
+    let answer = encode_intervals::<_, _, _, 12>(alloc, &mut parts, words, len, lefts, ps);
+    *encoder = RangeEncoderU16::of(parts);
     code_of(answer, needed)
 }
 
@@ -94,7 +177,7 @@ pub extern "C" fn constriction_range_encode_intervals_u16(
 #[unsafe(no_mangle)]
 pub extern "C" fn constriction_range_encode_quantized_u16(
     alloc: Global,
-    encoder: &mut EncoderParts<u16, u32>,
+    encoder: &mut RangeEncoderU16,
     words: &mut [u16],
     len: &mut usize,
     family: u32,
@@ -107,7 +190,7 @@ pub extern "C" fn constriction_range_encode_quantized_u16(
 ) -> u32
     ensures call { Told result needed.old needed.new (RangePuts ⟦<u16 as BitArray>⟧.number ⟦<u32 as BitArray>⟧.number 16 32 12
         (InFamily record { family = family; min = min; max = max; locations = locations.now; scales = scales.now }) symbols.now
-        (kept_in encoder.old words.old len.old) (kept_in encoder.new words.new len.new)) }
+        (kept_in (small_encoder encoder.old) words.old len.old) (kept_in (small_encoder encoder.new) words.new len.new)) }
 {
     let models = Families {
         family,
@@ -116,7 +199,9 @@ pub extern "C" fn constriction_range_encode_quantized_u16(
         locations,
         scales,
     };
-    let answer = encode::<_, _, u16, _, 12>(alloc, encoder, words, len, &models, symbols);
+    let mut parts = encoder.parts();
+    let answer = encode::<_, _, u16, _, 12>(alloc, &mut parts, words, len, &models, symbols);
+    *encoder = RangeEncoderU16::of(parts);
     code_of(answer, needed)
 }
 
@@ -124,42 +209,45 @@ pub extern "C" fn constriction_range_encode_quantized_u16(
 #[unsafe(no_mangle)]
 pub extern "C" fn constriction_range_into_compressed_u16(
     alloc: Global,
-    encoder: &EncoderParts<u16, u32>,
+    encoder: &RangeEncoderU16,
     words: &mut [u16],
     len: &mut usize,
     needed: &mut usize,
 ) -> u32
     ensures call { Told result needed.old needed.new (RangeSeals ⟦<u16 as BitArray>⟧.number ⟦<u32 as BitArray>⟧.number
-        16 32 (IsSealed 16 32) (kept_in encoder.now words.old len.old) (kept_in encoder.now words.new len.new)) }
+        16 32 (IsSealed 16 32) (kept_in (small_encoder encoder.now) words.old len.old) (kept_in (small_encoder encoder.now) words.new len.new)) }
 {
-    code_of(into_compressed(alloc, encoder, words, len), needed)
+    code_of(into_compressed(alloc, &encoder.parts(), words, len), needed)
 }
 
 /// `into_self_delimited`: the same with a seal that holds whatever words follow. It is the other seal, since a state is two words.
 #[unsafe(no_mangle)]
 pub extern "C" fn constriction_range_into_self_delimited_u16(
     alloc: Global,
-    encoder: &EncoderParts<u16, u32>,
+    encoder: &RangeEncoderU16,
     words: &mut [u16],
     len: &mut usize,
     needed: &mut usize,
 ) -> u32
     ensures call { Told result needed.old needed.new (RangeSeals ⟦<u16 as BitArray>⟧.number ⟦<u32 as BitArray>⟧.number
-        16 32 (IsSelfSealed 16 32) (kept_in encoder.now words.old len.old) (kept_in encoder.now words.new len.new)) }
+        16 32 (IsSelfSealed 16 32) (kept_in (small_encoder encoder.now) words.old len.old) (kept_in (small_encoder encoder.now) words.new len.new)) }
 {
-    code_of(into_self_delimited(alloc, encoder, words, len), needed)
+    code_of(
+        into_self_delimited(alloc, &encoder.parts(), words, len),
+        needed,
+    )
 }
 
 /// `from_compressed`: a decoder of words, before its first symbol.
 #[unsafe(no_mangle)]
 pub extern "C" fn constriction_range_from_compressed_u16(
     words: &[u16],
-    decoder: &mut DecoderParts<u32>,
+    decoder: &mut RangeDecoderU16,
 ) -> u32
     ensures done { result ≡ 0 }
-    ensures call { RangeBegins ⟦<u16 as BitArray>⟧.number ⟦<u32 as BitArray>⟧.number 16 32 words.now decoder.new }
+    ensures call { RangeBegins ⟦<u16 as BitArray>⟧.number ⟦<u32 as BitArray>⟧.number 16 32 words.now (small_decoder decoder.new) }
 {
-    *decoder = from_compressed(words);
+    *decoder = RangeDecoderU16::of(from_compressed(words));
     0
 }
 
@@ -167,40 +255,46 @@ pub extern "C" fn constriction_range_from_compressed_u16(
 #[unsafe(no_mangle)]
 pub extern "C" fn constriction_range_decode_u16(
     alloc: Global,
-    decoder: &mut DecoderParts<u32>,
+    decoder: &mut RangeDecoderU16,
     words: &[u16],
     weights: &[u16],
     symbols: &mut [usize],
 ) -> u32
     ensures call { RangeTakes ⟦<u32 as BitArray>⟧.number 16 32 12 (ByWeights (map ⟦<u16 as BitArray>⟧.number weights.now))
-        (map ⟦<u16 as BitArray>⟧.number words.now) decoder.old decoder.new symbols.old symbols.new (answer_of result 0) }
+        (map ⟦<u16 as BitArray>⟧.number words.now) (small_decoder decoder.old) (small_decoder decoder.new) symbols.old symbols.new (answer_of result 0) }
 {
     let one = Weights { weights };
-    code_without_space(decode::<_, _, u16, _, 12>(alloc, decoder, words, &one, symbols))
+    let mut parts = decoder.parts();
+    let answer = decode::<_, _, u16, _, 12>(alloc, &mut parts, words, &one, symbols);
+    *decoder = RangeDecoderU16::of(parts);
+    code_without_space(answer)
 }
 
 /// `decode`, each symbol by the next row of `width` weights.
 #[unsafe(no_mangle)]
 pub extern "C" fn constriction_range_decode_each_u16(
     alloc: Global,
-    decoder: &mut DecoderParts<u32>,
+    decoder: &mut RangeDecoderU16,
     words: &[u16],
     weights: &[u16],
     width: usize,
     symbols: &mut [usize],
 ) -> u32
     ensures call { RangeTakes ⟦<u32 as BitArray>⟧.number 16 32 12 (ByRows width (map ⟦<u16 as BitArray>⟧.number weights.now))
-        (map ⟦<u16 as BitArray>⟧.number words.now) decoder.old decoder.new symbols.old symbols.new (answer_of result 0) }
+        (map ⟦<u16 as BitArray>⟧.number words.now) (small_decoder decoder.old) (small_decoder decoder.new) symbols.old symbols.new (answer_of result 0) }
 {
     let rows = Rows { weights, width };
-    code_without_space(decode::<_, _, u16, _, 12>(alloc, decoder, words, &rows, symbols))
+    let mut parts = decoder.parts();
+    let answer = decode::<_, _, u16, _, 12>(alloc, &mut parts, words, &rows, symbols);
+    *decoder = RangeDecoderU16::of(parts);
+    code_without_space(answer)
 }
 
 /// `decode`, each symbol by the model of its own location and scale.
 #[unsafe(no_mangle)]
 pub extern "C" fn constriction_range_decode_quantized_u16(
     alloc: Global,
-    decoder: &mut DecoderParts<u32>,
+    decoder: &mut RangeDecoderU16,
     words: &[u16],
     family: u32,
     min: i32,
@@ -211,7 +305,7 @@ pub extern "C" fn constriction_range_decode_quantized_u16(
 ) -> u32
     ensures call { RangeTakes ⟦<u32 as BitArray>⟧.number 16 32 12
         (InFamily record { family = family; min = min; max = max; locations = locations.now; scales = scales.now })
-        (map ⟦<u16 as BitArray>⟧.number words.now) decoder.old decoder.new symbols.old symbols.new (answer_of result 0) }
+        (map ⟦<u16 as BitArray>⟧.number words.now) (small_decoder decoder.old) (small_decoder decoder.new) symbols.old symbols.new (answer_of result 0) }
 {
     let models = Families {
         family,
@@ -220,33 +314,39 @@ pub extern "C" fn constriction_range_decode_quantized_u16(
         locations,
         scales,
     };
-    code_without_space(decode::<_, _, u16, _, 12>(alloc, decoder, words, &models, symbols))
+    let mut parts = decoder.parts();
+    let answer = decode::<_, _, u16, _, 12>(alloc, &mut parts, words, &models, symbols);
+    *decoder = RangeDecoderU16::of(parts);
+    code_without_space(answer)
 }
 
 /// `seek`: a decoder at the position that an encoder had.
 #[unsafe(no_mangle)]
 pub extern "C" fn constriction_range_seek_u16(
-    decoder: &mut DecoderParts<u32>,
+    decoder: &mut RangeDecoderU16,
     words: &[u16],
     pos: usize,
     lower: u32,
     range: u32,
 ) -> u32
     ensures call { RangeSeeks ⟦<u16 as BitArray>⟧.number ⟦<u32 as BitArray>⟧.number 16 32 words.now pos lower range
-        decoder.old decoder.new (answer_of result 0) }
+        (small_decoder decoder.old) (small_decoder decoder.new) (answer_of result 0) }
 {
-    code_without_space(seek(decoder, words, pos, lower, range))
+    let mut parts = decoder.parts();
+    let answer = seek(&mut parts, words, pos, lower, range);
+    *decoder = RangeDecoderU16::of(parts);
+    code_without_space(answer)
 }
 
 /// `maybe_exhausted`: whether the words may have ended where the decoder stands, as 1 or 0.
 #[unsafe(no_mangle)]
 pub extern "C" fn constriction_range_maybe_exhausted_u16(
-    decoder: &DecoderParts<u32>,
+    decoder: &RangeDecoderU16,
     words: &[u16],
     maybe: &mut u32,
 ) -> u32
-    ensures call { RangeMayEnd ⟦<u32 as BitArray>⟧.number 16 32 (map ⟦<u16 as BitArray>⟧.number words.now) decoder.now
+    ensures call { RangeMayEnd ⟦<u32 as BitArray>⟧.number 16 32 (map ⟦<u16 as BitArray>⟧.number words.now) (small_decoder decoder.now)
         maybe.old maybe.new (answer_of result 0) }
 {
-    code_without_space(maybe_exhausted(decoder, words, maybe))
+    code_without_space(maybe_exhausted(&decoder.parts(), words, maybe))
 }
