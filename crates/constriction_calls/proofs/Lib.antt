@@ -9,15 +9,13 @@ pub mod ChainSteps
 mod FamilyAnswers
 mod FamilyCounts
 mod FamilyIntervals
-mod FamilyRange
 mod FamilyTables
 pub mod IntervalRows
 pub mod KnownRows
-pub mod RangeEncoded
-pub mod RangeEnding
-pub mod RangeFollowed
+mod RangeAnswers
 pub mod RangeFrame
-pub mod RangeIntervals
+mod RangeIntervals
+pub mod RangeKept
 pub mod RangeTaking
 pub mod RowItems
 pub mod RowTables

@@ -153,7 +153,7 @@ sealed_behind w s rest r wide words least inside =
     ]
 
 -- ---- what an encoder holds leaves room for its interval
-number_below : (w : ℕ) (ws : List ℕ) → AreWords w ws → number_of (2 ^ w) ws < (2 ^ w) ^ length ws
+pub number_below : (w : ℕ) (ws : List ℕ) → AreWords w ws → number_of (2 ^ w) ws < (2 ^ w) ^ length ws
 number_below w [] all = let one : (2 ^ w) ^ 0 ≡ 1 = pow-zero (2 ^ w) in omega (arith, one)
 number_below w (x ∷ ws) all =
     let more : suc (number_of (2 ^ w) ws) * 2 ^ w ≤ (2 ^ w) ^ length ws * 2 ^ w = mul-le-mul_right (2 ^ w) (number_below w ws all.1) in

@@ -1,25 +1,28 @@
 -- Symbols that words are read as: which symbol a decode takes, and that none is refused.
 use Rattle.std.proofs.Common.{◌≡◌, ℕ, zero, suc, ◌+◌, ◌-◌, ◌*◌, ◌/◌, ◌<◌, ◌≤◌, ◌^◌, ◌⊎◌, ◌↔◌, ◌==◌, Bool, true, false, IsTrue, eq-eqb, ne_eqb, List, [], ◌∷◌, ◌++◌, Result, Ok, Err, Option, inl, inr, length, map, drop, get_or, refl, sym, ap, ◌∙◌, subst, arith, pow_pos, mod-eq_of_lt, zero-add}
+use Rattle.std.proofs.Math.Seq.{drop-nil}
+use Rattle.std.specs.Int.{from_bool}
 use Rattle.std.proofs.lemmas.Bool.{cases_eq, cases_lt}
 use Rattle.std.proofs.lemmas.List.{length-drop, length-map}
 use Rattle.constriction_base.specs.declared.errors.CoderError.{CoderError}
-use Rattle.constriction_base.specs.Steps.{IsSizes, AreWords}
+use Rattle.constriction_base.specs.Steps.{IsSizes, AreWords, Step}
 use Rattle.constriction_base.specs.Tables.{AtEntry}
 use Rattle.constriction_base.specs.Models.{Model, Item, IsModel, item_of, items_of, pairs_of}
 use Rattle.constriction_base.proofs.Entering.{entry_is_step}
 use Rattle.constriction_base.proofs.InTurn.{InTurn-append}
 use Rattle.constriction_stream.specs.Symbols.{ByBackend}
-use Rattle.constriction_queue.specs.Range.{Run, IsAt, number_of_first, offset, start}
+use Rattle.constriction_queue.specs.Range.{Run, IsAt, cut, narrow, number_of_first, offset, start}
 use Rattle.constriction_queue.specs.Decoder.{Decoder, distance, quantile_read}
 use Rattle.constriction_queue.specs.States.{IsPosition}
 use Rattle.constriction_queue.specs.Calls as calls
+use Rattle.constriction_queue.proofs.Narrowing.{by_growth}
 use Rattle.constriction_queue.proofs.Sought.{sought_is_at}
 use Rattle.constriction_queue.proofs.WordsRead.{first_point}
-use Rattle.constriction_calls.specs.Weights.{row_items, row_tables}
-use Rattle.constriction_calls.proofs.RowItems.{rows_are_items}
+use Rattle.constriction_calls.specs.RangeCalls.{IsRead, StandsOver}
+use Rattle.constriction_calls.specs.declared.range.parts.DecoderParts.{DecoderParts}
 use Rattle.constriction_queue_laws.specs.Symbols.{Finds, FindsAll, MayEnd, StandsAt}
 use Rattle.constriction_queue_laws.proofs.ComingBack.{decodes_unique}
-use Rattle.constriction_queue_laws.proofs.ListCalls.{decodes_of, distance_is, ended_of}
+use Rattle.constriction_queue_laws.proofs.ListCalls.{decodes_of, distance_is, ended_of, nears_of}
 
 -- ---- where a cursor stands
 -- so many words are left that those before them are these
@@ -31,16 +34,41 @@ rest_of (suc k) (x ∷ xs) = elim (cases_lt (length xs) (length (drop k xs))) [
   | inr within ↦ (let more : suc (length xs) - length (drop k xs) ≡ suc (length xs - length (drop k xs)) = omega (arith, within) in rw more (rest_of k xs))
 ]
 
-pub stands_of : (w s : ℕ) (words rest : List ℕ) (r : Run) (lower range point l g p count pos : ℕ) → IsAt w s words r lower range point rest
-    → l ≡ lower → g ≡ range → p ≡ point → count ≡ length words → pos ≡ count - length rest → IsAt w s words r l g p (drop pos words)
-stands_of w s words rest r lower range point l g p count pos at l_is g_is p_is count_is pos_is =
-    let rest_is : drop pos words ≡ rest = rw (pos_is, count_is, at.rest_is) (rest_of (r.moves + s / w) words) in
-    record {
-      lower_is = l_is ∙ at.lower_is;
-      range_is = g_is ∙ at.range_is;
-      point_is = p_is ∙ at.point_is;
-      rest_is = rest_is ∙ at.rest_is;
-    }
+-- behind so many, so many more
+pub drop_twice : {A : Type 0} (k n : ℕ) (xs : List A) → drop k (drop n xs) ≡ drop (n + k) xs
+drop_twice k zero xs = (let same : 0 + k ≡ k = omega arith in rw same refl)
+drop_twice k (suc n) [] = drop-nil k ∙ sym (drop-nil (suc n + k))
+drop_twice k (suc n) (x ∷ xs) = (let more : suc n + k ≡ suc (n + k) = omega arith in rw more (drop_twice k n xs))
+
+-- a decoder reads on and never back
+moves_on : {S : Type 0} (w s : ℕ) (words : List ℕ) (items : List (Item S)) (old last : Run) → FindsAll w s words items old last → old.moves ≤ last.moves
+moves_on w s words [] old last all = omega (arith, ap (λ (r : Run). r.moves) all)
+moves_on w s words (item ∷ items) old last (between, (left, p, has, (takes, is)), all) =
+    let e : Step = record { precision = item.model.precision; left = left; p = p } in
+    let more : old.moves ≤ (narrow w s e old).moves = by_growth w s (cut e old) (λ (r : Run). old.moves ≤ r.moves) (λ small. omega arith) (λ large. omega arith) in
+    let here : between.moves ≡ (narrow w s e old).moves = ap (λ (r : Run). r.moves) is in
+    let rest = moves_on w s words items between last all in
+    omega (arith, more, here, rest)
+
+module _ {State B : Type 0} (state : State → ℕ) (w s : ℕ) (buffer words : List ℕ) where
+  -- a decoder of the numbers stands where these do
+  pub stands_read : (run : Run) (d : DecoderParts State) (decoder : Decoder B) → StandsOver state w s buffer words run d → IsRead state buffer d decoder → StandsAt w s words run decoder
+  stands_read run d decoder at is =
+      record { lower_is = is.lower ∙ at.lower_is; range_is = is.range ∙ at.range_is; point_is = is.point ∙ at.point_is; rest_is = is.words ∙ at.rest_is }
+
+  -- and so do the numbers of a decoder that read on
+  pub stands_on : (items : List (Item ℕ)) (run last : Run) (old new : DecoderParts State) (d : Decoder B) → StandsOver state w s buffer words run old
+      → FindsAll w s words items run last → StandsAt w s words last d → state new.lower ≡ d.lower → state new.range ≡ d.range → state new.point ≡ d.point
+      → new.pos ≡ length buffer - length d.words → StandsOver state w s buffer words last new
+  stands_on items run last old new d at all there lower_is range_is point_is pos_is =
+      let moves = moves_on w s words items run last all in
+      let k : ℕ = last.moves - run.moves in
+      let sum : last.moves + s / w ≡ run.moves + s / w + k = omega (arith, moves) in
+      let left : d.words ≡ drop (old.pos + k) buffer =
+      there.rest_is ∙ ap (λ n. drop n words) sum ∙ sym (drop_twice k (run.moves + s / w) words) ∙ ap (λ ws. drop k ws) (sym at.rest_is) ∙ drop_twice k old.pos buffer in
+      let rest : drop new.pos buffer ≡ d.words =
+      ap (λ n. drop n buffer) (pos_is ∙ ap (λ (ws : List ℕ). length buffer - length ws) left) ∙ rest_of (old.pos + k) buffer ∙ sym left in
+      record { lower_is = lower_is ∙ there.lower_is; range_is = range_is ∙ there.range_is; point_is = point_is ∙ there.point_is; rest_is = rest ∙ there.rest_is }
 
 -- a decoder that began at a position, and took its interval
 pub sought_kept : (w s : ℕ) (words part rest : List ℕ) (there : Run) (place lower range first_lower first_range point : ℕ) → IsSizes w s → AreWords w words → AreWords w part
@@ -105,6 +133,17 @@ pairs_next precision table (x ∷ symbols) (m ∷ ms) none (suc i) within same =
     let more : suc i + 1 ≡ suc (i + 1) = omega arith in
     (next.0, rw more next.1)
 
+-- a symbol more, under the model at its place
+pub pairs_more : {M : Type 0} (precision : ℕ) (table : M → List (ℕ × ℕ × ℕ)) (xs : List ℕ) (ms : List M) (x : ℕ) (m : M) (k : ℕ) → length xs ≡ k → k < length ms → m ≡ get_or ms k m
+    → pairs_of precision table (xs ++ x ∷ []) ms ≡ pairs_of precision table xs ms ++ item_of (record { precision = precision; table = table m }) x ∷ []
+pairs_more precision table xs [] x m k count within is = absurd (omega arith)
+pairs_more precision table [] (n ∷ ms) x m zero count within is =
+    ap (λ k. (let item : Item ℕ = item_of (record { precision = precision; table = table k }) x in item ∷ [])) (sym is)
+pairs_more precision table [] (n ∷ ms) x m (suc k) count within is = absurd (omega (arith, count))
+pairs_more precision table (y ∷ xs) (n ∷ ms) x m zero count within is = absurd (omega (arith, count))
+pairs_more precision table (y ∷ xs) (n ∷ ms) x m (suc k) count within is =
+    ap (λ (items : List (Item ℕ)). item_of (record { precision = precision; table = table n }) y ∷ items) (pairs_more precision table xs ms x m k (omega (arith, count)) (omega (arith, within)) is)
+
 -- ---- where words may have ended
 past_all : {A : Type 0} (xs : List A) (n : ℕ) → n ≡ length xs → drop n xs ≡ []
 past_all [] zero is = refl
@@ -121,54 +160,28 @@ equal_of a b is = elim (cases_eq a b) [
   | inr ne ↦ absurd (false_true (sym (ne_eqb a b ne) ∙ is))
 ]
 
-pub may_end : {B : Type 0} (w s : ℕ) (words : List ℕ) (there : Run) (d : Decoder B) (place count : ℕ) (maybe : Bool) → 0 < 2 ^ s → StandsAt w s words there d
-    → d.words ≡ drop place words → place ≤ length words → count ≡ length words
+-- as a number
+pub as_number : (maybe : Bool) (n : ℕ) → n ≡ from_bool maybe → ((n ≡ 1) ↔ IsTrue maybe) × (n ≤ 1)
+as_number true n is = ((λ one. refl, λ yes. is), omega (arith, is))
+as_number false n is = ((λ one. absurd (omega (arith, is, one)), λ yes. absurd (false_true yes)), omega (arith, is))
+
+pub may_end : {B : Type 0} (w s : ℕ) (buffer words : List ℕ) (there : Run) (d : Decoder B) (place count : ℕ) (maybe : Bool) → 0 < 2 ^ s → StandsAt w s words there d
+    → d.words ≡ drop place buffer → place ≤ length buffer → count ≡ length buffer
     → (IsTrue maybe ↔ (IsTrue (place == count) × ((d.range + 1 ≡ 2 ^ s) ⊎ (distance s d + 1 < 2 * 2 ^ (s - w)))))
     → IsTrue maybe ↔ MayEnd w s words there
-may_end {B} w s words there d place count maybe some at left within all value =
-    let near : (d.range + 1 ≡ 2 ^ s) ⊎ (distance s d + 1 < 2 * 2 ^ (s - w)) → (there.range + 1 ≡ 2 ^ s) ⊎ (offset w s words there + 1 < 2 * 2 ^ (s - w)) = λ h. elim h [
-      | inl whole ↦ inl (omega (arith, whole, at.range_is))
-      | inr close ↦ inr (omega (arith, close, distance_is w s words there d some at))
-    ] in (
-      λ is. (let both = value.0 is in (sym at.rest_is ∙ left ∙ past_all words place (equal_of place count both.0 ∙ all), near both.1)),
-      λ may. (
-          let ended = ended_of w s words there d some at may in
-          let none : length (drop place words) ≡ 0 = ap length (sym left ∙ ended.0) in
-          value.1 (eq-eqb place count (omega (arith, none, length-drop place words, within, all)), ended.1)
-          ),
-    )
+may_end {B} w s buffer words there d place count maybe some at left within all value = (
+  λ is. (let both = value.0 is in (sym at.rest_is ∙ left ∙ past_all buffer place (equal_of place count both.0 ∙ all), nears_of w s words there d some at both.1)),
+  λ may. (
+      let ended = ended_of w s words there d some at may in
+      let none : length (drop place buffer) ≡ 0 = ap length (sym left ∙ ended.0) in
+      value.1 (eq-eqb place count (omega (arith, none, length-drop place buffer, within, all)), ended.1)
+      ),
+)
 
 pub map-drop : {A B : Type 0} (f : A → B) (n : ℕ) (xs : List A) → map f (drop n xs) ≡ drop n (map f xs)
 map-drop f zero xs = refl
 map-drop f (suc n) [] = refl
 map-drop f (suc n) (x ∷ xs) = map-drop f n xs
 
--- the same moment by other names
-pub stands_by : (w s : ℕ) (words rest : List ℕ) (r : Run) (lower range point l g p : ℕ) (left : List ℕ) → IsAt w s words r lower range point rest
-    → l ≡ lower → g ≡ range → p ≡ point → left ≡ rest → IsAt w s words r l g p left
-stands_by w s words rest r lower range point l g p left at l_is g_is p_is left_is =
-    record { lower_is = l_is ∙ at.lower_is; range_is = g_is ∙ at.range_is; point_is = p_is ∙ at.point_is; rest_is = left_is ∙ at.rest_is }
-
--- there are as many rows as symbols
-pub rows_counted : {M : Type 0} (table : M → List (ℕ × ℕ × ℕ)) (width count : ℕ) (weights : List ℕ) (rows : List M) → map table rows ≡ row_tables width count weights → length rows ≡ count
-rows_counted table width zero weights rows is = sym (length-map rows table) ∙ ap length is
-rows_counted table width (suc count) weights [] is = absurd cc
-rows_counted table width (suc count) weights (row ∷ rows) is =
-    let rest : map table rows ≡ row_tables width count (drop width weights) = cc in
-    ap suc (rows_counted table width count (drop width weights) rows rest)
-
-pub pairs_are_rows : {M : Type 0} (precision width : ℕ) (table : M → List (ℕ × ℕ × ℕ)) (weights symbols : List ℕ) (lent rows : List M) → lent ≡ rows → map table rows ≡ row_tables width (length symbols) weights
-    → pairs_of precision table symbols lent ≡ row_items precision width weights symbols
-pairs_are_rows precision width table weights symbols lent rows same is =
-    ap (λ rs. pairs_of precision table symbols rs) same ∙ rows_are_items precision width table weights symbols rows is
-
-pub lent_counted : {M : Type 0} (table : M → List (ℕ × ℕ × ℕ)) (width count : ℕ) (weights : List ℕ) (lent rows : List M) → lent ≡ rows → map table rows ≡ row_tables width count weights → length lent ≡ count
-lent_counted table width count weights lent rows same is = ap length same ∙ rows_counted table width count weights rows is
-
 pub finds_same : {S : Type 0} (w s : ℕ) (words : List ℕ) (items others : List (Item S)) (old new : Run) → items ≡ others → FindsAll w s words items old new → FindsAll w s words others old new
 finds_same {S} w s words items others old new same all = subst (λ (is : List (Item S)). FindsAll w s words is old new) same all
-
-pub pairs_are_counted : {M : Type 0} (precision width count : ℕ) (table : M → List (ℕ × ℕ × ℕ)) (weights symbols : List ℕ) (lent rows : List M) → length symbols ≡ count → lent ≡ rows → map table rows ≡ row_tables width count weights
-    → pairs_of precision table symbols lent ≡ row_items precision width weights symbols
-pairs_are_counted precision width count table weights symbols lent rows many same is =
-    pairs_are_rows precision width table weights symbols lent rows same (is ∙ ap (λ n. row_tables width n weights) (sym many))

@@ -8,7 +8,7 @@ use Rattle.constriction_base.specs.Models.{Model, AreKnown, items_of}
 use Rattle.constriction_queue.specs.Range.{Run}
 use Rattle.constriction_store.specs.Stores.{Entry, Indexes, entry_of}
 use Rattle.constriction_calls.specs.StoreCalls.{chunks_by, entries_by}
-use Rattle.constriction_calls.proofs.RangeEncoded.{known_of}
+use Rattle.constriction_calls.proofs.RangeKept.{known_of}
 
 -- ---- an index
 same_entries : (entries : List Entry) → entries_by (map (λ e. e.place) entries) (map (λ e. e.lower) entries) (map (λ e. e.range) entries) (map (λ e. e.len) entries) ≡ entries

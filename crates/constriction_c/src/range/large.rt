@@ -1,30 +1,22 @@
 //! The range coder at words of 32 bits, states of 64 and a precision of 24.
 
-ghost use Rattle.std.specs.Prelude.{◌≡◌, ◌≢◌, ◌↔◌, ◌⊎◌, ◌*◌, ◌<◌, ◌≤◌, ◌-◌, ◌^◌, [], ℕ, List, length, map, take, IfErr, IsErrOf, OnErr, OnOk};
-ghost use Rattle.constriction_base.specs.Models.{AreKnown, items_of};
-ghost use Rattle.constriction_c.specs.Codes.{answer_of, needed_by};
+ghost use Rattle.std.specs.Prelude.{◌≡◌, map};
+ghost use Rattle.constriction_c.specs.Codes.{Told, answer_of};
 ghost use Rattle.constriction_c.specs.Ranges.{large_decoder, large_encoder};
-ghost use Rattle.constriction_calls.specs.Buffers.{Appended, NeedsSpace};
-ghost use Rattle.constriction_calls.specs.Intervals.{AreIntervals, interval_items};
-ghost use Rattle.constriction_calls.specs.RangeCalls.{CanEncode, HadRoom, IsDecoderKept, IsEncodedBy, IsEncoderKept, LacksRoom, OfDecode, OfIntervals, OfPlace, OfWeights, OfWords, StandsKept, run_kept};
-ghost use Rattle.constriction_calls.specs.Weights.{AreTotals, IsTotal, row_items, weights_model};
-ghost use Rattle.constriction_calls.specs.declared.refusal.Refusal.TheVariants as refusals;
-ghost use Rattle.constriction_queue_laws.specs.Symbols.{FindsAll, MayEnd};
-ghost use Rattle.constriction_queue.specs.Range.{Run, sealed, start};
-ghost use Rattle.constriction_queue.specs.SelfDelimiting.{SelfDelimits};
-ghost use Rattle.constriction_queue.specs.States.{IsPosition};
+ghost use Rattle.constriction_calls.specs.Coded.{AsIntervals, ByRows, ByWeights, InFamily};
+ghost use Rattle.constriction_calls.specs.RangeCalls.{IsNew, IsSealed, IsSelfSealed, RangeBegins, RangeMayEnd, RangePuts, RangeSeals, RangeSeeks, RangeTakes, kept_in};
 
 use crate::codes::{code_of, code_without_space};
-use constriction_calls::range::decoding::{decode, decode_each};
-use constriction_calls::range::encoding::{encode, encode_each, encode_intervals};
+use constriction_calls::models::{Families, Rows, Weights};
+use constriction_calls::range::decoding::decode;
+use constriction_calls::range::encoding::{encode, encode_intervals};
 use constriction_calls::range::parts::{DecoderParts, EncoderParts};
-use constriction_calls::range::positions::{maybe_exhausted, seek};
-use constriction_calls::range::words::{from_compressed, into_compressed, into_self_delimited};
+use constriction_calls::range::positions::{from_compressed, maybe_exhausted, seek};
+use constriction_calls::range::words::{into_compressed, into_self_delimited};
 use constriction_words::BitArray;
 use std::alloc::Global;
 
-/// A range encoder between two calls: its interval, and how many words it holds back, of which the first is `first` and all
-/// others are all ones. Where it holds none, `first` is 0.
+/// A range encoder between two calls, as [`EncoderParts`] is one.
 #[repr(C)]
 #[derive(Drop, Clone, Copy)]
 pub struct RangeEncoderU32 {
@@ -34,8 +26,7 @@ pub struct RangeEncoderU32 {
     pub first: u32,
 }
 
-/// A range decoder between two calls: its interval, the number of the words that it read last, as many as a state has, and how
-/// many words it read in all.
+/// A range decoder between two calls, as [`DecoderParts`] is one.
 #[repr(C)]
 #[derive(Drop, Clone, Copy)]
 pub struct RangeDecoderU32 {
@@ -48,7 +39,7 @@ pub struct RangeDecoderU32 {
 impl RangeEncoderU32 {
     /// Its numbers, as the calls take them.
     #[inline]
-    pub(crate) fn parts(&self) -> EncoderParts<u32, u64>
+    fn parts(&self) -> EncoderParts<u32, u64>
         ensures { result ≡ large_encoder self.now }
     {
         EncoderParts {
@@ -61,7 +52,7 @@ impl RangeEncoderU32 {
 
     /// The encoder of these numbers.
     #[inline]
-    pub(crate) fn of(parts: EncoderParts<u32, u64>) -> Self
+    fn of(parts: EncoderParts<u32, u64>) -> Self
         ensures { large_encoder result ≡ parts }
     {
         RangeEncoderU32 {
@@ -76,7 +67,7 @@ impl RangeEncoderU32 {
 impl RangeDecoderU32 {
     /// Its numbers, as the calls take them.
     #[inline]
-    pub(crate) fn parts(&self) -> DecoderParts<u64>
+    fn parts(&self) -> DecoderParts<u64>
         ensures { result ≡ large_decoder self.now }
     {
         DecoderParts {
@@ -89,7 +80,7 @@ impl RangeDecoderU32 {
 
     /// The decoder of these numbers.
     #[inline]
-    pub(crate) fn of(parts: DecoderParts<u64>) -> Self
+    fn of(parts: DecoderParts<u64>) -> Self
         ensures { large_decoder result ≡ parts }
     {
         RangeDecoderU32 {
@@ -105,8 +96,7 @@ impl RangeDecoderU32 {
 #[unsafe(no_mangle)]
 pub extern "C" fn constriction_range_encoder_u32(encoder: &mut RangeEncoderU32) -> u32
     ensures done { result ≡ 0 }
-    ensures run { (run_kept ⟦<u32 as BitArray>⟧.number ⟦<u64 as BitArray>⟧.number 32 64 (large_encoder encoder.new) (take 0 [])) ≡ start 64 }
-    ensures is { IsEncoderKept ⟦<u32 as BitArray>⟧.number ⟦<u64 as BitArray>⟧.number 32 64 (large_encoder encoder.new) }
+    ensures call { IsNew ⟦<u32 as BitArray>⟧.number ⟦<u64 as BitArray>⟧.number 32 64 (large_encoder encoder.new) }
 {
     *encoder = RangeEncoderU32 {
         lower: 0,
@@ -128,27 +118,18 @@ pub extern "C" fn constriction_range_encode_u32(
     symbols: &[usize],
     needed: &mut usize,
 ) -> u32
-    ensures ok { OnOk (answer_of result needed.new) (IsEncodedBy ⟦<u32 as BitArray>⟧.number ⟦<u64 as BitArray>⟧.number 32 64 (items_of (weights_model 24 (map ⟦<u32 as BitArray>⟧.number weights.now)) symbols.now) (large_encoder encoder.old) words.old len.old (large_encoder encoder.new) words.new len.new) }
-    ensures wrong_length { IsErrOf (answer_of result needed.new) refusals.WrongLength ↔ (length words.old < len.old) }
-    ensures wrong_weights { IsErrOf (answer_of result needed.new) refusals.WrongWeights ↔ ((len.old ≤ length words.old) × (IsTotal 24 (map ⟦<u32 as BitArray>⟧.number weights.now) → ⊥)) }
-    ensures invalid_data { IsErrOf (answer_of result needed.new) refusals.InvalidData ↔ ((len.old ≤ length words.old) × IsTotal 24 (map ⟦<u32 as BitArray>⟧.number weights.now) × (CanEncode ⟦<u32 as BitArray>⟧.number ⟦<u64 as BitArray>⟧.number 32 64 (large_encoder encoder.old) (length symbols.now) → ⊥)) }
-    ensures impossible { IsErrOf (answer_of result needed.new) refusals.ImpossibleSymbol ↔ ((len.old ≤ length words.old) × IsTotal 24 (map ⟦<u32 as BitArray>⟧.number weights.now) × CanEncode ⟦<u32 as BitArray>⟧.number ⟦<u64 as BitArray>⟧.number 32 64 (large_encoder encoder.old) (length symbols.now) × (AreKnown (items_of (weights_model 24 (map ⟦<u32 as BitArray>⟧.number weights.now)) symbols.now) → ⊥)) }
-    ensures valid { OnOk (answer_of result needed.new) (CanEncode ⟦<u32 as BitArray>⟧.number ⟦<u64 as BitArray>⟧.number 32 64 (large_encoder encoder.old) (length symbols.now)) }
-    ensures err { IfErr (answer_of result needed.new) OfWeights }
-    ensures no_space { NeedsSpace (answer_of result needed.new) (LacksRoom ⟦<u32 as BitArray>⟧.number ⟦<u64 as BitArray>⟧.number 32 64 (items_of (weights_model 24 (map ⟦<u32 as BitArray>⟧.number weights.now)) symbols.now) (large_encoder encoder.old) words.old len.old) }
-    ensures kept { OnErr (answer_of result needed.new) ((encoder.new ≡ encoder.old) × (words.new ≡ words.old) × (len.new ≡ len.old)) }
-    ensures needed { needed.new ≡ needed_by (answer_of result needed.new) needed.old }
+    ensures call { Told result needed.old needed.new (RangePuts ⟦<u32 as BitArray>⟧.number ⟦<u64 as BitArray>⟧.number
+        32 64 24 (ByWeights (map ⟦<u32 as BitArray>⟧.number weights.now)) symbols.now
+        (kept_in (large_encoder encoder.old) words.old len.old) (kept_in (large_encoder encoder.new) words.new len.new)) }
 {
-    match encode::<u32, u64, u32, 24>(alloc, encoder.parts(), words, len, weights, symbols) {
-        Ok(now) => {
-            *encoder = RangeEncoderU32::of(now);
-            code_of(Ok(()), needed)
-        }
-        Err(refusal) => code_of(Err(refusal), needed),
-    }
+    let one = Weights { weights };
+    let mut parts = encoder.parts();
+    let answer = encode::<_, _, u32, _, 24>(alloc, &mut parts, words, len, &one, symbols);
+    *encoder = RangeEncoderU32::of(parts);
+    code_of(answer, needed)
 }
 
-/// `encode_each`: symbols put behind the others, each by the next row of `width` weights.
+/// `encode`, each symbol by the next row of `width` weights.
 #[unsafe(no_mangle)]
 pub extern "C" fn constriction_range_encode_each_u32(
     alloc: Global,
@@ -160,35 +141,15 @@ pub extern "C" fn constriction_range_encode_each_u32(
     symbols: &[usize],
     needed: &mut usize,
 ) -> u32
-    ensures ok { OnOk (answer_of result needed.new) (IsEncodedBy ⟦<u32 as BitArray>⟧.number ⟦<u64 as BitArray>⟧.number 32 64 (row_items 24 width (map ⟦<u32 as BitArray>⟧.number weights.now) symbols.now) (large_encoder encoder.old) words.old len.old (large_encoder encoder.new) words.new len.new) }
-    ensures wrong_length { IsErrOf (answer_of result needed.new) refusals.WrongLength ↔ ((length words.old < len.old) ⊎ (length weights.now ≢ width * length symbols.now)) }
-    ensures wrong_weights { IsErrOf (answer_of result needed.new) refusals.WrongWeights ↔ ((len.old ≤ length words.old) × (length weights.now ≡ width * length symbols.now) × (AreTotals 24 width (length symbols.now) (map ⟦<u32 as BitArray>⟧.number weights.now) → ⊥)) }
-    ensures invalid_data { IsErrOf (answer_of result needed.new) refusals.InvalidData ↔ ((len.old ≤ length words.old) × (length weights.now ≡ width * length symbols.now) × AreTotals 24 width (length symbols.now) (map ⟦<u32 as BitArray>⟧.number weights.now) × (CanEncode ⟦<u32 as BitArray>⟧.number ⟦<u64 as BitArray>⟧.number 32 64 (large_encoder encoder.old) (length symbols.now) → ⊥)) }
-    ensures impossible { IsErrOf (answer_of result needed.new) refusals.ImpossibleSymbol ↔ ((len.old ≤ length words.old) × (length weights.now ≡ width * length symbols.now)
-        × AreTotals 24 width (length symbols.now) (map ⟦<u32 as BitArray>⟧.number weights.now)
-        × CanEncode ⟦<u32 as BitArray>⟧.number ⟦<u64 as BitArray>⟧.number 32 64 (large_encoder encoder.old) (length symbols.now)
-        × (AreKnown (row_items 24 width (map ⟦<u32 as BitArray>⟧.number weights.now) symbols.now) → ⊥)) }
-    ensures valid { OnOk (answer_of result needed.new) (CanEncode ⟦<u32 as BitArray>⟧.number ⟦<u64 as BitArray>⟧.number 32 64 (large_encoder encoder.old) (length symbols.now)) }
-    ensures err { IfErr (answer_of result needed.new) OfWeights }
-    ensures no_space { NeedsSpace (answer_of result needed.new) (LacksRoom ⟦<u32 as BitArray>⟧.number ⟦<u64 as BitArray>⟧.number 32 64 (row_items 24 width (map ⟦<u32 as BitArray>⟧.number weights.now) symbols.now) (large_encoder encoder.old) words.old len.old) }
-    ensures kept { OnErr (answer_of result needed.new) ((encoder.new ≡ encoder.old) × (words.new ≡ words.old) × (len.new ≡ len.old)) }
-    ensures needed { needed.new ≡ needed_by (answer_of result needed.new) needed.old }
+    ensures call { Told result needed.old needed.new (RangePuts ⟦<u32 as BitArray>⟧.number ⟦<u64 as BitArray>⟧.number
+        32 64 24 (ByRows width (map ⟦<u32 as BitArray>⟧.number weights.now)) symbols.now
+        (kept_in (large_encoder encoder.old) words.old len.old) (kept_in (large_encoder encoder.new) words.new len.new)) }
 {
-    match encode_each::<u32, u64, u32, 24>(
-        alloc,
-        encoder.parts(),
-        words,
-        len,
-        weights,
-        width,
-        symbols,
-    ) {
-        Ok(now) => {
-            *encoder = RangeEncoderU32::of(now);
-            code_of(Ok(()), needed)
-        }
-        Err(refusal) => code_of(Err(refusal), needed),
-    }
+    let rows = Rows { weights, width };
+    let mut parts = encoder.parts();
+    let answer = encode::<_, _, u32, _, 24>(alloc, &mut parts, words, len, &rows, symbols);
+    *encoder = RangeEncoderU32::of(parts);
+    code_of(answer, needed)
 }
 
 /// `encode_intervals`: intervals put behind the others, by where they begin and how long they are.
@@ -202,24 +163,46 @@ pub extern "C" fn constriction_range_encode_intervals_u32(
     ps: &[u32],
     needed: &mut usize,
 ) -> u32
-    ensures ok { OnOk (answer_of result needed.new) (IsEncodedBy ⟦<u32 as BitArray>⟧.number ⟦<u64 as BitArray>⟧.number 32 64 (interval_items 24 (map ⟦<u32 as BitArray>⟧.number lefts.now) (map ⟦<u32 as BitArray>⟧.number ps.now)) (large_encoder encoder.old) words.old len.old (large_encoder encoder.new) words.new len.new) }
-    ensures wrong_length { IsErrOf (answer_of result needed.new) refusals.WrongLength ↔ ((length words.old < len.old) ⊎ (length lefts.now ≢ length ps.now)) }
-    ensures wrong_interval { IsErrOf (answer_of result needed.new) refusals.WrongInterval ↔ ((len.old ≤ length words.old) × (length lefts.now ≡ length ps.now)
-        × (AreIntervals 24 (map ⟦<u32 as BitArray>⟧.number lefts.now) (map ⟦<u32 as BitArray>⟧.number ps.now) → ⊥)) }
-    ensures invalid_data { IsErrOf (answer_of result needed.new) refusals.InvalidData → (CanEncode ⟦<u32 as BitArray>⟧.number ⟦<u64 as BitArray>⟧.number 32 64 (large_encoder encoder.old) (length lefts.now) → ⊥) }
-    ensures valid { OnOk (answer_of result needed.new) (CanEncode ⟦<u32 as BitArray>⟧.number ⟦<u64 as BitArray>⟧.number 32 64 (large_encoder encoder.old) (length lefts.now)) }
-    ensures err { IfErr (answer_of result needed.new) OfIntervals }
-    ensures no_space { NeedsSpace (answer_of result needed.new) (LacksRoom ⟦<u32 as BitArray>⟧.number ⟦<u64 as BitArray>⟧.number 32 64 (interval_items 24 (map ⟦<u32 as BitArray>⟧.number lefts.now) (map ⟦<u32 as BitArray>⟧.number ps.now)) (large_encoder encoder.old) words.old len.old) }
-    ensures kept { OnErr (answer_of result needed.new) ((encoder.new ≡ encoder.old) × (words.new ≡ words.old) × (len.new ≡ len.old)) }
-    ensures needed { needed.new ≡ needed_by (answer_of result needed.new) needed.old }
+    ensures call { Told result needed.old needed.new (RangePuts ⟦<u32 as BitArray>⟧.number ⟦<u64 as BitArray>⟧.number
+        32 64 24 (AsIntervals (map ⟦<u32 as BitArray>⟧.number lefts.now)) (map ⟦<u32 as BitArray>⟧.number ps.now)
+        (kept_in (large_encoder encoder.old) words.old len.old) (kept_in (large_encoder encoder.new) words.new len.new)) }
 {
-    match encode_intervals::<u32, u64, u32, 24>(alloc, encoder.parts(), words, len, lefts, ps) {
-        Ok(now) => {
-            *encoder = RangeEncoderU32::of(now);
-            code_of(Ok(()), needed)
-        }
-        Err(refusal) => code_of(Err(refusal), needed),
-    }
+    let mut parts = encoder.parts();
+    let answer = encode_intervals::<_, _, _, 24>(alloc, &mut parts, words, len, lefts, ps);
+    *encoder = RangeEncoderU32::of(parts);
+    code_of(answer, needed)
+}
+
+/// `encode`, each symbol by the model of its own location and scale.
+#[unsafe(no_mangle)]
+pub extern "C" fn constriction_range_encode_quantized_u32(
+    alloc: Global,
+    encoder: &mut RangeEncoderU32,
+    words: &mut [u32],
+    len: &mut usize,
+    family: u32,
+    min: i32,
+    max: i32,
+    locations: &[i64],
+    scales: &[u32],
+    symbols: &[usize],
+    needed: &mut usize,
+) -> u32
+    ensures call { Told result needed.old needed.new (RangePuts ⟦<u32 as BitArray>⟧.number ⟦<u64 as BitArray>⟧.number 32 64 24
+        (InFamily record { family = family; min = min; max = max; locations = locations.now; scales = scales.now }) symbols.now
+        (kept_in (large_encoder encoder.old) words.old len.old) (kept_in (large_encoder encoder.new) words.new len.new)) }
+{
+    let models = Families {
+        family,
+        min,
+        max,
+        locations,
+        scales,
+    };
+    let mut parts = encoder.parts();
+    let answer = encode::<_, _, u32, _, 24>(alloc, &mut parts, words, len, &models, symbols);
+    *encoder = RangeEncoderU32::of(parts);
+    code_of(answer, needed)
 }
 
 /// `into_compressed`: the words that an encoder holds back, and a seal, put behind the others.
@@ -231,20 +214,10 @@ pub extern "C" fn constriction_range_into_compressed_u32(
     len: &mut usize,
     needed: &mut usize,
 ) -> u32
-    ensures words { OnOk (answer_of result needed.new) (map ⟦<u32 as BitArray>⟧.number (take len.new words.new) ≡ sealed 32 64 (run_kept ⟦<u32 as BitArray>⟧.number ⟦<u64 as BitArray>⟧.number 32 64 (large_encoder encoder.now) (take len.old words.old))) }
-    ensures ok { OnOk (answer_of result needed.new) ((added : List ℕ) × Appended words.old len.old added words.new len.new) }
-    ensures wrong_length { IsErrOf (answer_of result needed.new) refusals.WrongLength ↔ (length words.old < len.old) }
-    ensures invalid_data { IsErrOf (answer_of result needed.new) refusals.InvalidData ↔ ((len.old ≤ length words.old) × (IsEncoderKept ⟦<u32 as BitArray>⟧.number ⟦<u64 as BitArray>⟧.number 32 64 (large_encoder encoder.now) → ⊥)) }
-    ensures err { IfErr (answer_of result needed.new) OfWords }
-    ensures no_space { (count : ℕ) → IsErrOf (answer_of result needed.new) (refusals.NoSpace count) → (length words.old < count) × (count ≡ length (sealed 32 64 (run_kept ⟦<u32 as BitArray>⟧.number ⟦<u64 as BitArray>⟧.number 32 64 (large_encoder encoder.now) (take len.old words.old)))) }
-    ensures room_first { IsErrOf (answer_of result needed.new) refusals.NoMemory → HadRoom 32 (length words.old) (length (sealed 32 64 (run_kept ⟦<u32 as BitArray>⟧.number ⟦<u64 as BitArray>⟧.number 32 64 (large_encoder encoder.now) (take len.old words.old)))) }
-    ensures kept { OnErr (answer_of result needed.new) ((words.new ≡ words.old) × (len.new ≡ len.old)) }
-    ensures needed { needed.new ≡ needed_by (answer_of result needed.new) needed.old }
+    ensures call { Told result needed.old needed.new (RangeSeals ⟦<u32 as BitArray>⟧.number ⟦<u64 as BitArray>⟧.number
+        32 64 (IsSealed 32 64) (kept_in (large_encoder encoder.now) words.old len.old) (kept_in (large_encoder encoder.now) words.new len.new)) }
 {
-    code_of(
-        into_compressed::<u32, u64>(alloc, encoder.parts(), words, len),
-        needed,
-    )
+    code_of(into_compressed(alloc, &encoder.parts(), words, len), needed)
 }
 
 /// `into_self_delimited`: the same with a seal that holds whatever words follow. It is the other seal, since a state is two words.
@@ -256,19 +229,11 @@ pub extern "C" fn constriction_range_into_self_delimited_u32(
     len: &mut usize,
     needed: &mut usize,
 ) -> u32
-    ensures followed { OnOk (answer_of result needed.new) (SelfDelimits 32 64 (run_kept ⟦<u32 as BitArray>⟧.number ⟦<u64 as BitArray>⟧.number 32 64 (large_encoder encoder.now) (take len.old words.old)) (map ⟦<u32 as BitArray>⟧.number (take len.new words.new))) }
-    ensures words { OnOk (answer_of result needed.new) (map ⟦<u32 as BitArray>⟧.number (take len.new words.new) ≡ sealed 32 64 (run_kept ⟦<u32 as BitArray>⟧.number ⟦<u64 as BitArray>⟧.number 32 64 (large_encoder encoder.now) (take len.old words.old))) }
-    ensures ok { OnOk (answer_of result needed.new) ((added : List ℕ) × Appended words.old len.old added words.new len.new) }
-    ensures wrong_length { IsErrOf (answer_of result needed.new) refusals.WrongLength ↔ (length words.old < len.old) }
-    ensures invalid_data { IsErrOf (answer_of result needed.new) refusals.InvalidData ↔ ((len.old ≤ length words.old) × (IsEncoderKept ⟦<u32 as BitArray>⟧.number ⟦<u64 as BitArray>⟧.number 32 64 (large_encoder encoder.now) → ⊥)) }
-    ensures err { IfErr (answer_of result needed.new) OfWords }
-    ensures no_space { (count : ℕ) → IsErrOf (answer_of result needed.new) (refusals.NoSpace count) → (length words.old < count) × (count ≡ length (sealed 32 64 (run_kept ⟦<u32 as BitArray>⟧.number ⟦<u64 as BitArray>⟧.number 32 64 (large_encoder encoder.now) (take len.old words.old)))) }
-    ensures room_first { IsErrOf (answer_of result needed.new) refusals.NoMemory → HadRoom 32 (length words.old) (length (sealed 32 64 (run_kept ⟦<u32 as BitArray>⟧.number ⟦<u64 as BitArray>⟧.number 32 64 (large_encoder encoder.now) (take len.old words.old)))) }
-    ensures kept { OnErr (answer_of result needed.new) ((words.new ≡ words.old) × (len.new ≡ len.old)) }
-    ensures needed { needed.new ≡ needed_by (answer_of result needed.new) needed.old }
+    ensures call { Told result needed.old needed.new (RangeSeals ⟦<u32 as BitArray>⟧.number ⟦<u64 as BitArray>⟧.number
+        32 64 (IsSelfSealed 32 64) (kept_in (large_encoder encoder.now) words.old len.old) (kept_in (large_encoder encoder.now) words.new len.new)) }
 {
     code_of(
-        into_self_delimited::<u32, u64>(alloc, encoder.parts(), words, len),
+        into_self_delimited(alloc, &encoder.parts(), words, len),
         needed,
     )
 }
@@ -280,14 +245,13 @@ pub extern "C" fn constriction_range_from_compressed_u32(
     decoder: &mut RangeDecoderU32,
 ) -> u32
     ensures done { result ≡ 0 }
-    ensures stands { StandsKept ⟦<u32 as BitArray>⟧.number ⟦<u64 as BitArray>⟧.number 32 64 words.now (start 64) (large_decoder decoder.new) }
-    ensures within { decoder.new.pos ≤ length words.now }
+    ensures call { RangeBegins ⟦<u32 as BitArray>⟧.number ⟦<u64 as BitArray>⟧.number 32 64 words.now (large_decoder decoder.new) }
 {
-    *decoder = RangeDecoderU32::of(from_compressed::<u32, u64>(words));
+    *decoder = RangeDecoderU32::of(from_compressed(words));
     0
 }
 
-/// `decode`: as many symbols as the buffer has places, by the weights of one table.
+/// `decode`: as many symbols as the list has places, by the weights of one table.
 #[unsafe(no_mangle)]
 pub extern "C" fn constriction_range_decode_u32(
     alloc: Global,
@@ -296,25 +260,17 @@ pub extern "C" fn constriction_range_decode_u32(
     weights: &[u32],
     symbols: &mut [usize],
 ) -> u32
-    ensures ok { OnOk (answer_of result 0) ((old : Run) → StandsKept ⟦<u32 as BitArray>⟧.number ⟦<u64 as BitArray>⟧.number 32 64 words.now old (large_decoder decoder.old) → (last : Run) × FindsAll 32 64 (map ⟦<u32 as BitArray>⟧.number words.now) (items_of (weights_model 24 (map ⟦<u32 as BitArray>⟧.number weights.now)) symbols.new) old last × StandsKept ⟦<u32 as BitArray>⟧.number ⟦<u64 as BitArray>⟧.number 32 64 words.now last (large_decoder decoder.new)) }
-    ensures within { OnOk (answer_of result 0) (decoder.new.pos ≤ length words.now) }
-    ensures wrong_length { IsErrOf (answer_of result 0) refusals.WrongLength ↔ (length words.now < decoder.old.pos) }
-    ensures wrong_weights { IsErrOf (answer_of result 0) refusals.WrongWeights ↔ ((decoder.old.pos ≤ length words.now) × (IsTotal 24 (map ⟦<u32 as BitArray>⟧.number weights.now) → ⊥)) }
-    ensures no_decoder { (decoder.old.pos ≤ length words.now) × IsTotal 24 (map ⟦<u32 as BitArray>⟧.number weights.now) × (IsDecoderKept ⟦<u64 as BitArray>⟧.number 32 64 (large_decoder decoder.old) → ⊥) → IsErrOf (answer_of result 0) refusals.InvalidData }
-    ensures invalid_data { IsErrOf (answer_of result 0) refusals.InvalidData → IsDecoderKept ⟦<u64 as BitArray>⟧.number 32 64 (large_decoder decoder.old) → (others : List ℕ) (old last : Run) → StandsKept ⟦<u32 as BitArray>⟧.number ⟦<u64 as BitArray>⟧.number 32 64 words.now old (large_decoder decoder.old) → FindsAll 32 64 (map ⟦<u32 as BitArray>⟧.number words.now) (items_of (weights_model 24 (map ⟦<u32 as BitArray>⟧.number weights.now)) others) old last → length others ≡ length symbols.old → ⊥ }
-    ensures err { IfErr (answer_of result 0) OfDecode }
-    ensures kept { OnErr (answer_of result 0) ((decoder.new ≡ decoder.old) × (symbols.new ≡ symbols.old)) }
+    ensures call { RangeTakes ⟦<u64 as BitArray>⟧.number 32 64 24 (ByWeights (map ⟦<u32 as BitArray>⟧.number weights.now))
+        (map ⟦<u32 as BitArray>⟧.number words.now) (large_decoder decoder.old) (large_decoder decoder.new) symbols.old symbols.new (answer_of result 0) }
 {
-    match decode::<u32, u64, u32, 24>(alloc, decoder.parts(), words, weights, symbols) {
-        Ok(now) => {
-            *decoder = RangeDecoderU32::of(now);
-            0
-        }
-        Err(refusal) => code_without_space(Err(refusal)),
-    }
+    let one = Weights { weights };
+    let mut parts = decoder.parts();
+    let answer = decode::<_, _, u32, _, 24>(alloc, &mut parts, words, &one, symbols);
+    *decoder = RangeDecoderU32::of(parts);
+    code_without_space(answer)
 }
 
-/// `decode_each`: as many symbols as the buffer has places, each by the next row of `width` weights.
+/// `decode`, each symbol by the next row of `width` weights.
 #[unsafe(no_mangle)]
 pub extern "C" fn constriction_range_decode_each_u32(
     alloc: Global,
@@ -324,22 +280,44 @@ pub extern "C" fn constriction_range_decode_each_u32(
     width: usize,
     symbols: &mut [usize],
 ) -> u32
-    ensures ok { OnOk (answer_of result 0) ((old : Run) → StandsKept ⟦<u32 as BitArray>⟧.number ⟦<u64 as BitArray>⟧.number 32 64 words.now old (large_decoder decoder.old) → (last : Run) × FindsAll 32 64 (map ⟦<u32 as BitArray>⟧.number words.now) (row_items 24 width (map ⟦<u32 as BitArray>⟧.number weights.now) symbols.new) old last × StandsKept ⟦<u32 as BitArray>⟧.number ⟦<u64 as BitArray>⟧.number 32 64 words.now last (large_decoder decoder.new)) }
-    ensures within { OnOk (answer_of result 0) (decoder.new.pos ≤ length words.now) }
-    ensures wrong_length { IsErrOf (answer_of result 0) refusals.WrongLength ↔ ((length words.now < decoder.old.pos) ⊎ (length weights.now ≢ width * length symbols.old)) }
-    ensures wrong_weights { IsErrOf (answer_of result 0) refusals.WrongWeights ↔ ((decoder.old.pos ≤ length words.now) × (length weights.now ≡ width * length symbols.old) × (AreTotals 24 width (length symbols.old) (map ⟦<u32 as BitArray>⟧.number weights.now) → ⊥)) }
-    ensures no_decoder { (decoder.old.pos ≤ length words.now) × (length weights.now ≡ width * length symbols.old) × AreTotals 24 width (length symbols.old) (map ⟦<u32 as BitArray>⟧.number weights.now) × (IsDecoderKept ⟦<u64 as BitArray>⟧.number 32 64 (large_decoder decoder.old) → ⊥) → IsErrOf (answer_of result 0) refusals.InvalidData }
-    ensures invalid_data { IsErrOf (answer_of result 0) refusals.InvalidData → IsDecoderKept ⟦<u64 as BitArray>⟧.number 32 64 (large_decoder decoder.old) → (others : List ℕ) (old last : Run) → StandsKept ⟦<u32 as BitArray>⟧.number ⟦<u64 as BitArray>⟧.number 32 64 words.now old (large_decoder decoder.old) → FindsAll 32 64 (map ⟦<u32 as BitArray>⟧.number words.now) (row_items 24 width (map ⟦<u32 as BitArray>⟧.number weights.now) others) old last → length others ≡ length symbols.old → ⊥ }
-    ensures err { IfErr (answer_of result 0) OfDecode }
-    ensures kept { OnErr (answer_of result 0) ((decoder.new ≡ decoder.old) × (symbols.new ≡ symbols.old)) }
+    ensures call { RangeTakes ⟦<u64 as BitArray>⟧.number 32 64 24 (ByRows width (map ⟦<u32 as BitArray>⟧.number weights.now))
+        (map ⟦<u32 as BitArray>⟧.number words.now) (large_decoder decoder.old) (large_decoder decoder.new) symbols.old symbols.new (answer_of result 0) }
 {
-    match decode_each::<u32, u64, u32, 24>(alloc, decoder.parts(), words, weights, width, symbols) {
-        Ok(last) => {
-            *decoder = RangeDecoderU32::of(last);
-            0
-        }
-        Err(refusal) => code_without_space(Err(refusal)),
-    }
+    let rows = Rows { weights, width };
+    let mut parts = decoder.parts();
+    let answer = decode::<_, _, u32, _, 24>(alloc, &mut parts, words, &rows, symbols);
+    *decoder = RangeDecoderU32::of(parts);
+    code_without_space(answer)
+}
+
+/// `decode`, each symbol by the model of its own location and scale.
+#[unsafe(no_mangle)]
+pub extern "C" fn constriction_range_decode_quantized_u32(
+    alloc: Global,
+    decoder: &mut RangeDecoderU32,
+    words: &[u32],
+    family: u32,
+    min: i32,
+    max: i32,
+    locations: &[i64],
+    scales: &[u32],
+    symbols: &mut [usize],
+) -> u32
+    ensures call { RangeTakes ⟦<u64 as BitArray>⟧.number 32 64 24
+        (InFamily record { family = family; min = min; max = max; locations = locations.now; scales = scales.now })
+        (map ⟦<u32 as BitArray>⟧.number words.now) (large_decoder decoder.old) (large_decoder decoder.new) symbols.old symbols.new (answer_of result 0) }
+{
+    let models = Families {
+        family,
+        min,
+        max,
+        locations,
+        scales,
+    };
+    let mut parts = decoder.parts();
+    let answer = decode::<_, _, u32, _, 24>(alloc, &mut parts, words, &models, symbols);
+    *decoder = RangeDecoderU32::of(parts);
+    code_without_space(answer)
 }
 
 /// `seek`: a decoder at the position that an encoder had.
@@ -351,20 +329,13 @@ pub extern "C" fn constriction_range_seek_u32(
     lower: u64,
     range: u64,
 ) -> u32
-    ensures ok { OnOk (answer_of result 0) ((there : Run) → IsPosition 64 there pos (⟦<u64 as BitArray>⟧.number lower) (⟦<u64 as BitArray>⟧.number range) → StandsKept ⟦<u32 as BitArray>⟧.number ⟦<u64 as BitArray>⟧.number 32 64 words.now there (large_decoder decoder.new)) }
-    ensures within { OnOk (answer_of result 0) (decoder.new.pos ≤ length words.now) }
-    ensures wrong_length { IsErrOf (answer_of result 0) refusals.WrongLength ↔ (length words.now < pos) }
-    ensures invalid_data { IsErrOf (answer_of result 0) refusals.InvalidData ↔ ((pos ≤ length words.now) × (⟦<u64 as BitArray>⟧.number range < 2 ^ (64 - 32))) }
-    ensures err { IfErr (answer_of result 0) OfPlace }
-    ensures kept { OnErr (answer_of result 0) (decoder.new ≡ decoder.old) }
+    ensures call { RangeSeeks ⟦<u32 as BitArray>⟧.number ⟦<u64 as BitArray>⟧.number 32 64 words.now pos lower range
+        (large_decoder decoder.old) (large_decoder decoder.new) (answer_of result 0) }
 {
-    match seek::<u32, u64>(words, pos, lower, range) {
-        Ok(there) => {
-            *decoder = RangeDecoderU32::of(there);
-            0
-        }
-        Err(refusal) => code_without_space(Err(refusal)),
-    }
+    let mut parts = decoder.parts();
+    let answer = seek(&mut parts, words, pos, lower, range);
+    *decoder = RangeDecoderU32::of(parts);
+    code_without_space(answer)
 }
 
 /// `maybe_exhausted`: whether the words may have ended where the decoder stands, as 1 or 0.
@@ -374,18 +345,8 @@ pub extern "C" fn constriction_range_maybe_exhausted_u32(
     words: &[u32],
     maybe: &mut u32,
 ) -> u32
-    ensures ok { OnOk (answer_of result 0) ((there : Run) → StandsKept ⟦<u32 as BitArray>⟧.number ⟦<u64 as BitArray>⟧.number 32 64 words.now there (large_decoder decoder.now) → (maybe.new ≡ 1) ↔ MayEnd 32 64 (map ⟦<u32 as BitArray>⟧.number words.now) there) }
-    ensures one_or_none { OnOk (answer_of result 0) (maybe.new ≤ 1) }
-    ensures wrong_length { IsErrOf (answer_of result 0) refusals.WrongLength ↔ (length words.now < decoder.now.pos) }
-    ensures invalid_data { IsErrOf (answer_of result 0) refusals.InvalidData ↔ ((decoder.now.pos ≤ length words.now) × (IsDecoderKept ⟦<u64 as BitArray>⟧.number 32 64 (large_decoder decoder.now) → ⊥)) }
-    ensures err { IfErr (answer_of result 0) OfPlace }
-    ensures kept { OnErr (answer_of result 0) (maybe.new ≡ maybe.old) }
+    ensures call { RangeMayEnd ⟦<u64 as BitArray>⟧.number 32 64 (map ⟦<u32 as BitArray>⟧.number words.now) (large_decoder decoder.now)
+        maybe.old maybe.new (answer_of result 0) }
 {
-    match maybe_exhausted::<u32, u64>(words, decoder.parts()) {
-        Ok(ended) => {
-            *maybe = u32::from(ended);
-            0
-        }
-        Err(refusal) => code_without_space(Err(refusal)),
-    }
+    code_without_space(maybe_exhausted(&decoder.parts(), words, maybe))
 }

@@ -1,14 +1,15 @@
 //! A range coder between two calls, as its caller keeps it.
 
-ghost use Rattle.std.specs.Prelude.{◌≡◌, ◌↔◌, ◌-◌, ◌^◌, ◌<◌, ◌≤◌, ℕ, length, IfSome, IsSome};
+ghost use Rattle.std.specs.Prelude.{◌≡◌, ◌↔◌, ◌≤◌, ◌-◌, [], ℕ, length, map, IfSome, IsSome};
 ghost use Rattle.constriction_base.specs.Steps.{IsSizes};
-ghost use Rattle.constriction_queue.specs.States.{lower_of, range_of};
-ghost use Rattle.constriction_queue.specs.Encoder.{PartsFit, held_of};
-ghost use Rattle.constriction_calls.specs.RangeCalls.{IsEncoderKept, KeptFit, kept_words};
+ghost use Rattle.constriction_queue.specs.Encoder.{left_to_encode, run_by};
+ghost use Rattle.constriction_calls.specs.RangeCalls.{CanEncode, IsDecoderKept, IsEncoderKept, IsRead, run_kept};
 
+use constriction_base::backends::Seek;
 use constriction_base::cursor::Cursor;
 use constriction_queue::{EncoderSituation, RangeCoderState, RangeDecoder, RangeEncoder};
 use constriction_words::{BitArray, WordOf};
+use std::alloc::Global;
 use std::num::NonZeroUsize;
 
 /// A range encoder between two calls: its interval, and how many words it holds back, of which the first is `first`
@@ -33,75 +34,87 @@ pub struct DecoderParts<State> {
     pub pos: usize,
 }
 
-/// So many words held back, of which this is the first.
-fn situation_of<Word: BitArray>(held: usize, first: Word) -> Option<EncoderSituation<Word>>
-    ensures fit { IfSome result (λ situation. (s lower range : ℕ) →
-        PartsFit Word.number Word.BITS s situation lower range ↔ KeptFit Word.BITS s held (Word.number first) lower range) }
-    ensures held { IfSome result (λ situation. held_of Word.number Word.BITS situation ≡ kept_words Word.BITS held (Word.number first)) }
-    ensures some { (s lower range : ℕ) → KeptFit Word.BITS s held (Word.number first) lower range → IsSome result }
-{
-    match NonZeroUsize::new(held) {
-        Some(count) => Some(EncoderSituation::Inverted(count, first)),
-        None => {
-            if first.is_nothing() {
-                Some(EncoderSituation::Normal)
-            } else {
-                None
-            }
-        }
-    }
-}
-
-/// The interval and the words held back, if these numbers are those of an encoder.
-pub fn encoder_of<Word: WordOf<State>, State: BitArray>(
+/// The encoder over no words, if these numbers are those of one that can count so many symbols more. Takes no memory.
+pub fn encoder_for<Word: WordOf<State>, State: BitArray>(
+    alloc: Global,
     parts: EncoderParts<Word, State>,
-) -> Option<(RangeCoderState<Word, State>, EncoderSituation<Word>)>
+    count: usize,
+) -> Option<RangeEncoder<Word, State, Vec<Word>>>
     requires { IsSizes Word.BITS State.BITS }
-    ensures fit { IfSome result (λ made. PartsFit Word.number Word.BITS State.BITS made.1 (lower_of made.0) (range_of made.0)) }
-    ensures held { IfSome result (λ made. held_of Word.number Word.BITS made.1 ≡ kept_words Word.BITS parts.held (Word.number parts.first)) }
-    ensures lower { IfSome result (λ made. lower_of made.0 ≡ State.number parts.lower) }
-    ensures range { IfSome result (λ made. range_of made.0 ≡ State.number parts.range) }
-    ensures variant { IsSome result ↔ IsEncoderKept Word.number State.number Word.BITS State.BITS parts }
+    ensures run { IfSome result (λ encoder. run_by Word.BITS State.BITS encoder
+        ≡ run_kept Word.number State.number Word.BITS State.BITS parts []) }
+    ensures left { IfSome result (λ encoder. count ≤ left_to_encode encoder) }
+    ensures variant { IsSome result ↔ CanEncode Word.number State.number Word.BITS State.BITS parts count }
 {
     let Ok(state) = RangeCoderState::new(parts.lower, parts.range) else {
         return None;
     };
-    let Some(situation) = situation_of(parts.held, parts.first) else {
-        return None;
+    let situation = match NonZeroUsize::new(parts.held) {
+        Some(count) => EncoderSituation::Inverted(count, parts.first),
+        None if parts.first.is_nothing() => EncoderSituation::Normal,
+        None => return None,
     };
-    if RangeEncoder::<Word, State, Vec<Word>>::parts_fit(state, situation) {
-        Some((state, situation))
-    } else {
-        None
+    if !RangeEncoder::<Word, State, Vec<Word>>::parts_fit(state, situation) {
+        return None;
     }
+    if count > usize::MAX - 17 - parts.held {
+        return None;
+    }
+    Some(RangeEncoder::from_raw_parts(Vec::new(alloc), state, situation))
 }
 
-/// The numbers of an encoder.
+/// The words that an encoder wrote, and its numbers.
 pub fn parts_of<Word: WordOf<State>, State: BitArray>(
-    state: RangeCoderState<Word, State>,
-    situation: EncoderSituation<Word>,
-) -> EncoderParts<Word, State>
-    requires { PartsFit Word.number Word.BITS State.BITS situation (lower_of state) (range_of state) }
-    ensures coder { IsEncoderKept Word.number State.number Word.BITS State.BITS result }
-    ensures held { kept_words Word.BITS result.held (Word.number result.first) ≡ held_of Word.number Word.BITS situation }
-    ensures lower { State.number result.lower ≡ lower_of state }
-    ensures range { State.number result.range ≡ range_of state }
+    encoder: RangeEncoder<Word, State, Vec<Word>>,
+) -> (Vec<Word>, EncoderParts<Word, State>)
+    ensures run { run_by Word.BITS State.BITS encoder
+        ≡ run_kept Word.number State.number Word.BITS State.BITS result.1 result.0.items }
+    ensures coder { IsEncoderKept Word.number State.number Word.BITS State.BITS result.1 }
 {
+    let (words, state, situation) = encoder.into_raw_parts();
     let (held, first) = match situation {
         EncoderSituation::Normal => (0, Word::nothing()),
         EncoderSituation::Inverted(count, first) => (count.get(), first),
     };
-    EncoderParts {
+    let parts = EncoderParts {
         lower: state.lower(),
         range: State::from_nonzero(state.range()),
         held,
         first,
+    };
+    (words, parts)
+}
+
+/// A decoder over words that a caller lends.
+pub type Reading<'a, Word, State> = RangeDecoder<Word, State, Cursor<Word, &'a [Word]>>;
+
+/// The decoder of these numbers over the words from its place on, if they are those of a decoder.
+pub fn decoder_of<'a, Word: WordOf<State>, State: BitArray>(
+    words: &'a [Word],
+    parts: DecoderParts<State>,
+) -> Option<Reading<'a, Word, State>>
+    requires sizes { IsSizes Word.BITS State.BITS }
+    requires within { parts.pos ≤ length words.now }
+    ensures read { IfSome result (λ decoder. IsRead State.number (map Word.number words.now) parts decoder) }
+    ensures cursor { IfSome result (λ decoder. (decoder.bulk.pos ≡ parts.pos) × (decoder.bulk.buf.now ≡ words.now)) }
+    ensures variant { IsSome result ↔ IsDecoderKept State.number Word.BITS State.BITS parts }
+{
+    let Ok(state) = RangeCoderState::<Word, State>::new(parts.lower, parts.range) else {
+        return None;
+    };
+    let mut cursor = Cursor::new_at_write_beginning(words);
+    let Ok(()) = cursor.seek(parts.pos) else {
+        return None;
+    };
+    match RangeDecoder::from_raw_parts(cursor, state, parts.point) {
+        Ok(decoder) => Some(decoder),
+        Err(_) => None,
     }
 }
 
 /// The numbers of a decoder over a buffer of so many words.
 pub fn decoder_parts<'a, Word: WordOf<State>, State: BitArray>(
-    decoder: RangeDecoder<Word, State, Cursor<Word, &'a [Word]>>,
+    decoder: Reading<'a, Word, State>,
     count: usize,
 ) -> DecoderParts<State>
     ensures lower { State.number result.lower ≡ decoder.entry.lower }

@@ -7,10 +7,10 @@ ghost use Rattle.constriction_queue.specs.States.{lower_of, range_of};
 ghost use Rattle.constriction_store.specs.Stores.{run_from};
 ghost use Rattle.constriction_calls.specs.StoreCalls.{StoreGives};
 
-use crate::range::taking::take_list;
+use crate::models::{Models, Weights};
+use crate::range::decoding::take_list;
 use crate::refusal::Refusal;
 use crate::rows::adding::is_total;
-use crate::tables::decoding_table_by;
 use constriction_base::backends::Seek;
 use constriction_base::cursor::Cursor;
 use constriction_queue::{RangeCoderState, RangeDecoder};
@@ -75,11 +75,12 @@ pub fn chunk<Word: WordOf<State>, State: BitArray, P: WordOf<Word>, const PRECIS
     let Ok(state) = RangeCoderState::<Word, State>::new(lower, range) else {
         return Err(Refusal::InvalidData);
     };
-    let Ok(table) = decoding_table_by::<P, PRECISION>(alloc, weights) else {
+    let Some(list) = Models::<P, PRECISION>::list(&Weights { weights }, alloc, symbols, false)
+    else {
         return Err(Refusal::NoMemory);
     };
     let decoder = decoder_at::<Word, State>(words, pos, state);
-    match take_list(alloc, decoder, symbols.len(), &table) {
+    match take_list::<Word, State, P, _, PRECISION>(alloc, decoder, &list, symbols.len()) {
         Ok((again, _)) => {
             symbols.copy_from_slice(&again);
             Ok(())

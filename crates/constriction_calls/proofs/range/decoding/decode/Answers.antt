@@ -1,37 +1,66 @@
-use Rattle.std.proofs.Common.{◌∙◌, ℕ, List, Err, ap, sym, map, length, subst}
+use Rattle.std.proofs.Common.{◌≡◌, ◌∙◌, ◌-◌, ◌≤◌, ℕ, List, ap, arith, length, map, rules, sym}
 use Rattle.std.proofs.lemmas.List.{length-map}
-use Rattle.constriction_base.specs.Models.{items_of}
-use Rattle.constriction_queue_laws.specs.Symbols.{FindsAll}
-use Rattle.constriction_calls.specs.Weights.{weights_model}
-use Rattle.constriction_calls.proofs.RangeEncoded.{err_is}
-use Rattle.constriction_calls.proofs.RangeTaking.{map-drop, stands_by, stands_of}
+use Rattle.constriction_calls.specs.Coded.{AreFit, items}
+use Rattle.constriction_calls.specs.RangeCalls.{IsDecoderKept}
+use Rattle.constriction_calls.specs.Refusals.{Else, Never}
+use Rattle.constriction_calls.proofs.Asking.{fit_ok}
+use Rattle.constriction_calls.proofs.RangeAnswers.{takes_after, takes_fault, words_moved}
+use Rattle.constriction_calls.proofs.RangeTaking.{finds_same, stands_on, stands_read}
 use Rattle.constriction_calls.proofs.range.decoding.decode.Goals as goal
 
-pub returns-clause-invalid_data : goal.returns-clause-invalid_data
-returns-clause-invalid_data g c = λ is kept others old last at all count.
+pub returns-in-Ok-take_list : goal.returns-in-Ok-take_list
+returns-in-Ok-take_list g c =
     let number = g.Word.BitArray.number in
+    let state = g.State.BitArray.number in
     let w = g.Word.BitArray.BITS in
     let s = g.State.BitArray.BITS in
-    let words = map number c.args.words.now in
-    let stands = stands_by w s words _ old _ _ _ _ _ _ _ at c.in-Some.ensures.lower c.in-Some.ensures.range c.in-Some.ensures.point
-    (c.in-Some.ensures.words ∙ map-drop number c.args.parts.pos c.args.words.now) in
-    c.take_list.ensures.invalid (c.in-Err.is ∙ ap Err (err_is is)) words others old last stands
-    (subst (λ (table : List (ℕ × ℕ × ℕ)). FindsAll w s words (items_of (record { precision = g.row.PRECISION; table = table }) others) old last) (sym c.in-Ok.ensures.ok) all) count
+    let P = g.row.PRECISION in
+    let coded = g.G.Models.coded c.args.models.now in
+    let buffer = map number c.args.words.now in
+    let symbols = c.args.symbols.now in
+    let old = c.args.decoder.now in
+    let new = c.decoder_parts.result in
+    let d = c.in-Ok-take_list.last in
+    let again = c.in-Ok-take_list.again.items in
+    let size = length-map c.args.words.now number in
+    let within : old.pos ≤ length buffer = omega (arith, c.if-decoder-words.false, size) in
+    let fit : AreFit P (coded symbols) = fit_ok P (coded symbols) (Else Never) c.in-Ok.field-0 c.in-Ok.ensures in
+    let is : IsDecoderKept state w s old = search rules in
+    let same : c.copy_from_slice.new.self ≡ again = c.copy_from_slice.ensures.after ∙ c.deref.ensures.value in
+    let count : length c.copy_from_slice.new.self ≡ length symbols = ap length same ∙ c.in-Ok-take_list.ensures.count in
+    let are = sym (c.in-Some-list.ensures.items again c.in-Ok-take_list.ensures.count) in
+    record {
+      call = takes_after state w s P coded buffer old symbols within fit is new c.copy_from_slice.new.self
+          (λ words run at.
+          let got = c.in-Ok-take_list.ensures.decoded words run (stands_read state w s buffer words run old c.in-Some.reading at c.in-Some.ensures.read) in
+          let found = finds_same w s words _ (items P (coded again)) run got.0 are got.1 in (
+            got.0,
+            finds_same w s words (items P (coded again)) (items P (coded c.copy_from_slice.new.self)) run got.0 (ap (λ (xs : List ℕ). items P (coded xs)) (sym same)) found,
+            stands_on state w s buffer words (items P (coded again)) run got.0 old new d at found got.2 c.decoder_parts.ensures.lower c.decoder_parts.ensures.range c.decoder_parts.ensures.point
+                (c.decoder_parts.ensures.pos ∙ ap (λ n. n - length d.words) (sym size)),
+          ))
+          (omega (arith, c.decoder_parts.ensures.pos, size)) count;
+    }
 
-pub returns-in-Ok-take_list-clause-ok : goal.returns-in-Ok-take_list-clause-ok
-returns-in-Ok-take_list-clause-ok g c = λ old at.
+pub returns : goal.returns
+returns g c =
     let number = g.Word.BitArray.number in
+    let state = g.State.BitArray.number in
     let w = g.Word.BitArray.BITS in
     let s = g.State.BitArray.BITS in
-    let words = map number c.args.words.now in
-    let d = c.in-Ok-take_list.decoder in
-    let stands = stands_by w s words _ old _ _ _ _ _ _ _ at c.in-Some.ensures.lower c.in-Some.ensures.range c.in-Some.ensures.point
-    (c.in-Some.ensures.words ∙ map-drop number c.args.parts.pos c.args.words.now) in
-    let got = c.in-Ok-take_list.ensures.decoded words old stands in
-    let found = subst (λ (table : List (ℕ × ℕ × ℕ)). FindsAll w s words (items_of (record { precision = g.row.PRECISION; table = table }) c.in-Ok-take_list.again.items) old got.0) c.in-Ok.ensures.ok got.1 in (
-      got.0,
-      subst (λ (xs : List ℕ). FindsAll w s words (items_of (weights_model g.row.PRECISION (map g.P.BitArray.number c.args.weights.now)) xs) old got.0)
-          (sym (c.copy_from_slice.ensures.after ∙ c.deref.ensures.value)) found,
-      stands_of w s words d.words got.0 d.lower d.range d.point _ _ _ (length c.args.words.now) _ got.2
-          c.decoder_parts.ensures.lower c.decoder_parts.ensures.range c.decoder_parts.ensures.point (sym (length-map c.args.words.now number)) c.decoder_parts.ensures.pos,
-    )
+    let P = g.row.PRECISION in
+    let coded = g.G.Models.coded c.args.models.now in
+    let buffer = map number c.args.words.now in
+    let symbols = c.args.symbols.now in
+    let old = c.args.decoder.now in
+    let within : old.pos ≤ length buffer = omega (arith, c.if-decoder-words.false, length-map c.args.words.now number) in
+    let fit : AreFit P (coded symbols) = fit_ok P (coded symbols) (Else Never) c.in-Ok.field-0 c.in-Ok.ensures in
+    let is : IsDecoderKept state w s old = search rules in
+    record {
+      call = takes_fault state w s P coded buffer old symbols within fit is c.in-Err-take_list.refusal
+          (words_moved _ _ c.in-Err-take_list.refusal
+          (λ none words others run last at all count.
+          none words others run last (stands_read state w s buffer words run old c.in-Some.reading at c.in-Some.ensures.read)
+          (finds_same w s words (items P (coded others)) _ run last (c.in-Some-list.ensures.items others count) all) count)
+          c.in-Err-take_list.ensures.err);
+    }

@@ -1,37 +1,47 @@
-use Rattle.std.proofs.Common.{ℕ, Err, []}
-use Rattle.constriction_queue.specs.Encoder.{held_of}
-use Rattle.constriction_queue.specs.States.{lower_of, range_of}
-use Rattle.constriction_calls.proofs.RangeIntervals.{needs_space}
-use Rattle.constriction_calls.proofs.RangeEncoded.{encoded_by, known_of, lacks_room, no_space_is, not_impossible, ok_no_err}
+use Rattle.std.proofs.Common.{◌≤◌, arith, length, rules}
+use Rattle.constriction_queue.specs.Encoder.{run_by}
+use Rattle.constriction_calls.specs.Coded.{AreFit}
+use Rattle.constriction_calls.specs.RangeCalls.{CanEncode, RangeKept}
+use Rattle.constriction_calls.specs.Refusals.{Else, Never}
+use Rattle.constriction_calls.proofs.Asking.{fit_ok}
+use Rattle.constriction_calls.proofs.RangeAnswers.{kept_same, puts_appended, puts_short}
 use Rattle.constriction_calls.proofs.range.encoding.encode.Goals as goal
 
-pub returns-in-Ok-clause-ok : goal.returns-in-Ok-clause-ok
-returns-in-Ok-clause-ok g c =
+pub returns-in-Ok-append : goal.returns-in-Ok-append
+returns-in-Ok-append g c =
     let number = g.Word.BitArray.number in
+    let state = g.State.BitArray.number in
     let w = g.Word.BitArray.BITS in
-    let made = c.in-Some-put_by_weights in
-    encoded_by number g.State.BitArray.number w g.State.BitArray.BITS _ c.args.parts (held_of number w c.in-Some-encoder_for.situation) (lower_of c.in-Some-encoder_for.state) (range_of c.in-Some-encoder_for.state)
-    c.in-Some-encoder_for.ensures.held c.in-Some-encoder_for.ensures.lower c.in-Some-encoder_for.ensures.range
-    made.now made.ensures.coder made.words.items c.deref.result.now c.deref.ensures.value made.ensures.narrowed
-    c.args.buffer.now c.args.len.now c.append.new.buffer c.append.new.len c.in-Ok.ensures.ok
+    let s = g.State.BitArray.BITS in
+    let P = g.row.PRECISION in
+    let coded = g.G.Models.coded c.args.models.now in
+    let symbols = c.args.symbols.now in
+    let old : RangeKept g.row.Word.Denot g.row.State.Denot = record { encoder = c.args.encoder.now; words = c.args.buffer.now; len = c.args.len.now } in
+    let within : c.args.len.now ≤ length c.args.buffer.now = omega (arith, c.if-len-buffer.false) in
+    let fit : AreFit P (coded symbols) = fit_ok P (coded symbols) (Else Never) c.in-Ok.field-0 c.in-Ok.ensures in
+    let can : CanEncode number state w s c.args.encoder.now (length symbols) = search rules in
+    let made = c.in-Some-put_by in
+    record {
+      call = puts_appended number state w s P coded symbols old within fit can (run_by w s c.in-Some.made) c.in-Some.ensures.run made.now made.ensures.coder made.words.items c.deref.result.now c.deref.ensures.value
+          made.ensures.narrowed c.append.new.buffer c.append.new.len c.in-Ok-append.ensures.ok;
+    }
 
-pub returns-in-Ok-clause-impossible : goal.returns-in-Ok-clause-impossible
-returns-in-Ok-clause-impossible g c =
-    let known = known_of g.Word.BitArray.BITS g.State.BitArray.BITS _ _ _ (c.in-Some-put_by_weights.ensures.narrowed []) in
-    (λ is. absurd (ok_no_err is), λ none. absurd (none.3 known))
-
-pub returns-clause-impossible : goal.returns-clause-impossible
-returns-clause-impossible g c =
-    let known = known_of g.Word.BitArray.BITS g.State.BitArray.BITS _ _ _ (c.in-Some-put_by_weights.ensures.narrowed []) in
-    (λ is. absurd (not_impossible c.in-Err.refusal _ c.in-Err.ensures.err is), λ none. absurd (none.3 known))
-
-pub returns-clause-no_space : goal.returns-clause-no_space
-returns-clause-no_space g c = needs_space {T = ℕ} (Err c.in-Err.refusal) _ (λ needed is.
+pub returns : goal.returns
+returns g c =
     let number = g.Word.BitArray.number in
+    let state = g.State.BitArray.number in
     let w = g.Word.BitArray.BITS in
-    let made = c.in-Some-put_by_weights in
-    let short = no_space_is c.in-Err.refusal _ _ needed c.in-Err.ensures.err c.in-Err.ensures.full is in
-    lacks_room number g.State.BitArray.number w g.State.BitArray.BITS _ c.args.parts (held_of number w c.in-Some-encoder_for.situation) (lower_of c.in-Some-encoder_for.state) (range_of c.in-Some-encoder_for.state)
-    c.in-Some-encoder_for.ensures.held c.in-Some-encoder_for.ensures.lower c.in-Some-encoder_for.ensures.range
-    made.now made.ensures.coder made.words.items c.deref.result.now c.deref.ensures.value made.ensures.narrowed
-    c.args.buffer.now c.args.len.now needed c.if-len-buffer.false short.0 short.1)
+    let s = g.State.BitArray.BITS in
+    let P = g.row.PRECISION in
+    let coded = g.G.Models.coded c.args.models.now in
+    let symbols = c.args.symbols.now in
+    let old : RangeKept g.row.Word.Denot g.row.State.Denot = record { encoder = c.args.encoder.now; words = c.args.buffer.now; len = c.args.len.now } in
+    let within : c.args.len.now ≤ length c.args.buffer.now = omega (arith, c.if-len-buffer.false) in
+    let fit : AreFit P (coded symbols) = fit_ok P (coded symbols) (Else Never) c.in-Ok.field-0 c.in-Ok.ensures in
+    let can : CanEncode number state w s c.args.encoder.now (length symbols) = search rules in
+    let made = c.in-Some-put_by in
+    let failed = c.in-Err-append in
+    record {
+      call = puts_short number state w s P coded symbols old within fit can (run_by w s c.in-Some.made) c.in-Some.ensures.run made.now made.ensures.coder made.words.items c.deref.result.now c.deref.ensures.value
+          made.ensures.narrowed failed.refusal _ failed.ensures.err failed.ensures.full (record { encoder = c.args.encoder.now; words = c.append.new.buffer; len = c.append.new.len }) (kept_same failed.ensures.kept.0 failed.ensures.kept.1);
+    }

@@ -1,37 +1,42 @@
-use Rattle.std.proofs.Common.{◌≡◌, List, ℕ, length, map, sym, subst, ◌∙◌}
-use Rattle.constriction_base.specs.Models.{Item, AreKnown}
-use Rattle.constriction_calls.specs.Weights.{AreTotals, row_items}
-use Rattle.constriction_calls.specs.Intervals.{interval_items}
-use Rattle.constriction_calls.proofs.AnsRows.{intervals_known}
-use Rattle.constriction_calls.proofs.RangeIntervals.{of_intervals, needs_space, of_space}
-use Rattle.constriction_calls.proofs.RangeEncoded.{encoded_same, lacks_same, same_rows}
+use Rattle.std.proofs.Common.{◌≤◌, arith, length, map, refl, rules, subst, sym}
+use Rattle.std.proofs.lemmas.List.{length-map}
+use Rattle.constriction_calls.specs.Coded.{AsIntervals}
+use Rattle.constriction_calls.specs.RangeCalls.{CanEncode, RangeKept}
+use Rattle.constriction_calls.specs.declared.refusal.Refusal.TheVariants as refusals
+use Rattle.constriction_calls.proofs.RangeAnswers.{puts_numbers, puts_room}
+use Rattle.constriction_calls.proofs.RangeIntervals.{fit_known, memory_fit}
 use Rattle.constriction_calls.proofs.range.encoding.encode_intervals.Goals as goal
 
-pub returns-in-Ok-clause-ok : goal.returns-in-Ok-clause-ok
-returns-in-Ok-clause-ok g c =
-    encoded_same g.Word.BitArray.number g.State.BitArray.number g.Word.BitArray.BITS g.State.BitArray.BITS c.encode_each.result _ _ c.args.parts c.args.buffer.now c.args.len.now _ _
-    (same_rows g.P.BitArray.number g.row.PRECISION c.deref.result.now c.in-Ok.rows.items c.deref-in-Ok.result.now c.in-Ok.symbols.items c.deref.ensures.value c.deref-in-Ok.ensures.value ∙ c.in-Ok.ensures.ok)
-    c.encode_each.ensures.ok
-
-pub returns-in-Ok-clause-no_space : goal.returns-in-Ok-clause-no_space
-returns-in-Ok-clause-no_space g c = needs_space c.encode_each.result _ (λ needed is.
-    lacks_same g.Word.BitArray.number g.State.BitArray.number g.Word.BitArray.BITS g.State.BitArray.BITS _ _ c.args.parts c.args.buffer.now c.args.len.now needed
-    (same_rows g.P.BitArray.number g.row.PRECISION c.deref.result.now c.in-Ok.rows.items c.deref-in-Ok.result.now c.in-Ok.symbols.items c.deref.ensures.value c.deref-in-Ok.ensures.value ∙ c.in-Ok.ensures.ok)
-    (of_space c.encode_each.result _ c.encode_each.ensures.no_space needed is))
-
-pub returns-in-Ok-clause-err : goal.returns-in-Ok-clause-err
-returns-in-Ok-clause-err g c =
-    let number = g.P.BitArray.number in
+pub returns-then-can : goal.returns-then-can
+returns-then-can g c =
+    let number = g.Word.BitArray.number in
+    let state = g.State.BitArray.number in
+    let w = g.Word.BitArray.BITS in
+    let s = g.State.BitArray.BITS in
     let P = g.row.PRECISION in
-    let made = c.in-Ok in
-    let lefts = map number c.args.lefts.now in
-    let ps = map number c.args.ps.now in
-    let totals : AreTotals P 3 (length c.deref-in-Ok.result.now) (map number c.deref.result.now) =
-    rw (c.deref.ensures.value, c.deref-in-Ok.ensures.value, made.ensures.counted.1) made.ensures.totals in
-    let items : row_items P 3 (map number c.deref.result.now) c.deref-in-Ok.result.now ≡ interval_items P lefts ps =
-    same_rows number P c.deref.result.now made.rows.items c.deref-in-Ok.result.now made.symbols.items c.deref.ensures.value c.deref-in-Ok.ensures.value ∙ made.ensures.ok in
-    let known : AreKnown (row_items P 3 (map number c.deref.result.now) c.deref-in-Ok.result.now) =
-    subst (λ (is : List (Item ℕ)). AreKnown is) (sym items) (intervals_known P lefts ps made.ensures.intervals.1) in
-    of_intervals c.encode_each.result c.encode_each.ensures.err
-    (λ is. (c.encode_each.ensures.wrong_weights.0 is).2 totals)
-    (λ is. (c.encode_each.ensures.impossible.0 is).4 known)
+    let lefts = map g.P.BitArray.number c.args.lefts.now in
+    let ps = map g.P.BitArray.number c.args.ps.now in
+    let old : RangeKept g.row.Word.Denot g.row.State.Denot = record { encoder = c.args.encoder.now; words = c.args.buffer.now; len = c.args.len.now } in
+    let within : c.args.len.now ≤ length c.args.buffer.now = omega (arith, c.if-len-buffer.false) in
+    let fit = memory_fit g.P.BitArray.number P c.args.lefts.now c.args.ps.now c.in-Err-NoMemory.field-0 c.in-Err-NoMemory.field-0-is c.in-Err-NoMemory.ensures.wrong_length c.in-Err-NoMemory.ensures.wrong_interval in
+    let can : CanEncode number state w s c.args.encoder.now (length c.args.ps.now) = search rules in
+    let counted : CanEncode number state w s c.args.encoder.now (length ps) = subst (λ n. CanEncode number state w s c.args.encoder.now n) (sym (length-map c.args.ps.now g.P.BitArray.number)) can in
+    record { call = puts_room number state w s P (AsIntervals lefts) ps old within fit counted (fit_known P lefts ps fit) old refl refusals.NoMemory tt }
+
+pub returns-else-can : goal.returns-else-can
+returns-else-can g c =
+    let number = g.Word.BitArray.number in
+    let state = g.State.BitArray.number in
+    let w = g.Word.BitArray.BITS in
+    let s = g.State.BitArray.BITS in
+    let P = g.row.PRECISION in
+    let lefts = map g.P.BitArray.number c.args.lefts.now in
+    let ps = map g.P.BitArray.number c.args.ps.now in
+    let old : RangeKept g.row.Word.Denot g.row.State.Denot = record { encoder = c.args.encoder.now; words = c.args.buffer.now; len = c.args.len.now } in
+    let within : c.args.len.now ≤ length c.args.buffer.now = omega (arith, c.if-len-buffer.false) in
+    let fit = memory_fit g.P.BitArray.number P c.args.lefts.now c.args.ps.now c.in-Err-NoMemory.field-0 c.in-Err-NoMemory.field-0-is c.in-Err-NoMemory.ensures.wrong_length c.in-Err-NoMemory.ensures.wrong_interval in
+    let none : CanEncode number state w s c.args.encoder.now (length c.args.ps.now) → ⊥ = search rules in
+    record {
+      call = puts_numbers number state w s P (AsIntervals lefts) ps old within fit
+          (λ counted. none (subst (λ n. CanEncode number state w s c.args.encoder.now n) (length-map c.args.ps.now g.P.BitArray.number) counted));
+    }

@@ -1,17 +1,33 @@
-use Rattle.std.proofs.Common.{◌∙◌, ap, sym, length, map, drop, pow_pos, arith}
+use Rattle.std.proofs.Common.{◌≡◌, ◌∙◌, ◌↔◌, ◌≤◌, IsTrue, ap, arith, drop, inr, length, map, pow_pos, refl, rules, sym}
 use Rattle.std.proofs.lemmas.List.{length-map}
-use Rattle.constriction_calls.proofs.RangeTaking.{may_end, map-drop, stands_by}
+use Rattle.constriction_calls.specs.RangeCalls.{IsDecoderKept}
+use Rattle.constriction_calls.proofs.RangeTaking.{as_number, may_end, stands_read}
 use Rattle.constriction_calls.proofs.range.positions.maybe_exhausted.Goals as goal
 
-pub returns-in-Some-clause-ok : goal.returns-in-Some-clause-ok
-returns-in-Some-clause-ok g c = λ there at.
+pub returns-in-Some : goal.returns-in-Some
+returns-in-Some g c =
     let number = g.Word.BitArray.number in
-    let words = map number c.args.words.now in
-    let d = c.in-Some.decoder in
-    let left = c.in-Some.ensures.words ∙ map-drop number c.args.parts.pos c.args.words.now in
-    may_end g.Word.BitArray.BITS g.State.BitArray.BITS words there d d.bulk.pos (length d.bulk.buf.now) c.maybe_exhausted.result (pow_pos g.State.BitArray.BITS)
-    (stands_by g.Word.BitArray.BITS g.State.BitArray.BITS words _ there _ _ _ _ _ _ _ at c.in-Some.ensures.lower c.in-Some.ensures.range c.in-Some.ensures.point left)
-    (left ∙ ap (λ n. drop n words) (sym c.in-Some.ensures.place))
-    (omega (arith, c.in-Some.ensures.place, c.if-parts-words.false, length-map c.args.words.now number))
-    (ap length c.in-Some.ensures.buffer ∙ sym (length-map c.args.words.now number))
-    c.maybe_exhausted.ensures.value
+    let state = g.State.BitArray.number in
+    let w = g.Word.BitArray.BITS in
+    let s = g.State.BitArray.BITS in
+    let buffer = map number c.args.words.now in
+    let d = c.in-Some.reading in
+    let is : IsDecoderKept state w s c.args.decoder.now = search rules in
+    let within : c.args.decoder.now.pos ≤ length c.args.words.now = omega (arith, c.if-decoder-words.false) in
+    let inside : c.args.decoder.now.pos ≤ length buffer = omega (arith, within, length-map c.args.words.now number) in
+    let told = as_number c.maybe_exhausted.result c.from.result c.from.ensures in
+    record {
+      call = record {
+        ended = λ words there at. (
+            let may = may_end w s buffer words there d d.bulk.pos (length d.bulk.buf.now) c.maybe_exhausted.result (pow_pos s) (stands_read state w s buffer words there c.args.decoder.now d at c.in-Some.ensures.read)
+            (c.in-Some.ensures.read.words ∙ ap (λ n. drop n buffer) (sym c.in-Some.ensures.cursor.0))
+            (omega (arith, c.in-Some.ensures.cursor.0, inside))
+            (ap length c.in-Some.ensures.cursor.1 ∙ sym (length-map c.args.words.now number))
+            c.maybe_exhausted.ensures.value in
+            (λ one. may.0 (told.0.0 one), λ ends. told.0.1 (may.1 ends))
+            );
+        one_or_none = told.1;
+        asked = inr (inside, inr (is, tt));
+        kept = tt;
+      };
+    }

@@ -1,21 +1,37 @@
-use Rattle.std.proofs.Common.{◌∙◌, ap, sym, subst, refl, length, map, drop}
-use Rattle.std.proofs.lemmas.List.{length-map}
-use Rattle.constriction_queue.specs.Range.{IsAt, start}
+use Rattle.std.proofs.Common.{◌≡◌, ◌∙◌, ◌+◌, ◌-◌, ◌≤◌, ◌^◌, List, ap, arith, drop, inr, map, length, rules, subst, sym, take}
+use Rattle.std.proofs.lemmas.List.{length-drop, take_all}
 use Rattle.constriction_queue.proofs.Seals.{words_of_numbers}
-use Rattle.constriction_calls.proofs.RangeTaking.{map-drop, sought_kept, stands_of}
+use Rattle.constriction_calls.specs.RangeCalls.{RangeBegins}
+use Rattle.constriction_calls.proofs.RangeTaking.{drop_twice, map-drop, sought_kept}
 use Rattle.constriction_calls.proofs.range.positions.seek.Goals as goal
 
-pub returns-clause-ok : goal.returns-clause-ok
-returns-clause-ok g c = λ there position.
+pub returns : goal.returns
+returns g c =
     let number = g.Word.BitArray.number in
+    let state = g.State.BitArray.number in
     let w = g.Word.BitArray.BITS in
     let s = g.State.BitArray.BITS in
+    let pos = c.args.pos in
     let words = map number c.args.words.now in
-    let part = map number (drop c.args.pos c.args.words.now) in
-    let d = c.in-Ok-with_backend.decoder in
-    let moved = c.in-Ok.ensures.ok ∙ ap (λ k. record { buf = k.buf; pos = c.args.pos }) c.new_at_write_beginning-cursor.ensures in
-    let at = subst (λ k. IsAt w s (map number (drop k.pos k.buf.now)) (start s) d.lower d.range d.point d.words) moved (c.in-Ok-with_backend.ensures.ok tt) in
-    let kept = sought_kept w s words part d.words there c.args.pos _ _ d.lower d.range d.point c.requires
-    (words_of_numbers number w g.met.Word.BitArray.number_law c.args.words.now) (words_of_numbers number w g.met.Word.BitArray.number_law (drop c.args.pos c.args.words.now))
-    position (map-drop number c.args.pos c.args.words.now) at in
-    stands_of w s words d.words there _ _ d.point _ _ _ (length c.args.words.now) _ kept refl refl c.decoder_parts-begun.ensures.point (sym (length-map c.args.words.now number)) c.decoder_parts-begun.ensures.pos
+    let part = map number (drop pos c.args.words.now) in
+    let begun = c.from_compressed-begun.result in
+    let took : take (length c.args.words.now - pos) (drop pos c.args.words.now) ≡ drop pos c.args.words.now =
+    take_all (length c.args.words.now - pos) (drop pos c.args.words.now) (omega (arith, length-drop pos c.args.words.now)) in
+    let began = subst (λ (ws : List g.row.Word.Denot). RangeBegins number state w s ws begun) took c.from_compressed-begun.ensures.call in
+    let law = g.met.Word.BitArray.number_law in
+    let rest : drop (pos + begun.pos) words ≡ drop begun.pos part =
+    sym (ap (λ ws. drop begun.pos ws) (map-drop number pos c.args.words.now) ∙ drop_twice begun.pos pos words) in
+    let within : pos ≤ length c.args.words.now = omega (arith, c.if-pos-words.false) in
+    let wide : 2 ^ (s - w) ≤ state c.args.range = search rules in
+    record {
+      call = record {
+        stands = λ there position. (
+            let at = sought_kept w s words part (drop begun.pos part) there pos (state c.args.lower) (state c.args.range) (state begun.lower) (state begun.range) (state begun.point) c.requires
+            (words_of_numbers number w law c.args.words.now) (words_of_numbers number w law (drop pos c.args.words.now)) position (map-drop number pos c.args.words.now) began.stands in
+            record { lower_is = at.lower_is; range_is = at.range_is; point_is = at.point_is; rest_is = rest ∙ at.rest_is }
+            );
+        within = omega (arith, began.within, within, length-drop pos c.args.words.now);
+        asked = inr (within, inr (wide, tt));
+        kept = tt;
+      };
+    }

@@ -1,39 +1,9 @@
-use Rattle.std.proofs.Common.{◌∙◌, sym}
-use Rattle.std.proofs.lemmas.Result.{on_ok_weaker}
-use Rattle.constriction_queue.specs.Encoder.{held_of}
-use Rattle.constriction_queue.specs.States.{lower_of, range_of}
-use Rattle.constriction_calls.proofs.RangeEnding.{exported, exported_count, no_space_of}
-use Rattle.constriction_calls.proofs.RangeFollowed.{followed_exported}
+use Rattle.constriction_calls.proofs.RangeAnswers.{seals_self}
 use Rattle.constriction_calls.proofs.range.words.into_self_delimited.Goals as goal
 
-pub returns-in-Some-clause-followed : goal.returns-in-Some-clause-followed
-returns-in-Some-clause-followed g c =
-    let number = g.Word.BitArray.number in
-    let w = g.Word.BitArray.BITS in
-    on_ok_weaker c.append.result
-    (followed_exported number g.State.BitArray.number w g.State.BitArray.BITS c.args.parts (held_of number w c.in-Ok.made.1) (lower_of c.in-Ok.made.0) (range_of c.in-Ok.made.0)
-    c.in-Ok.ensures.held c.in-Ok.ensures.lower c.in-Ok.ensures.range
-    g.met.Word.BitArray.number_law c.args.buffer.now c.args.len.now c.in-Some.words.items c.deref.result.now c.deref.ensures.value c.in-Some.ensures.followed
-    c.append.new.buffer c.append.new.len)
-    c.append.ensures.ok
-
-pub returns-in-Some-clause-words : goal.returns-in-Some-clause-words
-returns-in-Some-clause-words g c =
-    let number = g.Word.BitArray.number in
-    let w = g.Word.BitArray.BITS in
-    on_ok_weaker c.append.result
-    (exported number g.State.BitArray.number w g.State.BitArray.BITS c.args.parts (held_of number w c.in-Ok.made.1) (lower_of c.in-Ok.made.0) (range_of c.in-Ok.made.0)
-    c.in-Ok.ensures.held c.in-Ok.ensures.lower c.in-Ok.ensures.range
-    g.met.Word.BitArray.number_law c.args.buffer.now c.args.len.now c.in-Some.words.items c.deref.result.now c.deref.ensures.value c.in-Some.ensures.words
-    c.append.new.buffer c.append.new.len)
-    c.append.ensures.ok
-
-pub returns-in-Some-clause-no_space : goal.returns-in-Some-clause-no_space
-returns-in-Some-clause-no_space g c = λ needed is.
-    let number = g.Word.BitArray.number in
-    let w = g.Word.BitArray.BITS in
-    let count = exported_count number g.State.BitArray.number w g.State.BitArray.BITS c.args.parts (held_of number w c.in-Ok.made.1) (lower_of c.in-Ok.made.0) (range_of c.in-Ok.made.0)
-    c.in-Ok.ensures.held c.in-Ok.ensures.lower c.in-Ok.ensures.range
-    g.met.Word.BitArray.number_law c.args.buffer.now c.args.len.now c.in-Some.words.items c.deref.result.now c.deref.ensures.value c.in-Some.ensures.words c.in-Ok.ensures.room.0 in
-    let short = no_space_of c.append.result _ _ needed c.append.ensures.err c.append.ensures.full is in
-    (short.0, short.1 ∙ sym count)
+pub returns : goal.returns
+returns g c =
+    record {
+      call = seals_self g.Word.BitArray.number g.State.BitArray.number g.Word.BitArray.BITS g.State.BitArray.BITS _ _ c.into_compressed.result g.met.Word.BitArray.number_law g.met.State.BitArray.number_law
+          c.requires.sizes c.requires.two_words c.into_compressed.ensures.call;
+    }

@@ -1,11 +1,13 @@
-use Rattle.std.proofs.Common.{◌≡◌, ◌∙◌, ◌-◌, ◌^◌, ◌≤◌, ℕ, List, Err, length, map, sym, ap, ap₂, subst, arith, rules}
+use Rattle.std.proofs.Common.{◌≡◌, ◌∙◌, ◌-◌, ◌^◌, ◌≤◌, ℕ, List, length, map, sym, ap, ap₂, subst, arith, rules}
 use Rattle.std.proofs.lemmas.List.{length-map}
 use Rattle.constriction_base.specs.Models.{items_of}
 use Rattle.constriction_queue_laws.specs.Symbols.{FindsAll}
 use Rattle.constriction_queue.specs.Range.{Run}
 use Rattle.constriction_queue.specs.States.{lower_of, range_of}
 use Rattle.constriction_store.specs.Stores.{run_from}
-use Rattle.constriction_calls.specs.Weights.{weights_model}
+use Rattle.constriction_calls.specs.Weights.{IsTotal, weights_model}
+use Rattle.constriction_calls.proofs.RangeAnswers.{words_why}
+use Rattle.constriction_calls.proofs.RangeTaking.{finds_same}
 use Rattle.constriction_calls.proofs.StoreAnswers.{chunk_given, look_up_refused}
 use Rattle.constriction_calls.proofs.store.looking_up.chunk.Goals as goal
 
@@ -18,16 +20,17 @@ returns-in-Ok-take_list g c =
     let weights = map g.P.BitArray.number c.args.weights.now in
     let words = map number c.args.words.now in
     let least : 2 ^ (s - w) ≤ state c.args.range = search rules in
+    let total : IsTotal g.row.PRECISION weights = search rules in
     let there : Run = run_from c.args.pos (lower_of c.in-Ok.state) (range_of c.in-Ok.state) in
     let there_is : there ≡ run_from c.args.pos (state c.args.lower) (state c.args.range) = ap₂ (λ (l r : ℕ). run_from c.args.pos l r) c.in-Ok.ensures.lower c.in-Ok.ensures.range in
     let again = c.in-Ok-take_list.again.items in
     let got = c.in-Ok-take_list.ensures.decoded words there c.decoder_at-decoder.ensures in
-    let by_weights = subst (λ (table : List (ℕ × ℕ × ℕ)). FindsAll w s words (items_of (record { precision = g.row.PRECISION; table = table }) again) there got.0) c.in-Ok-decoding_table_by.ensures.ok got.1 in
+    let by_weights = finds_same w s words _ (items_of (weights_model g.row.PRECISION weights) again) there got.0 (sym (c.in-Some.ensures.items again c.in-Ok-take_list.ensures.count)) got.1 in
     let found = subst (λ (r : Run). FindsAll w s words (items_of (weights_model g.row.PRECISION weights) again) r got.0) there_is by_weights in
     let same = c.copy_from_slice.ensures.after ∙ c.deref.ensures.value in
     record {
       call = chunk_given state w s g.row.PRECISION weights words c.args.pos c.args.lower c.args.range c.args.symbols.now
-          (omega (arith, c.if-pos-words.false, length-map c.args.words.now number)) c.in-Ok-decoding_table_by.ensures.total least c.copy_from_slice.new.self (
+          (omega (arith, c.if-pos-words.false, length-map c.args.words.now number)) total least c.copy_from_slice.new.self (
             ap length same ∙ c.in-Ok-take_list.ensures.count,
             (got.0, subst (λ (xs : List ℕ). FindsAll w s words (items_of (weights_model g.row.PRECISION weights) xs) (run_from c.args.pos (state c.args.lower) (state c.args.range)) got.0) (sym same) found),
           );
@@ -42,13 +45,14 @@ returns g c =
     let weights = map g.P.BitArray.number c.args.weights.now in
     let words = map number c.args.words.now in
     let least : 2 ^ (s - w) ≤ state c.args.range = search rules in
+    let total : IsTotal g.row.PRECISION weights = search rules in
     let there : Run = run_from c.args.pos (lower_of c.in-Ok.state) (range_of c.in-Ok.state) in
     let there_is : there ≡ run_from c.args.pos (state c.args.lower) (state c.args.range) = ap₂ (λ (l r : ℕ). run_from c.args.pos l r) c.in-Ok.ensures.lower c.in-Ok.ensures.range in
+    let why = words_why _ c.in-Err.refusal c.in-Err.ensures.err in
     record {
       call = look_up_refused state w s g.row.PRECISION weights words c.args.pos c.args.lower c.args.range c.args.symbols.now
-          (omega (arith, c.if-pos-words.false, length-map c.args.words.now number)) c.in-Ok-decoding_table_by.ensures.total least c.in-Err.refusal c.in-Err.ensures.err
+          (omega (arith, c.if-pos-words.false, length-map c.args.words.now number)) total least c.in-Err.refusal why.0
           (λ invalid symbols held.
           let all = subst (λ (r : Run). FindsAll w s words (items_of (weights_model g.row.PRECISION weights) symbols) r held.1.0) (sym there_is) held.1.1 in
-          let by_table = subst (λ (table : List (ℕ × ℕ × ℕ)). FindsAll w s words (items_of (record { precision = g.row.PRECISION; table = table }) symbols) there held.1.0) (sym c.in-Ok-decoding_table_by.ensures.ok) all in
-          c.in-Err.ensures.invalid (ap Err invalid) words symbols there held.1.0 c.decoder_at-decoder.ensures by_table held.0);
+          why.1 invalid words symbols there held.1.0 c.decoder_at-decoder.ensures (finds_same w s words _ _ there held.1.0 (c.in-Some.ensures.items symbols held.0) all) held.0);
     }

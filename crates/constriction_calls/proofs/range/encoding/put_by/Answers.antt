@@ -1,0 +1,11 @@
+use Rattle.std.proofs.Common.{ℕ, List, refl, subst, sym}
+use Rattle.constriction_base.specs.Models.{Item}
+use Rattle.constriction_queue.specs.Encoder.{run_by}
+use Rattle.constriction_queue_laws.specs.Symbols.{NarrowsAll}
+use Rattle.constriction_calls.specs.RangeCalls.{run_kept}
+use Rattle.constriction_calls.proofs.RangeKept.{narrows_same}
+use Rattle.constriction_calls.proofs.range.encoding.put_by.Goals as goal
+
+pub returns-clause-narrowed : goal.returns-clause-narrowed
+returns-clause-narrowed g c =
+    narrows_same g.Word.BitArray.BITS g.State.BitArray.BITS c.put_list.result _ _ _ _ (sym (c.in-Some.ensures.items c.args.symbols.now refl)) c.put_list.ensures.narrowed
