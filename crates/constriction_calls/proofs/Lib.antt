@@ -26,6 +26,7 @@ pub mod Stacked
 mod StoreAnswers
 mod StoreIndex
 mod SymbolLists
+mod SymbolReads
 mod SymbolTrees
 mod Totals
 mod Asking

@@ -1,4 +1,4 @@
-use Rattle.std.proofs.Common.{◌≡◌, ◌∙◌, ◌-◌, ◌^◌, ◌≤◌, ℕ, List, Err, length, map, sym, ap, ap₂, subst, arith, rules}
+use Rattle.std.proofs.Common.{◌≡◌, ◌∙◌, ◌-◌, ◌^◌, ◌≤◌, ℕ, List, Err, length, map, refl, sym, ap, ap₂, subst, arith, rules}
 use Rattle.std.proofs.lemmas.List.{length-map}
 use Rattle.constriction_base.specs.Models.{items_of}
 use Rattle.constriction_queue_laws.specs.Symbols.{FindsAll}
@@ -50,5 +50,6 @@ returns g c =
           (λ invalid symbols held.
           let all = subst (λ (r : Run). FindsAll w s words (items_of (weights_model g.row.PRECISION weights) symbols) r held.1.0) (sym there_is) held.1.1 in
           let by_table = subst (λ (table : List (ℕ × ℕ × ℕ)). FindsAll w s words (items_of (record { precision = g.row.PRECISION; table = table }) symbols) there held.1.0) (sym c.in-Ok-decoding_table_by.ensures.ok) all in
-          c.in-Err.ensures.invalid (ap Err invalid) words symbols there held.1.0 c.decoder_at-decoder.ensures by_table held.0);
+          c.in-Err.ensures.invalid (ap Err invalid) words symbols there held.1.0 c.decoder_at-decoder.ensures by_table held.0)
+          _ refl;
     }
