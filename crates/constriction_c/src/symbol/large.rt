@@ -19,8 +19,9 @@ pub extern "C" fn constriction_exp_golomb_encode_queue_u32(
     len: &mut usize,
     needed: &mut usize,
 ) -> u32
-    ensures call { Told result needed.old needed.new (PutsCodewords ⟦<u32 as BitArray>⟧.number ⟦<u32 as BitArray>⟧.number 32 AsQueue
-        (OfNumbers 32) symbols.now record { words = words.old; len = len.old } record { words = words.new; len = len.new }) }
+    ensures call { Told result needed.old needed.new (PutsCodewords
+        ⟦<u32 as BitArray>⟧.number ⟦<u32 as BitArray>⟧.number 32 AsQueue (OfNumbers 32) symbols.now
+        record { words = words.old; len = len.old } record { words = words.new; len = len.new }) }
 {
     code_of(encode_queue(alloc, &ExpGolomb::<u32>::new(), symbols, words, len), needed)
 }
@@ -34,13 +35,14 @@ pub extern "C" fn constriction_exp_golomb_encode_stack_u32(
     len: &mut usize,
     needed: &mut usize,
 ) -> u32
-    ensures call { Told result needed.old needed.new (PutsCodewords ⟦<u32 as BitArray>⟧.number ⟦<u32 as BitArray>⟧.number 32 AsStack
-        (OfNumbers 32) symbols.now record { words = words.old; len = len.old } record { words = words.new; len = len.new }) }
+    ensures call { Told result needed.old needed.new (PutsCodewords
+        ⟦<u32 as BitArray>⟧.number ⟦<u32 as BitArray>⟧.number 32 AsStack (OfNumbers 32) symbols.now
+        record { words = words.old; len = len.old } record { words = words.new; len = len.new }) }
 {
     code_of(encode_stack(alloc, &ExpGolomb::<u32>::new(), symbols, words, len), needed)
 }
 
-/// Puts the words of a queue of bits with the symbols' codewords under the tree of the weights into a buffer.
+/// Puts the words of a queue of bits with the symbols' codewords by the tree of the weights into a buffer.
 #[unsafe(no_mangle)]
 pub extern "C" fn constriction_huffman_encode_queue_u32(
     alloc: Global,
@@ -57,7 +59,7 @@ pub extern "C" fn constriction_huffman_encode_queue_u32(
     code_of(encode_queue(alloc, &Tree { weights }, symbols, words, len), needed)
 }
 
-/// Puts the words of a stack of bits, off which come the symbols' codewords under the tree of the weights, into a buffer.
+/// Puts the words of a stack of bits, off which come the symbols' codewords by the tree of the weights, into a buffer.
 #[unsafe(no_mangle)]
 pub extern "C" fn constriction_huffman_encode_stack_u32(
     alloc: Global,

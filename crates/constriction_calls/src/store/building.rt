@@ -60,19 +60,17 @@ fn stored<Word: WordOf<State>, State: BitArray, P: WordOf<Word>, const PRECISION
     }
 }
 
-/// Puts the words of the store of chunks at the beginning of a buffer, and its index into three lists: for each chunk the position
-/// where it begins, and its interval's lower end and length. The symbols of all chunks stand one behind another, and each
-/// chunk has so many of them as its length says. `len` is the number of the words then.
+/// Puts the words of the store of chunks at the beginning of a buffer, their number into `len`, and its index into three lists: for
+/// each chunk where it begins, and its interval's lower end and length. The symbols of all chunks stand one behind another.
 ///
 /// # Errors
 ///
-/// In this order, and nothing changed:
-/// - `WrongLength` exactly where the lists of the index aren't as long as that of the lengths, the lengths don't add up to the
-///   number of symbols, or there are more of these than a store holds, 1048576.
-/// - `WrongWeights` exactly where the weights don't add up to two to the precision.
-/// - `ImpossibleSymbol` exactly where the weight of a symbol is 0, or there is none.
-/// - `NoSpace` only where the buffer ends before all words, and tells how many there would be.
-/// - `NoMemory` where memory is missing.
+/// The first of these that holds, and nothing changed:
+/// - `WrongLength`: the lists of the index aren't as long as `lengths`, which don't add up to the number of symbols, or there are
+///   more of these than a store holds, 1048576.
+/// - `WrongWeights`: the weights don't add up to two to the precision.
+/// - `ImpossibleSymbol`: the weight of a symbol is 0, or there is none.
+/// - `NoSpace`: the buffer ends before all words, and it tells how many there would be. Or `NoMemory`.
 pub fn build<Word: WordOf<State>, State: BitArray, P: WordOf<Word>, const PRECISION: usize>(
     alloc: Global,
     words: &mut [Word],
@@ -86,7 +84,8 @@ pub fn build<Word: WordOf<State>, State: BitArray, P: WordOf<Word>, const PRECIS
 ) -> Result<(), Refusal>
     requires sizes { IsSizes Word.BITS State.BITS }
     requires precision { (1 ≤ PRECISION) × (PRECISION ≤ P.BITS) }
-    ensures call { StoreBuilds Word.number State.number Word.BITS State.BITS PRECISION (map P.number weights.now) symbols.now lengths.now
+    ensures call { StoreBuilds Word.number State.number Word.BITS State.BITS PRECISION
+        (map P.number weights.now) symbols.now lengths.now
         record { positions = positions.old; lowers = lowers.old; ranges = ranges.old; words = words.old; len = len.old }
         record { positions = positions.new; lowers = lowers.new; ranges = ranges.new; words = words.new; len = len.new } result }
 {
