@@ -1,5 +1,5 @@
-//! Lists of symbols as words of bits, and back. A caller hands in the codewords ([`Codes`]): Exp-Golomb codewords of numbers
-//! (`ExpGolomb`), or those of a Huffman tree of weights ([`Tree`]).
+//! Lists of symbols as words of bits, and back, by the codewords that a caller hands in ([`Codes`]): Exp-Golomb codewords of
+//! numbers (`ExpGolomb`), or those of a Huffman tree of weights ([`Tree`]).
 //!
 //! A refusal leaves the buffers as they were. It is the first of these that holds:
 //! - `WrongWeights`: the weights make no tree. There are none, or their sum doesn't fit their type.
@@ -30,13 +30,16 @@ pub use trees::Tree;
 /// What a caller hands in for the codewords of symbols.
 pub trait Codes {
     type Symbol: Copy + Drop;
+
     type Encoder: EncoderCodebook<Symbol = Self::Symbol>;
+
     type Decoder: DecoderCodebook<Symbol = Self::Symbol, InvalidCodeword = Self::Wrong>;
     /// What the decoder's codebook says of bits that are no codeword.
     type Wrong: Drop;
 
     // The codewords, and the numbers of symbols.
     ghost book: { Self → Book };
+
     ghost number: { Self.Symbol → ℕ };
 
     /// The codebook for writing. `None` comes where the weights make no tree, or for want of memory.

@@ -23,7 +23,8 @@ pub extern "C" fn constriction_exp_golomb_encode_queue_u32(
         ⟦<u32 as BitArray>⟧.number ⟦<u32 as BitArray>⟧.number 32 AsQueue (OfNumbers 32) symbols.now
         record { words = words.old; len = len.old } record { words = words.new; len = len.new }) }
 {
-    code_of(encode_queue(alloc, &ExpGolomb::<u32>::new(), symbols, words, len), needed)
+    let answer = encode_queue(alloc, &ExpGolomb::<u32>::new(), symbols, words, len);
+    code_of(answer, needed)
 }
 
 /// Puts the words of a stack of bits, off which come the numbers' Exp-Golomb codewords, into a buffer.
@@ -39,7 +40,8 @@ pub extern "C" fn constriction_exp_golomb_encode_stack_u32(
         ⟦<u32 as BitArray>⟧.number ⟦<u32 as BitArray>⟧.number 32 AsStack (OfNumbers 32) symbols.now
         record { words = words.old; len = len.old } record { words = words.new; len = len.new }) }
 {
-    code_of(encode_stack(alloc, &ExpGolomb::<u32>::new(), symbols, words, len), needed)
+    let answer = encode_stack(alloc, &ExpGolomb::<u32>::new(), symbols, words, len);
+    code_of(answer, needed)
 }
 
 /// Puts the words of a queue of bits with the symbols' codewords by the tree of the weights into a buffer.
@@ -56,7 +58,8 @@ pub extern "C" fn constriction_huffman_encode_queue_u32(
         (OfWeights 32 (map ⟦<u32 as BitArray>⟧.number weights.now)) symbols.now
         record { words = words.old; len = len.old } record { words = words.new; len = len.new }) }
 {
-    code_of(encode_queue(alloc, &Tree { weights }, symbols, words, len), needed)
+    let answer = encode_queue(alloc, &Tree { weights }, symbols, words, len);
+    code_of(answer, needed)
 }
 
 /// Puts the words of a stack of bits, off which come the symbols' codewords by the tree of the weights, into a buffer.
@@ -73,7 +76,8 @@ pub extern "C" fn constriction_huffman_encode_stack_u32(
         (OfWeights 32 (map ⟦<u32 as BitArray>⟧.number weights.now)) symbols.now
         record { words = words.old; len = len.old } record { words = words.new; len = len.new }) }
 {
-    code_of(encode_stack(alloc, &Tree { weights }, symbols, words, len), needed)
+    let answer = encode_stack(alloc, &Tree { weights }, symbols, words, len);
+    code_of(answer, needed)
 }
 
 /// Fills `symbols` with numbers from the Exp-Golomb codewords in the words of a queue of bits.

@@ -13,7 +13,7 @@ use constriction_symbol::writing::WriteBitStream;
 use constriction_words::BitArray;
 use std::alloc::Global;
 
-/// Puts the words of a queue of bits with the symbols' codewords at the beginning of `words`, and their number into `len`.
+/// Puts the words of a queue of bits with the symbols' codewords at the beginning of `words`, their number into `len`.
 pub fn encode_queue<Word: BitArray, C: Codes>(
     alloc: Global,
     codes: &C,
@@ -59,7 +59,8 @@ fn queue_words<Word: BitArray, C: Codes>(
 {
     let codebook = codes.encoder(alloc)?;
     let mut encoder = QueueEncoder::<Word>::new(alloc);
-    let Ok(()) = WriteBitStream::<Queue>::encode_iid_symbols(&mut encoder, symbols, &codebook) else {
+    let Ok(()) = WriteBitStream::<Queue>::encode_iid_symbols(&mut encoder, symbols, &codebook)
+    else {
         return None;
     };
     match encoder.into_compressed() {

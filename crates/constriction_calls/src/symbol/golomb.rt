@@ -10,11 +10,15 @@ use std::alloc::Global;
 
 impl<N: BitArray> Codes for ExpGolomb<N> {
     type Symbol = N;
+
     type Encoder = ExpGolomb<N>;
+
     type Decoder = ExpGolomb<N>;
+
     type Wrong = InvalidCodeword;
 
     ghost book = { λ _. OfNumbers N.BITS };
+
     ghost number = { N.number };
 
     fn encoder(&self, _alloc: Global) -> Option<ExpGolomb<N>> {

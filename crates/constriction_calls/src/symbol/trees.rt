@@ -18,11 +18,15 @@ pub struct Tree<'a, P> {
 
 impl<'a, P: BitArray> Codes for Tree<'a, P> {
     type Symbol = usize;
+
     type Encoder = EncoderHuffmanTree;
+
     type Decoder = DecoderHuffmanTree;
+
     type Wrong = Infallible;
 
     ghost book = { λ given. OfWeights P.BITS (map P.number given.weights.now) };
+
     ghost number = { λ symbol. symbol };
 
     fn encoder(&self, alloc: Global) -> Option<EncoderHuffmanTree> {

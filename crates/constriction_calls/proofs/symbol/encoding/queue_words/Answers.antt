@@ -21,6 +21,8 @@ returns-in-Ok-into_compressed-clause-words g c =
     let written = written_first (λ s. s.bits) (vec_puts w number) _ (λ x. code x.now) e.2 c.new-encoder.result e.3 e.4 in
     let coded = subst (λ xs. AreCodewords code xs written.0) all (codewords_map (λ x. x.now) code e.2 written.0 written.1) in
     let held = sym (ap (λ s. s.bits) p.0) ∙ (written.2 ∙ ap (λ bs. bs ++ written.0) c.new-encoder.ensures) in
-    let words = c.in-Ok-into_compressed.words.items in
-    (written.0, same_codewords code (codeword_in g.C.Codes.number (g.C.Codes.book c.args.codes.now)) c.in_ok-codebook.ensures.codewords symbols written.0 coded,
-      subst (λ ws. IsQueueWords w written.0 (map number ws)) (reverse-reverse words) (subst (λ bs. IsQueueWords w bs (map number (reverse (reverse words)))) held c.in-Ok-into_compressed.ensures.ok))
+    let words = c.in-Ok-into_compressed.words.items in (
+      written.0,
+      same_codewords code (codeword_in g.C.Codes.number (g.C.Codes.book c.args.codes.now)) c.in_ok-codebook.ensures.codewords symbols written.0 coded,
+      subst (λ ws. IsQueueWords w written.0 (map number ws)) (reverse-reverse words) (subst (λ bs. IsQueueWords w bs (map number (reverse (reverse words)))) held c.in-Ok-into_compressed.ensures.ok),
+    )

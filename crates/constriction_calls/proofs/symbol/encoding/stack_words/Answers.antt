@@ -24,6 +24,8 @@ returns-in-Ok-into_compressed-clause-words g c =
     let coded = subst (λ xs. AreCodewords code xs written.0) all (codewords_map (λ x. x.now) code (reverse e.2) written.0 written.1) in
     let turned = sym (ap (λ s. reverse s.bits) p.0) ∙ (written.2 ∙ (ap (λ bs. written.0 ++ reverse bs) c.new-coder.ensures ∙ append-nil written.0)) in
     let held = sym (reverse-reverse _) ∙ ap (λ bs. reverse bs) turned in
-    let words = c.in-Ok-into_compressed.words.items in
-    (written.0, same_codewords code (codeword_in g.C.Codes.number (g.C.Codes.book c.args.codes.now)) c.in_ok-codebook.ensures.codewords symbols written.0 coded,
-      subst (λ ws. IsStackWords w (reverse written.0) (map number ws)) (reverse-reverse words) (subst (λ bs. IsStackWords w bs (map number (reverse (reverse words)))) held c.in-Ok-into_compressed.ensures.ok))
+    let words = c.in-Ok-into_compressed.words.items in (
+      written.0,
+      same_codewords code (codeword_in g.C.Codes.number (g.C.Codes.book c.args.codes.now)) c.in_ok-codebook.ensures.codewords symbols written.0 coded,
+      subst (λ ws. IsStackWords w (reverse written.0) (map number ws)) (reverse-reverse words) (subst (λ bs. IsStackWords w bs (map number (reverse (reverse words)))) held c.in-Ok-into_compressed.ensures.ok),
+    )

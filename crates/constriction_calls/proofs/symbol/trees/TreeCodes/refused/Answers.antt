@@ -16,11 +16,11 @@ returns-else-are_below g c =
       c.make_tree.ensures.0 c.if-not-make_tree.false,
       inl (
         λ have. (
-        let below = subst (λ n. All (λ s. s < n) c.args.symbols.now) (length-map weights g.P.BitArray.number) (below_have (map g.P.BitArray.number weights) c.args.symbols.now have) in
-        let is = c.are_below.ensures.1 below in
-        let off = c.if-are_below.false in
-        absurd cc
-        ),
+            let below = subst (λ n. All (λ s. s < n) c.args.symbols.now) (length-map weights g.P.BitArray.number) (below_have (map g.P.BitArray.number weights) c.args.symbols.now have) in
+            let is = c.are_below.ensures.1 below in
+            let off = c.if-are_below.false in
+            absurd cc
+            ),
         refl,
       ),
     )
