@@ -31,6 +31,14 @@ asked_next refusal holds others answer h asks = elim asks [
   | inr goes ↦ goes.1
 ]
 
+-- the same of three
+pub three_ok : {T : Type 0} (a b c : Refusal) (first second third : Type 0) (others : Result T Refusal → Type 0) (x : T) → Asks a first (Asks b second (Asks c third others)) (Ok x) → first × second × third
+three_ok a b c first second third others x asks =
+    let one = asked_ok a first (Asks b second (Asks c third others)) x asks in
+    let two = asked_ok b second (Asks c third others) x one.1 in
+    let three = asked_ok c third others x two.1 in
+    (one.0, two.0, three.0)
+
 -- a refusal of this or of the others, as that of another call that asks for the same
 pub asked_moved : {T U : Type 0} (refusal : Refusal) (holds : Type 0) (others : Result T Refusal → Type 0) (more : Result U Refusal → Type 0) (e : Refusal)
     → (others (Err e) → more (Err e)) → Asks refusal holds others (Err e) → Asks refusal holds more (Err e)
@@ -49,11 +57,7 @@ module _ (precision : ℕ) (coded : Coded) where
 
   -- a check that went well
   pub fit_ok : {T : Type 0} (others : Result T Refusal → Type 0) (x : T) → AsksFit precision coded others (Ok x) → AreFit precision coded
-  fit_ok others x asks =
-      let lengths = asked_ok WrongLength (LengthsFit coded) (behind_lengths others) x asks in
-      let intervals = asked_ok WrongInterval (IntervalsFit precision coded) (behind_intervals others) x lengths.1 in
-      let weights = asked_ok WrongWeights (WeightsFit precision coded) others x intervals.1 in
-      (lengths.0, intervals.0, weights.0)
+  fit_ok others x asks = three_ok WrongLength WrongInterval WrongWeights (LengthsFit coded) (IntervalsFit precision coded) (WeightsFit precision coded) others x asks
 
   -- one that was refused
   pub fit_refused : {T U : Type 0} (more : Result U Refusal → Type 0) (e : Refusal) → AsksFit {T = T} precision coded (Else Never) (Err e) → AsksFit precision coded more (Err e)

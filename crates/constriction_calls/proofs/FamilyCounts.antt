@@ -8,10 +8,6 @@ use Rattle.constriction_models.specs.Counts.{AllShare, AreShares, AreWeights, Se
 use Rattle.constriction_models.specs.declared.counts.CountsError.{CountsError}
 use Rattle.constriction_models.specs.declared.counts.CountsError.TheVariants as errors
 use Rattle.constriction_calls.specs.QuantizedCalls.{AreCounts, GivesWeights}
-use Rattle.constriction_calls.specs.declared.refusal.Refusal.{Refusal}
-
-done_no_err : {e : Refusal} → ◌≡◌ {A = Result (Unit {0}) Refusal} (Ok tt) (Err e) → ⊥
-done_no_err is = cc
 
 given_no_err : {T : Type 0} {x : T} {e : CountsError} → ◌≡◌ {A = Result T CountsError} (Ok x) (Err e) → ⊥
 given_no_err is = cc
@@ -36,9 +32,6 @@ module _ {T P : Type 0} (number : P → ℕ) (precision : ℕ) (counts : List �
         total = (counted, total);
         some = some;
         shares = λ all. (shares all, first all);
-        right = right_counts empty many;
-        wrong_length = (λ is. absurd (done_no_err is), λ no. absurd (no (length-map old number ∙ fit)));
-        wrong_weights = (λ is. absurd (done_no_err is), λ all. absurd (all.1 (right_counts empty many)));
-        err = tt;
+        asked = inr (length-map old number ∙ fit, inr (right_counts empty many, tt));
         kept = tt;
       })

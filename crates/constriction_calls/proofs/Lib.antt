@@ -1,17 +1,17 @@
-pub mod Asking
-mod AnsRows
 mod AnsAnswers
 mod AnsFrame
+mod AnsRows
+pub mod Asking
 mod ChainAnswers
 pub mod ChainFrame
 pub mod ChainRows
 pub mod ChainSteps
-mod FamilyAnswers
+pub mod ChainWords
 mod FamilyCounts
-mod FamilyIntervals
 mod FamilyTables
 pub mod IntervalRows
 pub mod KnownRows
+mod Listing
 mod RangeAnswers
 pub mod RangeFrame
 mod RangeIntervals
@@ -19,13 +19,10 @@ pub mod RangeKept
 pub mod RangeTaking
 pub mod RowItems
 pub mod RowTables
-pub mod ChainWords
 pub mod RowWeights
 pub mod Stacked
 mod StoreAnswers
 mod StoreIndex
 mod SymbolLists
+mod SymbolReads
 mod SymbolTrees
-mod Totals
-mod Asking
-mod Listing

@@ -1,16 +1,18 @@
 -- Lists of symbols as codewords: where each has one, and as they are read one after the other.
-use Rattle.std.proofs.Common.{◌≡◌, ◌<◌, ℕ, Bool, List, [], ◌∷◌, ◌++◌, Option, Some, None, Result, Ok, Err, length, map, reverse, ap, sym, subst, refl, ◌∙◌, append-nil, append_assoc}
+use Rattle.std.proofs.Common.{◌≡◌, ◌<◌, ◌≤◌, ◌-◌, ℕ, Global, Vec, vec_capacity, vec_len, Bool, List, [], ◌∷◌, ◌++◌, Option, Some, None, Result, Ok, Err, length, map, reverse, ap, sym, subst, refl, ◌∙◌, append-nil, append_assoc}
+use Rattle.std.specs.declared.alloc.AllocError.{AllocError}
 use Rattle.std.proofs.lemmas.List.{reverse-append, reverse-reverse}
 use Rattle.constriction_base.specs.declared.errors.CoderError.{CoderError}
 use Rattle.constriction_base.specs.declared.errors.CoderError.TheVariants.{Frontend, Backend}
-use Rattle.constriction_symbol.specs.Bits.{GivesBit}
+use Rattle.constriction_base.specs.Backends.{IsWrite, Writes}
+use Rattle.constriction_symbol.specs.Bits.{BitsValue, GivesBit, PutsOnto}
 use Rattle.constriction_symbol.specs.Codewords.{ReadsSymbol}
 use Rattle.constriction_symbol.specs.declared.codebooks.SymbolCodeError.{SymbolCodeError}
 use Rattle.constriction_symbol.specs.declared.codebooks.SymbolCodeError.TheVariants.{OutOfCompressedData, InvalidCodeword}
 use Rattle.constriction_symbol.proofs.ReadBack.{gives_front}
 use Rattle.constriction_symbol_laws.specs.Lists.{AreCodewords}
 use Rattle.constriction_calls.specs.declared.refusal.Refusal.{Refusal}
-use Rattle.constriction_calls.specs.SymbolCalls.{EndInZero, HaveCodewords, IsToldAs, ReadsNone}
+use Rattle.constriction_calls.specs.SymbolCalls.{AsStack, GiveNone, HaveCodewords, IsToldAs, ReadsNone}
 
 -- where every symbol has a codeword, those of a list have
 pub all_have : {S : Type 0} (codeword : S → Option (List Bool)) → ((s : S) → (bits : List Bool) × (codeword s ≡ Some bits)) → (symbols : List S) → HaveCodewords codeword symbols
@@ -29,12 +31,12 @@ codewords_push codeword [] x all last h known = (last, [], known, ap (λ bs. bs 
 codewords_push codeword (y ∷ ys) x all last h known =
     (h.0, h.1 ++ last, h.2, ap (λ bs. bs ++ last) h.3 ∙ append_assoc h.0 h.1 last, codewords_push codeword ys x h.1 last h.4 known)
 
-module _ {I S V E : Type 0} (next : I → Option (Result Bool E) → I → Type 0) (unread : I → List Bool) (codeword : S → Option (List Bool)) (reads_on : List Bool → Type 0) (is_invalid : List Bool → V → Type 0)
+module _ {I S E : Type 0} (next : I → Option (Result Bool E) → I → Type 0) (unread : I → List Bool) (codeword : S → Option (List Bool)) (reads_on : List Bool → Type 0)
     (law : (old : I) (item : Option (Result Bool E)) (new : I) → next old item new → GivesBit (unread old) item (unread new))
     (xs : List S) (begun : List Bool) (old new : I) (so_far : ReadSoFar codeword xs begun (unread old)) where
   -- one symbol more was read
-  pub read_one : (x : S) → ReadsSymbol {E = E} next codeword reads_on is_invalid old (Ok x) new → ReadSoFar codeword (xs ++ x ∷ []) begun (unread new)
-  read_one x (bits, known, given) =
+  pub read_one : {V : Type 0} (is_invalid : List Bool → V → Type 0) (x : S) → ReadsSymbol {E = E} next codeword reads_on is_invalid old (Ok x) new → ReadSoFar codeword (xs ++ x ∷ []) begun (unread new)
+  read_one is_invalid x (bits, known, given) =
       let here = gives_front next unread law old bits new given in (
         so_far.0 ++ bits,
         codewords_push codeword xs x so_far.0 bits so_far.1 known,
@@ -42,24 +44,30 @@ module _ {I S V E : Type 0} (next : I → Option (Result Bool E) → I → Type 
       )
 
   -- no symbol was read
-  pub read_none : (amt : ℕ) → length xs < amt → (error : CoderError (SymbolCodeError V) E) (refusal : Refusal) → ReadsSymbol {E = E} next codeword reads_on is_invalid old (Err error) new → IsToldAs error refusal
-      → ReadsNone codeword reads_on (λ bits. (v : V) × is_invalid bits v) amt begun refusal
-  read_none amt fewer (Frontend OutOfCompressedData) refusal (bits, on, (last, given, none)) told =
+  pub read_none : {V : Type 0} (is_invalid : List Bool → V → Type 0) (amt : ℕ) → length xs < amt → (error : CoderError (SymbolCodeError V) E) (refusal : Refusal)
+      → ReadsSymbol {E = E} next codeword reads_on is_invalid old (Err error) new → IsToldAs error refusal → ReadsNone codeword reads_on (λ bits. (v : V) × is_invalid bits v) amt begun refusal
+  read_none {V} is_invalid amt fewer (Frontend OutOfCompressedData) refusal (bits, on, (last, given, none)) told =
       let here = gives_front next unread law old bits last given in
       let end = law last None new none in
       let all : unread old ≡ bits = here ∙ (ap (λ bs. bits ++ bs) end.0 ∙ append-nil bits) in
       subst (λ r. ReadsNone codeword reads_on (λ bs. (v : V) × is_invalid bs v) amt begun r) (sym told) (xs, fewer, so_far.0, bits, so_far.1, so_far.2 ∙ ap (λ bs. so_far.0 ++ bs) all, on)
-  read_none amt fewer (Frontend (InvalidCodeword e)) refusal (bits, no_codeword, given) told =
+  read_none {V} is_invalid amt fewer (Frontend (InvalidCodeword e)) refusal (bits, no_codeword, given) told =
       let here = gives_front next unread law old bits new given in
       subst (λ r. ReadsNone codeword reads_on (λ bs. (v : V) × is_invalid bs v) amt begun r) (sym told) (xs, fewer, so_far.0, unread old, so_far.1, so_far.2, (bits, unread new, here, (e, no_codeword)))
-  read_none amt fewer (Backend e) refusal reads told = subst (λ r. ReadsNone codeword reads_on (λ bs. (v : V) × is_invalid bs v) amt begun r) (sym told) tt
+  read_none {V} is_invalid amt fewer (Backend e) refusal reads told = subst (λ r. ReadsNone codeword reads_on (λ bs. (v : V) × is_invalid bs v) amt begun r) (sym told) tt
 
 map_last : {A B : Type 0} (f : A → B) (xs : List A) (x : A) → map f (xs ++ x ∷ []) ≡ map f xs ++ f x ∷ []
 map_last f [] x = refl
 map_last f (y ∷ ys) x = ap (λ zs. f y ∷ zs) (map_last f ys x)
 
 -- words of which the last is zero
-pub end_in_zero : {W : Type 0} (number : W → ℕ) (words : List W) (word : W) (rest : List W) → reverse words ≡ word ∷ rest → number word ≡ 0 → EndInZero (map number words)
+pub end_in_zero : {W : Type 0} (number : W → ℕ) (words : List W) (word : W) (rest : List W) → reverse words ≡ word ∷ rest → number word ≡ 0 → GiveNone AsStack (map number words)
 end_in_zero number words word rest is zero =
     let all : words ≡ reverse rest ++ word ∷ [] = sym (reverse-reverse words) ∙ (ap (λ ws. reverse ws) is ∙ reverse-append (word ∷ []) rest) in
     (map number (reverse rest), ap (λ ws. map number ws) all ∙ (map_last number (reverse rest) word ∙ ap (λ n. map number (reverse rest) ++ n ∷ []) zero))
+
+-- ---- words that a vector takes
+-- what puts a bit onto one
+abbrev pub vec_puts : {W : Type 0} → ℕ → (W → ℕ) → BitsValue (Vec W Global) → Bool → Result (Unit {0}) AllocError → BitsValue (Vec W Global) → Type 0
+vec_puts w number = PutsOnto w number (IsWrite (λ v. reverse v.items) (λ v. vec_capacity v - vec_len v)
+    (λ old word r new. Writes (reverse old.items) word r (reverse new.items) × (vec_capacity old ≤ vec_capacity new)) (λ v e. vec_capacity v ≤ vec_len v))

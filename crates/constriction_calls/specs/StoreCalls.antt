@@ -1,11 +1,11 @@
 -- Stores over a caller's buffers: words, and an index as lists of positions, of lower ends and of lengths of intervals.
-use Rattle.std.specs.Prelude.{◌≡◌, ◌↔◌, ℕ, ◌-◌, ◌<◌, ◌≤◌, ◌^◌, List, [], ◌∷◌, Result, IfErr, IsErrOf, OnErr, OnOk, drop, length, map, sum, take}
+use Rattle.std.specs.Prelude.{◌≡◌, ℕ, ◌-◌, ◌<◌, ◌≤◌, ◌^◌, List, [], ◌∷◌, Result, OnErr, OnOk, drop, length, map, sum, take}
 use Rattle.constriction_base.specs.Models.{AreKnown, items_of}
 use Rattle.constriction_store.specs.Stores.{Entry, HoldsChunk, HoldsChunks, IsBuilt, entry_of}
-use Rattle.constriction_calls.specs.Buffers.{NeedsSpace}
+use Rattle.constriction_calls.specs.Refusals.{Asks, Else, Room, Words}
 use Rattle.constriction_calls.specs.Weights.{IsTotal, weights_model}
 use Rattle.constriction_calls.specs.declared.refusal.Refusal.{Refusal}
-use Rattle.constriction_calls.specs.declared.refusal.Refusal.TheVariants.{ImpossibleSymbol, InvalidData, NoMemory, OutOfData, WrongInterval, WrongLength, WrongWeights}
+use Rattle.constriction_calls.specs.declared.refusal.Refusal.TheVariants.{ImpossibleSymbol, InvalidData, WrongLength, WrongWeights}
 
 -- ---- chunks, and where they begin
 -- symbols that stand one chunk behind another, as chunks of these lengths
@@ -56,13 +56,6 @@ pub record LacksStore (w s precision : ℕ) (weights : List ℕ) (chunks : List 
   pub built : IsBuilt w s (weights_model precision weights) chunks index words
   pub count : needed ≡ length words
 
--- a refusal of a build
-abbrev pub OfStore : Refusal → Type 0
-OfStore WrongInterval = ⊥
-OfStore InvalidData = ⊥
-OfStore OutOfData = ⊥
-OfStore other = Unit {0}
-
 -- what a build does with the buffers, and which refusal comes when
 pub record StoreBuilds {Word State : Type 0} (number : Word → ℕ) (state : State → ℕ) (w s precision : ℕ) (weights symbols lengths : List ℕ)
     (old new : StoreKept Word State) (answer : Result (Unit {0}) Refusal) : Type 0 where
@@ -72,33 +65,18 @@ pub record StoreBuilds {Word State : Type 0} (number : Word → ℕ) (state : St
   pub chunks : OnOk answer (HoldsChunks w s (weights_model precision weights) (words_kept number new) (index_kept state lengths new) (chunks_by symbols lengths))
   -- the buffer behind the words stays
   pub behind : OnOk answer (drop new.len new.words ≡ drop new.len old.words)
-  pub wrong_length : IsErrOf answer WrongLength ↔ (FitKept symbols lengths old → ⊥)
-  pub wrong_weights : IsErrOf answer WrongWeights ↔ (FitKept symbols lengths old × (IsTotal precision weights → ⊥))
-  pub impossible : IsErrOf answer ImpossibleSymbol ↔ (FitKept symbols lengths old × IsTotal precision weights × (AreKnown (items_of (weights_model precision weights) symbols) → ⊥))
-  pub no_space : NeedsSpace answer (LacksStore w s precision weights (chunks_by symbols lengths) (length old.words))
-  pub err : IfErr answer OfStore
+  pub asked : Asks WrongLength (FitKept symbols lengths old) (Asks WrongWeights (IsTotal precision weights)
+      (Asks ImpossibleSymbol (AreKnown (items_of (weights_model precision weights) symbols))
+      (Else (Room (LacksStore w s precision weights (chunks_by symbols lengths) (length old.words)))))) answer
   pub kept : OnErr answer (new ≡ old)
 
 -- ---- look-ups
--- a refusal of a look-up
-abbrev pub OfLookUp : Refusal → Type 0
-OfLookUp WrongLength = Unit {0}
-OfLookUp WrongWeights = Unit {0}
-OfLookUp InvalidData = Unit {0}
-OfLookUp NoMemory = Unit {0}
-OfLookUp other = ⊥
-
 -- what a look-up at an entry does with as many symbols as it has, and which refusal comes when
 pub record StoreGives {State : Type 0} (state : State → ℕ) (w s precision : ℕ) (weights words : List ℕ) (place : ℕ) (lower range : State)
     (old new : List ℕ) (answer : Result (Unit {0}) Refusal) : Type 0 where
   -- the chunk at the entry
   pub ok : OnOk answer (HoldsChunk w s (weights_model precision weights) words (entry_of place (state lower) (state range) (length old)) new)
-  pub wrong_length : IsErrOf answer WrongLength ↔ (length words < place)
-  pub wrong_weights : IsErrOf answer WrongWeights ↔ ((place ≤ length words) × (IsTotal precision weights → ⊥))
-  -- the interval is too short
-  pub short : (place ≤ length words) × IsTotal precision weights × (state range < 2 ^ (s - w)) → IsErrOf answer InvalidData
-  -- else the words hold no chunk there
-  pub invalid_data : IsErrOf answer InvalidData → 2 ^ (s - w) ≤ state range → (symbols : List ℕ) →
-      HoldsChunk w s (weights_model precision weights) words (entry_of place (state lower) (state range) (length old)) symbols → ⊥
-  pub err : IfErr answer OfLookUp
+  -- the interval is long enough, and the words hold a chunk there
+  pub asked : Asks WrongLength (place ≤ length words) (Asks WrongWeights (IsTotal precision weights) (Asks InvalidData (2 ^ (s - w) ≤ state range)
+      (Else (Words ((symbols : List ℕ) → HoldsChunk w s (weights_model precision weights) words (entry_of place (state lower) (state range) (length old)) symbols → ⊥))))) answer
   pub kept : OnErr answer (new ≡ old)

@@ -1,49 +1,94 @@
 -- Lists of symbols as words of bits, and back.
-use Rattle.std.specs.Prelude.{◌≡◌, ℕ, ◌<◌, ◌⊎◌, Bool, List, [], ◌∷◌, ◌++◌, length, reverse, Option, None, ⊤}
+use Rattle.std.specs.Prelude.{◌≡◌, ℕ, ◌<◌, ◌⊎◌, ◌-◌, ◌^◌, Bool, List, [], ◌∷◌, ◌++◌, length, map, reverse, Option, Some, OnErr, OnOk, Result}
 use Rattle.constriction_base.specs.declared.errors.CoderError.{CoderError}
 use Rattle.constriction_base.specs.declared.errors.CoderError.TheVariants.{Frontend, Backend}
 use Rattle.constriction_symbol.specs.declared.codebooks.SymbolCodeError.{SymbolCodeError}
 use Rattle.constriction_symbol.specs.declared.codebooks.SymbolCodeError.TheVariants.{OutOfCompressedData, InvalidCodeword}
-use Rattle.constriction_symbol.specs.Bits.{HasStackWords, IsQueueWords, IsStackWords}
+use Rattle.constriction_symbol.specs.Bits.{HasStackWords, IsQueueWords, IsStackWords, bits_of_words}
+use Rattle.constriction_symbol.specs.Codewords.{NoneBegins}
+use Rattle.constriction_symbol.specs.Golomb.{IsInvalid, WantsBit, golomb}
+use Rattle.constriction_symbol.specs.Huffman.{huffman}
+use Rattle.constriction_symbol.specs.Merging.{FitTree}
 use Rattle.constriction_symbol_laws.specs.Lists.{AreCodewords}
+use Rattle.constriction_calls.specs.Buffers.{Appended}
+use Rattle.constriction_calls.specs.Refusals.{Asks, Else, Memory, Room}
 use Rattle.constriction_calls.specs.declared.refusal.Refusal.{Refusal}
-use Rattle.constriction_calls.specs.declared.refusal.Refusal.TheVariants.{ImpossibleSymbol, WrongWeights, WrongInterval, WrongLength, NoSpace, NoMemory, InvalidData, OutOfData}
+use Rattle.constriction_calls.specs.declared.refusal.Refusal.TheVariants.{ImpossibleSymbol, InvalidData, NoMemory, OutOfData, WrongWeights}
 
--- ---- symbols as words
--- the words of the queue of bits that holds the codewords of the symbols, one behind another, and no more
-abbrev pub AreQueueWords : {S : Type 0} → ℕ → (S → Option (List Bool)) → List S → List ℕ → Type 0
-AreQueueWords w codeword symbols words = (code : List Bool) × AreCodewords codeword symbols code × IsQueueWords w code words
+-- ---- codewords
+-- the Exp-Golomb codewords of numbers of so many bits; or those of the Huffman tree of weights, which are numbers of so many bits
+pub data Book : Type 0 where
+  OfNumbers : ℕ → Book
+  OfWeights : ℕ → List ℕ → Book
 
--- the words of the stack of bits off which the codewords of the symbols come, one behind another, and which holds no more
-abbrev pub AreStackWords : {S : Type 0} → ℕ → (S → Option (List Bool)) → List S → List ℕ → Type 0
-AreStackWords w codeword symbols words = (code : List Bool) × AreCodewords codeword symbols code × IsStackWords w (reverse code) words
+-- the codeword of a symbol, by its number
+abbrev pub codeword_in : {S : Type 0} → (S → ℕ) → Book → S → Option (List Bool)
+codeword_in number (OfNumbers width) = λ symbol. Some (golomb (number symbol))
+codeword_in number (OfWeights width weights) = λ symbol. huffman weights (number symbol)
+
+-- the weights make a tree: there are some, at most so many, and their sum is a number of so many bits
+abbrev pub MakesTree : ℕ → Book → Type 0
+MakesTree most (OfNumbers width) = Unit {0}
+MakesTree most (OfWeights width weights) = FitTree (λ weight. weight) width most weights
+
+-- bits behind which a codeword may still be completed
+abbrev pub IsCut : Book → List Bool → Type 0
+IsCut (OfNumbers width) bits = WantsBit width bits
+IsCut (OfWeights width weights) bits = NoneBegins (huffman weights) bits
+
+-- bits that are those of no codeword
+abbrev pub IsWrong : Book → List Bool → Type 0
+IsWrong (OfNumbers width) bits = IsInvalid width bits
+IsWrong (OfWeights width weights) bits = ⊥
 
 -- each symbol has a codeword
 abbrev pub HaveCodewords : {S : Type 0} → (S → Option (List Bool)) → List S → Type 0
 HaveCodewords codeword symbols = (code : List Bool) × AreCodewords codeword symbols code
 
--- some symbol has none
-abbrev pub OneHasNone : {S : Type 0} → (S → Option (List Bool)) → List S → Type 0
-OneHasNone codeword [] = ⊥
-OneHasNone codeword (symbol ∷ symbols) = (codeword symbol ≡ None) ⊎ OneHasNone codeword symbols
+-- ---- bits as words
+-- bits are read in the order in which they were written, or the last one first
+pub data Order : Type 0 where
+  AsQueue : Order
+  AsStack : Order
 
--- why the words of symbols were not put into a buffer of so many: a symbol has no codeword; or they are more, and how many
--- is told; or memory is missing
-abbrev pub WritesNone : {S : Type 0} → (S → Option (List Bool)) → (List S → List ℕ → Type 0) → List S → ℕ → Refusal → Type 0
-WritesNone codeword are_words symbols room ImpossibleSymbol = OneHasNone codeword symbols
-WritesNone codeword are_words symbols room (NoSpace needed) = (words : List ℕ) × are_words symbols words × (needed ≡ length words) × (room < needed)
-WritesNone codeword are_words symbols room NoMemory = HaveCodewords codeword symbols
-WritesNone codeword are_words symbols room WrongWeights = ⊥
-WritesNone codeword are_words symbols room WrongInterval = ⊥
-WritesNone codeword are_words symbols room WrongLength = ⊥
-WritesNone codeword are_words symbols room InvalidData = ⊥
-WritesNone codeword are_words symbols room OutOfData = ⊥
+-- the words of just the bits that are read in this order
+abbrev pub AreWordsOf : Order → ℕ → List Bool → List ℕ → Type 0
+AreWordsOf AsQueue w bits words = IsQueueWords w bits words
+AreWordsOf AsStack w bits words = IsStackWords w (reverse bits) words
 
--- why they could not be made: a symbol has no codeword, or memory is missing
-abbrev pub MakesNone : {S : Type 0} → (S → Option (List Bool)) → List S → Refusal → Type 0
-MakesNone codeword symbols e = ((e ≡ ImpossibleSymbol) × OneHasNone codeword symbols) ⊎ ((e ≡ NoMemory) × HaveCodewords codeword symbols)
+-- the bits that these words give in this order
+abbrev pub GiveBits : Order → ℕ → List ℕ → List Bool → Type 0
+GiveBits AsQueue w words bits = bits ≡ bits_of_words w words
+GiveBits AsStack w words bits = HasStackWords w (reverse bits) words
 
--- ---- bits as symbols
+-- the words give no bits: they end in a zero, as those of no stack of bits
+abbrev pub GiveNone : Order → List ℕ → Type 0
+GiveNone AsQueue words = ⊥
+GiveNone AsStack words = (front : List ℕ) × (words ≡ front ++ 0 ∷ [])
+
+-- ---- symbols as words
+-- the words of the codewords of the symbols, one behind another, and of no more
+abbrev pub AreSymbolWords : {S : Type 0} → Order → ℕ → (S → Option (List Bool)) → List S → List ℕ → Type 0
+AreSymbolWords order w codeword symbols words = (code : List Bool) × AreCodewords codeword symbols code × AreWordsOf order w code words
+
+-- so many words are those of the symbols, and there is room for fewer
+abbrev pub LackRoom : {S : Type 0} → Order → ℕ → (S → Option (List Bool)) → List S → ℕ → ℕ → Type 0
+LackRoom order w codeword symbols room needed = (words : List ℕ) × AreSymbolWords order w codeword symbols words × (needed ≡ length words) × (room < needed)
+
+-- a caller's buffer, and how many words are in use
+pub record WordsKept (Word : Type 0) : Type 0 where
+  pub words : List Word
+  pub len : ℕ
+
+-- what a call does that puts the words of symbols at the beginning of a buffer, by the numbers of symbols and of words of w bits
+pub record PutsCodewords {S Word : Type 0} (symbol : S → ℕ) (number : Word → ℕ) (w : ℕ) (order : Order) (book : Book) (symbols : List S)
+    (old new : WordsKept Word) (answer : Result (Unit {0}) Refusal) : Type 0 where
+  pub put : OnOk answer ((all : List Word) × AreSymbolWords order w (codeword_in symbol book) symbols (map number all) × Appended old.words 0 all new.words new.len)
+  pub asked : Asks WrongWeights (MakesTree (2 ^ 62 - 1) book) (Asks ImpossibleSymbol (HaveCodewords (codeword_in symbol book) symbols)
+      (Else (Room (LackRoom order w (codeword_in symbol book) symbols (length old.words))))) answer
+  pub kept : OnErr answer (new ≡ old)
+
+-- ---- words as symbols
 -- the codewords of the symbols begin the bits, one behind another
 abbrev pub BeginBits : {S : Type 0} → (S → Option (List Bool)) → List S → List Bool → Type 0
 BeginBits codeword symbols bits = (code : List Bool) × (rest : List Bool) × AreCodewords codeword symbols code × (bits ≡ code ++ rest)
@@ -62,12 +107,7 @@ BegunBy holds bits = (first : List Bool) × (rest : List Bool) × (bits ≡ firs
 abbrev pub ReadsNone : {S : Type 0} → (S → Option (List Bool)) → (List Bool → Type 0) → (List Bool → Type 0) → ℕ → List Bool → Refusal → Type 0
 ReadsNone codeword is_cut is_wrong amt bits OutOfData = AfterFewer codeword amt is_cut bits
 ReadsNone codeword is_cut is_wrong amt bits InvalidData = AfterFewer codeword amt (BegunBy is_wrong) bits
-ReadsNone codeword is_cut is_wrong amt bits NoMemory = ⊤
-ReadsNone codeword is_cut is_wrong amt bits ImpossibleSymbol = ⊥
-ReadsNone codeword is_cut is_wrong amt bits (NoSpace needed) = ⊥
-ReadsNone codeword is_cut is_wrong amt bits WrongWeights = ⊥
-ReadsNone codeword is_cut is_wrong amt bits WrongInterval = ⊥
-ReadsNone codeword is_cut is_wrong amt bits WrongLength = ⊥
+ReadsNone codeword is_cut is_wrong amt bits other = Memory other
 
 -- what is answered where no symbol was read
 abbrev pub IsToldAs : {V E : Type 0} → CoderError (SymbolCodeError V) E → Refusal → Type 0
@@ -75,23 +115,16 @@ IsToldAs (Frontend OutOfCompressedData) refusal = refusal ≡ OutOfData
 IsToldAs (Frontend (InvalidCodeword e)) refusal = refusal ≡ InvalidData
 IsToldAs (Backend e) refusal = refusal ≡ NoMemory
 
--- the words end in a zero, as those of no stack of bits
-abbrev pub EndInZero : List ℕ → Type 0
-EndInZero words = (front : List ℕ) × (words ≡ front ++ 0 ∷ [])
+-- why words don't: memory is missing; or they give no bits; or their bits don't give them
+abbrev pub TakesNone : {S : Type 0} → Order → ℕ → (S → ℕ) → Book → ℕ → List ℕ → Refusal → Type 0
+TakesNone order w symbol book amt words e =
+    Memory e
+    ⊎ ((e ≡ InvalidData) × GiveNone order words)
+    ⊎ ((bits : List Bool) × GiveBits order w words bits × ReadsNone (codeword_in symbol book) (IsCut book) (IsWrong book) amt bits e)
 
--- what the words of a stack of bits give: the codewords of the symbols begin the bits as they come off
-abbrev pub BeginStack : {S : Type 0} → ℕ → (S → Option (List Bool)) → List S → List ℕ → Type 0
-BeginStack w codeword symbols words = (bits : List Bool) × HasStackWords w (reverse bits) words × BeginBits codeword symbols bits
-
--- why words don't give so many symbols as those of a stack: memory is missing; or they are the words of none; or their bits
--- don't give them
-abbrev pub ReadsNoStack : {S : Type 0} → ℕ → (S → Option (List Bool)) → (List Bool → Type 0) → (List Bool → Type 0) → ℕ → List ℕ → Refusal → Type 0
-ReadsNoStack w codeword is_cut is_wrong amt words e =
-    (e ≡ NoMemory)
-    ⊎ ((e ≡ InvalidData) × EndInZero words)
-    ⊎ ((bits : List Bool) × HasStackWords w (reverse bits) words × ReadsNone codeword is_cut is_wrong amt bits e)
-
--- ---- weights
--- why symbols under a tree of some weights are refused: the weights make no tree, or else what is said of the symbols
-abbrev pub UnderTree : Type 0 → (Refusal → Type 0) → Refusal → Type 0
-UnderTree makes_tree why e = ((e ≡ WrongWeights) × (makes_tree → ⊥)) ⊎ (makes_tree × why e)
+-- what a call does that fills a buffer with symbols from the beginning of the bits of words
+pub record TakesCodewords {S : Type 0} (symbol : S → ℕ) (w : ℕ) (order : Order) (book : Book) (words : List ℕ) (old new : List S) (answer : Result (Unit {0}) Refusal) : Type 0 where
+  pub count : length new ≡ length old
+  pub taken : OnOk answer ((bits : List Bool) × GiveBits order w words bits × BeginBits (codeword_in symbol book) new bits)
+  pub asked : Asks WrongWeights (MakesTree (2 ^ 63 - 1) book) (Else (TakesNone order w symbol book (length old) words)) answer
+  pub kept : OnErr answer (new ≡ old)

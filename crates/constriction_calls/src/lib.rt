@@ -3,7 +3,6 @@
 //!
 //! - [`refusal`]: why a call was refused.
 //! - [`rows`]: rows of weights as models.
-//! - [`tables`]: weights as a table for all symbols.
 //! - [`known`]: whether models know symbols.
 //! - [`intervals`]: intervals without a table.
 //! - [`models`]: how a caller says the models of symbols.
@@ -28,4 +27,3 @@ pub mod refusal;
 pub mod rows;
 pub mod store;
 pub mod symbol;
-pub mod tables;

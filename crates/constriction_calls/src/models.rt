@@ -6,7 +6,7 @@
 
 mod families;
 mod rows;
-mod weights;
+pub(crate) mod weights;
 
 ghost use Rattle.std.specs.Prelude.{◌≡◌, ◌↔◌, ◌<◌, ◌≤◌, ℕ, List, get_or, length, map, replicate, IfSome, IsTrue};
 ghost use Rattle.constriction_base.specs.Models.{AreKnown, pairs_of};

@@ -3,13 +3,11 @@
 pub mod adding;
 mod models;
 
-ghost use Rattle.std.specs.Prelude.{◌≡◌, ◌≢◌, ◌↔◌, ◌⊎◌, ◌*◌, ◌≤◌, length, map, IfSome, IsSome, IfOk, IfErr, OnOk, IsErrOf};
+ghost use Rattle.std.specs.Prelude.{◌≡◌, ◌↔◌, ◌*◌, ◌≤◌, length, map, IfSome, IsSome, IfOk};
 ghost use Rattle.constriction_base.specs.Tables.{table_of};
 ghost use Rattle.constriction_calls.specs.Weights.{IsTotal, AreTotals, row_tables};
-ghost use Rattle.constriction_calls.specs.declared.refusal.Refusal.TheVariants as refusals;
 
-use crate::refusal::Refusal;
-use crate::rows::adding::{are_totals, is_product, is_total};
+use crate::rows::adding::is_total;
 use constriction_base::model::EntropyModel;
 use constriction_words::BitArray;
 use std::alloc::{AllocError, Global};
@@ -38,40 +36,6 @@ impl<'a, P: BitArray, const PRECISION: usize> Row<'a, P, PRECISION> {
         } else {
             None
         }
-    }
-}
-
-/// A row of `width` weights for each of `count` symbols, one behind another.
-///
-/// # Errors
-///
-/// Looked for in this order:
-///
-/// - `WrongLength`, where the weights are not `width` times `count`.
-/// - `WrongWeights`, where a row does not add up to two to the precision.
-/// - `NoMemory`, for want of memory.
-pub fn rows_of<'a, P: BitArray, const PRECISION: usize>(
-    alloc: Global,
-    weights: &'a [P],
-    width: usize,
-    count: usize,
-) -> Result<Vec<Row<'a, P, PRECISION>>, Refusal>
-    requires { (1 ≤ PRECISION) × (PRECISION ≤ P.BITS) }
-    ensures ok { IfOk result (λ rows. map ⟦<Row<'a, P, PRECISION> as EntropyModel<PRECISION>>⟧.table rows.items ≡ row_tables width count (map P.number weights.now)) }
-    ensures totals { OnOk result ((length weights.now ≡ width * count) × AreTotals PRECISION width count (map P.number weights.now)) }
-    ensures wrong_length { IsErrOf result refusals.WrongLength ↔ (length weights.now ≢ width * count) }
-    ensures wrong_weights { IsErrOf result refusals.WrongWeights ↔ ((length weights.now ≡ width * count) × (AreTotals PRECISION width count (map P.number weights.now) → ⊥)) }
-    ensures err { IfErr result (λ e. (e ≡ refusals.WrongLength) ⊎ (e ≡ refusals.WrongWeights) ⊎ (e ≡ refusals.NoMemory)) }
-{
-    if !is_product(weights.len(), width, count) {
-        return Err(Refusal::WrongLength);
-    }
-    if !are_totals::<P, PRECISION>(weights, width, count) {
-        return Err(Refusal::WrongWeights);
-    }
-    match total_rows(alloc, weights, width, count) {
-        Ok(rows) => Ok(rows),
-        Err(_) => Err(Refusal::NoMemory),
     }
 }
 

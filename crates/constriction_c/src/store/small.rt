@@ -1,12 +1,11 @@
 //! Stores at words of 16 bits, states of 32 and a precision of 12.
 
-ghost use Rattle.std.specs.Prelude.{◌≡◌, map};
-ghost use Rattle.constriction_c.specs.Codes.{answer_of, needed_by};
+ghost use Rattle.std.specs.Prelude.{map};
+ghost use Rattle.constriction_c.specs.Codes.{Told, answer_of};
 ghost use Rattle.constriction_calls.specs.StoreCalls.{StoreBuilds, StoreGives};
 
 use crate::codes::{code_of, code_without_space};
-use constriction_calls::store::building::build;
-use constriction_calls::store::looking_up::chunk;
+use constriction_calls::store::{build, chunk};
 use constriction_words::BitArray;
 use std::alloc::Global;
 
@@ -24,13 +23,13 @@ pub extern "C" fn constriction_store_build_u16(
     lengths: &[usize],
     needed: &mut usize,
 ) -> u32
-    ensures call { StoreBuilds ⟦<u16 as BitArray>⟧.number ⟦<u32 as BitArray>⟧.number 16 32 12 (map ⟦<u16 as BitArray>⟧.number weights.now) symbols.now lengths.now
+    ensures call { Told result needed.old needed.new (StoreBuilds ⟦<u16 as BitArray>⟧.number ⟦<u32 as BitArray>⟧.number 16 32 12
+        (map ⟦<u16 as BitArray>⟧.number weights.now) symbols.now lengths.now
         record { positions = positions.old; lowers = lowers.old; ranges = ranges.old; words = words.old; len = len.old }
-        record { positions = positions.new; lowers = lowers.new; ranges = ranges.new; words = words.new; len = len.new } (answer_of result needed.new) }
-    ensures needed { needed.new ≡ needed_by (answer_of result needed.new) needed.old }
+        record { positions = positions.new; lowers = lowers.new; ranges = ranges.new; words = words.new; len = len.new }) }
 {
     code_of(
-        build::<u16, u32, u16, 12>(
+        build::<_, _, _, 12>(
             alloc, words, len, positions, lowers, ranges, weights, symbols, lengths,
         ),
         needed,
@@ -48,11 +47,8 @@ pub extern "C" fn constriction_store_chunk_u16(
     weights: &[u16],
     symbols: &mut [usize],
 ) -> u32
-    ensures call { StoreGives ⟦<u32 as BitArray>⟧.number 16 32 12 (map ⟦<u16 as BitArray>⟧.number weights.now) (map ⟦<u16 as BitArray>⟧.number words.now)
-        pos lower range symbols.old symbols.new (answer_of result 0) }
+    ensures call { StoreGives ⟦<u32 as BitArray>⟧.number 16 32 12 (map ⟦<u16 as BitArray>⟧.number weights.now)
+        (map ⟦<u16 as BitArray>⟧.number words.now) pos lower range symbols.old symbols.new (answer_of result 0) }
 {
-    match chunk::<u16, u32, u16, 12>(alloc, words, pos, lower, range, weights, symbols) {
-        Ok(()) => 0,
-        Err(refusal) => code_without_space(Err(refusal)),
-    }
+    code_without_space(chunk::<u16, _, _, 12>(alloc, words, pos, lower, range, weights, symbols))
 }

@@ -1,17 +1,12 @@
 //! Lists of symbols as words of 32 bits, and back. `needed` is written only where there is no space.
 
-ghost use Rattle.constriction_c.specs.Codes.{answer_of, needed_by};
-ghost use Rattle.constriction_calls.specs.Buffers.{Appended};
-ghost use Rattle.constriction_calls.specs.SymbolCalls.{AreQueueWords, AreStackWords, BeginBits, BeginStack, ReadsNoStack, ReadsNone, UnderTree, WritesNone};
-ghost use Rattle.constriction_symbol.specs.Bits.{bits_of_words};
-ghost use Rattle.constriction_symbol.specs.Codewords.{NoneBegins};
-ghost use Rattle.constriction_symbol.specs.Golomb.{IsInvalid, WantsBit, golomb};
-ghost use Rattle.constriction_symbol.specs.Huffman.{huffman};
-ghost use Rattle.constriction_symbol.specs.Merging.{FitTree};
-ghost use Rattle.std.specs.Prelude.{IfErr, List, OnErr, OnOk, Some, length, map, ◌-◌, ◌^◌, ◌≡◌, ℕ};
+ghost use Rattle.std.specs.Prelude.{map};
+ghost use Rattle.constriction_c.specs.Codes.{Told, answer_of};
+ghost use Rattle.constriction_calls.specs.SymbolCalls.{AsQueue, AsStack, OfNumbers, OfWeights, PutsCodewords, TakesCodewords};
 
 use crate::codes::{code_of, code_without_space};
-use constriction_calls::symbol::{exp_golomb, huffman};
+use constriction_calls::symbol::{Tree, decode_queue, decode_stack, encode_queue, encode_stack};
+use constriction_symbol::exp_golomb::ExpGolomb;
 use constriction_words::BitArray;
 use std::alloc::Global;
 
@@ -24,16 +19,15 @@ pub extern "C" fn constriction_exp_golomb_encode_queue_u32(
     len: &mut usize,
     needed: &mut usize,
 ) -> u32
-    ensures ok { OnOk (answer_of result needed.new) ((all : List ℕ) × AreQueueWords 32 (λ s. Some (golomb (⟦<u32 as BitArray>⟧.number s))) symbols.now (map ⟦<u32 as BitArray>⟧.number all)
-        × Appended words.old 0 all words.new len.new) }
-    ensures err { IfErr (answer_of result needed.new) (λ e. WritesNone (λ s. Some (golomb (⟦<u32 as BitArray>⟧.number s))) (AreQueueWords 32 (λ s. Some (golomb (⟦<u32 as BitArray>⟧.number s)))) symbols.now (length words.old) e) }
-    ensures kept { OnErr (answer_of result needed.new) ((words.new ≡ words.old) × (len.new ≡ len.old)) }
-    ensures needed { needed.new ≡ needed_by (answer_of result needed.new) needed.old }
+    ensures call { Told result needed.old needed.new (PutsCodewords
+        ⟦<u32 as BitArray>⟧.number ⟦<u32 as BitArray>⟧.number 32 AsQueue (OfNumbers 32) symbols.now
+        record { words = words.old; len = len.old } record { words = words.new; len = len.new }) }
 {
-    code_of(exp_golomb::encode_queue(alloc, symbols, words, len), needed)
+    let answer = encode_queue(alloc, &ExpGolomb::<u32>::new(), symbols, words, len);
+    code_of(answer, needed)
 }
 
-/// Puts the words of a stack of bits, off which the numbers' Exp-Golomb codewords come, into a buffer.
+/// Puts the words of a stack of bits, off which come the numbers' Exp-Golomb codewords, into a buffer.
 #[unsafe(no_mangle)]
 pub extern "C" fn constriction_exp_golomb_encode_stack_u32(
     alloc: Global,
@@ -42,16 +36,15 @@ pub extern "C" fn constriction_exp_golomb_encode_stack_u32(
     len: &mut usize,
     needed: &mut usize,
 ) -> u32
-    ensures ok { OnOk (answer_of result needed.new) ((all : List ℕ) × AreStackWords 32 (λ s. Some (golomb (⟦<u32 as BitArray>⟧.number s))) symbols.now (map ⟦<u32 as BitArray>⟧.number all)
-        × Appended words.old 0 all words.new len.new) }
-    ensures err { IfErr (answer_of result needed.new) (λ e. WritesNone (λ s. Some (golomb (⟦<u32 as BitArray>⟧.number s))) (AreStackWords 32 (λ s. Some (golomb (⟦<u32 as BitArray>⟧.number s)))) symbols.now (length words.old) e) }
-    ensures kept { OnErr (answer_of result needed.new) ((words.new ≡ words.old) × (len.new ≡ len.old)) }
-    ensures needed { needed.new ≡ needed_by (answer_of result needed.new) needed.old }
+    ensures call { Told result needed.old needed.new (PutsCodewords
+        ⟦<u32 as BitArray>⟧.number ⟦<u32 as BitArray>⟧.number 32 AsStack (OfNumbers 32) symbols.now
+        record { words = words.old; len = len.old } record { words = words.new; len = len.new }) }
 {
-    code_of(exp_golomb::encode_stack(alloc, symbols, words, len), needed)
+    let answer = encode_stack(alloc, &ExpGolomb::<u32>::new(), symbols, words, len);
+    code_of(answer, needed)
 }
 
-/// Puts the words of a queue of bits with the symbols' codewords under the tree of the weights into a buffer.
+/// Puts the words of a queue of bits with the symbols' codewords by the tree of the weights into a buffer.
 #[unsafe(no_mangle)]
 pub extern "C" fn constriction_huffman_encode_queue_u32(
     alloc: Global,
@@ -61,20 +54,15 @@ pub extern "C" fn constriction_huffman_encode_queue_u32(
     len: &mut usize,
     needed: &mut usize,
 ) -> u32
-    ensures tree { OnOk (answer_of result needed.new) (FitTree ⟦<u32 as BitArray>⟧.number 32 (2 ^ 62 - 1) weights.now) }
-    ensures ok { OnOk (answer_of result needed.new) ((all : List ℕ) × AreQueueWords 32 (huffman (map ⟦<u32 as BitArray>⟧.number weights.now)) symbols.now (map ⟦<u32 as BitArray>⟧.number all)
-        × Appended words.old 0 all words.new len.new) }
-    ensures err { IfErr (answer_of result needed.new) (λ e. UnderTree (FitTree ⟦<u32 as BitArray>⟧.number 32 (2 ^ 62 - 1) weights.now) (WritesNone (huffman (map ⟦<u32 as BitArray>⟧.number weights.now)) (AreQueueWords 32 (huffman (map ⟦<u32 as BitArray>⟧.number weights.now))) symbols.now (length words.old)) e) }
-    ensures kept { OnErr (answer_of result needed.new) ((words.new ≡ words.old) × (len.new ≡ len.old)) }
-    ensures needed { needed.new ≡ needed_by (answer_of result needed.new) needed.old }
+    ensures call { Told result needed.old needed.new (PutsCodewords (λ s. s) ⟦<u32 as BitArray>⟧.number 32 AsQueue
+        (OfWeights 32 (map ⟦<u32 as BitArray>⟧.number weights.now)) symbols.now
+        record { words = words.old; len = len.old } record { words = words.new; len = len.new }) }
 {
-    code_of(
-        huffman::encode_queue(alloc, weights, symbols, words, len),
-        needed,
-    )
+    let answer = encode_queue(alloc, &Tree { weights }, symbols, words, len);
+    code_of(answer, needed)
 }
 
-/// Puts the words of a stack of bits, off which the symbols' codewords under the tree of the weights come, into a buffer.
+/// Puts the words of a stack of bits, off which come the symbols' codewords by the tree of the weights, into a buffer.
 #[unsafe(no_mangle)]
 pub extern "C" fn constriction_huffman_encode_stack_u32(
     alloc: Global,
@@ -84,17 +72,12 @@ pub extern "C" fn constriction_huffman_encode_stack_u32(
     len: &mut usize,
     needed: &mut usize,
 ) -> u32
-    ensures tree { OnOk (answer_of result needed.new) (FitTree ⟦<u32 as BitArray>⟧.number 32 (2 ^ 62 - 1) weights.now) }
-    ensures ok { OnOk (answer_of result needed.new) ((all : List ℕ) × AreStackWords 32 (huffman (map ⟦<u32 as BitArray>⟧.number weights.now)) symbols.now (map ⟦<u32 as BitArray>⟧.number all)
-        × Appended words.old 0 all words.new len.new) }
-    ensures err { IfErr (answer_of result needed.new) (λ e. UnderTree (FitTree ⟦<u32 as BitArray>⟧.number 32 (2 ^ 62 - 1) weights.now) (WritesNone (huffman (map ⟦<u32 as BitArray>⟧.number weights.now)) (AreStackWords 32 (huffman (map ⟦<u32 as BitArray>⟧.number weights.now))) symbols.now (length words.old)) e) }
-    ensures kept { OnErr (answer_of result needed.new) ((words.new ≡ words.old) × (len.new ≡ len.old)) }
-    ensures needed { needed.new ≡ needed_by (answer_of result needed.new) needed.old }
+    ensures call { Told result needed.old needed.new (PutsCodewords (λ s. s) ⟦<u32 as BitArray>⟧.number 32 AsStack
+        (OfWeights 32 (map ⟦<u32 as BitArray>⟧.number weights.now)) symbols.now
+        record { words = words.old; len = len.old } record { words = words.new; len = len.new }) }
 {
-    code_of(
-        huffman::encode_stack(alloc, weights, symbols, words, len),
-        needed,
-    )
+    let answer = encode_stack(alloc, &Tree { weights }, symbols, words, len);
+    code_of(answer, needed)
 }
 
 /// Fills `symbols` with numbers from the Exp-Golomb codewords in the words of a queue of bits.
@@ -104,12 +87,10 @@ pub extern "C" fn constriction_exp_golomb_decode_queue_u32(
     words: &[u32],
     symbols: &mut [u32],
 ) -> u32
-    ensures count { length symbols.new ≡ length symbols.old }
-    ensures ok { OnOk (answer_of result 0) (BeginBits (λ s. Some (golomb (⟦<u32 as BitArray>⟧.number s))) symbols.new (bits_of_words 32 (map ⟦<u32 as BitArray>⟧.number words.now))) }
-    ensures err { IfErr (answer_of result 0) (λ e. ReadsNone (λ (s : ℕ). Some (golomb (⟦<u32 as BitArray>⟧.number s))) (WantsBit 32) (IsInvalid 32) (length symbols.old) (bits_of_words 32 (map ⟦<u32 as BitArray>⟧.number words.now)) e) }
-    ensures kept { OnErr (answer_of result 0) (symbols.new ≡ symbols.old) }
+    ensures call { TakesCodewords ⟦<u32 as BitArray>⟧.number 32 AsQueue (OfNumbers 32)
+        (map ⟦<u32 as BitArray>⟧.number words.now) symbols.old symbols.new (answer_of result 0) }
 {
-    code_without_space(exp_golomb::decode_queue(alloc, words, symbols))
+    code_without_space(decode_queue(alloc, &ExpGolomb::<u32>::new(), words, symbols))
 }
 
 /// Fills `symbols` with numbers from the Exp-Golomb codewords in the words of a stack of bits.
@@ -119,12 +100,10 @@ pub extern "C" fn constriction_exp_golomb_decode_stack_u32(
     words: &[u32],
     symbols: &mut [u32],
 ) -> u32
-    ensures count { length symbols.new ≡ length symbols.old }
-    ensures ok { OnOk (answer_of result 0) (BeginStack 32 (λ s. Some (golomb (⟦<u32 as BitArray>⟧.number s))) symbols.new (map ⟦<u32 as BitArray>⟧.number words.now)) }
-    ensures err { IfErr (answer_of result 0) (λ e. ReadsNoStack 32 (λ (s : ℕ). Some (golomb (⟦<u32 as BitArray>⟧.number s))) (WantsBit 32) (IsInvalid 32) (length symbols.old) (map ⟦<u32 as BitArray>⟧.number words.now) e) }
-    ensures kept { OnErr (answer_of result 0) (symbols.new ≡ symbols.old) }
+    ensures call { TakesCodewords ⟦<u32 as BitArray>⟧.number 32 AsStack (OfNumbers 32)
+        (map ⟦<u32 as BitArray>⟧.number words.now) symbols.old symbols.new (answer_of result 0) }
 {
-    code_without_space(exp_golomb::decode_stack(alloc, words, symbols))
+    code_without_space(decode_stack(alloc, &ExpGolomb::<u32>::new(), words, symbols))
 }
 
 /// Fills `symbols` from the words of a queue of bits, by the tree of the weights.
@@ -135,13 +114,10 @@ pub extern "C" fn constriction_huffman_decode_queue_u32(
     words: &[u32],
     symbols: &mut [usize],
 ) -> u32
-    ensures count { length symbols.new ≡ length symbols.old }
-    ensures tree { OnOk (answer_of result 0) (FitTree ⟦<u32 as BitArray>⟧.number 32 (2 ^ 63 - 1) weights.now) }
-    ensures ok { OnOk (answer_of result 0) (BeginBits (huffman (map ⟦<u32 as BitArray>⟧.number weights.now)) symbols.new (bits_of_words 32 (map ⟦<u32 as BitArray>⟧.number words.now))) }
-    ensures err { IfErr (answer_of result 0) (λ e. UnderTree (FitTree ⟦<u32 as BitArray>⟧.number 32 (2 ^ 63 - 1) weights.now) (ReadsNone (huffman (map ⟦<u32 as BitArray>⟧.number weights.now)) (NoneBegins (huffman (map ⟦<u32 as BitArray>⟧.number weights.now))) (λ _. ⊥) (length symbols.old) (bits_of_words 32 (map ⟦<u32 as BitArray>⟧.number words.now))) e) }
-    ensures kept { OnErr (answer_of result 0) (symbols.new ≡ symbols.old) }
+    ensures call { TakesCodewords (λ s. s) 32 AsQueue (OfWeights 32 (map ⟦<u32 as BitArray>⟧.number weights.now))
+        (map ⟦<u32 as BitArray>⟧.number words.now) symbols.old symbols.new (answer_of result 0) }
 {
-    code_without_space(huffman::decode_queue(alloc, weights, words, symbols))
+    code_without_space(decode_queue(alloc, &Tree { weights }, words, symbols))
 }
 
 /// Fills `symbols` from the words of a stack of bits, by the tree of the weights.
@@ -152,11 +128,8 @@ pub extern "C" fn constriction_huffman_decode_stack_u32(
     words: &[u32],
     symbols: &mut [usize],
 ) -> u32
-    ensures count { length symbols.new ≡ length symbols.old }
-    ensures tree { OnOk (answer_of result 0) (FitTree ⟦<u32 as BitArray>⟧.number 32 (2 ^ 63 - 1) weights.now) }
-    ensures ok { OnOk (answer_of result 0) (BeginStack 32 (huffman (map ⟦<u32 as BitArray>⟧.number weights.now)) symbols.new (map ⟦<u32 as BitArray>⟧.number words.now)) }
-    ensures err { IfErr (answer_of result 0) (λ e. UnderTree (FitTree ⟦<u32 as BitArray>⟧.number 32 (2 ^ 63 - 1) weights.now) (ReadsNoStack 32 (huffman (map ⟦<u32 as BitArray>⟧.number weights.now)) (NoneBegins (huffman (map ⟦<u32 as BitArray>⟧.number weights.now))) (λ _. ⊥) (length symbols.old) (map ⟦<u32 as BitArray>⟧.number words.now)) e) }
-    ensures kept { OnErr (answer_of result 0) (symbols.new ≡ symbols.old) }
+    ensures call { TakesCodewords (λ s. s) 32 AsStack (OfWeights 32 (map ⟦<u32 as BitArray>⟧.number weights.now))
+        (map ⟦<u32 as BitArray>⟧.number words.now) symbols.old symbols.new (answer_of result 0) }
 {
-    code_without_space(huffman::decode_stack(alloc, weights, words, symbols))
+    code_without_space(decode_stack(alloc, &Tree { weights }, words, symbols))
 }

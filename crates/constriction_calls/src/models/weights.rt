@@ -59,7 +59,7 @@ impl<'a, P: BitArray, const PRECISION: usize> Models<P, PRECISION> for Weights<'
 
 /// The table of weights, with their reciprocals where steps divide by them. `None` says that the weights don't add up, or that memory is
 /// missing.
-fn table_by<P: BitArray, const PRECISION: usize>(
+pub fn table_by<P: BitArray, const PRECISION: usize>(
     alloc: Global,
     weights: &[P],
     divides: bool,

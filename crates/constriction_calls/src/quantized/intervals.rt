@@ -7,55 +7,53 @@ ghost use Rattle.constriction_models.specs.Quantizers.{count_of, first_symbol};
 ghost use Rattle.constriction_calls.specs.Quantized.{AreIntervalsOf, tables_by};
 ghost use Rattle.constriction_calls.specs.QuantizedCalls.{GivesIntervals};
 
-use crate::quantized::models::{are_places, quantizer_of};
+use crate::models::{Families, Models};
 use crate::refusal::Refusal;
 use constriction_base::model::EncoderModel;
 use constriction_models::families::Family;
 use constriction_models::quantizer::LeakyQuantizer;
 use constriction_words::{BitArray, WordOf};
 
-/// Writes for each symbol where its interval begins into `lefts`, and how long it is into `ps`, by the model of its
-/// own location and scale, in units of `2^-16`. Symbols are places in the range from `min` to `max`: 0 stands for
-/// `min`. The family is that of a code: 0 is `Gaussian`, 1 is `Laplace`, 2 is `Logistic`. It takes no memory.
+/// Writes for each symbol where its interval begins into `lefts`, and how long it is into `ps`, by its model. It takes no
+/// memory.
 ///
 /// # Errors
 ///
-/// In this order, and nothing changed:
-/// - `WrongLength` exactly where locations, scales, `lefts` or `ps` are not as many as the symbols.
-/// - `WrongInterval` exactly where the range has fewer than two symbols, or more than two to the precision.
-/// - `WrongWeights` exactly where the code is that of no family, or a scale is 0.
-/// - `ImpossibleSymbol` exactly where a symbol is past the range.
+/// In this order, each just in its case, and nothing changed: `WrongLength`, where `lefts` or `ps` are not as many as the
+/// symbols; those of the models; `ImpossibleSymbol`, where a symbol is past the range.
 pub fn intervals_of_quantized<P: WordOf<u32>, const PRECISION: usize>(
-    family: u32,
-    min: i32,
-    max: i32,
-    locations: &[i64],
-    scales: &[u32],
+    families: &Families<'_>,
     symbols: &[usize],
     lefts: &mut [P],
     ps: &mut [P],
 ) -> Result<(), Refusal>
     requires { (1 ≤ PRECISION) × (PRECISION ≤ P.BITS) }
     ensures call { GivesIntervals P.number PRECISION
-        record { family = family; min = min; max = max; locations = locations.now; scales = scales.now } symbols.now
+        record { family = families.now.family; min = families.now.min; max = families.now.max; locations = families.now.locations.now; scales = families.now.scales.now } symbols.now
         record { lefts = lefts.old; ps = ps.old } record { lefts = lefts.new; ps = ps.new } result }
 {
-    if locations.len() != symbols.len() {
-        return Err(Refusal::WrongLength);
-    }
     if lefts.len() != symbols.len() || ps.len() != symbols.len() {
         return Err(Refusal::WrongLength);
     }
-    let (family, quantizer) = match quantizer_of::<P, PRECISION>(
-        family, min, max, locations, scales,
-    ) {
+    if families.locations.len() != symbols.len() {
+        return Err(Refusal::WrongLength);
+    }
+    let (family, quantizer) = match families.quantizer::<P, PRECISION>() {
         Ok(made) => made,
         Err(refusal) => return Err(refusal),
     };
-    if !are_places(min, max, symbols) {
+    if !Models::<P, PRECISION>::know(families, symbols) {
         return Err(Refusal::ImpossibleSymbol);
     }
-    put_intervals(family, &quantizer, locations, scales, symbols, lefts, ps);
+    put_intervals(
+        family,
+        &quantizer,
+        families.locations,
+        families.scales,
+        symbols,
+        lefts,
+        ps,
+    );
     Ok(())
 }
 

@@ -7,12 +7,12 @@ ghost use Rattle.constriction_calls.specs.StoreCalls.{FitStore, StoreBuilds, chu
 ghost use Rattle.constriction_calls.specs.Weights.{weights_model};
 
 use crate::buffers::append;
-use crate::known::all_known;
+use crate::models::weights::table_by;
+use crate::models::{Models, Weights};
 use crate::refusal::Refusal;
-use crate::rows::Row;
+use crate::rows::adding::is_total;
 use crate::store::cutting::{add_up, cut};
 use crate::store::indexing::put_index;
-use crate::tables::decoding_table_by;
 use constriction_base::weights::WeightTable;
 use constriction_queue::RangeCoderState;
 use constriction_store::{MOST_SYMBOLS, Store};
@@ -45,7 +45,7 @@ fn stored<Word: WordOf<State>, State: BitArray, P: WordOf<Word>, const PRECISION
     ensures chunks { IfSome result (λ made. HoldsChunks Word.BITS State.BITS (weights_model PRECISION (map P.number weights.now))
         (map Word.number made.0.items) (map entry_at made.1.items) (chunks_by symbols.now lengths.now)) }
 {
-    let Ok(table) = decoding_table_by::<P, PRECISION>(alloc, weights) else {
+    let Some(table) = table_by::<P, PRECISION>(alloc, weights, false) else {
         return None;
     };
     let Ok(chunks) = cut(alloc, symbols, lengths) else {
@@ -60,19 +60,17 @@ fn stored<Word: WordOf<State>, State: BitArray, P: WordOf<Word>, const PRECISION
     }
 }
 
-/// Puts the words of the store of chunks at the beginning of a buffer, and its index into three lists: for each chunk the position
-/// where it begins, and its interval's lower end and length. The symbols of all chunks stand one behind another, and each
-/// chunk has so many of them as its length says. `len` is the number of the words then.
+/// Puts the words of the store of chunks at the beginning of a buffer, their number into `len`, and its index into three lists: for
+/// each chunk where it begins, and its interval's lower end and length. The symbols of all chunks stand one behind another.
 ///
 /// # Errors
 ///
-/// In this order, and nothing changed:
-/// - `WrongLength` exactly where the lists of the index aren't as long as that of the lengths, the lengths don't add up to the
-///   number of symbols, or there are more of these than a store holds, 1048576.
-/// - `WrongWeights` exactly where the weights don't add up to two to the precision.
-/// - `ImpossibleSymbol` exactly where the weight of a symbol is 0, or there is none.
-/// - `NoSpace` only where the buffer ends before all words, and tells how many there would be.
-/// - `NoMemory` where memory is missing.
+/// The first of these that holds, and nothing changed:
+/// - `WrongLength`: the lists of the index aren't as long as `lengths`, which don't add up to the number of symbols, or there are
+///   more of these than a store holds, 1048576.
+/// - `WrongWeights`: the weights don't add up to two to the precision.
+/// - `ImpossibleSymbol`: the weight of a symbol is 0, or there is none.
+/// - `NoSpace`: the buffer ends before all words, and it tells how many there would be. Or `NoMemory`.
 pub fn build<Word: WordOf<State>, State: BitArray, P: WordOf<Word>, const PRECISION: usize>(
     alloc: Global,
     words: &mut [Word],
@@ -86,7 +84,8 @@ pub fn build<Word: WordOf<State>, State: BitArray, P: WordOf<Word>, const PRECIS
 ) -> Result<(), Refusal>
     requires sizes { IsSizes Word.BITS State.BITS }
     requires precision { (1 ≤ PRECISION) × (PRECISION ≤ P.BITS) }
-    ensures call { StoreBuilds Word.number State.number Word.BITS State.BITS PRECISION (map P.number weights.now) symbols.now lengths.now
+    ensures call { StoreBuilds Word.number State.number Word.BITS State.BITS PRECISION
+        (map P.number weights.now) symbols.now lengths.now
         record { positions = positions.old; lowers = lowers.old; ranges = ranges.old; words = words.old; len = len.old }
         record { positions = positions.new; lowers = lowers.new; ranges = ranges.new; words = words.new; len = len.new } result }
 {
@@ -99,12 +98,12 @@ pub fn build<Word: WordOf<State>, State: BitArray, P: WordOf<Word>, const PRECIS
     ) {
         return Err(Refusal::WrongLength);
     }
-    let Some(row) = Row::<P, PRECISION>::new(weights) else {
+    if !is_total::<P, PRECISION>(weights) {
         return Err(Refusal::WrongWeights);
-    };
+    }
     let Some((made, index)) = stored::<Word, State, P, PRECISION>(alloc, weights, symbols, lengths)
     else {
-        if all_known::<PRECISION, _>(&row, symbols) {
+        if Models::<P, PRECISION>::know(&Weights { weights }, symbols) {
             return Err(Refusal::NoMemory);
         }
         return Err(Refusal::ImpossibleSymbol);

@@ -41,17 +41,14 @@ fn decoder_at<'a, Word: WordOf<State>, State: BitArray>(
 }
 
 /// The chunk of words that begins at a position, in an interval of this lower end and length: as many symbols as the buffer has
-/// places. No other words are read than those of the chunk, and as many more as a state has. The words and the entry may be
-/// a stranger's.
+/// places. No other words are read than those of the chunk, and as many more as a state has. All may be a stranger's.
 ///
 /// # Errors
 ///
-/// In this order, and nothing changed:
-/// - `WrongLength` exactly where the position is past the words.
-/// - `WrongWeights` exactly where the weights don't add up to two to the precision.
-/// - `InvalidData` where the interval is too short, or the words hold no symbol of the weights for one of the chunk. In the words
-///   and at the entries of a build it can't come.
-/// - `NoMemory` where memory is missing.
+/// The first of these that holds, and nothing changed:
+/// - `WrongLength`: the position is past the words.
+/// - `WrongWeights`: the weights don't add up to two to the precision.
+/// - `InvalidData`: the interval is too short, or the words hold no such chunk, as those of a build do at its entries. Or `NoMemory`.
 pub fn chunk<Word: WordOf<State>, State: BitArray, P: WordOf<Word>, const PRECISION: usize>(
     alloc: Global,
     words: &[Word],
@@ -63,8 +60,8 @@ pub fn chunk<Word: WordOf<State>, State: BitArray, P: WordOf<Word>, const PRECIS
 ) -> Result<(), Refusal>
     requires sizes { IsSizes Word.BITS State.BITS }
     requires precision { (1 ≤ PRECISION) × (PRECISION ≤ P.BITS) }
-    ensures call { StoreGives State.number Word.BITS State.BITS PRECISION (map P.number weights.now) (map Word.number words.now)
-        pos lower range symbols.old symbols.new result }
+    ensures call { StoreGives State.number Word.BITS State.BITS PRECISION
+        (map P.number weights.now) (map Word.number words.now) pos lower range symbols.old symbols.new result }
 {
     if pos > words.len() {
         return Err(Refusal::WrongLength);

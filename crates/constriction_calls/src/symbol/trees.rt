@@ -1,61 +1,73 @@
-//! Trees of weights, and why weights or symbols are refused.
+//! The codewords of trees of weights.
 
-ghost use Rattle.constriction_calls.specs.SymbolCalls.{MakesNone, UnderTree};
-ghost use Rattle.constriction_calls.specs.declared.refusal.Refusal.TheVariants as refusals;
-ghost use Rattle.constriction_symbol.specs.Huffman.{huffman, path};
-ghost use Rattle.constriction_symbol.specs.Merging.{FitTree};
-ghost use Rattle.std.specs.Prelude.{All, IfSome, IsTrue, OnSome, map, sum_by, ◌-◌, ◌<◌, ◌^◌, ◌↔◌, ◌≡◌, ℕ};
+ghost use Rattle.std.specs.Prelude.{◌↔◌, ◌<◌, All, IsTrue, map};
+ghost use Rattle.constriction_calls.specs.SymbolCalls.{MakesTree, OfWeights};
 
 use crate::refusal::Refusal;
-use constriction_symbol::huffman::{DecoderHuffmanTree, EncoderHuffmanTree};
+use crate::symbol::Codes;
+use constriction_symbol::huffman::{DecoderHuffmanTree, EncoderHuffmanTree, total_fits};
 use constriction_words::BitArray;
 use std::alloc::Global;
+use std::convert::Infallible;
 
-/// The tree of the weights for encoding. `None` comes where they make no tree, or for want of memory.
-pub(crate) fn encoder_tree<P: BitArray>(alloc: Global, weights: &[P]) -> Option<EncoderHuffmanTree>
-    ensures fit { OnSome result (FitTree P.number P.BITS (2 ^ 62 - 1) weights.now) }
-    ensures codewords { IfSome result (λ tree. (s : ℕ) → path tree s ≡ huffman (map P.number weights.now) s) }
-{
-    match EncoderHuffmanTree::from_probabilities(alloc, weights) {
-        Ok(tree) => Some(tree),
-        Err(_) => None,
-    }
+/// The weights of the symbols `0`, `1`, .., whose codewords are those of the Huffman tree of the weights.
+#[derive(Clone, Copy, Drop)]
+pub struct Tree<'a, P> {
+    pub weights: &'a [P],
 }
 
-/// The tree of the weights for decoding. `None` comes where they make no tree, or for want of memory.
-pub(crate) fn decoder_tree<P: BitArray>(alloc: Global, weights: &[P]) -> Option<DecoderHuffmanTree>
-    ensures fit { OnSome result (FitTree P.number P.BITS (2 ^ 63 - 1) weights.now) }
-    ensures codewords { IfSome result (λ tree. (s : ℕ) → path tree s ≡ huffman (map P.number weights.now) s) }
-{
-    match DecoderHuffmanTree::from_probabilities(alloc, weights) {
-        Ok(tree) => Some(tree),
-        Err(_) => None,
-    }
-}
+impl<'a, P: BitArray> Codes for Tree<'a, P> {
+    type Symbol = usize;
 
-/// Whether the sum of the weights fits their type.
-fn total_fits<P: BitArray>(weights: &[P]) -> bool
-    ensures { IsTrue result ↔ (sum_by P.number weights.now < 2 ^ P.BITS) }
-{
-    let mut total = P::nothing();
-    for weight in weights {
-        if P::greatest().minus(total).is_below(*weight) {
-            return false;
+    type Encoder = EncoderHuffmanTree;
+
+    type Decoder = DecoderHuffmanTree;
+
+    type Wrong = Infallible;
+
+    ghost book = { λ given. OfWeights P.BITS (map P.number given.weights.now) };
+
+    ghost number = { λ symbol. symbol };
+
+    fn encoder(&self, alloc: Global) -> Option<EncoderHuffmanTree> {
+        match EncoderHuffmanTree::from_probabilities(alloc, self.weights) {
+            Ok(tree) => Some(tree),
+            Err(_) => None,
         }
-        total = total.plus(*weight);
     }
-    true
+
+    #[cold]
+    fn refused(&self, symbols: &[usize]) -> Refusal {
+        if !make_tree(self.weights, usize::MAX / 4) {
+            Refusal::WrongWeights
+        } else if are_below(symbols, self.weights.len()) {
+            Refusal::NoMemory
+        } else {
+            Refusal::ImpossibleSymbol
+        }
+    }
+
+    fn decoder(&self, alloc: Global) -> Result<DecoderHuffmanTree, Refusal> {
+        if let Ok(tree) = DecoderHuffmanTree::from_probabilities(alloc, self.weights) {
+            return Ok(tree);
+        }
+        if make_tree(self.weights, usize::MAX / 2) {
+            Err(Refusal::NoMemory)
+        } else {
+            Err(Refusal::WrongWeights)
+        }
+    }
 }
 
 /// Whether the weights make a tree, which has at most so many.
 fn make_tree<P: BitArray>(weights: &[P], most: usize) -> bool
-    ensures { IsTrue result ↔ FitTree P.number P.BITS most weights.now }
+    ensures { IsTrue result ↔ MakesTree most (OfWeights P.BITS (map P.number weights.now)) }
 {
     !weights.is_empty() && weights.len() <= most && total_fits(weights)
 }
 
 /// Whether each of the symbols is below a bound.
-fn all_below(symbols: &[usize], bound: usize) -> bool
+fn are_below(symbols: &[usize], bound: usize) -> bool
     ensures { IsTrue result ↔ All (λ s. s < bound) symbols.now }
 {
     for symbol in symbols {
@@ -64,32 +76,4 @@ fn all_below(symbols: &[usize], bound: usize) -> bool
         }
     }
     true
-}
-
-/// Why the symbols' words under the tree of the weights weren't made.
-#[cold]
-pub(crate) fn refused_symbols<P: BitArray>(weights: &[P], symbols: &[usize]) -> Refusal
-    ensures { UnderTree (FitTree P.number P.BITS (2 ^ 62 - 1) weights.now) (MakesNone (huffman (map P.number weights.now)) symbols.now) result }
-{
-    if make_tree(weights, usize::MAX / 4) {
-        if all_below(symbols, weights.len()) {
-            Refusal::NoMemory
-        } else {
-            Refusal::ImpossibleSymbol
-        }
-    } else {
-        Refusal::WrongWeights
-    }
-}
-
-/// Why the tree of the weights wasn't made.
-#[cold]
-pub(crate) fn refused_weights<P: BitArray>(weights: &[P]) -> Refusal
-    ensures { UnderTree (FitTree P.number P.BITS (2 ^ 63 - 1) weights.now) (λ e. e ≡ refusals.NoMemory) result }
-{
-    if make_tree(weights, usize::MAX / 2) {
-        Refusal::NoMemory
-    } else {
-        Refusal::WrongWeights
-    }
 }

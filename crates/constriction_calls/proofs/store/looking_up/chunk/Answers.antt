@@ -1,4 +1,4 @@
-use Rattle.std.proofs.Common.{◌≡◌, ◌∙◌, ◌-◌, ◌^◌, ◌≤◌, ℕ, List, length, map, sym, ap, ap₂, subst, arith, rules}
+use Rattle.std.proofs.Common.{◌≡◌, ◌∙◌, ◌-◌, ◌^◌, ◌≤◌, ℕ, List, length, map, refl, sym, ap, ap₂, subst, arith, rules}
 use Rattle.std.proofs.lemmas.List.{length-map}
 use Rattle.constriction_base.specs.Models.{items_of}
 use Rattle.constriction_queue_laws.specs.Symbols.{FindsAll}
@@ -54,5 +54,6 @@ returns g c =
           (omega (arith, c.if-pos-words.false, length-map c.args.words.now number)) total least c.in-Err.refusal why.0
           (λ invalid symbols held.
           let all = subst (λ (r : Run). FindsAll w s words (items_of (weights_model g.row.PRECISION weights) symbols) r held.1.0) (sym there_is) held.1.1 in
-          why.1 invalid words symbols there held.1.0 c.decoder_at-decoder.ensures (finds_same w s words _ _ there held.1.0 (c.in-Some.ensures.items symbols held.0) all) held.0);
+          why.1 invalid words symbols there held.1.0 c.decoder_at-decoder.ensures (finds_same w s words _ _ there held.1.0 (c.in-Some.ensures.items symbols held.0) all) held.0)
+          _ refl;
     }

@@ -1,0 +1,54 @@
+-- Symbols that were read by a codebook, as a call that was handed its codewords tells of them.
+use Rattle.std.proofs.Common.{◌≡◌, ◌-◌, ◌^◌, ℕ, Bool, List, Option, Result, Ok, Err, inl, inr, length}
+use Rattle.std.specs.Prelude.{IfErr, OnErr, OnOk}
+use Rattle.constriction_symbol_laws.proofs.bit_coders.Trees.{same_codewords}
+use Rattle.constriction_calls.specs.Refusals.{Asks, Else, Memory}
+use Rattle.constriction_calls.specs.declared.refusal.Refusal.{Refusal}
+use Rattle.constriction_calls.specs.declared.refusal.Refusal.TheVariants.{ImpossibleSymbol, WrongWeights, WrongInterval, WrongLength, NoSpace, NoMemory, InvalidData, OutOfData}
+use Rattle.constriction_calls.specs.SymbolCalls.{BeginBits, Book, GiveBits, IsCut, IsWrong, MakesTree, Order, ReadsNone, TakesCodewords, codeword_in}
+
+ok_not_err : {T : Type 0} {x : T} {e : Refusal} → ◌≡◌ {A = Result T Refusal} (Ok x) (Err e) → ⊥
+ok_not_err is = cc
+
+-- a codebook was made, so the weights make a tree
+pub made_tree : {T : Type 0} (holds : Type 0) (x : T) → Asks WrongWeights holds (Else Memory) (Ok x) → holds
+made_tree holds x asks = elim asks [
+  | inl off ↦ absurd (ok_not_err off.1)
+  | inr on ↦ on.0
+]
+
+-- a codebook that has the codewords of a caller
+module _ {S : Type 0} (f g : S → Option (List Bool)) (same : (s : S) → f s ≡ g s) where
+  begin_by : (symbols : List S) (bits : List Bool) → BeginBits f symbols bits → BeginBits g symbols bits
+  begin_by symbols bits (code, rest, coded, is) = (code, rest, same_codewords f g same symbols code coded, is)
+
+  module _ (cut wrong is_cut is_wrong : List Bool → Type 0) (cuts : (bits : List Bool) → cut bits → is_cut bits) (wrongs : (bits : List Bool) → wrong bits → is_wrong bits) where
+    none_by : (amt : ℕ) (bits : List Bool) (e : Refusal) → ReadsNone f cut wrong amt bits e → ReadsNone g is_cut is_wrong amt bits e
+    none_by amt bits OutOfData (symbols, fewer, code, rest, coded, is, on) = (symbols, fewer, code, rest, same_codewords f g same symbols code coded, is, cuts rest on)
+    none_by amt bits InvalidData (symbols, fewer, code, rest, coded, is, (first, more, begins, bad)) =
+        (symbols, fewer, code, rest, same_codewords f g same symbols code coded, is, (first, more, begins, wrongs first bad))
+    none_by amt bits NoMemory why = why
+    none_by amt bits ImpossibleSymbol why = why
+    none_by amt bits (NoSpace needed) why = why
+    none_by amt bits WrongWeights why = why
+    none_by amt bits WrongInterval why = why
+    none_by amt bits WrongLength why = why
+
+-- symbols that were read by it from the bits of words, and why they weren't
+module _ {S V : Type 0} (symbol : S → ℕ) (w : ℕ) (order : Order) (book : Book) (words : List ℕ) (old : List S) (tree : MakesTree (2 ^ 63 - 1) book)
+    (f : S → Option (List Bool)) (same : (s : S) → f s ≡ codeword_in symbol book s) (cut : List Bool → Type 0) (cuts : (bits : List Bool) → cut bits → IsCut book bits)
+    (invalid : List Bool → V → Type 0) (wrongs : (bits : List Bool) (v : V) → invalid bits v → IsWrong book bits) (bits : List Bool) (given : GiveBits order w words bits) where
+  pub filled : (new : List S) (answer : Result (Unit {0}) Refusal) → length new ≡ length old → OnOk answer (BeginBits f new bits)
+      → IfErr answer (ReadsNone f cut (λ bs. (v : V) × invalid bs v) (length old) bits) → OnErr answer (new ≡ old) → TakesCodewords symbol w order book words old new answer
+  filled new (Ok done) count ok err kept = record {
+    count = count;
+    taken = (bits, given, begin_by f (codeword_in symbol book) same new bits ok);
+    asked = inr (tree, tt);
+    kept = tt;
+  }
+  filled new (Err e) count ok err kept = record {
+    count = count;
+    taken = tt;
+    asked = inr (tree, inr (inr (bits, given, none_by f (codeword_in symbol book) same cut (λ bs. (v : V) × invalid bs v) (IsCut book) (IsWrong book) cuts (λ bs h. wrongs bs h.0 h.1) (length old) bits e err)));
+    kept = kept;
+  }

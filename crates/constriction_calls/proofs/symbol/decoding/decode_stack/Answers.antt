@@ -1,0 +1,41 @@
+use Rattle.std.proofs.Common.{◌≡◌, ◌-◌, ◌^◌, ◌∙◌, ap, inl, inr, length, map, refl, reverse, subst, sym, take}
+use Rattle.std.proofs.lemmas.List.{reverse-reverse}
+use Rattle.std.proofs.Math.Seq.{take-length}
+use Rattle.constriction_symbol.specs.Bits.{HasStackWords}
+use Rattle.constriction_calls.specs.SymbolCalls.{AsStack, MakesTree}
+use Rattle.constriction_calls.proofs.SymbolLists.{end_in_zero}
+use Rattle.constriction_calls.proofs.SymbolReads.{filled, made_tree}
+use Rattle.constriction_calls.proofs.symbol.decoding.decode_stack.Goals as goal
+
+pub returns-in-Err-Frontend : goal.returns-in-Err-Frontend
+returns-in-Err-Frontend g c =
+    let words = c.args.words.now in
+    let rest = c.in-Err-Frontend.field-0-0 in
+    let refused = c.from_compressed.ensures.frontend rest (let is = c.in-Err-Frontend.is in let outer = c.in-Err-Frontend.field-0-is in cc) in
+    let all = ap (λ ws. reverse ws) (sym (take-length words)) ∙ (sym (ap (λ q. reverse (take q.pos q.buf.now)) c.new_at_write_end.ensures) ∙ refused.3 tt) in
+    record {
+      call = record {
+        count = refl;
+        taken = tt;
+        asked = inr (made_tree (MakesTree (2 ^ 63 - 1) (g.C.Codes.book c.args.codes.now)) c.in_ok-codebook.codebook c.in_ok-codebook.ensures.asks, inr (inl (refl, end_in_zero g.Word.BitArray.number words refused.0 _ all refused.1)));
+        kept = refl;
+      };
+    }
+
+pub returns : goal.returns
+returns g c =
+    let w = g.Word.BitArray.BITS in
+    let number = g.Word.BitArray.number in
+    let words = c.args.words.now in
+    let bits = c.in-Ok.decoder.bits in
+    let place = ap (λ q. map number (reverse (reverse (take q.pos q.buf.now)))) c.new_at_write_end.ensures in
+    let all = place ∙ ap (λ ws. map number ws) (reverse-reverse (take (length words) words) ∙ take-length words) in
+    let opened = subst (λ ws. HasStackWords w bits ws) all (c.in-Ok.ensures.ok tt) in
+    let given = subst (λ bs. HasStackWords w bs (map number words)) (sym (reverse-reverse bits)) opened in
+    let made = c.in_ok-codebook in
+    let read = c.read_symbols.ensures in
+    record {
+      call = filled g.C.Codes.number w AsStack (g.C.Codes.book c.args.codes.now) (map number words) c.args.symbols.now (made_tree (MakesTree (2 ^ 63 - 1) (g.C.Codes.book c.args.codes.now)) made.codebook made.ensures.asks)
+          (g.C.Decoder.Codebook.codeword made.codebook) made.ensures.codewords (g.C.Decoder.DecoderCodebook.reads_on made.codebook) made.ensures.cut (g.C.Decoder.DecoderCodebook.is_invalid made.codebook) made.ensures.wrong
+          (reverse bits) given c.read_symbols.new.symbols c.read_symbols.result read.count read.ok read.err read.kept;
+    }

@@ -1,6 +1,0 @@
-use Rattle.std.proofs.Common.{sum_by, take, ◌≡◌}
-use Rattle.constriction_calls.proofs.symbol.trees.total_fits.Given as goal
-
--- the sum of the weights so far
-abbrev pub invariant-loop-weight : goal.invariant-loop-weight
-invariant-loop-weight g l = g.P.BitArray.number l.total ≡ sum_by g.P.BitArray.number (take l.weight-index l.weights)

@@ -1,0 +1,102 @@
+//! Words as symbols.
+
+ghost use Rattle.std.specs.Prelude.{◌≡◌, IfErr, OnErr, OnOk, length, map};
+ghost use Rattle.constriction_calls.specs.SymbolCalls.{AsQueue, AsStack, BeginBits, IsToldAs, ReadsNone, TakesCodewords};
+
+use crate::refusal::Refusal;
+use crate::symbol::Codes;
+use constriction_base::backends::{Queue, Semantics, Stack};
+use constriction_base::cursor::Cursor;
+use constriction_base::errors::CoderError;
+use constriction_symbol::codebooks::{Codebook, DecoderCodebook, SymbolCodeError};
+use constriction_symbol::coder::StackCoder;
+use constriction_symbol::queue::QueueDecoder;
+use constriction_symbol::reading::ReadBitStream;
+use constriction_words::BitArray;
+use std::alloc::Global;
+
+/// Fills `symbols` with those whose codewords begin the words of a queue of bits.
+pub fn decode_queue<Word: BitArray, C: Codes>(
+    alloc: Global,
+    codes: &C,
+    words: &[Word],
+    symbols: &mut [C::Symbol],
+) -> Result<(), Refusal>
+    ensures call { TakesCodewords C.number Word.BITS AsQueue (C.book codes.now)
+        (map Word.number words.now) symbols.old symbols.new result }
+{
+    let codebook = codes.decoder(alloc)?;
+    let mut decoder = QueueDecoder::<Word, Cursor<Word, &[Word]>>::from_compressed(
+        Cursor::new_at_write_beginning(words),
+    );
+    read_symbols::<Queue, _, C::Decoder>(alloc, &mut decoder, &codebook, symbols)
+}
+
+/// The same of a stack of bits, off which the codewords come.
+pub fn decode_stack<Word: BitArray, C: Codes>(
+    alloc: Global,
+    codes: &C,
+    words: &[Word],
+    symbols: &mut [C::Symbol],
+) -> Result<(), Refusal>
+    ensures call { TakesCodewords C.number Word.BITS AsStack (C.book codes.now)
+        (map Word.number words.now) symbols.old symbols.new result }
+{
+    let codebook = codes.decoder(alloc)?;
+    let mut decoder = match StackCoder::<Word, Cursor<Word, &[Word]>>::from_compressed(
+        Cursor::new_at_write_end(words),
+    ) {
+        Ok(decoder) => decoder,
+        Err(CoderError::Frontend(_)) => return Err(Refusal::InvalidData),
+        Err(CoderError::Backend(never)) => match never {},
+    };
+    read_symbols::<Stack, _, C::Decoder>(alloc, &mut decoder, &codebook, symbols)
+}
+
+/// Fills `symbols` with those that are read one after the other.
+///
+/// # Errors
+/// `OutOfData`, `InvalidData` and `NoMemory`, which comes also where the source of the bits refuses to give one.
+fn read_symbols<S: Semantics, R: ReadBitStream<S>, C: DecoderCodebook>(
+    alloc: Global,
+    stream: &mut R,
+    codebook: &C,
+    symbols: &mut [C::Symbol],
+) -> Result<(), Refusal>
+where
+    R::ReadError: Drop,
+    C::Symbol: Copy + Drop,
+    C::InvalidCodeword: Drop,
+    requires { R.is_list }
+    ensures count { length symbols.new ≡ length symbols.old }
+    ensures ok { OnOk result (BeginBits (C.codeword codebook.now) symbols.new (R.unread stream.old)) }
+    ensures err { IfErr result (ReadsNone (C.codeword codebook.now) (C.reads_on codebook.now)
+        (λ bits. (e : C.InvalidCodeword) × C.is_invalid codebook.now bits e)
+        (length symbols.old) (R.unread stream.old)) }
+    ensures kept { OnErr result (symbols.new ≡ symbols.old) }
+{
+    let Ok(mut read) = Vec::with_capacity(alloc, symbols.len()) else {
+        return Err(Refusal::NoMemory);
+    };
+    for _done in 0..symbols.len() {
+        match stream.decode_symbol(codebook) {
+            Ok(symbol) => read.push_reserved(symbol),
+            Err(error) => return Err(told_as(error)),
+        }
+    }
+    symbols.copy_from_slice(&read);
+    Ok(())
+}
+
+/// Why a symbol isn't read, as it is told to the caller.
+fn told_as<V: Drop, E: Drop>(error: CoderError<SymbolCodeError<V>, E>) -> Refusal
+    ensures { IsToldAs error result }
+{
+    match error {
+        CoderError::Frontend(cause) => match cause {
+            SymbolCodeError::OutOfCompressedData => Refusal::OutOfData,
+            SymbolCodeError::InvalidCodeword(_) => Refusal::InvalidData,
+        },
+        CoderError::Backend(_) => Refusal::NoMemory,
+    }
+}

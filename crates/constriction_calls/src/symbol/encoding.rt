@@ -1,0 +1,113 @@
+//! Symbols as words.
+
+ghost use Rattle.std.specs.Prelude.{◌≡◌, ◌-◌, ◌<◌, ◌^◌, IfErr, IfSome, OnErr, OnOk, OnSome, length, map};
+ghost use Rattle.constriction_calls.specs.Buffers.{Appended};
+ghost use Rattle.constriction_calls.specs.SymbolCalls.{AreSymbolWords, AsQueue, AsStack, MakesTree, PutsCodewords, codeword_in};
+ghost use Rattle.constriction_calls.specs.declared.refusal.Refusal.TheVariants as refusals;
+
+use crate::refusal::Refusal;
+use crate::symbol::Codes;
+use constriction_base::backends::Queue;
+use constriction_symbol::coder::{QueueEncoder, StackCoder};
+use constriction_symbol::writing::WriteBitStream;
+use constriction_words::BitArray;
+use std::alloc::Global;
+
+/// Puts the words of a queue of bits with the symbols' codewords at the beginning of `words`, their number into `len`.
+pub fn encode_queue<Word: BitArray, C: Codes>(
+    alloc: Global,
+    codes: &C,
+    symbols: &[C::Symbol],
+    words: &mut [Word],
+    len: &mut usize,
+) -> Result<(), Refusal>
+    ensures call { PutsCodewords C.number Word.number Word.BITS AsQueue (C.book codes.now)
+        symbols.now record { words = words.old; len = len.old } record { words = words.new; len = len.new } result }
+{
+    match queue_words(alloc, codes, symbols) {
+        Some(all) => put_words(&all, words, len),
+        None => Err(codes.refused(symbols)),
+    }
+}
+
+/// The same of a stack of bits, off which the codewords come in the order of the list.
+pub fn encode_stack<Word: BitArray, C: Codes>(
+    alloc: Global,
+    codes: &C,
+    symbols: &[C::Symbol],
+    words: &mut [Word],
+    len: &mut usize,
+) -> Result<(), Refusal>
+    ensures call { PutsCodewords C.number Word.number Word.BITS AsStack (C.book codes.now)
+        symbols.now record { words = words.old; len = len.old } record { words = words.new; len = len.new } result }
+{
+    match stack_words(alloc, codes, symbols) {
+        Some(all) => put_words(&all, words, len),
+        None => Err(codes.refused(symbols)),
+    }
+}
+
+/// The words of a queue. `None` comes where one of the refusals does, but for that of a short buffer.
+fn queue_words<Word: BitArray, C: Codes>(
+    alloc: Global,
+    codes: &C,
+    symbols: &[C::Symbol],
+) -> Option<Vec<Word>>
+    ensures tree { OnSome result (MakesTree (2 ^ 62 - 1) (C.book codes.now)) }
+    ensures words { IfSome result (λ words. AreSymbolWords AsQueue Word.BITS (codeword_in C.number (C.book codes.now))
+        symbols.now (map Word.number words.items)) }
+{
+    let codebook = codes.encoder(alloc)?;
+    let mut encoder = QueueEncoder::<Word>::new(alloc);
+    let Ok(()) = WriteBitStream::<Queue>::encode_iid_symbols(&mut encoder, symbols, &codebook)
+    else {
+        return None;
+    };
+    match encoder.into_compressed() {
+        Ok(words) => Some(words),
+        Err(_) => None,
+    }
+}
+
+/// The words of a stack. `None` comes as for a queue.
+fn stack_words<Word: BitArray, C: Codes>(
+    alloc: Global,
+    codes: &C,
+    symbols: &[C::Symbol],
+) -> Option<Vec<Word>>
+    ensures tree { OnSome result (MakesTree (2 ^ 62 - 1) (C.book codes.now)) }
+    ensures words { IfSome result (λ words. AreSymbolWords AsStack Word.BITS (codeword_in C.number (C.book codes.now))
+        symbols.now (map Word.number words.items)) }
+{
+    let codebook = codes.encoder(alloc)?;
+    let mut coder = StackCoder::<Word>::new(alloc);
+    let Ok(()) = coder.encode_iid_symbols_reverse(symbols, &codebook) else {
+        return None;
+    };
+    match coder.into_compressed() {
+        Ok(words) => Some(words),
+        Err(_) => None,
+    }
+}
+
+/// Puts words at the beginning of a buffer, and their number into `len`.
+///
+/// # Errors
+/// `NoSpace` where the buffer is shorter, with the number.
+pub(crate) fn put_words<Word: BitArray>(
+    all: &[Word],
+    words: &mut [Word],
+    len: &mut usize,
+) -> Result<(), Refusal>
+    ensures ok { OnOk result (Appended words.old 0 all.now words.new len.new) }
+    ensures err { IfErr result (λ e. (e ≡ refusals.NoSpace (length all.now)) × (length words.old < length all.now)) }
+    ensures kept { OnErr result ((words.new ≡ words.old) × (len.new ≡ len.old)) }
+{
+    let count = all.len();
+    if count > words.len() {
+        return Err(Refusal::NoSpace(count));
+    }
+    words[..count].copy_from_slice(all);
+    *len = count;
+    Ok(())
+}
