@@ -106,7 +106,7 @@ module _ {Word State : Type 0} (number : Word → ℕ) (state : State → ℕ) (
       | inr within ↦ inr (
         within.0,
         fit_then P other (AsksToPut number state w s P (items P other) old) answer fit' (subst (λ (xs : List (Item ℕ)). AsksToPut number state w s P xs old answer) is
-        (fit_behind P coded (AsksToPut number state w s P (items P coded) old) answer fit within.1)),
+            (fit_behind P coded (AsksToPut number state w s P (items P coded) old) answer fit within.1)),
       )
     ];
     kept = call.kept;
