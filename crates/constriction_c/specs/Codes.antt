@@ -1,5 +1,5 @@
 -- The codes of a C function, and the answers of calls that they stand for.
-use Rattle.std.specs.Prelude.{ℕ, zero, suc, ◌+◌, ◌*◌, Result, Ok, Err}
+use Rattle.std.specs.Prelude.{◌≡◌, ℕ, zero, suc, ◌+◌, ◌*◌, Result, Ok, Err}
 use Rattle.constriction_calls.specs.declared.refusal.Refusal.{Refusal}
 use Rattle.constriction_calls.specs.declared.refusal.Refusal.TheVariants.{ImpossibleSymbol, WrongWeights, WrongInterval, WrongLength, NoSpace, NoMemory, InvalidData, OutOfData}
 
