@@ -8,11 +8,11 @@ use Rattle.constriction_calls.specs.declared.range.parts.EncoderParts.{EncoderPa
 use Rattle.constriction_calls.specs.declared.refusal.Refusal.{Refusal}
 
 pub puts_told : {Word State : Type 0} {number : Word → ℕ} {state : State → ℕ} {w s precision : ℕ} {coded : List ℕ → Coded} {symbols : List ℕ}
-    {old kept new put : EncoderParts Word State} {words new_words : List Word} {len new_len : ℕ} {answer : Result (Unit {0}) Refusal} {code old_needed needed : ℕ}
+    {old kept new put : EncoderParts Word State} {words new_words : List Word} {len new_len : ℕ} {answer : Result (Unit {0}) Refusal} (code old_needed needed : ℕ)
     → old ≡ kept → put ≡ new → answer_of code needed ≡ answer → needed ≡ needed_by answer old_needed
     → RangePuts number state w s precision coded symbols (kept_in old words len) (kept_in new new_words new_len) answer
     → Told code old_needed needed (RangePuts number state w s precision coded symbols (kept_in kept words len) (kept_in put new_words new_len))
-puts_told old_is new_is answer_is needed_is call = (rw (sym old_is, new_is, answer_is) call, rw answer_is needed_is)
+puts_told code old_needed needed old_is new_is answer_is needed_is call = (rw (sym old_is, new_is, answer_is) call, rw answer_is needed_is)
 
 pub takes_told : {State : Type 0} {state : State → ℕ} {w s precision : ℕ} {coded : List ℕ → Coded} {buffer : List ℕ} {old kept new put : DecoderParts State}
     {symbols new_symbols : List ℕ} {answer told : Result (Unit {0}) Refusal} → old ≡ kept → put ≡ new → told ≡ answer
