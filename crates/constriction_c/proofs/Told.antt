@@ -1,0 +1,20 @@
+-- What a call of the range coder did to the numbers that a C function took out of a caller's struct, and put into it again.
+use Rattle.std.proofs.Common.{◌≡◌, ℕ, List, Result, sym}
+use Rattle.constriction_c.specs.Codes.{Told, answer_of, needed_by}
+use Rattle.constriction_calls.specs.Coded.{Coded}
+use Rattle.constriction_calls.specs.RangeCalls.{RangePuts, RangeTakes, kept_in}
+use Rattle.constriction_calls.specs.declared.range.parts.DecoderParts.{DecoderParts}
+use Rattle.constriction_calls.specs.declared.range.parts.EncoderParts.{EncoderParts}
+use Rattle.constriction_calls.specs.declared.refusal.Refusal.{Refusal}
+
+pub puts_told : {Word State : Type 0} {number : Word → ℕ} {state : State → ℕ} {w s precision : ℕ} {coded : List ℕ → Coded} {symbols : List ℕ}
+    {old kept new put : EncoderParts Word State} {words new_words : List Word} {len new_len : ℕ} {answer : Result (Unit {0}) Refusal} (code old_needed needed : ℕ)
+    → old ≡ kept → put ≡ new → answer_of code needed ≡ answer → needed ≡ needed_by answer old_needed
+    → RangePuts number state w s precision coded symbols (kept_in old words len) (kept_in new new_words new_len) answer
+    → Told code old_needed needed (RangePuts number state w s precision coded symbols (kept_in kept words len) (kept_in put new_words new_len))
+puts_told code old_needed needed old_is new_is answer_is needed_is call = (rw (sym old_is, new_is, answer_is) call, rw answer_is needed_is)
+
+pub takes_told : {State : Type 0} {state : State → ℕ} {w s precision : ℕ} {coded : List ℕ → Coded} {buffer : List ℕ} {old kept new put : DecoderParts State}
+    {symbols new_symbols : List ℕ} {answer told : Result (Unit {0}) Refusal} → old ≡ kept → put ≡ new → told ≡ answer
+    → RangeTakes state w s precision coded buffer old new symbols new_symbols answer → RangeTakes state w s precision coded buffer kept put symbols new_symbols told
+takes_told old_is new_is answer_is call = rw (sym old_is, new_is, answer_is) call
