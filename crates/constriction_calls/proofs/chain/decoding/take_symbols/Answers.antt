@@ -34,5 +34,8 @@ returns-in-Err-Frontend-clause-err g c =
     let number = g.Word.BitArray.number in
     let stop = ends_at number _ _ _ _ _ _ _ _ w s g.row.PRECISION _ c.loop-place.coder c.decode_symbol.new.self
     c.decode_symbol.result c.in-Err-Frontend.field-0-0 (λ a b r. ap (λ ys. map number ys) r.0.0) (c.in-Err-Frontend.is ∙ ap Err c.in-Err-Frontend.field-0-is) c.decode_symbol.ensures.step in
-    inr (refl, ends_pairs w s g.row.PRECISION (λ (table : List (ℕ × ℕ × ℕ)). table) c.loop-place.symbols.items (g.L.ModelList.tables c.args.models.now) c.args.count c.loop-place.place
-    c.args.coder.now.state c.loop-place.coder.state kept.count c.loop-place-test.true c.requires kept.taken stop.0 stop.1)
+    inr (
+      refl,
+      ends_pairs w s g.row.PRECISION (λ (table : List (ℕ × ℕ × ℕ)). table) c.loop-place.symbols.items (g.L.ModelList.tables c.args.models.now) c.args.count c.loop-place.place
+          c.args.coder.now.state c.loop-place.coder.state kept.count c.loop-place-test.true c.requires kept.taken stop.0 stop.1,
+    )

@@ -54,8 +54,11 @@ returns-in-Err-end_putting g c =
     record {
       call = puts_stopped number g.State.BitArray.number g.Word.BitArray.BITS g.State.BitArray.BITS g.row.PRECISION old coded within fit (record { some = right.0; window = right.1 })
           (keeps now.heads now.compressed now.compressed_len c.args.remainders.now now.remainders_len) (rw (kept.0, kept.1, kept.2, kept.3) refl) c.in-Err-end_putting.error
-          (inr (known, of_room _ _ _ n _ (λ past. needs_room_in number g.Word.BitArray.BITS g.State.BitArray.BITS g.met.Word.BitArray.number_law (reverse (items g.row.PRECISION coded)) _ _ c.args.remainders.now
-          c.args.remainders_len.now c.args.compressed.now c.args.compressed_len.now n _ c.put_by.new.coder.state fine within.0 is c.in-Ok-put_by.ensures.ok refl past) c.in-Err-end_putting.ensures.err));
+          (inr (
+            known,
+            of_room _ _ _ n _ (λ past. needs_room_in number g.Word.BitArray.BITS g.State.BitArray.BITS g.met.Word.BitArray.number_law (reverse (items g.row.PRECISION coded)) _ _ c.args.remainders.now
+                c.args.remainders_len.now c.args.compressed.now c.args.compressed_len.now n _ c.put_by.new.coder.state fine within.0 is c.in-Ok-put_by.ensures.ok refl past) c.in-Err-end_putting.ensures.err,
+          ));
     }
 
 pub returns-in-Ok-end_putting : goal.returns-in-Ok-end_putting
