@@ -1,14 +1,15 @@
 -- What calls of the chain coder say of each answer.
-use Rattle.std.proofs.Common.{◌≡◌, ◌⊎◌, ◌∙◌, ℕ, ◌+◌, ◌^◌, ◌≤◌, ◌<◌, List, [], ◌∷◌, Ok, Err, length, map, refl, sym, ap, subst, arith, inl, inr}
+use Rattle.std.proofs.Common.{◌≡◌, ◌⊎◌, ◌∙◌, ℕ, zero, suc, ◌+◌, ◌^◌, ◌≤◌, ◌<◌, List, [], ◌∷◌, Ok, Err, length, map, refl, sym, ap, subst, arith, inl, inr}
 use Rattle.std.specs.Prelude.{◌≢◌, ◌↔◌, IsErrOf, OnOk, Result, reverse}
 use Rattle.std.proofs.lemmas.Bool.{cases_lt}
 use Rattle.std.proofs.lemmas.List.{length-map}
 use Rattle.constriction_base.specs.Models.{AreKnown, Item}
+use Rattle.constriction_base.specs.Tables.{Has, table_of}
 use Rattle.constriction_chain.specs.Symbols.{PutsBackAll, TakesOffAll}
 use Rattle.constriction_calls.specs.Buffers.{Appended}
 use Rattle.constriction_calls.specs.ChainCalls.{AreInUse, AsksToPut, AsksToTake, ChainKept, ChainPuts, ChainTakes, EndsEarly, HeadsKept, LacksRemainders, NeedsRoom, NeedsSpace, chain_kept}
 use Rattle.constriction_calls.specs.Coded.{AreFit, AsIntervals, AsksFit, Coded, items}
-use Rattle.constriction_calls.specs.Intervals.{AreIntervals}
+use Rattle.constriction_calls.specs.Intervals.{AreIntervals, interval_items}
 use Rattle.constriction_calls.specs.Refusals.{Asks, DataOrRoom, Else}
 use Rattle.constriction_calls.specs.declared.refusal.Refusal.{Refusal}
 use Rattle.constriction_calls.specs.declared.refusal.Refusal.TheVariants as refusals
@@ -64,6 +65,11 @@ module _ {Word State : Type 0} (number : Word → ℕ) (state : State → ℕ) (
         → ChainPuts number state w s P coded old new (Err e)
     puts_stopped within fit heads new kept e behind = puts_refused new kept e (asked_all within fit heads (Err e) behind)
 
+    pub puts_headless : AreInUse old → AreFit P coded → (HeadsKept number state w s P old.heads → ⊥) → ChainPuts number state w s P coded old old (Err refusals.InvalidData)
+    puts_headless within fit none =
+        let asks : AsksToPut number state w s P (items P coded) old (Err refusals.InvalidData) = inl (none, refl) in
+        puts_refused old refl refusals.InvalidData (inr (within, fit_then P coded (AsksToPut number state w s P (items P coded) old) (Err refusals.InvalidData) fit asks))
+
     pub puts_ended : AreInUse old → AreFit P coded → HeadsKept number state w s P old.heads → AreKnown (items P coded) → (new : ChainKept Word State)
         → (new.remainders_len ≤ old.remainders_len) × PutsBackAll w s (reverse (items P coded)) (chain_kept number state old) (chain_kept number state new)
         → new.remainders ≡ old.remainders → (added : List Word) → Appended old.compressed old.compressed_len added new.compressed new.compressed_len
@@ -113,6 +119,17 @@ module _ {Word State : Type 0} (number : Word → ℕ) (state : State → ℕ) (
   }
 
 -- ---- intervals
+-- each is known, as symbol 1
+has_interval : (left p rest : ℕ) → 0 < p → Has (table_of (left ∷ p ∷ rest ∷ [])) 1 left p
+has_interval left zero rest h = absurd (omega arith)
+has_interval zero (suc p) rest h = inl refl
+has_interval (suc left) (suc p) rest h = inr (inl (ap (λ (n : ℕ). (let entry : ℕ × ℕ × ℕ = (1, n, suc p) in entry)) (let e : 0 + suc left ≡ suc left = omega arith in e)))
+
+pub intervals_known : (precision : ℕ) (lefts ps : List ℕ) → AreIntervals precision lefts ps → AreKnown (interval_items precision lefts ps)
+intervals_known precision [] ps all = tt
+intervals_known precision (left ∷ lefts) [] all = tt
+intervals_known precision (left ∷ lefts) (p ∷ ps) all = ((left, p, has_interval left p _ all.0.not_empty), intervals_known precision lefts ps all.1)
+
 -- lists are intervals, or aren't
 decided : (P : ℕ) (lefts ps : List ℕ) → (AreIntervals P lefts ps → ⊥) ⊎ AreIntervals P lefts ps
 decided P [] ps = inr tt

@@ -28,8 +28,8 @@ pub extern "C" fn constriction_chain_decode_u32(
     symbols: &mut [usize],
     needed: &mut usize,
 ) -> u32
-    ensures call { Told result needed.old needed.new (ChainTakes ⟦<u32 as BitArray>⟧.number ⟦<u64 as BitArray>⟧.number 32 64 24
-        (ByWeights (map ⟦<u32 as BitArray>⟧.number weights.now))
+    ensures call { Told result needed.old needed.new (ChainTakes ⟦<u32 as BitArray>⟧.number
+        ⟦<u64 as BitArray>⟧.number 32 64 24 (ByWeights (map ⟦<u32 as BitArray>⟧.number weights.now))
         (keeps heads.old compressed.now compressed_len.old remainders.old remainders_len.old)
         (keeps heads.new compressed.now compressed_len.new remainders.new remainders_len.new) symbols.old symbols.new) }
 {
@@ -61,8 +61,8 @@ pub extern "C" fn constriction_chain_decode_each_u32(
     symbols: &mut [usize],
     needed: &mut usize,
 ) -> u32
-    ensures call { Told result needed.old needed.new (ChainTakes ⟦<u32 as BitArray>⟧.number ⟦<u64 as BitArray>⟧.number 32 64 24
-        (ByRows width (map ⟦<u32 as BitArray>⟧.number weights.now))
+    ensures call { Told result needed.old needed.new (ChainTakes ⟦<u32 as BitArray>⟧.number
+        ⟦<u64 as BitArray>⟧.number 32 64 24 (ByRows width (map ⟦<u32 as BitArray>⟧.number weights.now))
         (keeps heads.old compressed.now compressed_len.old remainders.old remainders_len.old)
         (keeps heads.new compressed.now compressed_len.new remainders.new remainders_len.new) symbols.old symbols.new) }
 {
@@ -97,7 +97,8 @@ pub extern "C" fn constriction_chain_decode_quantized_u32(
     symbols: &mut [usize],
     needed: &mut usize,
 ) -> u32
-    ensures call { Told result needed.old needed.new (ChainTakes ⟦<u32 as BitArray>⟧.number ⟦<u64 as BitArray>⟧.number 32 64 24
+    ensures call { Told result needed.old needed.new (ChainTakes ⟦<u32 as BitArray>⟧.number
+        ⟦<u64 as BitArray>⟧.number 32 64 24
         (InFamily record { family = family; min = min; max = max; locations = locations.now; scales = scales.now })
         (keeps heads.old compressed.now compressed_len.old remainders.old remainders_len.old)
         (keeps heads.new compressed.now compressed_len.new remainders.new remainders_len.new) symbols.old symbols.new) }
@@ -135,8 +136,8 @@ pub extern "C" fn constriction_chain_encode_reverse_u32(
     symbols: &[usize],
     needed: &mut usize,
 ) -> u32
-    ensures call { Told result needed.old needed.new (ChainPuts ⟦<u32 as BitArray>⟧.number ⟦<u64 as BitArray>⟧.number 32 64 24
-        (ByWeights (map ⟦<u32 as BitArray>⟧.number weights.now) symbols.now)
+    ensures call { Told result needed.old needed.new (ChainPuts ⟦<u32 as BitArray>⟧.number
+        ⟦<u64 as BitArray>⟧.number 32 64 24 (ByWeights (map ⟦<u32 as BitArray>⟧.number weights.now) symbols.now)
         (keeps heads.old compressed.old compressed_len.old remainders.now remainders_len.old)
         (keeps heads.new compressed.new compressed_len.new remainders.now remainders_len.new)) }
 {
@@ -168,8 +169,8 @@ pub extern "C" fn constriction_chain_encode_each_reverse_u32(
     symbols: &[usize],
     needed: &mut usize,
 ) -> u32
-    ensures call { Told result needed.old needed.new (ChainPuts ⟦<u32 as BitArray>⟧.number ⟦<u64 as BitArray>⟧.number 32 64 24
-        (ByRows width (map ⟦<u32 as BitArray>⟧.number weights.now) symbols.now)
+    ensures call { Told result needed.old needed.new (ChainPuts ⟦<u32 as BitArray>⟧.number
+        ⟦<u64 as BitArray>⟧.number 32 64 24 (ByRows width (map ⟦<u32 as BitArray>⟧.number weights.now) symbols.now)
         (keeps heads.old compressed.old compressed_len.old remainders.now remainders_len.old)
         (keeps heads.new compressed.new compressed_len.new remainders.now remainders_len.new)) }
 {
@@ -204,8 +205,10 @@ pub extern "C" fn constriction_chain_encode_quantized_reverse_u32(
     symbols: &[usize],
     needed: &mut usize,
 ) -> u32
-    ensures call { Told result needed.old needed.new (ChainPuts ⟦<u32 as BitArray>⟧.number ⟦<u64 as BitArray>⟧.number 32 64 24
-        (InFamily record { family = family; min = min; max = max; locations = locations.now; scales = scales.now } symbols.now)
+    ensures call { Told result needed.old needed.new (ChainPuts ⟦<u32 as BitArray>⟧.number
+        ⟦<u64 as BitArray>⟧.number 32 64 24
+        (InFamily record { family = family; min = min; max = max; locations = locations.now; scales = scales.now }
+        symbols.now)
         (keeps heads.old compressed.old compressed_len.old remainders.now remainders_len.old)
         (keeps heads.new compressed.new compressed_len.new remainders.now remainders_len.new)) }
 {
@@ -242,7 +245,8 @@ pub extern "C" fn constriction_chain_encode_intervals_reverse_u32(
     ps: &[u32],
     needed: &mut usize,
 ) -> u32
-    ensures call { Told result needed.old needed.new (ChainPuts ⟦<u32 as BitArray>⟧.number ⟦<u64 as BitArray>⟧.number 32 64 24
+    ensures call { Told result needed.old needed.new (ChainPuts ⟦<u32 as BitArray>⟧.number
+        ⟦<u64 as BitArray>⟧.number 32 64 24
         (AsIntervals (map ⟦<u32 as BitArray>⟧.number lefts.now) (map ⟦<u32 as BitArray>⟧.number ps.now))
         (keeps heads.old compressed.old compressed_len.old remainders.now remainders_len.old)
         (keeps heads.new compressed.new compressed_len.new remainders.now remainders_len.new)) }
@@ -269,7 +273,8 @@ pub extern "C" fn constriction_chain_from_compressed_u32(
     heads: &mut ChainHeads<u32, u64>,
 ) -> u32
     ensures call { ChainBegins ⟦<u32 as BitArray>⟧.number ⟦<u64 as BitArray>⟧.number 32 64 24 InCompressed words.now
-        record { heads = heads.old; len = compressed_len.old } record { heads = heads.new; len = compressed_len.new } (answer_of result 0) }
+        record { heads = heads.old; len = compressed_len.old }
+        record { heads = heads.new; len = compressed_len.new } (answer_of result 0) }
 {
     code_without_space(from_compressed::<_, _, 24>(alloc, words, heads, compressed_len))
 }
@@ -283,7 +288,8 @@ pub extern "C" fn constriction_chain_from_binary_u32(
     heads: &mut ChainHeads<u32, u64>,
 ) -> u32
     ensures call { ChainBegins ⟦<u32 as BitArray>⟧.number ⟦<u64 as BitArray>⟧.number 32 64 24 InBinary words.now
-        record { heads = heads.old; len = compressed_len.old } record { heads = heads.new; len = compressed_len.new } (answer_of result 0) }
+        record { heads = heads.old; len = compressed_len.old }
+        record { heads = heads.new; len = compressed_len.new } (answer_of result 0) }
 {
     code_without_space(from_binary::<_, _, 24>(alloc, words, heads, compressed_len))
 }
@@ -297,7 +303,8 @@ pub extern "C" fn constriction_chain_from_remainders_u32(
     heads: &mut ChainHeads<u32, u64>,
 ) -> u32
     ensures call { ChainBegins ⟦<u32 as BitArray>⟧.number ⟦<u64 as BitArray>⟧.number 32 64 24 InRemainders words.now
-        record { heads = heads.old; len = remainders_len.old } record { heads = heads.new; len = remainders_len.new } (answer_of result 0) }
+        record { heads = heads.old; len = remainders_len.old }
+        record { heads = heads.new; len = remainders_len.new } (answer_of result 0) }
 {
     code_without_space(from_remainders::<_, _, 24>(alloc, words, heads, remainders_len))
 }
@@ -311,8 +318,10 @@ pub extern "C" fn constriction_chain_into_compressed_u32(
     compressed_len: &mut usize,
     needed: &mut usize,
 ) -> u32
-    ensures call { Told result needed.old needed.new (ChainEnds ⟦<u32 as BitArray>⟧.number ⟦<u64 as BitArray>⟧.number 32 64 24 InCompressed heads.now
-        record { words = compressed.old; len = compressed_len.old } record { words = compressed.new; len = compressed_len.new }) }
+    ensures call { Told result needed.old needed.new (ChainEnds ⟦<u32 as BitArray>⟧.number
+        ⟦<u64 as BitArray>⟧.number 32 64 24 InCompressed heads.now
+        record { words = compressed.old; len = compressed_len.old }
+        record { words = compressed.new; len = compressed_len.new }) }
 {
     code_of(
         into_compressed::<_, _, 24>(alloc, heads, compressed, compressed_len),
@@ -329,8 +338,10 @@ pub extern "C" fn constriction_chain_into_binary_u32(
     compressed_len: &mut usize,
     needed: &mut usize,
 ) -> u32
-    ensures call { Told result needed.old needed.new (ChainEnds ⟦<u32 as BitArray>⟧.number ⟦<u64 as BitArray>⟧.number 32 64 24 InBinary heads.now
-        record { words = compressed.old; len = compressed_len.old } record { words = compressed.new; len = compressed_len.new }) }
+    ensures call { Told result needed.old needed.new (ChainEnds ⟦<u32 as BitArray>⟧.number
+        ⟦<u64 as BitArray>⟧.number 32 64 24 InBinary heads.now
+        record { words = compressed.old; len = compressed_len.old }
+        record { words = compressed.new; len = compressed_len.new }) }
 {
     code_of(
         into_binary::<_, _, 24>(alloc, heads, compressed, compressed_len),
@@ -347,8 +358,10 @@ pub extern "C" fn constriction_chain_into_remainders_u32(
     remainders_len: &mut usize,
     needed: &mut usize,
 ) -> u32
-    ensures call { Told result needed.old needed.new (ChainEnds ⟦<u32 as BitArray>⟧.number ⟦<u64 as BitArray>⟧.number 32 64 24 InRemainders heads.now
-        record { words = remainders.old; len = remainders_len.old } record { words = remainders.new; len = remainders_len.new }) }
+    ensures call { Told result needed.old needed.new (ChainEnds ⟦<u32 as BitArray>⟧.number
+        ⟦<u64 as BitArray>⟧.number 32 64 24 InRemainders heads.now
+        record { words = remainders.old; len = remainders_len.old }
+        record { words = remainders.new; len = remainders_len.new }) }
 {
     code_of(
         into_remainders::<_, _, 24>(alloc, heads, remainders, remainders_len),

@@ -118,7 +118,10 @@ pub fn encode_intervals_reverse<
     }
     let (rows, ones) = match rows_by_intervals::<P, PRECISION>(alloc, lefts, ps) {
         Ok(made) => made,
-        Err(Refusal::NoMemory) => {
+        Err(refusal) => {
+            if refusal != Refusal::NoMemory {
+                return Err(refusal);
+            }
             return match ChainCoderHeads::<Word, State, PRECISION>::new(
                 heads.compressed,
                 heads.remainders,
@@ -127,7 +130,6 @@ pub fn encode_intervals_reverse<
                 None => Err(Refusal::InvalidData),
             };
         }
-        Err(refusal) => return Err(refusal),
     };
     let models = Rows {
         weights: rows.as_slice(),

@@ -1,9 +1,10 @@
-use Rattle.std.proofs.Common.{◌≡◌, ◌∙◌, ◌*◌, ℕ, List, arith, inl, inr, length, map, refl, sym, subst}
+use Rattle.std.proofs.Common.{rules, ◌≤◌, ◌≡◌, ◌∙◌, ◌*◌, ℕ, List, arith, inl, inr, length, map, refl, sym, subst}
 use Rattle.std.proofs.lemmas.List.{length-map}
 use Rattle.constriction_calls.specs.ChainCalls.{keeps}
 use Rattle.constriction_calls.specs.Coded.{AreFit, AsIntervals, ByRows, items}
 use Rattle.constriction_calls.specs.Weights.{AreTotals}
-use Rattle.constriction_calls.proofs.ChainAnswers.{puts_as}
+use Rattle.constriction_calls.specs.declared.refusal.Refusal.TheVariants as refusals
+use Rattle.constriction_calls.proofs.ChainAnswers.{intervals_fit, intervals_known, puts_as, puts_headless, puts_stopped}
 use Rattle.constriction_calls.proofs.chain.encoding.encode_intervals_reverse.Goals as goal
 
 pub returns : goal.returns
@@ -23,4 +24,28 @@ returns g c =
       call = puts_as g.Word.BitArray.number g.State.BitArray.number g.Word.BitArray.BITS g.State.BitArray.BITS g.row.PRECISION
           (keeps c.args.heads.now c.args.compressed.now c.args.compressed_len.now c.args.remainders.now c.args.remainders_len.now) (ByRows 3 given ones)
           (AsIntervals (map p c.args.lefts.now) (map p c.args.ps.now)) is fit fit' (keeps now.heads now.compressed now.compressed_len c.args.remainders.now now.remainders_len) c.encode_reverse.result c.encode_reverse.ensures.call;
+    }
+
+pub returns-in-Some : goal.returns-in-Some
+returns-in-Some g c =
+    let right = c.in-Some.ensures.variant.0 refl in
+    let given = c.in-Err.ensures in
+    let memory : c.in-Err.refusal ≡ refusals.NoMemory = search rules in
+    let fit = intervals_fit g.P.BitArray.number g.row.PRECISION c.args.lefts.now c.args.ps.now c.in-Err.refusal given.wrong_length given.wrong_interval memory in
+    record {
+      call = puts_stopped g.Word.BitArray.number g.State.BitArray.number g.Word.BitArray.BITS g.State.BitArray.BITS g.row.PRECISION (keeps c.args.heads.now c.args.compressed.now c.args.compressed_len.now c.args.remainders.now c.args.remainders_len.now)
+          (AsIntervals (map g.P.BitArray.number c.args.lefts.now) (map g.P.BitArray.number c.args.ps.now)) (omega (arith, c.if-compressed_len-compressed.false), omega (arith, c.if-remainders_len-remainders.false)) fit (record { some = right.0; window = right.1 })
+          (keeps c.args.heads.now c.args.compressed.now c.args.compressed_len.now c.args.remainders.now c.args.remainders_len.now) refl refusals.NoMemory
+          (inr (intervals_known g.row.PRECISION (map g.P.BitArray.number c.args.lefts.now) (map g.P.BitArray.number c.args.ps.now) fit.1, tt));
+    }
+
+pub returns-in-None : goal.returns-in-None
+returns-in-None g c =
+    let given = c.in-Err.ensures in
+    let memory : c.in-Err.refusal ≡ refusals.NoMemory = search rules in
+    let fit = intervals_fit g.P.BitArray.number g.row.PRECISION c.args.lefts.now c.args.ps.now c.in-Err.refusal given.wrong_length given.wrong_interval memory in
+    record {
+      call = puts_headless g.Word.BitArray.number g.State.BitArray.number g.Word.BitArray.BITS g.State.BitArray.BITS g.row.PRECISION (keeps c.args.heads.now c.args.compressed.now c.args.compressed_len.now c.args.remainders.now c.args.remainders_len.now)
+          (AsIntervals (map g.P.BitArray.number c.args.lefts.now) (map g.P.BitArray.number c.args.ps.now)) (omega (arith, c.if-compressed_len-compressed.false), omega (arith, c.if-remainders_len-remainders.false)) fit
+          (λ heads. (let some = c.in-None.ensures.variant.1 (heads.some, heads.window) in absurd cc));
     }
