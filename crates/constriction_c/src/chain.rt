@@ -1,7 +1,77 @@
-//! The chain coder: two heads in the caller's hands, and the first words of two buffers.
+//! The chain coder: a struct of two heads in the caller's hands, and the first words of two buffers.
 //!
 //! - [`large`]: at words of 32 bits.
 //! - [`small`]: at words of 16 bits.
 
+ghost use Rattle.std.specs.Prelude.{◌≡◌};
+
 pub mod large;
 pub mod small;
+
+use constriction_calls::chain::ChainHeads;
+
+/// The two heads of a chain coder at words of 32 bits: the number of the remainders, and a 1 with the bits left over of the
+/// compressed words.
+#[repr(C)]
+#[derive(Drop, Clone, Copy)]
+pub struct ChainHeadsU32 {
+    pub remainders: u64,
+    pub compressed: u32,
+}
+
+impl ChainHeadsU32 {
+    /// The heads, as the calls take them.
+    #[inline]
+    pub fn parts(&self) -> ChainHeads<u32, u64>
+        ensures { result ≡ record { remainders = self.now.remainders; compressed = self.now.compressed } }
+    {
+        ChainHeads {
+            remainders: self.remainders,
+            compressed: self.compressed,
+        }
+    }
+
+    /// The heads that a call gave.
+    #[inline]
+    pub fn of(heads: ChainHeads<u32, u64>) -> Self
+        ensures { result ≡ record { remainders = heads.remainders; compressed = heads.compressed } }
+    {
+        ChainHeadsU32 {
+            remainders: heads.remainders,
+            compressed: heads.compressed,
+        }
+    }
+}
+
+/// The two heads of a chain coder at words of 16 bits: the number of the remainders, and a 1 with the bits left over of the
+/// compressed words.
+#[repr(C)]
+#[derive(Drop, Clone, Copy)]
+pub struct ChainHeadsU16 {
+    pub remainders: u32,
+    pub compressed: u16,
+}
+
+impl ChainHeadsU16 {
+    /// The heads, as the calls take them.
+    #[inline]
+    pub fn parts(&self) -> ChainHeads<u16, u32>
+        ensures { result ≡ record { remainders = self.now.remainders; compressed = self.now.compressed } }
+    {
+        ChainHeads {
+            remainders: self.remainders,
+            compressed: self.compressed,
+        }
+    }
+
+    /// The heads that a call gave.
+    #[inline]
+    pub fn of(heads: ChainHeads<u16, u32>) -> Self
+        ensures { result ≡ record { remainders = heads.remainders; compressed = heads.compressed } }
+    {
+        ChainHeadsU16 {
+            remainders: heads.remainders,
+            compressed: heads.compressed,
+        }
+    }
+}

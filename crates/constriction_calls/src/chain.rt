@@ -26,7 +26,6 @@ pub use words::{
 };
 
 /// The two heads of a chain coder.
-#[repr(C)]
 #[derive(Debug, Clone, Copy, PartialEq, Eq)]
 pub struct ChainHeads<Word, State> {
     /// The number of the remainders.

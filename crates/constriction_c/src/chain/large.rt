@@ -1,14 +1,16 @@
 //! The chain coder at words of 32 bits, heads of 64 and 32, and a precision of 24.
 
 ghost use Rattle.std.specs.Prelude.{map};
+ghost use Rattle.constriction_c.specs.Chains.{large_heads};
 ghost use Rattle.constriction_c.specs.Codes.{Told, answer_of};
 ghost use Rattle.constriction_calls.specs.ChainCalls.{ChainPuts, ChainTakes, keeps};
 ghost use Rattle.constriction_calls.specs.ChainWords.{ChainBegins, ChainEnds, InBinary, InCompressed, InRemainders};
 ghost use Rattle.constriction_calls.specs.Coded.{AsIntervals, ByRows, ByWeights, InFamily};
 
+use crate::chain::ChainHeadsU32;
 use crate::codes::{code_of, code_without_space};
 use constriction_calls::chain::{
-    ChainHeads, decode, encode_intervals_reverse, encode_reverse, from_binary, from_compressed,
+    decode, encode_intervals_reverse, encode_reverse, from_binary, from_compressed,
     from_remainders, into_binary, into_compressed, into_remainders,
 };
 use constriction_calls::models::{Families, Rows, Weights};
@@ -19,7 +21,7 @@ use std::alloc::Global;
 #[unsafe(no_mangle)]
 pub extern "C" fn constriction_chain_decode_u32(
     alloc: Global,
-    heads: &mut ChainHeads<u32, u64>,
+    heads: &mut ChainHeadsU32,
     compressed: &[u32],
     compressed_len: &mut usize,
     remainders: &mut [u32],
@@ -30,13 +32,15 @@ pub extern "C" fn constriction_chain_decode_u32(
 ) -> u32
     ensures call { Told result needed.old needed.new (ChainTakes ⟦<u32 as BitArray>⟧.number
         ⟦<u64 as BitArray>⟧.number 32 64 24 (ByWeights (map ⟦<u32 as BitArray>⟧.number weights.now))
-        (keeps heads.old compressed.now compressed_len.old remainders.old remainders_len.old)
-        (keeps heads.new compressed.now compressed_len.new remainders.new remainders_len.new) symbols.old symbols.new) }
+        (keeps (large_heads heads.old) compressed.now compressed_len.old remainders.old remainders_len.old)
+        (keeps (large_heads heads.new) compressed.now compressed_len.new remainders.new remainders_len.new)
+        symbols.old symbols.new) }
 {
     let models = Weights { weights };
+    let mut both = heads.parts();
     let answer = decode::<_, _, u32, Weights<'_, u32>, 24>(
         alloc,
-        heads,
+        &mut both,
         compressed,
         compressed_len,
         remainders,
@@ -44,6 +48,7 @@ pub extern "C" fn constriction_chain_decode_u32(
         &models,
         symbols,
     );
+    *heads = ChainHeadsU32::of(both);
     code_of(answer, needed)
 }
 
@@ -51,7 +56,7 @@ pub extern "C" fn constriction_chain_decode_u32(
 #[unsafe(no_mangle)]
 pub extern "C" fn constriction_chain_decode_each_u32(
     alloc: Global,
-    heads: &mut ChainHeads<u32, u64>,
+    heads: &mut ChainHeadsU32,
     compressed: &[u32],
     compressed_len: &mut usize,
     remainders: &mut [u32],
@@ -63,13 +68,15 @@ pub extern "C" fn constriction_chain_decode_each_u32(
 ) -> u32
     ensures call { Told result needed.old needed.new (ChainTakes ⟦<u32 as BitArray>⟧.number
         ⟦<u64 as BitArray>⟧.number 32 64 24 (ByRows width (map ⟦<u32 as BitArray>⟧.number weights.now))
-        (keeps heads.old compressed.now compressed_len.old remainders.old remainders_len.old)
-        (keeps heads.new compressed.now compressed_len.new remainders.new remainders_len.new) symbols.old symbols.new) }
+        (keeps (large_heads heads.old) compressed.now compressed_len.old remainders.old remainders_len.old)
+        (keeps (large_heads heads.new) compressed.now compressed_len.new remainders.new remainders_len.new)
+        symbols.old symbols.new) }
 {
     let models = Rows { weights, width };
+    let mut both = heads.parts();
     let answer = decode::<_, _, u32, Rows<'_, u32>, 24>(
         alloc,
-        heads,
+        &mut both,
         compressed,
         compressed_len,
         remainders,
@@ -77,6 +84,7 @@ pub extern "C" fn constriction_chain_decode_each_u32(
         &models,
         symbols,
     );
+    *heads = ChainHeadsU32::of(both);
     code_of(answer, needed)
 }
 
@@ -84,7 +92,7 @@ pub extern "C" fn constriction_chain_decode_each_u32(
 #[unsafe(no_mangle)]
 pub extern "C" fn constriction_chain_decode_quantized_u32(
     alloc: Global,
-    heads: &mut ChainHeads<u32, u64>,
+    heads: &mut ChainHeadsU32,
     compressed: &[u32],
     compressed_len: &mut usize,
     remainders: &mut [u32],
@@ -100,8 +108,9 @@ pub extern "C" fn constriction_chain_decode_quantized_u32(
     ensures call { Told result needed.old needed.new (ChainTakes ⟦<u32 as BitArray>⟧.number
         ⟦<u64 as BitArray>⟧.number 32 64 24
         (InFamily record { family = family; min = min; max = max; locations = locations.now; scales = scales.now })
-        (keeps heads.old compressed.now compressed_len.old remainders.old remainders_len.old)
-        (keeps heads.new compressed.now compressed_len.new remainders.new remainders_len.new) symbols.old symbols.new) }
+        (keeps (large_heads heads.old) compressed.now compressed_len.old remainders.old remainders_len.old)
+        (keeps (large_heads heads.new) compressed.now compressed_len.new remainders.new remainders_len.new)
+        symbols.old symbols.new) }
 {
     let models = Families {
         family,
@@ -110,9 +119,10 @@ pub extern "C" fn constriction_chain_decode_quantized_u32(
         locations,
         scales,
     };
+    let mut both = heads.parts();
     let answer = decode::<_, _, u32, Families<'_>, 24>(
         alloc,
-        heads,
+        &mut both,
         compressed,
         compressed_len,
         remainders,
@@ -120,6 +130,7 @@ pub extern "C" fn constriction_chain_decode_quantized_u32(
         &models,
         symbols,
     );
+    *heads = ChainHeadsU32::of(both);
     code_of(answer, needed)
 }
 
@@ -127,7 +138,7 @@ pub extern "C" fn constriction_chain_decode_quantized_u32(
 #[unsafe(no_mangle)]
 pub extern "C" fn constriction_chain_encode_reverse_u32(
     alloc: Global,
-    heads: &mut ChainHeads<u32, u64>,
+    heads: &mut ChainHeadsU32,
     compressed: &mut [u32],
     compressed_len: &mut usize,
     remainders: &[u32],
@@ -138,13 +149,14 @@ pub extern "C" fn constriction_chain_encode_reverse_u32(
 ) -> u32
     ensures call { Told result needed.old needed.new (ChainPuts ⟦<u32 as BitArray>⟧.number
         ⟦<u64 as BitArray>⟧.number 32 64 24 (ByWeights (map ⟦<u32 as BitArray>⟧.number weights.now) symbols.now)
-        (keeps heads.old compressed.old compressed_len.old remainders.now remainders_len.old)
-        (keeps heads.new compressed.new compressed_len.new remainders.now remainders_len.new)) }
+        (keeps (large_heads heads.old) compressed.old compressed_len.old remainders.now remainders_len.old)
+        (keeps (large_heads heads.new) compressed.new compressed_len.new remainders.now remainders_len.new)) }
 {
     let models = Weights { weights };
+    let mut both = heads.parts();
     let answer = encode_reverse::<_, _, u32, Weights<'_, u32>, 24>(
         alloc,
-        heads,
+        &mut both,
         compressed,
         compressed_len,
         remainders,
@@ -152,6 +164,7 @@ pub extern "C" fn constriction_chain_encode_reverse_u32(
         &models,
         symbols,
     );
+    *heads = ChainHeadsU32::of(both);
     code_of(answer, needed)
 }
 
@@ -159,7 +172,7 @@ pub extern "C" fn constriction_chain_encode_reverse_u32(
 #[unsafe(no_mangle)]
 pub extern "C" fn constriction_chain_encode_each_reverse_u32(
     alloc: Global,
-    heads: &mut ChainHeads<u32, u64>,
+    heads: &mut ChainHeadsU32,
     compressed: &mut [u32],
     compressed_len: &mut usize,
     remainders: &[u32],
@@ -171,13 +184,14 @@ pub extern "C" fn constriction_chain_encode_each_reverse_u32(
 ) -> u32
     ensures call { Told result needed.old needed.new (ChainPuts ⟦<u32 as BitArray>⟧.number
         ⟦<u64 as BitArray>⟧.number 32 64 24 (ByRows width (map ⟦<u32 as BitArray>⟧.number weights.now) symbols.now)
-        (keeps heads.old compressed.old compressed_len.old remainders.now remainders_len.old)
-        (keeps heads.new compressed.new compressed_len.new remainders.now remainders_len.new)) }
+        (keeps (large_heads heads.old) compressed.old compressed_len.old remainders.now remainders_len.old)
+        (keeps (large_heads heads.new) compressed.new compressed_len.new remainders.now remainders_len.new)) }
 {
     let models = Rows { weights, width };
+    let mut both = heads.parts();
     let answer = encode_reverse::<_, _, u32, Rows<'_, u32>, 24>(
         alloc,
-        heads,
+        &mut both,
         compressed,
         compressed_len,
         remainders,
@@ -185,6 +199,7 @@ pub extern "C" fn constriction_chain_encode_each_reverse_u32(
         &models,
         symbols,
     );
+    *heads = ChainHeadsU32::of(both);
     code_of(answer, needed)
 }
 
@@ -192,7 +207,7 @@ pub extern "C" fn constriction_chain_encode_each_reverse_u32(
 #[unsafe(no_mangle)]
 pub extern "C" fn constriction_chain_encode_quantized_reverse_u32(
     alloc: Global,
-    heads: &mut ChainHeads<u32, u64>,
+    heads: &mut ChainHeadsU32,
     compressed: &mut [u32],
     compressed_len: &mut usize,
     remainders: &[u32],
@@ -209,8 +224,8 @@ pub extern "C" fn constriction_chain_encode_quantized_reverse_u32(
         ⟦<u64 as BitArray>⟧.number 32 64 24
         (InFamily record { family = family; min = min; max = max; locations = locations.now; scales = scales.now }
         symbols.now)
-        (keeps heads.old compressed.old compressed_len.old remainders.now remainders_len.old)
-        (keeps heads.new compressed.new compressed_len.new remainders.now remainders_len.new)) }
+        (keeps (large_heads heads.old) compressed.old compressed_len.old remainders.now remainders_len.old)
+        (keeps (large_heads heads.new) compressed.new compressed_len.new remainders.now remainders_len.new)) }
 {
     let models = Families {
         family,
@@ -219,9 +234,10 @@ pub extern "C" fn constriction_chain_encode_quantized_reverse_u32(
         locations,
         scales,
     };
+    let mut both = heads.parts();
     let answer = encode_reverse::<_, _, u32, Families<'_>, 24>(
         alloc,
-        heads,
+        &mut both,
         compressed,
         compressed_len,
         remainders,
@@ -229,6 +245,7 @@ pub extern "C" fn constriction_chain_encode_quantized_reverse_u32(
         &models,
         symbols,
     );
+    *heads = ChainHeadsU32::of(both);
     code_of(answer, needed)
 }
 
@@ -236,7 +253,7 @@ pub extern "C" fn constriction_chain_encode_quantized_reverse_u32(
 #[unsafe(no_mangle)]
 pub extern "C" fn constriction_chain_encode_intervals_reverse_u32(
     alloc: Global,
-    heads: &mut ChainHeads<u32, u64>,
+    heads: &mut ChainHeadsU32,
     compressed: &mut [u32],
     compressed_len: &mut usize,
     remainders: &[u32],
@@ -248,12 +265,13 @@ pub extern "C" fn constriction_chain_encode_intervals_reverse_u32(
     ensures call { Told result needed.old needed.new (ChainPuts ⟦<u32 as BitArray>⟧.number
         ⟦<u64 as BitArray>⟧.number 32 64 24
         (AsIntervals (map ⟦<u32 as BitArray>⟧.number lefts.now) (map ⟦<u32 as BitArray>⟧.number ps.now))
-        (keeps heads.old compressed.old compressed_len.old remainders.now remainders_len.old)
-        (keeps heads.new compressed.new compressed_len.new remainders.now remainders_len.new)) }
+        (keeps (large_heads heads.old) compressed.old compressed_len.old remainders.now remainders_len.old)
+        (keeps (large_heads heads.new) compressed.new compressed_len.new remainders.now remainders_len.new)) }
 {
+    let mut both = heads.parts();
     let answer = encode_intervals_reverse::<_, _, u32, 24>(
         alloc,
-        heads,
+        &mut both,
         compressed,
         compressed_len,
         remainders,
@@ -261,6 +279,7 @@ pub extern "C" fn constriction_chain_encode_intervals_reverse_u32(
         lefts,
         ps,
     );
+    *heads = ChainHeadsU32::of(both);
     code_of(answer, needed)
 }
 
@@ -270,13 +289,16 @@ pub extern "C" fn constriction_chain_from_compressed_u32(
     alloc: Global,
     words: &[u32],
     compressed_len: &mut usize,
-    heads: &mut ChainHeads<u32, u64>,
+    heads: &mut ChainHeadsU32,
 ) -> u32
     ensures call { ChainBegins ⟦<u32 as BitArray>⟧.number ⟦<u64 as BitArray>⟧.number 32 64 24 InCompressed words.now
-        record { heads = heads.old; len = compressed_len.old }
-        record { heads = heads.new; len = compressed_len.new } (answer_of result 0) }
+        record { heads = large_heads heads.old; len = compressed_len.old }
+        record { heads = large_heads heads.new; len = compressed_len.new } (answer_of result 0) }
 {
-    code_without_space(from_compressed::<_, _, 24>(alloc, words, heads, compressed_len))
+    let mut both = heads.parts();
+    let answer = from_compressed::<_, _, 24>(alloc, words, &mut both, compressed_len);
+    *heads = ChainHeadsU32::of(both);
+    code_without_space(answer)
 }
 
 /// The coder that words stand for in binary form, with no remainders.
@@ -285,13 +307,16 @@ pub extern "C" fn constriction_chain_from_binary_u32(
     alloc: Global,
     words: &[u32],
     compressed_len: &mut usize,
-    heads: &mut ChainHeads<u32, u64>,
+    heads: &mut ChainHeadsU32,
 ) -> u32
     ensures call { ChainBegins ⟦<u32 as BitArray>⟧.number ⟦<u64 as BitArray>⟧.number 32 64 24 InBinary words.now
-        record { heads = heads.old; len = compressed_len.old }
-        record { heads = heads.new; len = compressed_len.new } (answer_of result 0) }
+        record { heads = large_heads heads.old; len = compressed_len.old }
+        record { heads = large_heads heads.new; len = compressed_len.new } (answer_of result 0) }
 {
-    code_without_space(from_binary::<_, _, 24>(alloc, words, heads, compressed_len))
+    let mut both = heads.parts();
+    let answer = from_binary::<_, _, 24>(alloc, words, &mut both, compressed_len);
+    *heads = ChainHeadsU32::of(both);
+    code_without_space(answer)
 }
 
 /// The coder that remainders stand for, with no compressed words.
@@ -300,31 +325,34 @@ pub extern "C" fn constriction_chain_from_remainders_u32(
     alloc: Global,
     words: &[u32],
     remainders_len: &mut usize,
-    heads: &mut ChainHeads<u32, u64>,
+    heads: &mut ChainHeadsU32,
 ) -> u32
     ensures call { ChainBegins ⟦<u32 as BitArray>⟧.number ⟦<u64 as BitArray>⟧.number 32 64 24 InRemainders words.now
-        record { heads = heads.old; len = remainders_len.old }
-        record { heads = heads.new; len = remainders_len.new } (answer_of result 0) }
+        record { heads = large_heads heads.old; len = remainders_len.old }
+        record { heads = large_heads heads.new; len = remainders_len.new } (answer_of result 0) }
 {
-    code_without_space(from_remainders::<_, _, 24>(alloc, words, heads, remainders_len))
+    let mut both = heads.parts();
+    let answer = from_remainders::<_, _, 24>(alloc, words, &mut both, remainders_len);
+    *heads = ChainHeadsU32::of(both);
+    code_without_space(answer)
 }
 
 /// The words of the number of the remainders put behind the compressed words.
 #[unsafe(no_mangle)]
 pub extern "C" fn constriction_chain_into_compressed_u32(
     alloc: Global,
-    heads: &ChainHeads<u32, u64>,
+    heads: &ChainHeadsU32,
     compressed: &mut [u32],
     compressed_len: &mut usize,
     needed: &mut usize,
 ) -> u32
     ensures call { Told result needed.old needed.new (ChainEnds ⟦<u32 as BitArray>⟧.number
-        ⟦<u64 as BitArray>⟧.number 32 64 24 InCompressed heads.now
+        ⟦<u64 as BitArray>⟧.number 32 64 24 InCompressed (large_heads heads.now)
         record { words = compressed.old; len = compressed_len.old }
         record { words = compressed.new; len = compressed_len.new }) }
 {
     code_of(
-        into_compressed::<_, _, 24>(alloc, heads, compressed, compressed_len),
+        into_compressed::<_, _, 24>(alloc, &heads.parts(), compressed, compressed_len),
         needed,
     )
 }
@@ -333,18 +361,18 @@ pub extern "C" fn constriction_chain_into_compressed_u32(
 #[unsafe(no_mangle)]
 pub extern "C" fn constriction_chain_into_binary_u32(
     alloc: Global,
-    heads: &ChainHeads<u32, u64>,
+    heads: &ChainHeadsU32,
     compressed: &mut [u32],
     compressed_len: &mut usize,
     needed: &mut usize,
 ) -> u32
     ensures call { Told result needed.old needed.new (ChainEnds ⟦<u32 as BitArray>⟧.number
-        ⟦<u64 as BitArray>⟧.number 32 64 24 InBinary heads.now
+        ⟦<u64 as BitArray>⟧.number 32 64 24 InBinary (large_heads heads.now)
         record { words = compressed.old; len = compressed_len.old }
         record { words = compressed.new; len = compressed_len.new }) }
 {
     code_of(
-        into_binary::<_, _, 24>(alloc, heads, compressed, compressed_len),
+        into_binary::<_, _, 24>(alloc, &heads.parts(), compressed, compressed_len),
         needed,
     )
 }
@@ -353,18 +381,18 @@ pub extern "C" fn constriction_chain_into_binary_u32(
 #[unsafe(no_mangle)]
 pub extern "C" fn constriction_chain_into_remainders_u32(
     alloc: Global,
-    heads: &ChainHeads<u32, u64>,
+    heads: &ChainHeadsU32,
     remainders: &mut [u32],
     remainders_len: &mut usize,
     needed: &mut usize,
 ) -> u32
     ensures call { Told result needed.old needed.new (ChainEnds ⟦<u32 as BitArray>⟧.number
-        ⟦<u64 as BitArray>⟧.number 32 64 24 InRemainders heads.now
+        ⟦<u64 as BitArray>⟧.number 32 64 24 InRemainders (large_heads heads.now)
         record { words = remainders.old; len = remainders_len.old }
         record { words = remainders.new; len = remainders_len.new }) }
 {
     code_of(
-        into_remainders::<_, _, 24>(alloc, heads, remainders, remainders_len),
+        into_remainders::<_, _, 24>(alloc, &heads.parts(), remainders, remainders_len),
         needed,
     )
 }

@@ -1,14 +1,16 @@
 //! The chain coder at words of 16 bits, heads of 32 and 16, and a precision of 12.
 
 ghost use Rattle.std.specs.Prelude.{map};
+ghost use Rattle.constriction_c.specs.Chains.{small_heads};
 ghost use Rattle.constriction_c.specs.Codes.{Told, answer_of};
 ghost use Rattle.constriction_calls.specs.ChainCalls.{ChainPuts, ChainTakes, keeps};
 ghost use Rattle.constriction_calls.specs.ChainWords.{ChainBegins, ChainEnds, InBinary, InCompressed, InRemainders};
 ghost use Rattle.constriction_calls.specs.Coded.{AsIntervals, ByRows, ByWeights, InFamily};
 
+use crate::chain::ChainHeadsU16;
 use crate::codes::{code_of, code_without_space};
 use constriction_calls::chain::{
-    ChainHeads, decode, encode_intervals_reverse, encode_reverse, from_binary, from_compressed,
+    decode, encode_intervals_reverse, encode_reverse, from_binary, from_compressed,
     from_remainders, into_binary, into_compressed, into_remainders,
 };
 use constriction_calls::models::{Families, Rows, Weights};
@@ -19,7 +21,7 @@ use std::alloc::Global;
 #[unsafe(no_mangle)]
 pub extern "C" fn constriction_chain_decode_u16(
     alloc: Global,
-    heads: &mut ChainHeads<u16, u32>,
+    heads: &mut ChainHeadsU16,
     compressed: &[u16],
     compressed_len: &mut usize,
     remainders: &mut [u16],
@@ -30,13 +32,15 @@ pub extern "C" fn constriction_chain_decode_u16(
 ) -> u32
     ensures call { Told result needed.old needed.new (ChainTakes ⟦<u16 as BitArray>⟧.number
         ⟦<u32 as BitArray>⟧.number 16 32 12 (ByWeights (map ⟦<u16 as BitArray>⟧.number weights.now))
-        (keeps heads.old compressed.now compressed_len.old remainders.old remainders_len.old)
-        (keeps heads.new compressed.now compressed_len.new remainders.new remainders_len.new) symbols.old symbols.new) }
+        (keeps (small_heads heads.old) compressed.now compressed_len.old remainders.old remainders_len.old)
+        (keeps (small_heads heads.new) compressed.now compressed_len.new remainders.new remainders_len.new)
+        symbols.old symbols.new) }
 {
     let models = Weights { weights };
+    let mut both = heads.parts();
     let answer = decode::<_, _, u16, Weights<'_, u16>, 12>(
         alloc,
-        heads,
+        &mut both,
         compressed,
         compressed_len,
         remainders,
@@ -44,6 +48,7 @@ pub extern "C" fn constriction_chain_decode_u16(
         &models,
         symbols,
     );
+    *heads = ChainHeadsU16::of(both);
     code_of(answer, needed)
 }
 
@@ -51,7 +56,7 @@ pub extern "C" fn constriction_chain_decode_u16(
 #[unsafe(no_mangle)]
 pub extern "C" fn constriction_chain_decode_each_u16(
     alloc: Global,
-    heads: &mut ChainHeads<u16, u32>,
+    heads: &mut ChainHeadsU16,
     compressed: &[u16],
     compressed_len: &mut usize,
     remainders: &mut [u16],
@@ -63,13 +68,15 @@ pub extern "C" fn constriction_chain_decode_each_u16(
 ) -> u32
     ensures call { Told result needed.old needed.new (ChainTakes ⟦<u16 as BitArray>⟧.number
         ⟦<u32 as BitArray>⟧.number 16 32 12 (ByRows width (map ⟦<u16 as BitArray>⟧.number weights.now))
-        (keeps heads.old compressed.now compressed_len.old remainders.old remainders_len.old)
-        (keeps heads.new compressed.now compressed_len.new remainders.new remainders_len.new) symbols.old symbols.new) }
+        (keeps (small_heads heads.old) compressed.now compressed_len.old remainders.old remainders_len.old)
+        (keeps (small_heads heads.new) compressed.now compressed_len.new remainders.new remainders_len.new)
+        symbols.old symbols.new) }
 {
     let models = Rows { weights, width };
+    let mut both = heads.parts();
     let answer = decode::<_, _, u16, Rows<'_, u16>, 12>(
         alloc,
-        heads,
+        &mut both,
         compressed,
         compressed_len,
         remainders,
@@ -77,6 +84,7 @@ pub extern "C" fn constriction_chain_decode_each_u16(
         &models,
         symbols,
     );
+    *heads = ChainHeadsU16::of(both);
     code_of(answer, needed)
 }
 
@@ -84,7 +92,7 @@ pub extern "C" fn constriction_chain_decode_each_u16(
 #[unsafe(no_mangle)]
 pub extern "C" fn constriction_chain_decode_quantized_u16(
     alloc: Global,
-    heads: &mut ChainHeads<u16, u32>,
+    heads: &mut ChainHeadsU16,
     compressed: &[u16],
     compressed_len: &mut usize,
     remainders: &mut [u16],
@@ -100,8 +108,9 @@ pub extern "C" fn constriction_chain_decode_quantized_u16(
     ensures call { Told result needed.old needed.new (ChainTakes ⟦<u16 as BitArray>⟧.number
         ⟦<u32 as BitArray>⟧.number 16 32 12
         (InFamily record { family = family; min = min; max = max; locations = locations.now; scales = scales.now })
-        (keeps heads.old compressed.now compressed_len.old remainders.old remainders_len.old)
-        (keeps heads.new compressed.now compressed_len.new remainders.new remainders_len.new) symbols.old symbols.new) }
+        (keeps (small_heads heads.old) compressed.now compressed_len.old remainders.old remainders_len.old)
+        (keeps (small_heads heads.new) compressed.now compressed_len.new remainders.new remainders_len.new)
+        symbols.old symbols.new) }
 {
     let models = Families {
         family,
@@ -110,9 +119,10 @@ pub extern "C" fn constriction_chain_decode_quantized_u16(
         locations,
         scales,
     };
+    let mut both = heads.parts();
     let answer = decode::<_, _, u16, Families<'_>, 12>(
         alloc,
-        heads,
+        &mut both,
         compressed,
         compressed_len,
         remainders,
@@ -120,6 +130,7 @@ pub extern "C" fn constriction_chain_decode_quantized_u16(
         &models,
         symbols,
     );
+    *heads = ChainHeadsU16::of(both);
     code_of(answer, needed)
 }
 
@@ -127,7 +138,7 @@ pub extern "C" fn constriction_chain_decode_quantized_u16(
 #[unsafe(no_mangle)]
 pub extern "C" fn constriction_chain_encode_reverse_u16(
     alloc: Global,
-    heads: &mut ChainHeads<u16, u32>,
+    heads: &mut ChainHeadsU16,
     compressed: &mut [u16],
     compressed_len: &mut usize,
     remainders: &[u16],
@@ -138,13 +149,14 @@ pub extern "C" fn constriction_chain_encode_reverse_u16(
 ) -> u32
     ensures call { Told result needed.old needed.new (ChainPuts ⟦<u16 as BitArray>⟧.number
         ⟦<u32 as BitArray>⟧.number 16 32 12 (ByWeights (map ⟦<u16 as BitArray>⟧.number weights.now) symbols.now)
-        (keeps heads.old compressed.old compressed_len.old remainders.now remainders_len.old)
-        (keeps heads.new compressed.new compressed_len.new remainders.now remainders_len.new)) }
+        (keeps (small_heads heads.old) compressed.old compressed_len.old remainders.now remainders_len.old)
+        (keeps (small_heads heads.new) compressed.new compressed_len.new remainders.now remainders_len.new)) }
 {
     let models = Weights { weights };
+    let mut both = heads.parts();
     let answer = encode_reverse::<_, _, u16, Weights<'_, u16>, 12>(
         alloc,
-        heads,
+        &mut both,
         compressed,
         compressed_len,
         remainders,
@@ -152,6 +164,7 @@ pub extern "C" fn constriction_chain_encode_reverse_u16(
         &models,
         symbols,
     );
+    *heads = ChainHeadsU16::of(both);
     code_of(answer, needed)
 }
 
@@ -159,7 +172,7 @@ pub extern "C" fn constriction_chain_encode_reverse_u16(
 #[unsafe(no_mangle)]
 pub extern "C" fn constriction_chain_encode_each_reverse_u16(
     alloc: Global,
-    heads: &mut ChainHeads<u16, u32>,
+    heads: &mut ChainHeadsU16,
     compressed: &mut [u16],
     compressed_len: &mut usize,
     remainders: &[u16],
@@ -171,13 +184,14 @@ pub extern "C" fn constriction_chain_encode_each_reverse_u16(
 ) -> u32
     ensures call { Told result needed.old needed.new (ChainPuts ⟦<u16 as BitArray>⟧.number
         ⟦<u32 as BitArray>⟧.number 16 32 12 (ByRows width (map ⟦<u16 as BitArray>⟧.number weights.now) symbols.now)
-        (keeps heads.old compressed.old compressed_len.old remainders.now remainders_len.old)
-        (keeps heads.new compressed.new compressed_len.new remainders.now remainders_len.new)) }
+        (keeps (small_heads heads.old) compressed.old compressed_len.old remainders.now remainders_len.old)
+        (keeps (small_heads heads.new) compressed.new compressed_len.new remainders.now remainders_len.new)) }
 {
     let models = Rows { weights, width };
+    let mut both = heads.parts();
     let answer = encode_reverse::<_, _, u16, Rows<'_, u16>, 12>(
         alloc,
-        heads,
+        &mut both,
         compressed,
         compressed_len,
         remainders,
@@ -185,6 +199,7 @@ pub extern "C" fn constriction_chain_encode_each_reverse_u16(
         &models,
         symbols,
     );
+    *heads = ChainHeadsU16::of(both);
     code_of(answer, needed)
 }
 
@@ -192,7 +207,7 @@ pub extern "C" fn constriction_chain_encode_each_reverse_u16(
 #[unsafe(no_mangle)]
 pub extern "C" fn constriction_chain_encode_quantized_reverse_u16(
     alloc: Global,
-    heads: &mut ChainHeads<u16, u32>,
+    heads: &mut ChainHeadsU16,
     compressed: &mut [u16],
     compressed_len: &mut usize,
     remainders: &[u16],
@@ -209,8 +224,8 @@ pub extern "C" fn constriction_chain_encode_quantized_reverse_u16(
         ⟦<u32 as BitArray>⟧.number 16 32 12
         (InFamily record { family = family; min = min; max = max; locations = locations.now; scales = scales.now }
         symbols.now)
-        (keeps heads.old compressed.old compressed_len.old remainders.now remainders_len.old)
-        (keeps heads.new compressed.new compressed_len.new remainders.now remainders_len.new)) }
+        (keeps (small_heads heads.old) compressed.old compressed_len.old remainders.now remainders_len.old)
+        (keeps (small_heads heads.new) compressed.new compressed_len.new remainders.now remainders_len.new)) }
 {
     let models = Families {
         family,
@@ -219,9 +234,10 @@ pub extern "C" fn constriction_chain_encode_quantized_reverse_u16(
         locations,
         scales,
     };
+    let mut both = heads.parts();
     let answer = encode_reverse::<_, _, u16, Families<'_>, 12>(
         alloc,
-        heads,
+        &mut both,
         compressed,
         compressed_len,
         remainders,
@@ -229,6 +245,7 @@ pub extern "C" fn constriction_chain_encode_quantized_reverse_u16(
         &models,
         symbols,
     );
+    *heads = ChainHeadsU16::of(both);
     code_of(answer, needed)
 }
 
@@ -236,7 +253,7 @@ pub extern "C" fn constriction_chain_encode_quantized_reverse_u16(
 #[unsafe(no_mangle)]
 pub extern "C" fn constriction_chain_encode_intervals_reverse_u16(
     alloc: Global,
-    heads: &mut ChainHeads<u16, u32>,
+    heads: &mut ChainHeadsU16,
     compressed: &mut [u16],
     compressed_len: &mut usize,
     remainders: &[u16],
@@ -248,12 +265,13 @@ pub extern "C" fn constriction_chain_encode_intervals_reverse_u16(
     ensures call { Told result needed.old needed.new (ChainPuts ⟦<u16 as BitArray>⟧.number
         ⟦<u32 as BitArray>⟧.number 16 32 12
         (AsIntervals (map ⟦<u16 as BitArray>⟧.number lefts.now) (map ⟦<u16 as BitArray>⟧.number ps.now))
-        (keeps heads.old compressed.old compressed_len.old remainders.now remainders_len.old)
-        (keeps heads.new compressed.new compressed_len.new remainders.now remainders_len.new)) }
+        (keeps (small_heads heads.old) compressed.old compressed_len.old remainders.now remainders_len.old)
+        (keeps (small_heads heads.new) compressed.new compressed_len.new remainders.now remainders_len.new)) }
 {
+    let mut both = heads.parts();
     let answer = encode_intervals_reverse::<_, _, u16, 12>(
         alloc,
-        heads,
+        &mut both,
         compressed,
         compressed_len,
         remainders,
@@ -261,6 +279,7 @@ pub extern "C" fn constriction_chain_encode_intervals_reverse_u16(
         lefts,
         ps,
     );
+    *heads = ChainHeadsU16::of(both);
     code_of(answer, needed)
 }
 
@@ -270,13 +289,16 @@ pub extern "C" fn constriction_chain_from_compressed_u16(
     alloc: Global,
     words: &[u16],
     compressed_len: &mut usize,
-    heads: &mut ChainHeads<u16, u32>,
+    heads: &mut ChainHeadsU16,
 ) -> u32
     ensures call { ChainBegins ⟦<u16 as BitArray>⟧.number ⟦<u32 as BitArray>⟧.number 16 32 12 InCompressed words.now
-        record { heads = heads.old; len = compressed_len.old }
-        record { heads = heads.new; len = compressed_len.new } (answer_of result 0) }
+        record { heads = small_heads heads.old; len = compressed_len.old }
+        record { heads = small_heads heads.new; len = compressed_len.new } (answer_of result 0) }
 {
-    code_without_space(from_compressed::<_, _, 12>(alloc, words, heads, compressed_len))
+    let mut both = heads.parts();
+    let answer = from_compressed::<_, _, 12>(alloc, words, &mut both, compressed_len);
+    *heads = ChainHeadsU16::of(both);
+    code_without_space(answer)
 }
 
 /// The coder that words stand for in binary form, with no remainders.
@@ -285,13 +307,16 @@ pub extern "C" fn constriction_chain_from_binary_u16(
     alloc: Global,
     words: &[u16],
     compressed_len: &mut usize,
-    heads: &mut ChainHeads<u16, u32>,
+    heads: &mut ChainHeadsU16,
 ) -> u32
     ensures call { ChainBegins ⟦<u16 as BitArray>⟧.number ⟦<u32 as BitArray>⟧.number 16 32 12 InBinary words.now
-        record { heads = heads.old; len = compressed_len.old }
-        record { heads = heads.new; len = compressed_len.new } (answer_of result 0) }
+        record { heads = small_heads heads.old; len = compressed_len.old }
+        record { heads = small_heads heads.new; len = compressed_len.new } (answer_of result 0) }
 {
-    code_without_space(from_binary::<_, _, 12>(alloc, words, heads, compressed_len))
+    let mut both = heads.parts();
+    let answer = from_binary::<_, _, 12>(alloc, words, &mut both, compressed_len);
+    *heads = ChainHeadsU16::of(both);
+    code_without_space(answer)
 }
 
 /// The coder that remainders stand for, with no compressed words.
@@ -300,31 +325,34 @@ pub extern "C" fn constriction_chain_from_remainders_u16(
     alloc: Global,
     words: &[u16],
     remainders_len: &mut usize,
-    heads: &mut ChainHeads<u16, u32>,
+    heads: &mut ChainHeadsU16,
 ) -> u32
     ensures call { ChainBegins ⟦<u16 as BitArray>⟧.number ⟦<u32 as BitArray>⟧.number 16 32 12 InRemainders words.now
-        record { heads = heads.old; len = remainders_len.old }
-        record { heads = heads.new; len = remainders_len.new } (answer_of result 0) }
+        record { heads = small_heads heads.old; len = remainders_len.old }
+        record { heads = small_heads heads.new; len = remainders_len.new } (answer_of result 0) }
 {
-    code_without_space(from_remainders::<_, _, 12>(alloc, words, heads, remainders_len))
+    let mut both = heads.parts();
+    let answer = from_remainders::<_, _, 12>(alloc, words, &mut both, remainders_len);
+    *heads = ChainHeadsU16::of(both);
+    code_without_space(answer)
 }
 
 /// The words of the number of the remainders put behind the compressed words.
 #[unsafe(no_mangle)]
 pub extern "C" fn constriction_chain_into_compressed_u16(
     alloc: Global,
-    heads: &ChainHeads<u16, u32>,
+    heads: &ChainHeadsU16,
     compressed: &mut [u16],
     compressed_len: &mut usize,
     needed: &mut usize,
 ) -> u32
     ensures call { Told result needed.old needed.new (ChainEnds ⟦<u16 as BitArray>⟧.number
-        ⟦<u32 as BitArray>⟧.number 16 32 12 InCompressed heads.now
+        ⟦<u32 as BitArray>⟧.number 16 32 12 InCompressed (small_heads heads.now)
         record { words = compressed.old; len = compressed_len.old }
         record { words = compressed.new; len = compressed_len.new }) }
 {
     code_of(
-        into_compressed::<_, _, 12>(alloc, heads, compressed, compressed_len),
+        into_compressed::<_, _, 12>(alloc, &heads.parts(), compressed, compressed_len),
         needed,
     )
 }
@@ -333,18 +361,18 @@ pub extern "C" fn constriction_chain_into_compressed_u16(
 #[unsafe(no_mangle)]
 pub extern "C" fn constriction_chain_into_binary_u16(
     alloc: Global,
-    heads: &ChainHeads<u16, u32>,
+    heads: &ChainHeadsU16,
     compressed: &mut [u16],
     compressed_len: &mut usize,
     needed: &mut usize,
 ) -> u32
     ensures call { Told result needed.old needed.new (ChainEnds ⟦<u16 as BitArray>⟧.number
-        ⟦<u32 as BitArray>⟧.number 16 32 12 InBinary heads.now
+        ⟦<u32 as BitArray>⟧.number 16 32 12 InBinary (small_heads heads.now)
         record { words = compressed.old; len = compressed_len.old }
         record { words = compressed.new; len = compressed_len.new }) }
 {
     code_of(
-        into_binary::<_, _, 12>(alloc, heads, compressed, compressed_len),
+        into_binary::<_, _, 12>(alloc, &heads.parts(), compressed, compressed_len),
         needed,
     )
 }
@@ -353,18 +381,18 @@ pub extern "C" fn constriction_chain_into_binary_u16(
 #[unsafe(no_mangle)]
 pub extern "C" fn constriction_chain_into_remainders_u16(
     alloc: Global,
-    heads: &ChainHeads<u16, u32>,
+    heads: &ChainHeadsU16,
     remainders: &mut [u16],
     remainders_len: &mut usize,
     needed: &mut usize,
 ) -> u32
     ensures call { Told result needed.old needed.new (ChainEnds ⟦<u16 as BitArray>⟧.number
-        ⟦<u32 as BitArray>⟧.number 16 32 12 InRemainders heads.now
+        ⟦<u32 as BitArray>⟧.number 16 32 12 InRemainders (small_heads heads.now)
         record { words = remainders.old; len = remainders_len.old }
         record { words = remainders.new; len = remainders_len.new }) }
 {
     code_of(
-        into_remainders::<_, _, 12>(alloc, heads, remainders, remainders_len),
+        into_remainders::<_, _, 12>(alloc, &heads.parts(), remainders, remainders_len),
         needed,
     )
 }
