@@ -18,7 +18,7 @@ symbols-init g c =
     let tables = g.L.ModelList.tables c.args.models.now in
     let first = c.from_raw_parts-coder.result.state in
     let none : first.words ≡ [] = ap (λ (x : AnsState). x.words) c.from_raw_parts-coder.ensures.state ∙ ap (λ ws. map g.Word.BitArray.number (reverse ws)) c.new.ensures.items in
-    let end = pairs_end g.row.PRECISION (λ (t : List (ℕ × ℕ × ℕ)). t) xs tables (length xs) (omega (arith, c.requires.count)) in
+    let end = pairs_end g.row.PRECISION (λ (t : List (ℕ × ℕ × ℕ)). t) xs tables in
     record {
       within = omega arith;
       valid = none_below w s first c.from_raw_parts-coder.ensures.coder.head_fits none;
