@@ -1,11 +1,11 @@
 -- What a call of the range coder did to the numbers that a C function took out of a caller's struct, and put into it again.
 use Rattle.std.proofs.Common.{◌≡◌, ℕ, List, Result, sym}
 use Rattle.constriction_c.specs.Codes.{Told, answer_of, needed_by}
-use Rattle.constriction_calls.specs.Coded.{Coded}
+use Rattle.constriction_inputs.specs.Coded.{Coded}
 use Rattle.constriction_calls.specs.RangeCalls.{RangePuts, RangeTakes, kept_in}
 use Rattle.constriction_calls.specs.declared.range.parts.DecoderParts.{DecoderParts}
 use Rattle.constriction_calls.specs.declared.range.parts.EncoderParts.{EncoderParts}
-use Rattle.constriction_calls.specs.declared.refusal.Refusal.{Refusal}
+use Rattle.constriction_inputs.specs.declared.refusal.Refusal.{Refusal}
 
 pub puts_told : {Word State : Type 0} {number : Word → ℕ} {state : State → ℕ} {w s precision : ℕ} {coded : List ℕ → Coded} {symbols : List ℕ}
     {old kept new put : EncoderParts Word State} {words new_words : List Word} {len new_len : ℕ} {answer : Result (Unit {0}) Refusal} (code old_needed needed : ℕ)

@@ -3,10 +3,10 @@
 //! A contract of an export has each clause of its call, of the answer that the code stands for, `answer_of`.
 
 ghost use Rattle.std.specs.Prelude.{◌≡◌, ℕ, Err};
-ghost use Rattle.constriction_calls.specs.declared.refusal.Refusal.TheVariants.{NoSpace};
+ghost use Rattle.constriction_inputs.specs.declared.refusal.Refusal.TheVariants.{NoSpace};
 ghost use Rattle.constriction_c.specs.Codes.{answer_of, needed_by};
 
-use constriction_calls::refusal::Refusal;
+use constriction_inputs::refusal::Refusal;
 
 /// The code of an answer, and in `needed` the number of words that are needed, where there is no space for them.
 #[inline]

@@ -2,12 +2,12 @@
 
 ghost use Rattle.std.specs.Prelude.{map};
 ghost use Rattle.constriction_c.specs.Codes.{answer_of};
-ghost use Rattle.constriction_calls.specs.QuantizedCalls.{GivesIntervals, GivesWeights};
+ghost use Rattle.constriction_inputs.specs.QuantizedCalls.{GivesIntervals, GivesWeights};
 
 use crate::codes::code_without_space;
-use constriction_calls::models::Families;
-use constriction_calls::quantized::counts::put_weights_of_counts;
-use constriction_calls::quantized::intervals::intervals_of_quantized;
+use constriction_inputs::models::Families;
+use constriction_inputs::quantized::counts::put_weights_of_counts;
+use constriction_inputs::quantized::intervals::intervals_of_quantized;
 use constriction_words::BitArray;
 use std::alloc::Global;
 

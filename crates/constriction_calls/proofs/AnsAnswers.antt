@@ -8,15 +8,15 @@ use Rattle.constriction_base.specs.Steps.{IsSizes}
 use Rattle.constriction_stack.specs.Ans.{IsValid}
 use Rattle.constriction_stack.specs.Symbols.{EncodesAll}
 use Rattle.constriction_calls.specs.AnsCalls.{AnsExports, AnsKept, AnsPuts, AreBinary, AsksItems, HasBinary, IsWithin, state_kept}
-use Rattle.constriction_calls.specs.Buffers.{Appended, stack_in}
-use Rattle.constriction_calls.specs.Coded.{AreFit, AsIntervals, Coded, items}
-use Rattle.constriction_calls.specs.Intervals.{AreIntervals}
-use Rattle.constriction_calls.specs.declared.refusal.Refusal.{Refusal}
-use Rattle.constriction_calls.specs.declared.refusal.Refusal.TheVariants.{NoMemory, NoSpace, WrongInterval, WrongLength}
+use Rattle.constriction_inputs.specs.Buffers.{Appended, stack_in}
+use Rattle.constriction_inputs.specs.Coded.{AreFit, AsIntervals, Coded, items}
+use Rattle.constriction_inputs.specs.Intervals.{AreIntervals}
+use Rattle.constriction_inputs.specs.declared.refusal.Refusal.{Refusal}
+use Rattle.constriction_inputs.specs.declared.refusal.Refusal.TheVariants.{NoMemory, NoSpace, WrongInterval, WrongLength}
 use Rattle.constriction_coder_laws.proofs.Turned.{all-reverse}
 use Rattle.constriction_calls.proofs.AnsFrame.{counted, encodes_know, encodes_over, known_turned, stack_appended}
 use Rattle.constriction_calls.proofs.AnsRows.{intervals_known}
-use Rattle.constriction_calls.proofs.Asking.{err_is, fit_then}
+use Rattle.constriction_inputs.proofs.Asking.{err_is, fit_then}
 
 -- a coder whose words and their number stay
 kept_same : {Word State : Type 0} (head : State) (words new_words : List Word) (len new_len : ℕ) → new_words ≡ words → new_len ≡ len

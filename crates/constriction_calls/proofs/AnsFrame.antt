@@ -8,7 +8,7 @@ use Rattle.constriction_base.proofs.Entering.{entry_is_step}
 use Rattle.constriction_stack.specs.Ans.{AnsState, IsValid, IsPush}
 use Rattle.constriction_stack.specs.Symbols.{EncodesAll}
 use Rattle.constriction_stack.proofs.Pushing.{only_push, push_written, push_kept}
-use Rattle.constriction_calls.specs.Buffers.{Appended, stack_in}
+use Rattle.constriction_inputs.specs.Buffers.{Appended, stack_in}
 use Rattle.constriction_coder_laws.proofs.Turned.{all-reverse}
 
 -- a state, and more words below it

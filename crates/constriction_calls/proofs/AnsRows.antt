@@ -4,7 +4,7 @@ use Rattle.std.specs.Prelude.{slice_set}
 use Rattle.std.proofs.lemmas.List.{drop_more, length-take-le, take_more, take_more_set}
 use Rattle.constriction_base.specs.Models.{Item, item_of, pairs_of, AreKnown}
 use Rattle.constriction_base.specs.Tables.{Has, table_of}
-use Rattle.constriction_calls.specs.Intervals.{AreIntervals, interval_items}
+use Rattle.constriction_inputs.specs.Intervals.{AreIntervals, interval_items}
 
 -- one pair more
 pairs_push : {S M : Type 0} (precision : ℕ) (table : M → List (S × ℕ × ℕ)) (xs : List S) (ms : List M) (x : S) (m : M) → length xs ≡ length ms

@@ -6,14 +6,14 @@ use Rattle.std.proofs.lemmas.List.{length-map}
 use Rattle.constriction_base.specs.Models.{AreKnown, Item}
 use Rattle.constriction_base.specs.Tables.{Has, table_of}
 use Rattle.constriction_chain.specs.Symbols.{PutsBackAll, TakesOffAll}
-use Rattle.constriction_calls.specs.Buffers.{Appended}
+use Rattle.constriction_inputs.specs.Buffers.{Appended}
 use Rattle.constriction_calls.specs.ChainCalls.{AreInUse, AsksToPut, AsksToTake, ChainKept, ChainPuts, ChainTakes, EndsEarly, HeadsKept, LacksRemainders, NeedsRoom, NeedsSpace, chain_kept}
-use Rattle.constriction_calls.specs.Coded.{AreFit, AsIntervals, AsksFit, Coded, items}
-use Rattle.constriction_calls.specs.Intervals.{AreIntervals, interval_items}
-use Rattle.constriction_calls.specs.Refusals.{Asks, DataOrRoom, Else}
-use Rattle.constriction_calls.specs.declared.refusal.Refusal.{Refusal}
-use Rattle.constriction_calls.specs.declared.refusal.Refusal.TheVariants as refusals
-use Rattle.constriction_calls.proofs.Asking.{err_is, fit_behind, fit_then, ok_no_err}
+use Rattle.constriction_inputs.specs.Coded.{AreFit, AsIntervals, AsksFit, Coded, items}
+use Rattle.constriction_inputs.specs.Intervals.{AreIntervals, interval_items}
+use Rattle.constriction_inputs.specs.Refusals.{Asks, DataOrRoom, Else}
+use Rattle.constriction_inputs.specs.declared.refusal.Refusal.{Refusal}
+use Rattle.constriction_inputs.specs.declared.refusal.Refusal.TheVariants as refusals
+use Rattle.constriction_inputs.proofs.Asking.{err_is, fit_behind, fit_then, ok_no_err}
 
 -- want of memory, the end of the data, or want of room
 pub of_data : (ends : Type 0) (needs : ℕ → Type 0) (e : Refusal) → (e ≡ refusals.NoMemory) ⊎ ((e ≡ refusals.OutOfData) × ends) → DataOrRoom ends needs e

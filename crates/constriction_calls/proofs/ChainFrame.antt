@@ -12,7 +12,7 @@ use Rattle.constriction_chain.specs.Symbols.{PutsBackAll, TakesOffAll}
 use Rattle.constriction_chain.proofs.Below.{decodes_part}
 use Rattle.constriction_chain.proofs.Chains.{decode_from, state, state_same, words_fit}
 use Rattle.constriction_chain.proofs.Walks.{quantile_over}
-use Rattle.constriction_calls.specs.Buffers.{Appended, stack_in}
+use Rattle.constriction_inputs.specs.Buffers.{Appended, stack_in}
 use Rattle.constriction_calls.specs.ChainCalls.{EndsEarly, LacksRemainders, NeedsRoom, NeedsSpace, chain_in}
 
 -- ---- decodes

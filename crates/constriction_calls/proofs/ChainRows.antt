@@ -9,12 +9,12 @@ use Rattle.constriction_chain.specs.Chain.{ChainState}
 use Rattle.constriction_chain.specs.Symbols.{TakesOffAll}
 use Rattle.constriction_chain.specs.Walk.{NeedsWord}
 use Rattle.constriction_calls.specs.ChainCalls.{EndsEarly}
-use Rattle.constriction_calls.specs.Coded.{AsIntervals, ByRows, ByWeights, Coded, InFamily, items}
-use Rattle.constriction_calls.specs.Intervals.{interval_items}
-use Rattle.constriction_calls.specs.Quantized.{family_tables}
-use Rattle.constriction_calls.specs.Weights.{row_items, weights_model}
+use Rattle.constriction_inputs.specs.Coded.{AsIntervals, ByRows, ByWeights, Coded, InFamily, items}
+use Rattle.constriction_inputs.specs.Intervals.{interval_items}
+use Rattle.constriction_inputs.specs.Quantized.{family_tables}
+use Rattle.constriction_inputs.specs.Weights.{row_items, weights_model}
 use Rattle.constriction_calls.proofs.ChainFrame.{AreWithin, within_of}
-use Rattle.constriction_calls.proofs.RowItems.{all_reversed}
+use Rattle.constriction_inputs.proofs.RowItems.{all_reversed}
 
 -- ---- pairs
 

@@ -7,15 +7,15 @@ use Rattle.constriction_base.specs.Steps.{IsSizes}
 use Rattle.constriction_queue.proofs.Seals.{words_within}
 use Rattle.constriction_queue.specs.Range.{Run, sealed}
 use Rattle.constriction_queue_laws.specs.Symbols.{NarrowsAll}
-use Rattle.constriction_calls.specs.Buffers.{Appended}
-use Rattle.constriction_calls.specs.Coded.{AreFit, AsksFit, Coded, items}
+use Rattle.constriction_inputs.specs.Buffers.{Appended}
+use Rattle.constriction_inputs.specs.Coded.{AreFit, AsksFit, Coded, items}
 use Rattle.constriction_calls.specs.RangeCalls.{CanEncode, IsDecoderKept, IsEncodedBy, IsEncoderKept, IsSealed, IsSelfSealed, LacksRoom, LeadsBy, LeadsNowhere, RangeKept, RangePuts, RangeSeals, RangeTakes, RoomFirst, run_kept}
-use Rattle.constriction_calls.specs.Refusals.{Asks, Else, Never, Room, Words}
-use Rattle.constriction_calls.specs.declared.refusal.Refusal.{Refusal}
-use Rattle.constriction_calls.specs.declared.refusal.Refusal.TheVariants as refusals
+use Rattle.constriction_inputs.specs.Refusals.{Asks, Else, Never, Room, Words}
+use Rattle.constriction_inputs.specs.declared.refusal.Refusal.{Refusal}
+use Rattle.constriction_inputs.specs.declared.refusal.Refusal.TheVariants as refusals
 use Rattle.constriction_calls.specs.declared.range.parts.DecoderParts.{DecoderParts}
 use Rattle.constriction_calls.specs.declared.range.parts.EncoderParts.{EncoderParts}
-use Rattle.constriction_calls.proofs.Asking.{asked_ok, fit_refused, fit_then}
+use Rattle.constriction_inputs.proofs.Asking.{asked_ok, fit_refused, fit_then}
 use Rattle.constriction_calls.proofs.RangeKept.{interval_kept, known_of, map-both, narrows_kept, sealed_kept, sealed_self}
 
 -- ---- encodes

@@ -5,14 +5,14 @@ use Rattle.std.proofs.lemmas.Bool.{cases_eq, cases_lt}
 use Rattle.std.proofs.lemmas.List.{length-map}
 use Rattle.constriction_base.specs.Models.{AreKnown, Item}
 use Rattle.constriction_base.specs.Tables.{Has, table_of}
-use Rattle.constriction_calls.specs.Coded.{AreFit, AsIntervals, ByRows, items}
-use Rattle.constriction_calls.specs.Intervals.{AreIntervals, IsInterval, interval_items}
+use Rattle.constriction_inputs.specs.Coded.{AreFit, AsIntervals, ByRows, items}
+use Rattle.constriction_inputs.specs.Intervals.{AreIntervals, IsInterval, interval_items}
 use Rattle.constriction_calls.specs.RangeCalls.{CanEncode, IsEncodedBy, LacksRoom, RangeKept, RangePuts}
-use Rattle.constriction_calls.specs.Refusals.{Asks, Else, Room}
-use Rattle.constriction_calls.specs.Weights.{AreTotals, row_items}
-use Rattle.constriction_calls.specs.declared.refusal.Refusal.{Refusal}
-use Rattle.constriction_calls.specs.declared.refusal.Refusal.TheVariants as refusals
-use Rattle.constriction_calls.proofs.Asking.{err_is, fit_behind, fit_then}
+use Rattle.constriction_inputs.specs.Refusals.{Asks, Else, Room}
+use Rattle.constriction_inputs.specs.Weights.{AreTotals, row_items}
+use Rattle.constriction_inputs.specs.declared.refusal.Refusal.{Refusal}
+use Rattle.constriction_inputs.specs.declared.refusal.Refusal.TheVariants as refusals
+use Rattle.constriction_inputs.proofs.Asking.{err_is, fit_behind, fit_then}
 
 -- each interval is known, as symbol 1
 has_interval : (left p rest : ℕ) → 0 < p → Has (table_of (left ∷ p ∷ rest ∷ [])) 1 left p

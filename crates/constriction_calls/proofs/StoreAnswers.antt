@@ -4,9 +4,9 @@ use Rattle.std.proofs.Common.{◌≡◌, ◌∙◌, ◌⊎◌, ℕ, ◌-◌, ◌
 use Rattle.constriction_base.specs.Models.{AreKnown, items_of}
 use Rattle.constriction_store.specs.Stores.{Entry, HoldsChunk, HoldsChunks, IsBuilt, entry_of}
 use Rattle.constriction_calls.specs.StoreCalls.{FitKept, StoreBuilds, StoreGives, StoreKept, chunks_by, entries_by, index_kept, words_kept}
-use Rattle.constriction_calls.specs.Weights.{IsTotal, weights_model}
-use Rattle.constriction_calls.specs.declared.refusal.Refusal.{Refusal}
-use Rattle.constriction_calls.specs.declared.refusal.Refusal.TheVariants as refusals
+use Rattle.constriction_inputs.specs.Weights.{IsTotal, weights_model}
+use Rattle.constriction_inputs.specs.declared.refusal.Refusal.{Refusal}
+use Rattle.constriction_inputs.specs.declared.refusal.Refusal.TheVariants as refusals
 use Rattle.constriction_calls.proofs.StoreIndex.{cut_lengths, entries_are, known_chunks, lens_of}
 
 -- ---- builds: a store that was built, and is put where the caller keeps it

@@ -11,7 +11,7 @@ use Rattle.constriction_symbol.specs.declared.codebooks.SymbolCodeError.{SymbolC
 use Rattle.constriction_symbol.specs.declared.codebooks.SymbolCodeError.TheVariants.{OutOfCompressedData, InvalidCodeword}
 use Rattle.constriction_symbol.proofs.ReadBack.{gives_front}
 use Rattle.constriction_symbol_laws.specs.Lists.{AreCodewords}
-use Rattle.constriction_calls.specs.declared.refusal.Refusal.{Refusal}
+use Rattle.constriction_inputs.specs.declared.refusal.Refusal.{Refusal}
 use Rattle.constriction_calls.specs.SymbolCalls.{AsStack, GiveNone, HaveCodewords, IsToldAs, ReadsNone}
 
 -- where every symbol has a codeword, those of a list have

@@ -2,9 +2,9 @@
 use Rattle.std.proofs.Common.{◌≡◌, ◌-◌, ◌^◌, ℕ, Bool, List, Option, Result, Ok, Err, inl, inr, length}
 use Rattle.std.specs.Prelude.{IfErr, OnErr, OnOk}
 use Rattle.constriction_symbol_laws.proofs.bit_coders.Trees.{same_codewords}
-use Rattle.constriction_calls.specs.Refusals.{Asks, Else, Memory}
-use Rattle.constriction_calls.specs.declared.refusal.Refusal.{Refusal}
-use Rattle.constriction_calls.specs.declared.refusal.Refusal.TheVariants.{ImpossibleSymbol, WrongWeights, WrongInterval, WrongLength, NoSpace, NoMemory, InvalidData, OutOfData}
+use Rattle.constriction_inputs.specs.Refusals.{Asks, Else, Memory}
+use Rattle.constriction_inputs.specs.declared.refusal.Refusal.{Refusal}
+use Rattle.constriction_inputs.specs.declared.refusal.Refusal.TheVariants.{ImpossibleSymbol, WrongWeights, WrongInterval, WrongLength, NoSpace, NoMemory, InvalidData, OutOfData}
 use Rattle.constriction_calls.specs.SymbolCalls.{BeginBits, Book, GiveBits, IsCut, IsWrong, MakesTree, Order, ReadsNone, TakesCodewords, codeword_in}
 
 ok_not_err : {T : Type 0} {x : T} {e : Refusal} → ◌≡◌ {A = Result T Refusal} (Ok x) (Err e) → ⊥

@@ -4,11 +4,11 @@ use Rattle.constriction_base.specs.Models.{AreKnown, Item}
 use Rattle.constriction_stack.specs.Ans.{AnsState, IsValid, exported}
 use Rattle.constriction_stack.specs.Binary.{IsBinary, binary_words}
 use Rattle.constriction_stack.specs.Symbols.{DecodesAll, EncodesAll}
-use Rattle.constriction_calls.specs.Buffers.{Appended, stack_in}
-use Rattle.constriction_calls.specs.Coded.{AsksFit, Coded, items}
-use Rattle.constriction_calls.specs.Refusals.{Asks, Else, Memory, Never, Room}
-use Rattle.constriction_calls.specs.declared.refusal.Refusal.{Refusal}
-use Rattle.constriction_calls.specs.declared.refusal.Refusal.TheVariants.{ImpossibleSymbol, InvalidData, WrongLength}
+use Rattle.constriction_inputs.specs.Buffers.{Appended, stack_in}
+use Rattle.constriction_inputs.specs.Coded.{AsksFit, Coded, items}
+use Rattle.constriction_inputs.specs.Refusals.{Asks, Else, Memory, Never, Room}
+use Rattle.constriction_inputs.specs.declared.refusal.Refusal.{Refusal}
+use Rattle.constriction_inputs.specs.declared.refusal.Refusal.TheVariants.{ImpossibleSymbol, InvalidData, WrongLength}
 
 -- a coder in a caller's hands: a head, and a buffer of which so many words are in use, the last of them on top
 pub record AnsKept (Word State : Type 0) : Type 0 where

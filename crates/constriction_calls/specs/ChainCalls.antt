@@ -7,12 +7,12 @@ use Rattle.constriction_base.specs.Windows.{IsInWindow}
 use Rattle.constriction_chain.specs.Chain.{ChainState, least}
 use Rattle.constriction_chain.specs.Symbols.{TakesOffAll, PutsBackAll}
 use Rattle.constriction_chain.specs.Walk.{NeedsWord}
-use Rattle.constriction_calls.specs.Buffers.{Appended, stack_in}
-use Rattle.constriction_calls.specs.Coded.{AsksFit, Coded, items}
-use Rattle.constriction_calls.specs.Refusals.{Asks, DataOrRoom, Else}
+use Rattle.constriction_inputs.specs.Buffers.{Appended, stack_in}
+use Rattle.constriction_inputs.specs.Coded.{AsksFit, Coded, items}
+use Rattle.constriction_inputs.specs.Refusals.{Asks, DataOrRoom, Else}
 use Rattle.constriction_calls.specs.declared.chain.ChainHeads.{ChainHeads}
-use Rattle.constriction_calls.specs.declared.refusal.Refusal.{Refusal}
-use Rattle.constriction_calls.specs.declared.refusal.Refusal.TheVariants.{ImpossibleSymbol, InvalidData, WrongLength}
+use Rattle.constriction_inputs.specs.declared.refusal.Refusal.{Refusal}
+use Rattle.constriction_inputs.specs.declared.refusal.Refusal.TheVariants.{ImpossibleSymbol, InvalidData, WrongLength}
 
 -- ---- states
 -- the state of heads over the words in use of two buffers

@@ -3,12 +3,12 @@ use Rattle.std.specs.Prelude.{◌≡◌, ℕ, ◌<◌, ◌≤◌, List, [], leng
 use Rattle.constriction_chain.specs.Chain.{ChainState}
 use Rattle.constriction_chain.specs.Imports.{AreBinaryWords, FromBinary, FromCompressed, FromRemainders, compressed_words}
 use Rattle.constriction_chain.specs.Words.{IsOneAbove, remainder_words}
-use Rattle.constriction_calls.specs.Buffers.{Appended, stack_in}
+use Rattle.constriction_inputs.specs.Buffers.{Appended, stack_in}
 use Rattle.constriction_calls.specs.ChainCalls.{AreHeads}
-use Rattle.constriction_calls.specs.Refusals.{Asks, Else, Never, Room}
+use Rattle.constriction_inputs.specs.Refusals.{Asks, Else, Never, Room}
 use Rattle.constriction_calls.specs.declared.chain.ChainHeads.{ChainHeads}
-use Rattle.constriction_calls.specs.declared.refusal.Refusal.{Refusal}
-use Rattle.constriction_calls.specs.declared.refusal.Refusal.TheVariants.{InvalidData, WrongLength}
+use Rattle.constriction_inputs.specs.declared.refusal.Refusal.{Refusal}
+use Rattle.constriction_inputs.specs.declared.refusal.Refusal.TheVariants.{InvalidData, WrongLength}
 
 -- what the words are: compressed ones, with the number of the remainders above them as its words or in binary form; or remainders, with both heads above
 -- them

@@ -1,15 +1,7 @@
 pub mod AnsCalls
-pub mod Buffers
 pub mod ChainCalls
 pub mod ChainFits
 pub mod ChainWords
-pub mod Coded
-pub mod Intervals
-pub mod Quantized
-pub mod QuantizedCalls
 pub mod RangeCalls
-pub mod Refusals
-pub mod Rows
 pub mod StoreCalls
 pub mod SymbolCalls
-pub mod Weights

@@ -8,11 +8,11 @@ use Rattle.constriction_queue.specs.Range.{IsAt, Run, sealed, start}
 use Rattle.constriction_queue.specs.SelfDelimiting.{SelfDelimits}
 use Rattle.constriction_queue.specs.States.{IsPosition}
 use Rattle.constriction_queue_laws.specs.Symbols.{FindsAll, MayEnd, NarrowsAll}
-use Rattle.constriction_calls.specs.Buffers.{Appended}
-use Rattle.constriction_calls.specs.Coded.{AsksFit, Coded, items}
-use Rattle.constriction_calls.specs.Refusals.{Asks, Else, Never, Room, Words}
-use Rattle.constriction_calls.specs.declared.refusal.Refusal.{Refusal}
-use Rattle.constriction_calls.specs.declared.refusal.Refusal.TheVariants.{ImpossibleSymbol, InvalidData, NoMemory, NoSpace, WrongLength}
+use Rattle.constriction_inputs.specs.Buffers.{Appended}
+use Rattle.constriction_inputs.specs.Coded.{AsksFit, Coded, items}
+use Rattle.constriction_inputs.specs.Refusals.{Asks, Else, Never, Room, Words}
+use Rattle.constriction_inputs.specs.declared.refusal.Refusal.{Refusal}
+use Rattle.constriction_inputs.specs.declared.refusal.Refusal.TheVariants.{ImpossibleSymbol, InvalidData, NoMemory, NoSpace, WrongLength}
 use Rattle.constriction_calls.specs.declared.range.parts.EncoderParts.{EncoderParts}
 use Rattle.constriction_calls.specs.declared.range.parts.DecoderParts.{DecoderParts}
 

@@ -2,10 +2,10 @@
 use Rattle.std.specs.Prelude.{◌≡◌, ℕ, ◌-◌, ◌<◌, ◌≤◌, ◌^◌, List, [], ◌∷◌, Result, OnErr, OnOk, drop, length, map, sum, take}
 use Rattle.constriction_base.specs.Models.{AreKnown, items_of}
 use Rattle.constriction_store.specs.Stores.{Entry, HoldsChunk, HoldsChunks, IsBuilt, entry_of}
-use Rattle.constriction_calls.specs.Refusals.{Asks, Else, Room, Words}
-use Rattle.constriction_calls.specs.Weights.{IsTotal, weights_model}
-use Rattle.constriction_calls.specs.declared.refusal.Refusal.{Refusal}
-use Rattle.constriction_calls.specs.declared.refusal.Refusal.TheVariants.{ImpossibleSymbol, InvalidData, WrongLength, WrongWeights}
+use Rattle.constriction_inputs.specs.Refusals.{Asks, Else, Room, Words}
+use Rattle.constriction_inputs.specs.Weights.{IsTotal, weights_model}
+use Rattle.constriction_inputs.specs.declared.refusal.Refusal.{Refusal}
+use Rattle.constriction_inputs.specs.declared.refusal.Refusal.TheVariants.{ImpossibleSymbol, InvalidData, WrongLength, WrongWeights}
 
 -- ---- chunks, and where they begin
 -- symbols that stand one chunk behind another, as chunks of these lengths

@@ -10,10 +10,10 @@ use Rattle.constriction_symbol.specs.Golomb.{IsInvalid, WantsBit, golomb}
 use Rattle.constriction_symbol.specs.Huffman.{huffman}
 use Rattle.constriction_symbol.specs.Merging.{FitTree}
 use Rattle.constriction_symbol_laws.specs.Lists.{AreCodewords}
-use Rattle.constriction_calls.specs.Buffers.{Appended}
-use Rattle.constriction_calls.specs.Refusals.{Asks, Else, Memory, Room}
-use Rattle.constriction_calls.specs.declared.refusal.Refusal.{Refusal}
-use Rattle.constriction_calls.specs.declared.refusal.Refusal.TheVariants.{ImpossibleSymbol, InvalidData, NoMemory, OutOfData, WrongWeights}
+use Rattle.constriction_inputs.specs.Buffers.{Appended}
+use Rattle.constriction_inputs.specs.Refusals.{Asks, Else, Memory, Room}
+use Rattle.constriction_inputs.specs.declared.refusal.Refusal.{Refusal}
+use Rattle.constriction_inputs.specs.declared.refusal.Refusal.TheVariants.{ImpossibleSymbol, InvalidData, NoMemory, OutOfData, WrongWeights}
 
 -- ---- codewords
 -- the Exp-Golomb codewords of numbers of so many bits; or those of the Huffman tree of weights, which are numbers of so many bits

@@ -8,7 +8,7 @@
 //!
 //! - `WrongLength`: a number of words is past its buffer's end, or what makes the models doesn't have the number of the
 //!   symbols.
-//! - `WrongInterval`, `WrongWeights`: nothing makes the models, as each kind of [`crate::models`] says.
+//! - `WrongInterval`, `WrongWeights`: nothing makes the models, as each kind of [`constriction_inputs::models`] says.
 //! - `InvalidData`: the heads are no coder's.
 //! - `ImpossibleSymbol`: a model doesn't know its symbol.
 //! - `OutOfData`: a word is needed, and none is left.

@@ -16,11 +16,11 @@ mod golomb;
 mod trees;
 
 ghost use Rattle.std.specs.Prelude.{◌≡◌, ◌-◌, ◌^◌, Bool, Err, IfOk, IfSome, List, OnSome, ℕ};
-ghost use Rattle.constriction_calls.specs.Refusals.{Asks, Else, Memory};
+ghost use Rattle.constriction_inputs.specs.Refusals.{Asks, Else, Memory};
 ghost use Rattle.constriction_calls.specs.SymbolCalls.{Book, HaveCodewords, IsCut, IsWrong, MakesTree, codeword_in};
-ghost use Rattle.constriction_calls.specs.declared.refusal.Refusal.TheVariants.{ImpossibleSymbol, WrongWeights};
+ghost use Rattle.constriction_inputs.specs.declared.refusal.Refusal.TheVariants.{ImpossibleSymbol, WrongWeights};
 
-use crate::refusal::Refusal;
+use constriction_inputs::refusal::Refusal;
 use constriction_symbol::codebooks::{Codebook, DecoderCodebook, EncoderCodebook};
 pub use decoding::{decode_queue, decode_stack};
 pub use encoding::{encode_queue, encode_stack};

@@ -5,7 +5,7 @@ ghost use Rattle.constriction_base.specs.Readings.{BeginsHigh};
 ghost use Rattle.constriction_c.specs.Codes.{Told, answer_of};
 ghost use Rattle.constriction_calls.specs.AnsCalls.{AnsExports, AnsImports, AnsPuts, AnsTakes, coder_of};
 ghost use Rattle.constriction_calls.specs.AnsCalls.{AreBinary, AreCompressed, HasBinary};
-ghost use Rattle.constriction_calls.specs.Coded.{AsIntervals, ByRows, ByWeights, InFamily};
+ghost use Rattle.constriction_inputs.specs.Coded.{AsIntervals, ByRows, ByWeights, InFamily};
 ghost use Rattle.constriction_stack.specs.Ans.{filled};
 ghost use Rattle.constriction_stack.specs.Binary.{binary_state};
 
@@ -13,7 +13,7 @@ use crate::codes::{code_of, code_without_space};
 use constriction_calls::ans::decoding::decode;
 use constriction_calls::ans::encoding::{encode_intervals_reverse, encode_reverse};
 use constriction_calls::ans::words::{from_binary, from_compressed, into_binary, into_compressed};
-use constriction_calls::models::{Families, Rows, Weights};
+use constriction_inputs::models::{Families, Rows, Weights};
 use constriction_words::BitArray;
 use std::alloc::Global;
 

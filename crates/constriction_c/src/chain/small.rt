@@ -5,7 +5,7 @@ ghost use Rattle.constriction_c.specs.Chains.{small_heads};
 ghost use Rattle.constriction_c.specs.Codes.{Told, answer_of};
 ghost use Rattle.constriction_calls.specs.ChainCalls.{ChainPuts, ChainTakes, keeps};
 ghost use Rattle.constriction_calls.specs.ChainWords.{ChainBegins, ChainEnds, InBinary, InCompressed, InRemainders};
-ghost use Rattle.constriction_calls.specs.Coded.{AsIntervals, ByRows, ByWeights, InFamily};
+ghost use Rattle.constriction_inputs.specs.Coded.{AsIntervals, ByRows, ByWeights, InFamily};
 
 use crate::chain::ChainHeadsU16;
 use crate::codes::{code_of, code_without_space};
@@ -13,7 +13,7 @@ use constriction_calls::chain::{
     decode, encode_intervals_reverse, encode_reverse, from_binary, from_compressed,
     from_remainders, into_binary, into_compressed, into_remainders,
 };
-use constriction_calls::models::{Families, Rows, Weights};
+use constriction_inputs::models::{Families, Rows, Weights};
 use constriction_words::BitArray;
 use std::alloc::Global;
 

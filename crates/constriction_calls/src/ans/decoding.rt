@@ -6,11 +6,11 @@ ghost use Rattle.constriction_base.specs.Steps.{IsSizes};
 ghost use Rattle.constriction_calls.specs.AnsCalls.{AnsTakes, coder_of, state_kept};
 ghost use Rattle.constriction_stack.specs.Symbols.{Decodes, DecodesAll};
 
-use crate::models::{ModelList, Models};
-use crate::refusal::Refusal;
 use constriction_base::cursor::Cursor;
 use constriction_base::errors::CoderError;
 use constriction_base::model::{DecoderModel, EntropyModel};
+use constriction_inputs::models::{ModelList, Models};
+use constriction_inputs::refusal::Refusal;
 use constriction_stack::coder::AnsCoder;
 use constriction_stream::decoding::Decode;
 use constriction_words::{BitArray, WordOf};

@@ -4,14 +4,14 @@ ghost use Rattle.std.specs.Prelude.{◌≡◌, ◌≤◌, [], length, map, rever
 ghost use Rattle.constriction_base.specs.Models.{AreModels, pairs_of};
 ghost use Rattle.constriction_base.specs.Steps.{IsSizes};
 ghost use Rattle.constriction_calls.specs.AnsCalls.{AnsPuts, coder_of};
-ghost use Rattle.constriction_calls.specs.Coded.{AsIntervals};
+ghost use Rattle.constriction_inputs.specs.Coded.{AsIntervals};
 ghost use Rattle.constriction_stack.specs.Symbols.{EncodesAll};
 
-use crate::buffers::append;
-use crate::intervals::rows_by_intervals;
-use crate::models::{ModelList, Models, Rows};
-use crate::refusal::Refusal;
 use constriction_base::model::{EncoderModel, EntropyModel};
+use constriction_inputs::buffers::append;
+use constriction_inputs::intervals::rows_by_intervals;
+use constriction_inputs::models::{ModelList, Models, Rows};
+use constriction_inputs::refusal::Refusal;
 use constriction_stack::coder::AnsCoder;
 use constriction_stream::encoding::Encode;
 use constriction_words::{BitArray, WordOf};

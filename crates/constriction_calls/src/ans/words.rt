@@ -8,9 +8,9 @@ ghost use Rattle.constriction_calls.specs.AnsCalls.{AreBinary, AreCompressed, Ha
 ghost use Rattle.constriction_stack.specs.Ans.{filled};
 ghost use Rattle.constriction_stack.specs.Binary.{binary_state};
 
-use crate::buffers::append;
-use crate::refusal::Refusal;
 use constriction_base::cursor::Cursor;
+use constriction_inputs::buffers::append;
+use constriction_inputs::refusal::Refusal;
 use constriction_stack::coder::AnsCoder;
 use constriction_words::{BitArray, WordOf};
 use std::alloc::Global;

@@ -4,21 +4,21 @@ ghost use Rattle.std.specs.Prelude.{◌≡◌, ◌⊎◌, ◌+◌, ◌<◌, ◌�
 ghost use Rattle.constriction_base.specs.Models.{pairs_of};
 ghost use Rattle.constriction_chain.specs.Chain.{IsSized};
 ghost use Rattle.constriction_chain.specs.Symbols.{TakesOffAll};
-ghost use Rattle.constriction_calls.specs.Buffers.{Appended};
+ghost use Rattle.constriction_inputs.specs.Buffers.{Appended};
 ghost use Rattle.constriction_calls.specs.ChainCalls.{ChainTakes, EndsEarly, keeps};
 ghost use Rattle.constriction_calls.specs.ChainFits.{CoderFits};
-ghost use Rattle.constriction_calls.specs.Coded.{AreFit, items};
-ghost use Rattle.constriction_calls.specs.declared.refusal.Refusal.TheVariants as refusals;
+ghost use Rattle.constriction_inputs.specs.Coded.{AreFit, items};
+ghost use Rattle.constriction_inputs.specs.declared.refusal.Refusal.TheVariants as refusals;
 
-use crate::buffers::append;
 use crate::chain::ChainHeads;
-use crate::models::{ModelList, Models};
-use crate::refusal::Refusal;
 use constriction_base::backends::{Holds, ReadWords, Stack, WriteWords};
 use constriction_base::cursor::Cursor;
 use constriction_base::errors::CoderError;
 use constriction_base::model::{DecoderModel, EntropyModel};
 use constriction_chain::{ChainCoder, ChainCoderHeads};
+use constriction_inputs::buffers::append;
+use constriction_inputs::models::{ModelList, Models};
+use constriction_inputs::refusal::Refusal;
 use constriction_stream::decoding::Decode;
 use constriction_words::{BitArray, WordOf};
 use std::alloc::Global;

@@ -6,14 +6,14 @@ ghost use Rattle.constriction_calls.specs.ChainCalls.{AreHeads};
 ghost use Rattle.constriction_calls.specs.ChainFits.{CoderFits};
 ghost use Rattle.constriction_calls.specs.ChainWords.{ChainBegins, ChainEnds, InBinary, InCompressed, InRemainders};
 
-use crate::buffers::append;
 use crate::chain::ChainHeads;
 use crate::chain::decoding::Taking;
 use crate::chain::encoding::Putting;
-use crate::refusal::Refusal;
 use constriction_base::cursor::Cursor;
 use constriction_base::errors::CoderError;
 use constriction_chain::{ChainCoder, ChainCoderHeads};
+use constriction_inputs::buffers::append;
+use constriction_inputs::refusal::Refusal;
 use constriction_words::{BitArray, WordOf};
 use std::alloc::Global;
 

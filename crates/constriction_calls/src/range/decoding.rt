@@ -6,11 +6,11 @@ ghost use Rattle.constriction_base.specs.Steps.{IsSizes};
 ghost use Rattle.constriction_queue.specs.Range.{Run};
 ghost use Rattle.constriction_queue_laws.specs.Symbols.{FindsAll, StandsAt};
 ghost use Rattle.constriction_calls.specs.RangeCalls.{RangeTakes};
-ghost use Rattle.constriction_calls.specs.Refusals.{Words};
+ghost use Rattle.constriction_inputs.specs.Refusals.{Words};
 
-use crate::models::{ModelList, Models};
 use crate::range::parts::{DecoderParts, Reading, decoder_of, decoder_parts};
-use crate::refusal::Refusal;
+use constriction_inputs::models::{ModelList, Models};
+use constriction_inputs::refusal::Refusal;
 use constriction_stream::decoding::Decode;
 use constriction_words::{BitArray, WordOf};
 use std::alloc::Global;

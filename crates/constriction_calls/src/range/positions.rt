@@ -5,8 +5,8 @@ ghost use Rattle.constriction_base.specs.Steps.{IsSizes};
 ghost use Rattle.constriction_calls.specs.RangeCalls.{RangeBegins, RangeMayEnd, RangeSeeks};
 
 use crate::range::parts::{DecoderParts, decoder_of, decoder_parts};
-use crate::refusal::Refusal;
 use constriction_base::cursor::Cursor;
+use constriction_inputs::refusal::Refusal;
 use constriction_queue::{RangeCoderState, RangeDecoder};
 use constriction_stream::decoding::Decode;
 use constriction_words::{BitArray, WordOf};

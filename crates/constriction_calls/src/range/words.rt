@@ -4,9 +4,9 @@ ghost use Rattle.std.specs.Prelude.{◌≡◌, ◌/◌};
 ghost use Rattle.constriction_base.specs.Steps.{IsSizes};
 ghost use Rattle.constriction_calls.specs.RangeCalls.{IsSealed, IsSelfSealed, RangeSeals, kept_in};
 
-use crate::buffers::{append, room_for};
 use crate::range::parts::{EncoderParts, encoder_for};
-use crate::refusal::Refusal;
+use constriction_inputs::buffers::{append, room_for};
+use constriction_inputs::refusal::Refusal;
 use constriction_words::{BitArray, WordOf};
 use std::alloc::Global;
 

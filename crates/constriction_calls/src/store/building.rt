@@ -4,16 +4,16 @@ ghost use Rattle.std.specs.Prelude.{◌≡◌, ◌↔◌, ◌≤◌, length, map
 ghost use Rattle.constriction_base.specs.Steps.{IsSizes};
 ghost use Rattle.constriction_store.specs.Stores.{HoldsChunks, IsBuilt, entry_at};
 ghost use Rattle.constriction_calls.specs.StoreCalls.{FitStore, StoreBuilds, chunks_by};
-ghost use Rattle.constriction_calls.specs.Weights.{weights_model};
+ghost use Rattle.constriction_inputs.specs.Weights.{weights_model};
 
-use crate::buffers::append;
-use crate::models::weights::table_by;
-use crate::models::{Models, Weights};
-use crate::refusal::Refusal;
-use crate::rows::adding::is_total;
 use crate::store::cutting::{add_up, cut};
 use crate::store::indexing::put_index;
 use constriction_base::weights::WeightTable;
+use constriction_inputs::buffers::append;
+use constriction_inputs::models::weights::table_by;
+use constriction_inputs::models::{Models, Weights};
+use constriction_inputs::refusal::Refusal;
+use constriction_inputs::rows::adding::is_total;
 use constriction_queue::RangeCoderState;
 use constriction_store::{MOST_SYMBOLS, Store};
 use constriction_words::{BitArray, WordOf};

@@ -7,12 +7,12 @@ ghost use Rattle.constriction_queue.specs.States.{lower_of, range_of};
 ghost use Rattle.constriction_store.specs.Stores.{run_from};
 ghost use Rattle.constriction_calls.specs.StoreCalls.{StoreGives};
 
-use crate::models::{Models, Weights};
 use crate::range::decoding::take_list;
-use crate::refusal::Refusal;
-use crate::rows::adding::is_total;
 use constriction_base::backends::Seek;
 use constriction_base::cursor::Cursor;
+use constriction_inputs::models::{Models, Weights};
+use constriction_inputs::refusal::Refusal;
+use constriction_inputs::rows::adding::is_total;
 use constriction_queue::{RangeCoderState, RangeDecoder};
 use constriction_words::{BitArray, WordOf};
 use std::alloc::Global;

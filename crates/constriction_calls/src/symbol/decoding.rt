@@ -3,11 +3,11 @@
 ghost use Rattle.std.specs.Prelude.{◌≡◌, IfErr, OnErr, OnOk, length, map};
 ghost use Rattle.constriction_calls.specs.SymbolCalls.{AsQueue, AsStack, BeginBits, IsToldAs, ReadsNone, TakesCodewords};
 
-use crate::refusal::Refusal;
 use crate::symbol::Codes;
 use constriction_base::backends::{Queue, Semantics, Stack};
 use constriction_base::cursor::Cursor;
 use constriction_base::errors::CoderError;
+use constriction_inputs::refusal::Refusal;
 use constriction_symbol::codebooks::{Codebook, DecoderCodebook, SymbolCodeError};
 use constriction_symbol::coder::StackCoder;
 use constriction_symbol::queue::QueueDecoder;

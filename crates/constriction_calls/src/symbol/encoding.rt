@@ -1,13 +1,13 @@
 //! Symbols as words.
 
 ghost use Rattle.std.specs.Prelude.{◌≡◌, ◌-◌, ◌<◌, ◌^◌, IfErr, IfSome, OnErr, OnOk, OnSome, length, map};
-ghost use Rattle.constriction_calls.specs.Buffers.{Appended};
+ghost use Rattle.constriction_inputs.specs.Buffers.{Appended};
 ghost use Rattle.constriction_calls.specs.SymbolCalls.{AreSymbolWords, AsQueue, AsStack, MakesTree, PutsCodewords, codeword_in};
-ghost use Rattle.constriction_calls.specs.declared.refusal.Refusal.TheVariants as refusals;
+ghost use Rattle.constriction_inputs.specs.declared.refusal.Refusal.TheVariants as refusals;
 
-use crate::refusal::Refusal;
 use crate::symbol::Codes;
 use constriction_base::backends::Queue;
+use constriction_inputs::refusal::Refusal;
 use constriction_symbol::coder::{QueueEncoder, StackCoder};
 use constriction_symbol::writing::WriteBitStream;
 use constriction_words::BitArray;

@@ -2,8 +2,8 @@
 
 ghost use Rattle.constriction_calls.specs.SymbolCalls.{OfNumbers};
 
-use crate::refusal::Refusal;
 use crate::symbol::Codes;
+use constriction_inputs::refusal::Refusal;
 use constriction_symbol::exp_golomb::{ExpGolomb, InvalidCodeword};
 use constriction_words::BitArray;
 use std::alloc::Global;

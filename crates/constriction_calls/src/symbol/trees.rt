@@ -3,8 +3,8 @@
 ghost use Rattle.std.specs.Prelude.{◌↔◌, ◌<◌, All, IsTrue, map};
 ghost use Rattle.constriction_calls.specs.SymbolCalls.{MakesTree, OfWeights};
 
-use crate::refusal::Refusal;
 use crate::symbol::Codes;
+use constriction_inputs::refusal::Refusal;
 use constriction_symbol::huffman::{DecoderHuffmanTree, EncoderHuffmanTree, total_fits};
 use constriction_words::BitArray;
 use std::alloc::Global;

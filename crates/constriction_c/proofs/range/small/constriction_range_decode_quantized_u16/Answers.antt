@@ -2,4 +2,4 @@ use Rattle.constriction_c.proofs.Told.{takes_told}
 use Rattle.constriction_c.proofs.range.small.constriction_range_decode_quantized_u16.Goals as goal
 
 pub returns : goal.returns
-returns c = record { call = takes_told c.parts-parts.ensures c.of.ensures c.code_without_space.ensures c.decode-answer.ensures.call; }
+returns c = record { call = takes_told c.parts-parts.ensures c.of.ensures c.code_without_space.ensures c.decode-answer.ensures.call }

@@ -2,4 +2,4 @@ use Rattle.constriction_c.proofs.Told.{puts_told}
 use Rattle.constriction_c.proofs.range.small.constriction_range_encode_quantized_u16.Goals as goal
 
 pub returns : goal.returns
-returns c = record { call = puts_told c.code_of.result c.args.needed.now c.code_of.new.needed c.parts-parts.ensures c.of.ensures c.code_of.ensures.code c.code_of.ensures.needed c.encode-answer.ensures.call; }
+returns c = record { call = puts_told c.code_of.result c.args.needed.now c.code_of.new.needed c.parts-parts.ensures c.of.ensures c.code_of.ensures.code c.code_of.ensures.needed c.encode-answer.ensures.call }

@@ -1,7 +1,7 @@
 use Rattle.std.proofs.Common.{◌≤◌, arith, length, refl}
-use Rattle.constriction_calls.specs.Refusals.{Else, Never}
+use Rattle.constriction_inputs.specs.Refusals.{Else, Never}
 use Rattle.constriction_calls.proofs.AnsAnswers.{puts_done, puts_short}
-use Rattle.constriction_calls.proofs.Asking.{fit_ok}
+use Rattle.constriction_inputs.proofs.Asking.{fit_ok}
 use Rattle.constriction_calls.proofs.ans.encoding.encode_reverse.Goals.{in-Ok, in-Err}
 use Rattle.constriction_calls.proofs.ans.encoding.encode_reverse.Goals as goal
 

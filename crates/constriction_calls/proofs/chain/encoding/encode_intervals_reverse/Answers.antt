@@ -1,9 +1,9 @@
 use Rattle.std.proofs.Common.{rules, ◌≤◌, ◌≡◌, ◌∙◌, ◌*◌, ℕ, List, arith, inl, inr, length, map, refl, sym, subst}
 use Rattle.std.proofs.lemmas.List.{length-map}
 use Rattle.constriction_calls.specs.ChainCalls.{keeps}
-use Rattle.constriction_calls.specs.Coded.{AreFit, AsIntervals, ByRows, items}
-use Rattle.constriction_calls.specs.Weights.{AreTotals}
-use Rattle.constriction_calls.specs.declared.refusal.Refusal.TheVariants as refusals
+use Rattle.constriction_inputs.specs.Coded.{AreFit, AsIntervals, ByRows, items}
+use Rattle.constriction_inputs.specs.Weights.{AreTotals}
+use Rattle.constriction_inputs.specs.declared.refusal.Refusal.TheVariants as refusals
 use Rattle.constriction_calls.proofs.ChainAnswers.{intervals_fit, intervals_known, puts_as, puts_headless, puts_stopped}
 use Rattle.constriction_calls.proofs.chain.encoding.encode_intervals_reverse.Goals as goal
 

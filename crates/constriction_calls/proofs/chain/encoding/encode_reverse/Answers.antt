@@ -2,11 +2,11 @@ use Rattle.std.proofs.Common.{refl, ap, ◌∙◌, ◌≡◌, ◌+◌, ◌≤◌
 use Rattle.std.specs.Prelude.{reverse}
 use Rattle.constriction_base.specs.Models.{Item}
 use Rattle.constriction_chain.proofs.Chains.{state, state_same}
-use Rattle.constriction_calls.specs.Buffers.{stack_in}
+use Rattle.constriction_inputs.specs.Buffers.{stack_in}
 use Rattle.constriction_calls.specs.ChainCalls.{AreInUse, keeps}
-use Rattle.constriction_calls.specs.Coded.{Coded, items}
-use Rattle.constriction_calls.specs.Refusals.{Else, Never}
-use Rattle.constriction_calls.proofs.Asking.{fit_ok}
+use Rattle.constriction_inputs.specs.Coded.{Coded, items}
+use Rattle.constriction_inputs.specs.Refusals.{Else, Never}
+use Rattle.constriction_inputs.proofs.Asking.{fit_ok}
 use Rattle.constriction_calls.proofs.ChainAnswers.{known_after, of_data, of_room, puts_ended, puts_stopped, stopped_by}
 use Rattle.constriction_calls.proofs.ChainFrame.{lacks_in, needs_room_in, put_in}
 use Rattle.constriction_calls.proofs.ChainRows.{within_turned}

@@ -1,6 +1,6 @@
 use Rattle.std.proofs.Common.{◌≡◌, ◌≤◌, ◌∙◌, ℕ, [], ap, arith, length, refl}
 use Rattle.constriction_chain.proofs.Chains.{state}
-use Rattle.constriction_calls.specs.Buffers.{stack_in}
+use Rattle.constriction_inputs.specs.Buffers.{stack_in}
 use Rattle.constriction_calls.specs.ChainWords.{InBinary}
 use Rattle.constriction_calls.proofs.ChainWords.{binary_above, ends_at}
 use Rattle.constriction_calls.proofs.chain.words.into_binary.Goals as goal

@@ -1,6 +1,6 @@
 use Rattle.std.proofs.Common.{◌≡◌, ◌≤◌, ◌∙◌, ℕ, [], ap, arith, length, refl}
 use Rattle.constriction_chain.proofs.Chains.{state}
-use Rattle.constriction_calls.specs.Buffers.{stack_in}
+use Rattle.constriction_inputs.specs.Buffers.{stack_in}
 use Rattle.constriction_calls.specs.ChainWords.{InRemainders}
 use Rattle.constriction_calls.proofs.ChainWords.{heads_above, ends_at}
 use Rattle.constriction_calls.proofs.chain.words.into_remainders.Goals as goal

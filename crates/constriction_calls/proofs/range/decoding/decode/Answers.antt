@@ -1,9 +1,9 @@
 use Rattle.std.proofs.Common.{◌≡◌, ◌∙◌, ◌-◌, ◌≤◌, ℕ, List, ap, arith, length, map, rules, sym}
 use Rattle.std.proofs.lemmas.List.{length-map}
-use Rattle.constriction_calls.specs.Coded.{AreFit, items}
+use Rattle.constriction_inputs.specs.Coded.{AreFit, items}
 use Rattle.constriction_calls.specs.RangeCalls.{IsDecoderKept}
-use Rattle.constriction_calls.specs.Refusals.{Else, Never}
-use Rattle.constriction_calls.proofs.Asking.{fit_ok}
+use Rattle.constriction_inputs.specs.Refusals.{Else, Never}
+use Rattle.constriction_inputs.proofs.Asking.{fit_ok}
 use Rattle.constriction_calls.proofs.RangeAnswers.{takes_after, takes_fault, words_moved}
 use Rattle.constriction_calls.proofs.RangeTaking.{finds_same, stands_on, stands_read}
 use Rattle.constriction_calls.proofs.range.decoding.decode.Goals as goal

@@ -1,9 +1,9 @@
 use Rattle.std.proofs.Common.{◌≤◌, arith, length, rules}
 use Rattle.constriction_queue.specs.Encoder.{run_by}
-use Rattle.constriction_calls.specs.Coded.{AreFit}
+use Rattle.constriction_inputs.specs.Coded.{AreFit}
 use Rattle.constriction_calls.specs.RangeCalls.{CanEncode, RangeKept}
-use Rattle.constriction_calls.specs.Refusals.{Else, Never}
-use Rattle.constriction_calls.proofs.Asking.{fit_ok}
+use Rattle.constriction_inputs.specs.Refusals.{Else, Never}
+use Rattle.constriction_inputs.proofs.Asking.{fit_ok}
 use Rattle.constriction_calls.proofs.RangeAnswers.{kept_same, puts_appended, puts_short}
 use Rattle.constriction_calls.proofs.range.encoding.encode.Goals as goal
 

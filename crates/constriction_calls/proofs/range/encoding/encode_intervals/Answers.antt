@@ -1,8 +1,8 @@
 use Rattle.std.proofs.Common.{◌≤◌, arith, length, map, refl, rules, subst, sym}
 use Rattle.std.proofs.lemmas.List.{length-map}
-use Rattle.constriction_calls.specs.Coded.{AsIntervals}
+use Rattle.constriction_inputs.specs.Coded.{AsIntervals}
 use Rattle.constriction_calls.specs.RangeCalls.{CanEncode, RangeKept}
-use Rattle.constriction_calls.specs.declared.refusal.Refusal.TheVariants as refusals
+use Rattle.constriction_inputs.specs.declared.refusal.Refusal.TheVariants as refusals
 use Rattle.constriction_calls.proofs.RangeAnswers.{puts_numbers, puts_room}
 use Rattle.constriction_calls.proofs.RangeIntervals.{fit_known, memory_fit}
 use Rattle.constriction_calls.proofs.range.encoding.encode_intervals.Goals as goal

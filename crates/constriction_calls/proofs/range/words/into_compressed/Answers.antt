@@ -2,7 +2,7 @@ use Rattle.std.proofs.Common.{◌≡◌, ◌∙◌, ◌+◌, ◌≤◌, ap, arit
 use Rattle.constriction_queue.specs.Encoder.{run_by}
 use Rattle.constriction_queue.specs.Range.{sealed}
 use Rattle.constriction_calls.specs.RangeCalls.{CanEncode, IsSealed, RangeKept}
-use Rattle.constriction_calls.specs.declared.refusal.Refusal.TheVariants as refusals
+use Rattle.constriction_inputs.specs.declared.refusal.Refusal.TheVariants as refusals
 use Rattle.std.proofs.lemmas.Bool.{false≢true}
 use Rattle.constriction_calls.proofs.RangeAnswers.{count_is, seals_after, seals_full, seals_room}
 use Rattle.constriction_calls.proofs.RangeKept.{turned, uncounted}

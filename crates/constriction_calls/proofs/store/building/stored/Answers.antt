@@ -3,7 +3,7 @@ use Rattle.constriction_base.specs.Models.{Model}
 use Rattle.constriction_store.specs.Chunks.{lists_of}
 use Rattle.constriction_store.specs.Stores.{Entry, IsBuilt, entry_at}
 use Rattle.constriction_calls.specs.StoreCalls.{chunks_by}
-use Rattle.constriction_calls.specs.Weights.{weights_model}
+use Rattle.constriction_inputs.specs.Weights.{weights_model}
 use Rattle.constriction_calls.proofs.store.building.stored.Goals as goal
 
 pub returns-in-Ok-build-clause-built : goal.returns-in-Ok-build-clause-built

@@ -5,7 +5,7 @@ use Rattle.constriction_queue_laws.specs.Symbols.{FindsAll}
 use Rattle.constriction_queue.specs.Range.{Run}
 use Rattle.constriction_queue.specs.States.{lower_of, range_of}
 use Rattle.constriction_store.specs.Stores.{run_from}
-use Rattle.constriction_calls.specs.Weights.{IsTotal, weights_model}
+use Rattle.constriction_inputs.specs.Weights.{IsTotal, weights_model}
 use Rattle.constriction_calls.proofs.RangeAnswers.{words_why}
 use Rattle.constriction_calls.proofs.RangeTaking.{finds_same}
 use Rattle.constriction_calls.proofs.StoreAnswers.{chunk_given, look_up_refused}

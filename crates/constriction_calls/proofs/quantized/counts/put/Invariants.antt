@@ -1,8 +1,0 @@
-use Rattle.std.proofs.Common.{◌≡◌, length, map, take}
-use Rattle.constriction_calls.proofs.quantized.counts.put.Given as goal
-
-abbrev pub invariant-loop-i : goal.invariant-loop-i
-invariant-loop-i g l = record {
-  done : map g.P.BitArray.number (take l.i l.weights) ≡ take l.i l.made;
-  counted : length l.weights ≡ length l.made;
-}

@@ -1,0 +1,9 @@
+pub mod Asking
+pub mod FamilyCounts
+pub mod FamilyTables
+pub mod IntervalRows
+pub mod KnownRows
+pub mod Listing
+pub mod RowItems
+pub mod RowTables
+pub mod RowWeights

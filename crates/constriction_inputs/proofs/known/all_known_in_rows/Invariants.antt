@@ -1,0 +1,14 @@
+use Rattle.std.proofs.Common.{◌≡◌, ◌+◌, ◌-◌, ◌*◌, drop, length, map}
+use Rattle.constriction_base.specs.Models.{AreKnown}
+use Rattle.constriction_inputs.specs.Weights.{row_items}
+use Rattle.constriction_inputs.proofs.known.all_known_in_rows.Given as goal
+
+abbrev pub invariant-loop-i : goal.invariant-loop-i
+invariant-loop-i g l =
+    let items = row_items g.row.PRECISION l.width in
+    let all = map g.P.BitArray.number l.weights in
+    record {
+      rest : l.start + l.width * (length l.symbols - l.i) ≡ length l.weights;
+      before : AreKnown (items (drop l.start all) (drop l.i l.symbols)) → AreKnown (items all l.symbols);
+      behind : AreKnown (items all l.symbols) → AreKnown (items (drop l.start all) (drop l.i l.symbols));
+    }

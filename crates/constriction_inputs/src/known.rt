@@ -1,0 +1,37 @@
+//! Whether weights give the symbols that they are to code an interval.
+
+ghost use Rattle.std.specs.Prelude.{◌≡◌, ◌↔◌, ◌*◌, length, map, IsTrue};
+ghost use Rattle.constriction_base.specs.Models.{AreKnown, Knows};
+ghost use Rattle.constriction_inputs.specs.Weights.{row_items, weights_model};
+
+use constriction_words::BitArray;
+
+/// Whether each row of `width` weights knows the symbol at its place. It takes no memory.
+pub fn all_known_in_rows<P: BitArray, const PRECISION: usize>(
+    weights: &[P],
+    width: usize,
+    symbols: &[usize],
+) -> bool
+    requires { length weights.now ≡ width * length symbols.now }
+    ensures { IsTrue result ↔ AreKnown (row_items PRECISION width (map P.number weights.now) symbols.now) }
+{
+    let mut start = 0;
+    for i in 0..symbols.len() {
+        let end = start + width;
+        if !is_known::<P, PRECISION>(&weights[start..end], symbols[i]) {
+            return false;
+        }
+        start = end;
+    }
+    true
+}
+
+/// Whether a symbol has a weight above 0.
+pub fn is_known<P: BitArray, const PRECISION: usize>(weights: &[P], symbol: usize) -> bool
+    ensures { IsTrue result ↔ Knows (weights_model PRECISION (map P.number weights.now)) symbol }
+{
+    if symbol >= weights.len() {
+        return false;
+    }
+    !weights[symbol].is_nothing()
+}

@@ -1,0 +1,164 @@
+//! A family of distributions, and a location and a scale for each symbol.
+
+ghost use Rattle.std.specs.Prelude.{◌≡◌, ◌↔◌, ◌<◌, ◌≤◌, ◌<ℤ◌, Some, length, map, IfOk, IsTrue};
+ghost use Rattle.std.specs.List.{AllByRecursion};
+ghost use Rattle.constriction_models.specs.Quantizers.{count_of, first_symbol};
+ghost use Rattle.constriction_inputs.specs.Coded.{InFamily};
+ghost use Rattle.constriction_inputs.specs.Quantized.{ArePlaces, AreScaled, IsRange, family_of, symbols_in, tables_by};
+ghost use Rattle.constriction_inputs.specs.Refusals.{Asks, Else, Never};
+ghost use Rattle.constriction_inputs.specs.declared.refusal.Refusal.TheVariants as refusals;
+
+use crate::models::{Each, Models};
+use crate::refusal::Refusal;
+use constriction_base::model::EntropyModel;
+use constriction_models::families::{Family, FamilyDistribution};
+use constriction_models::quantizer::{IndexedDistribution, LeakyQuantizer};
+use constriction_words::{BitArray, WordOf};
+use std::alloc::{AllocError, Global};
+
+/// A model of places in a range, by a distribution of one of the families.
+pub type FamilyModel<P, const PRECISION: usize> = IndexedDistribution<
+    FamilyDistribution,
+    P,
+    PRECISION,
+>;
+
+/// Symbols are places in the range from `min` to `max`: 0 stands for `min`. Each has the model of its own location and
+/// scale, in units of `2^-16`, by the family of a code: 0 is `Gaussian`, 1 is `Laplace`, 2 is `Logistic`.
+#[derive(Clone, Copy, Drop)]
+pub struct Families<'a> {
+    pub family: u32,
+    pub min: i32,
+    pub max: i32,
+    pub locations: &'a [i64],
+    pub scales: &'a [u32],
+}
+
+impl<'a, P: WordOf<u32>, const PRECISION: usize> Models<P, PRECISION> for Families<'a> {
+    type List = Each<FamilyModel<P, PRECISION>>;
+
+    ghost coded = { λ given symbols. InFamily (record { family = given.family; min = given.min; max = given.max; locations = given.locations.now; scales = given.scales.now }) symbols };
+
+    fn check(&self, symbols: &[usize]) -> Result<(), Refusal> {
+        if self.locations.len() != symbols.len() {
+            return Err(Refusal::WrongLength);
+        }
+        match self.quantizer::<P, PRECISION>() {
+            Ok(_) => Ok(()),
+            Err(refusal) => Err(refusal),
+        }
+    }
+
+    fn know(&self, symbols: &[usize]) -> bool {
+        self.are_places(symbols)
+    }
+
+    fn list(
+        &self,
+        alloc: Global,
+        _symbols: &[usize],
+        _divides: bool,
+    ) -> Option<Each<FamilyModel<P, PRECISION>>> {
+        let Ok((family, quantizer)) = self.quantizer::<P, PRECISION>() else {
+            return None;
+        };
+        match models_of(alloc, family, &quantizer, self.locations, self.scales) {
+            Ok(models) => Some(Each { models }),
+            Err(_) => None,
+        }
+    }
+}
+
+impl<'a> Families<'a> {
+    /// The family, and the quantizer of the range. It takes no memory.
+    ///
+    /// # Errors
+    ///
+    /// In this order, each just in its case: `WrongLength`, where there are not as many scales as locations; `WrongInterval`,
+    /// where the range has fewer than two symbols, or more than two to the precision; `WrongWeights`, where the code is that of
+    /// no family, or a scale is 0.
+    pub fn quantizer<P: WordOf<u32>, const PRECISION: usize>(
+        &self,
+    ) -> Result<(Family, LeakyQuantizer<P, PRECISION>), Refusal>
+        requires { (1 ≤ PRECISION) × (PRECISION ≤ P.BITS) }
+        ensures family { IfOk result (λ made. family_of self.now.family ≡ Some made.0) }
+        ensures first { IfOk result (λ made. first_symbol made.1 ≡ self.now.min) }
+        ensures count { IfOk result (λ made. count_of made.1 ≡ symbols_in self.now.min self.now.max) }
+        ensures asks { Asks refusals.WrongLength (length self.now.locations.now ≡ length self.now.scales.now)
+            (Asks refusals.WrongInterval (IsRange PRECISION self.now.min self.now.max)
+            (Asks refusals.WrongWeights (AreScaled self.now.family self.now.scales.now) (Else Never))) result }
+    {
+        if self.locations.len() != self.scales.len() {
+            return Err(Refusal::WrongLength);
+        }
+        let Ok(quantizer) = LeakyQuantizer::<P, PRECISION>::new(self.min, self.max) else {
+            return Err(Refusal::WrongInterval);
+        };
+        let Some(family) = family_at(self.family) else {
+            return Err(Refusal::WrongWeights);
+        };
+        if !are_above_zero(self.scales) {
+            return Err(Refusal::WrongWeights);
+        }
+        Ok((family, quantizer))
+    }
+
+    /// Whether each symbol is the place of one of the range: 0 is that of `min`.
+    fn are_places(&self, symbols: &[usize]) -> bool
+        requires { self.now.min <ℤ self.now.max }
+        ensures { IsTrue result ↔ ArePlaces self.now.min self.now.max symbols.now }
+    {
+        let count = (self.max as i64 - self.min as i64) as usize + 1;
+        for symbol in symbols {
+            if *symbol >= count {
+                return false;
+            }
+        }
+        true
+    }
+}
+
+/// The family of a code; `None` where it is that of none.
+fn family_at(code: u32) -> Option<Family>
+    ensures { result ≡ family_of code }
+{
+    match code {
+        0 => Some(Family::Gaussian),
+        1 => Some(Family::Laplace),
+        2 => Some(Family::Logistic),
+        _ => None,
+    }
+}
+
+/// Whether all scales are above 0.
+fn are_above_zero(scales: &[u32]) -> bool
+    ensures { IsTrue result ↔ AllByRecursion (λ scale. 0 < scale) scales.now }
+{
+    for scale in scales {
+        if *scale == 0 {
+            return false;
+        }
+    }
+    true
+}
+
+/// The model of each location and its scale.
+fn models_of<P: WordOf<u32>, const PRECISION: usize>(
+    alloc: Global,
+    family: Family,
+    quantizer: &LeakyQuantizer<P, PRECISION>,
+    locations: &[i64],
+    scales: &[u32],
+) -> Result<Vec<FamilyModel<P, PRECISION>>, AllocError>
+    requires counted { length locations.now ≡ length scales.now }
+    requires scaled { AllByRecursion (λ scale. 0 < scale) scales.now }
+    ensures { IfOk result (λ models. map ⟦<FamilyModel<P, PRECISION> as EntropyModel<PRECISION>>⟧.table models.items
+        ≡ tables_by PRECISION (Some family) (first_symbol quantizer.now) (count_of quantizer.now) locations.now scales.now) }
+{
+    let mut models = Vec::with_capacity(alloc, locations.len())?;
+    for i in 0..locations.len() {
+        let distribution = family.distribution(locations[i], scales[i]).unwrap();
+        models.push_reserved(quantizer.quantize_indexed(distribution));
+    }
+    Ok(models)
+}

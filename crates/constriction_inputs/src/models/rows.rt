@@ -1,0 +1,52 @@
+//! A row of weights for each symbol.
+
+ghost use Rattle.std.specs.Prelude.{map};
+ghost use Rattle.constriction_inputs.specs.Coded.{ByRows};
+
+use crate::known::all_known_in_rows;
+use crate::models::{Each, Models};
+use crate::refusal::Refusal;
+use crate::rows::adding::{are_totals, is_product};
+use crate::rows::{Row, total_rows};
+use constriction_words::BitArray;
+use std::alloc::Global;
+
+/// Rows of `width` weights, one behind another: the next one for each symbol. Each row adds up to two to the precision.
+#[derive(Clone, Copy, Drop)]
+pub struct Rows<'a, P> {
+    pub weights: &'a [P],
+    pub width: usize,
+}
+
+impl<'a, P: BitArray, const PRECISION: usize> Models<P, PRECISION> for Rows<'a, P> {
+    type List = Each<Row<'a, P, PRECISION>>;
+
+    ghost coded = { λ given symbols. ByRows given.width (map P.number given.weights.now) symbols };
+
+    fn check(&self, symbols: &[usize]) -> Result<(), Refusal> {
+        if !is_product(self.weights.len(), self.width, symbols.len()) {
+            return Err(Refusal::WrongLength);
+        }
+        if are_totals::<P, PRECISION>(self.weights, self.width, symbols.len()) {
+            Ok(())
+        } else {
+            Err(Refusal::WrongWeights)
+        }
+    }
+
+    fn know(&self, symbols: &[usize]) -> bool {
+        all_known_in_rows::<P, PRECISION>(self.weights, self.width, symbols)
+    }
+
+    fn list(
+        &self,
+        alloc: Global,
+        symbols: &[usize],
+        _divides: bool,
+    ) -> Option<Each<Row<'a, P, PRECISION>>> {
+        match total_rows(alloc, self.weights, self.width, symbols.len()) {
+            Ok(models) => Some(Each { models }),
+            Err(_) => None,
+        }
+    }
+}

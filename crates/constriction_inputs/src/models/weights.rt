@@ -1,0 +1,79 @@
+//! One table of weights for all symbols.
+
+ghost use Rattle.std.specs.Prelude.{◌≡◌, ◌≤◌, map, IfSome};
+ghost use Rattle.constriction_base.specs.Tables.{table_of};
+ghost use Rattle.constriction_base.specs.WeightTables.{entries};
+ghost use Rattle.constriction_inputs.specs.Coded.{ByWeights};
+
+use crate::known::is_known;
+use crate::models::{Models, One};
+use crate::refusal::Refusal;
+use crate::rows::adding::is_total;
+use constriction_base::weights::WeightTable;
+use constriction_words::BitArray;
+use std::alloc::Global;
+
+/// The weights of the symbols `0`, `1`, .., which add up to two to the precision. A symbol of weight 0, or past them, is impossible.
+#[derive(Clone, Copy, Drop)]
+pub struct Weights<'a, P> {
+    pub weights: &'a [P],
+}
+
+impl<'a, P: BitArray, const PRECISION: usize> Models<P, PRECISION> for Weights<'a, P> {
+    type List = One<WeightTable<P, PRECISION>>;
+
+    ghost coded = { λ given symbols. ByWeights (map P.number given.weights.now) symbols };
+
+    fn check(&self, _symbols: &[usize]) -> Result<(), Refusal> {
+        if is_total::<P, PRECISION>(self.weights) {
+            Ok(())
+        } else {
+            Err(Refusal::WrongWeights)
+        }
+    }
+
+    fn know(&self, symbols: &[usize]) -> bool {
+        for symbol in symbols {
+            if !is_known::<P, PRECISION>(self.weights, *symbol) {
+                return false;
+            }
+        }
+        true
+    }
+
+    fn list(
+        &self,
+        alloc: Global,
+        symbols: &[usize],
+        divides: bool,
+    ) -> Option<One<WeightTable<P, PRECISION>>> {
+        match table_by(alloc, self.weights, divides) {
+            Some(model) => Some(One {
+                model,
+                count: symbols.len(),
+            }),
+            None => None,
+        }
+    }
+}
+
+/// The table of weights, with their reciprocals where steps divide by them. `None` says that the weights don't add up, or that memory is
+/// missing.
+pub fn table_by<P: BitArray, const PRECISION: usize>(
+    alloc: Global,
+    weights: &[P],
+    divides: bool,
+) -> Option<WeightTable<P, PRECISION>>
+    requires { (1 ≤ PRECISION) × (PRECISION ≤ P.BITS) }
+    ensures { IfSome result (λ table. entries table ≡ table_of (map P.number weights.now)) }
+{
+    let made = if divides {
+        WeightTable::new(alloc, weights)
+    } else {
+        WeightTable::for_decoding(alloc, weights)
+    };
+    match made {
+        Ok(table) => Some(table),
+        Err(_) => None,
+    }
+}

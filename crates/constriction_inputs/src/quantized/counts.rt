@@ -1,0 +1,51 @@
+//! Weights in proportion to counts, into a caller's buffer.
+
+ghost use Rattle.std.specs.Prelude.{◌≡◌, ◌<◌, ◌≤◌, ◌^◌, ℕ, length, map, slice_index};
+ghost use Rattle.constriction_inputs.specs.QuantizedCalls.{GivesWeights};
+
+use crate::refusal::Refusal;
+use constriction_models::counts::{CountsError, weights_of_counts};
+use constriction_words::{BitArray, WordOf};
+use std::alloc::Global;
+
+/// Writes weights in proportion to counts, which add up to two to the precision: each count above 0 gets a weight of
+/// 1 at least, and a count of 0 gets 0.
+///
+/// # Errors
+///
+/// In this order, and nothing changed:
+/// - `WrongLength` exactly where there are not as many weights as counts.
+/// - `WrongWeights` exactly where no count is above 0, or more than two to the precision are.
+/// - `NoMemory` where memory is missing.
+pub fn put_weights_of_counts<P: WordOf<u32>, const PRECISION: usize>(
+    alloc: Global,
+    counts: &[u64],
+    weights: &mut [P],
+) -> Result<(), Refusal>
+    requires { (PRECISION < P.BITS) × (PRECISION ≤ 31) }
+    ensures call { GivesWeights PRECISION counts.now (map P.number weights.old) (map P.number weights.new) result }
+{
+    if weights.len() != counts.len() {
+        return Err(Refusal::WrongLength);
+    }
+    match weights_of_counts(alloc, counts, PRECISION as u32) {
+        Ok(made) => {
+            put(&made, weights);
+            Ok(())
+        }
+        Err(CountsError::Empty) => Err(Refusal::WrongWeights),
+        Err(CountsError::TooMany) => Err(Refusal::WrongWeights),
+        Err(CountsError::Memory) => Err(Refusal::NoMemory),
+    }
+}
+
+/// Writes numbers that have room in `P`.
+fn put<P: WordOf<u32>>(made: &[u32], weights: &mut [P])
+    requires counted { length made.now ≡ length weights.now }
+    requires fit { (k : ℕ) → k < length made.now → slice_index made.now k < 2 ^ P.BITS }
+    ensures { map P.number weights.new ≡ made.now }
+{
+    for i in 0..made.len() {
+        weights[i] = P::narrow(made[i]);
+    }
+}

@@ -1,0 +1,85 @@
+//! Where the intervals of symbols begin, and how long they are, each in the table of its own location and scale.
+
+ghost use Rattle.std.specs.Prelude.{◌≡◌, ◌<◌, ◌≤◌, Some, length, map};
+ghost use Rattle.std.specs.List.{AllByRecursion};
+ghost use Rattle.constriction_base.specs.Models.{pairs_of};
+ghost use Rattle.constriction_models.specs.Quantizers.{count_of, first_symbol};
+ghost use Rattle.constriction_inputs.specs.Quantized.{AreIntervalsOf, tables_by};
+ghost use Rattle.constriction_inputs.specs.QuantizedCalls.{GivesIntervals};
+
+use crate::models::{Families, Models};
+use crate::refusal::Refusal;
+use constriction_base::model::EncoderModel;
+use constriction_models::families::Family;
+use constriction_models::quantizer::LeakyQuantizer;
+use constriction_words::{BitArray, WordOf};
+
+/// Writes for each symbol where its interval begins into `lefts`, and how long it is into `ps`, by its model. It takes no
+/// memory.
+///
+/// # Errors
+///
+/// In this order, each just in its case, and nothing changed: `WrongLength`, where `lefts` or `ps` are not as many as the
+/// symbols; those of the models; `ImpossibleSymbol`, where a symbol is past the range.
+pub fn intervals_of_quantized<P: WordOf<u32>, const PRECISION: usize>(
+    families: &Families<'_>,
+    symbols: &[usize],
+    lefts: &mut [P],
+    ps: &mut [P],
+) -> Result<(), Refusal>
+    requires { (1 ≤ PRECISION) × (PRECISION ≤ P.BITS) }
+    ensures call { GivesIntervals P.number PRECISION
+        record { family = families.now.family; min = families.now.min; max = families.now.max; locations = families.now.locations.now; scales = families.now.scales.now } symbols.now
+        record { lefts = lefts.old; ps = ps.old } record { lefts = lefts.new; ps = ps.new } result }
+{
+    if lefts.len() != symbols.len() || ps.len() != symbols.len() {
+        return Err(Refusal::WrongLength);
+    }
+    if families.locations.len() != symbols.len() {
+        return Err(Refusal::WrongLength);
+    }
+    let (family, quantizer) = match families.quantizer::<P, PRECISION>() {
+        Ok(made) => made,
+        Err(refusal) => return Err(refusal),
+    };
+    if !Models::<P, PRECISION>::know(families, symbols) {
+        return Err(Refusal::ImpossibleSymbol);
+    }
+    put_intervals(
+        family,
+        &quantizer,
+        families.locations,
+        families.scales,
+        symbols,
+        lefts,
+        ps,
+    );
+    Ok(())
+}
+
+/// Writes the intervals of places in the range.
+fn put_intervals<P: WordOf<u32>, const PRECISION: usize>(
+    family: Family,
+    quantizer: &LeakyQuantizer<P, PRECISION>,
+    locations: &[i64],
+    scales: &[u32],
+    symbols: &[usize],
+    lefts: &mut [P],
+    ps: &mut [P],
+)
+    requires counted { (length locations.now ≡ length symbols.now) × (length scales.now ≡ length symbols.now) }
+    requires room { (length lefts.now ≡ length symbols.now) × (length ps.now ≡ length symbols.now) }
+    requires scaled { AllByRecursion (λ scale. 0 < scale) scales.now }
+    requires places { AllByRecursion (λ symbol. symbol < count_of quantizer.now) symbols.now }
+    ensures { AreIntervalsOf
+        (pairs_of PRECISION (λ table. table) symbols.now (tables_by PRECISION (Some family) (first_symbol quantizer.now) (count_of quantizer.now) locations.now scales.now))
+        (map P.number lefts.new) (map P.number ps.new) }
+{
+    for i in 0..symbols.len() {
+        let distribution = family.distribution(locations[i], scales[i]).unwrap();
+        let model = quantizer.quantize_indexed(distribution);
+        let (left, p) = model.left_cumulative_and_probability(&symbols[i]).unwrap();
+        lefts[i] = left;
+        ps[i] = P::from_nonzero(p);
+    }
+}

@@ -1,0 +1,62 @@
+//! Rows of weights as models.
+
+pub mod adding;
+mod models;
+
+ghost use Rattle.std.specs.Prelude.{◌≡◌, ◌↔◌, ◌*◌, ◌≤◌, length, map, IfSome, IsSome, IfOk};
+ghost use Rattle.constriction_base.specs.Tables.{table_of};
+ghost use Rattle.constriction_inputs.specs.Weights.{IsTotal, AreTotals, row_tables};
+
+use crate::rows::adding::is_total;
+use constriction_base::model::EntropyModel;
+use constriction_words::BitArray;
+use std::alloc::{AllocError, Global};
+
+/// A model of the symbols `0`, `1`, .. by their weights, which a caller lends: nothing is copied.
+///
+/// Symbol `i` has an interval as long as the `i`th weight, right behind those of the symbols before it. A symbol of
+/// weight 0, or past the list, is impossible. Each look-up goes over the weights from the first on.
+#[derive(Drop)]
+pub struct Row<'a, P: BitArray, const PRECISION: usize> {
+    weights: &'a [P],
+    ghost positive: { 1 ≤ PRECISION },
+    ghost fits: { PRECISION ≤ P.BITS },
+    ghost total: { IsTotal PRECISION (map P.number weights.now) },
+}
+
+impl<'a, P: BitArray, const PRECISION: usize> Row<'a, P, PRECISION> {
+    /// The model of these weights, if they add up to two to the precision.
+    pub fn new(weights: &'a [P]) -> Option<Self>
+        requires { (1 ≤ PRECISION) × (PRECISION ≤ P.BITS) }
+        ensures some { IfSome result (λ row. ⟦<Row<'a, P, PRECISION> as EntropyModel<PRECISION>>⟧.table row ≡ table_of (map P.number weights.now)) }
+        ensures variant { IsSome result ↔ IsTotal PRECISION (map P.number weights.now) }
+    {
+        if is_total::<P, PRECISION>(weights) {
+            Some(Row { weights })
+        } else {
+            None
+        }
+    }
+}
+
+/// Rows that add up to two to the precision, as models.
+pub fn total_rows<'a, P: BitArray, const PRECISION: usize>(
+    alloc: Global,
+    weights: &'a [P],
+    width: usize,
+    count: usize,
+) -> Result<Vec<Row<'a, P, PRECISION>>, AllocError>
+    requires sizes { (1 ≤ PRECISION) × (PRECISION ≤ P.BITS) }
+    requires counted { length weights.now ≡ width * count }
+    requires totals { AreTotals PRECISION width count (map P.number weights.now) }
+    ensures { IfOk result (λ rows. map ⟦<Row<'a, P, PRECISION> as EntropyModel<PRECISION>>⟧.table rows.items ≡ row_tables width count (map P.number weights.now)) }
+{
+    let mut rows = Vec::with_capacity(alloc, count)?;
+    let mut start = 0;
+    for _done in 0..count {
+        let end = start + width;
+        rows.push_reserved(Row::new(&weights[start..end]).unwrap());
+        start = end;
+    }
+    Ok(rows)
+}

@@ -1,0 +1,82 @@
+//! Sums of weights: whether they are two to the precision, and those of the weights before a symbol.
+
+ghost use Rattle.std.specs.Prelude.{◌≡◌, ◌↔◌, ◌+◌, ◌*◌, ◌^◌, ◌<◌, ◌≤◌, length, map, sum_by, take, IsTrue};
+ghost use Rattle.constriction_inputs.specs.Weights.{IsTotal, AreTotals};
+
+use constriction_words::BitArray;
+
+/// The number of ones below a place.
+pub fn ones<P: BitArray>(count: usize) -> P
+    requires { (1 ≤ count) × (count ≤ P.BITS) }
+    ensures { P.number result + 1 ≡ 2 ^ count }
+{
+    P::greatest().shifted_right(P::BITS - count as u32)
+}
+
+/// Whether the weights add up to two to the precision. The sum is exact, whatever the width of `P`.
+pub fn is_total<P: BitArray, const PRECISION: usize>(weights: &[P]) -> bool
+    requires { (1 ≤ PRECISION) × (PRECISION ≤ P.BITS) }
+    ensures { IsTrue result ↔ IsTotal PRECISION (map P.number weights.now) }
+{
+    let one = P::unit();
+    let mut rest = ones::<P>(PRECISION); // one below what is left of the total
+    let mut is_reached = false;
+    for weight in weights {
+        if !weight.is_nothing() {
+            let less = weight.minus(one);
+            if is_reached || rest.is_below(less) {
+                return false;
+            }
+            if less.is_below(rest) {
+                rest = rest.minus(*weight);
+            } else {
+                is_reached = true;
+            }
+        }
+    }
+    is_reached
+}
+
+/// The sum of the weights before a symbol.
+pub fn sum_before<P: BitArray>(weights: &[P], symbol: usize) -> P
+    requires within { symbol ≤ length weights.now }
+    requires fits { sum_by P.number (take symbol weights.now) < 2 ^ P.BITS }
+    ensures { P.number result ≡ sum_by P.number (take symbol weights.now) }
+{
+    let mut sum = P::nothing();
+    for i in 0..symbol {
+        sum = sum.plus(weights[i]);
+    }
+    sum
+}
+
+/// Whether a number is the product of two others.
+pub fn is_product(number: usize, first: usize, second: usize) -> bool
+    ensures { IsTrue result ↔ (number ≡ first * second) }
+{
+    match first.checked_mul(second) {
+        Some(product) => product == number,
+        None => false,
+    }
+}
+
+/// Whether each of `count` rows of `width` weights adds up to two to the precision.
+pub fn are_totals<P: BitArray, const PRECISION: usize>(
+    weights: &[P],
+    width: usize,
+    count: usize,
+) -> bool
+    requires sizes { (1 ≤ PRECISION) × (PRECISION ≤ P.BITS) }
+    requires counted { length weights.now ≡ width * count }
+    ensures { IsTrue result ↔ AreTotals PRECISION width count (map P.number weights.now) }
+{
+    let mut start = 0;
+    for _done in 0..count {
+        let end = start + width;
+        if !is_total::<P, PRECISION>(&weights[start..end]) {
+            return false;
+        }
+        start = end;
+    }
+    true
+}
