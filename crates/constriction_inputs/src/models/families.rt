@@ -37,7 +37,7 @@ pub struct Families<'a> {
 impl<'a, P: WordOf<u32>, const PRECISION: usize> Models<P, PRECISION> for Families<'a> {
     type List = Each<FamilyModel<P, PRECISION>>;
 
-    ghost coded = { λ given symbols. InFamily (record { family = given.family; min = given.min; max = given.max; locations = given.locations.now; scales = given.scales.now }) symbols };
+    ghost coded = { λ given. InFamily (record { family = given.family; min = given.min; max = given.max; locations = given.locations.now; scales = given.scales.now }) };
 
     fn check(&self, symbols: &[usize]) -> Result<(), Refusal> {
         if self.locations.len() != symbols.len() {

@@ -21,7 +21,7 @@ pub struct Rows<'a, P> {
 impl<'a, P: BitArray, const PRECISION: usize> Models<P, PRECISION> for Rows<'a, P> {
     type List = Each<Row<'a, P, PRECISION>>;
 
-    ghost coded = { λ given symbols. ByRows given.width (map P.number given.weights.now) symbols };
+    ghost coded = { λ given. ByRows given.width (map P.number given.weights.now) };
 
     fn check(&self, symbols: &[usize]) -> Result<(), Refusal> {
         if !is_product(self.weights.len(), self.width, symbols.len()) {

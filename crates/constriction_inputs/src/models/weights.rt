@@ -22,7 +22,7 @@ pub struct Weights<'a, P> {
 impl<'a, P: BitArray, const PRECISION: usize> Models<P, PRECISION> for Weights<'a, P> {
     type List = One<WeightTable<P, PRECISION>>;
 
-    ghost coded = { λ given symbols. ByWeights (map P.number given.weights.now) symbols };
+    ghost coded = { λ given. ByWeights (map P.number given.weights.now) };
 
     fn check(&self, _symbols: &[usize]) -> Result<(), Refusal> {
         if is_total::<P, PRECISION>(self.weights) {
