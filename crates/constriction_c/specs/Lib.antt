@@ -1,3 +1,5 @@
 pub mod Chains
 pub mod Codes
+pub mod Large
 pub mod Ranges
+pub mod Small

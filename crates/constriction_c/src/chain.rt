@@ -1,9 +1,7 @@
 //! The chain coder: a struct of two heads in the caller's hands, and the first words of two buffers.
-//!
-//! - [`large`]: at words of 32 bits.
-//! - [`small`]: at words of 16 bits.
 
 ghost use Rattle.std.specs.Prelude.{◌≡◌};
+ghost use Rattle.constriction_c.specs.Chains.{large_heads, small_heads};
 
 pub mod large;
 pub mod small;
@@ -23,7 +21,7 @@ impl ChainHeadsU32 {
     /// The heads, as the calls take them.
     #[inline]
     pub fn parts(&self) -> ChainHeads<u32, u64>
-        ensures { result ≡ record { remainders = self.now.remainders; compressed = self.now.compressed } }
+        ensures { result ≡ large_heads self.now }
     {
         ChainHeads {
             remainders: self.remainders,
@@ -56,7 +54,7 @@ impl ChainHeadsU16 {
     /// The heads, as the calls take them.
     #[inline]
     pub fn parts(&self) -> ChainHeads<u16, u32>
-        ensures { result ≡ record { remainders = self.now.remainders; compressed = self.now.compressed } }
+        ensures { result ≡ small_heads self.now }
     {
         ChainHeads {
             remainders: self.remainders,

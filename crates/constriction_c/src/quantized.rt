@@ -27,13 +27,7 @@ pub extern "C" fn constriction_quantized_intervals_u32(
         record { family = family; min = min; max = max; locations = locations.now; scales = scales.now } symbols.now
         record { lefts = lefts.old; ps = ps.old } record { lefts = lefts.new; ps = ps.new } (answer_of result 0) }
 {
-    let models = Families {
-        family,
-        min,
-        max,
-        locations,
-        scales,
-    };
+    let models = Families::new(family, min, max, locations, scales);
     code_without_space(intervals_of_quantized::<u32, 24>(&models, symbols, lefts, ps))
 }
 
@@ -53,13 +47,7 @@ pub extern "C" fn constriction_quantized_intervals_u16(
         record { family = family; min = min; max = max; locations = locations.now; scales = scales.now } symbols.now
         record { lefts = lefts.old; ps = ps.old } record { lefts = lefts.new; ps = ps.new } (answer_of result 0) }
 {
-    let models = Families {
-        family,
-        min,
-        max,
-        locations,
-        scales,
-    };
+    let models = Families::new(family, min, max, locations, scales);
     code_without_space(intervals_of_quantized::<u16, 12>(&models, symbols, lefts, ps))
 }
 

@@ -1,5 +1,5 @@
 -- What a caller hands in to be coded: symbols, with what their models are made of.
-use Rattle.std.specs.Prelude.{◌≡◌, ◌*◌, ℕ, List, length, Result}
+use Rattle.std.specs.Prelude.{◌≡◌, ◌*◌, ℕ, ℤ, List, length, Result}
 use Rattle.constriction_base.specs.Models.{Item, items_of}
 use Rattle.constriction_inputs.specs.Intervals.{AreIntervals, interval_items}
 use Rattle.constriction_inputs.specs.Quantized.{ByFamily, AreAsMany, AreScaled, IsRange, family_items}
@@ -15,6 +15,10 @@ pub data Coded : Type 0 where
   ByRows : ℕ → List ℕ → List ℕ → Coded
   AsIntervals : List ℕ → List ℕ → Coded
   InFamily : ByFamily → List ℕ → Coded
+
+-- symbols by a family's code, a range, and a location and a scale for each
+abbrev pub in_family : ℕ → ℤ → ℤ → List ℤ → List ℕ → List ℕ → Coded
+in_family family min max locations scales = InFamily (record { family = family; min = min; max = max; locations = locations; scales = scales })
 
 -- the items that are coded
 abbrev pub items : ℕ → Coded → List (Item ℕ)

@@ -2,10 +2,11 @@
 
 ghost use Rattle.std.specs.Prelude.{map};
 ghost use Rattle.constriction_base.specs.Readings.{BeginsHigh};
+ghost use Rattle.constriction_c.specs.Large.{word, state, LargeAnsTakes, LargeAnsPuts};
 ghost use Rattle.constriction_c.specs.Codes.{Told, answer_of};
-ghost use Rattle.constriction_calls.specs.AnsCalls.{AnsExports, AnsImports, AnsPuts, AnsTakes, coder_of};
+ghost use Rattle.constriction_calls.specs.AnsCalls.{AnsExports, AnsImports, coder_of};
 ghost use Rattle.constriction_calls.specs.AnsCalls.{AreBinary, AreCompressed, HasBinary};
-ghost use Rattle.constriction_inputs.specs.Coded.{AsIntervals, ByRows, ByWeights, InFamily};
+ghost use Rattle.constriction_inputs.specs.Coded.{AsIntervals, ByRows, ByWeights, in_family};
 ghost use Rattle.constriction_stack.specs.Ans.{filled};
 ghost use Rattle.constriction_stack.specs.Binary.{binary_state};
 
@@ -14,7 +15,6 @@ use constriction_calls::ans::decoding::decode;
 use constriction_calls::ans::encoding::{encode_intervals_reverse, encode_reverse};
 use constriction_calls::ans::words::{from_binary, from_compressed, into_binary, into_compressed};
 use constriction_inputs::models::{Families, Rows, Weights};
-use constriction_words::BitArray;
 use std::alloc::Global;
 
 /// `encode_reverse` by the weights of one table.
@@ -28,8 +28,7 @@ pub extern "C" fn constriction_ans_encode_reverse_u32(
     symbols: &[usize],
     needed: &mut usize,
 ) -> u32
-    ensures { Told result needed.old needed.new (AnsPuts ⟦<u32 as BitArray>⟧.number ⟦<u64 as BitArray>⟧.number 32 64 24
-        (ByWeights (map ⟦<u32 as BitArray>⟧.number weights.now) symbols.now)
+    ensures { Told result needed.old needed.new (LargeAnsPuts (ByWeights (map word weights.now) symbols.now)
         (coder_of head.old words.old len.old) (coder_of head.new words.new len.new)) }
 {
     let table = Weights { weights };
@@ -49,8 +48,7 @@ pub extern "C" fn constriction_ans_encode_each_reverse_u32(
     symbols: &[usize],
     needed: &mut usize,
 ) -> u32
-    ensures { Told result needed.old needed.new (AnsPuts ⟦<u32 as BitArray>⟧.number ⟦<u64 as BitArray>⟧.number 32 64 24
-        (ByRows width (map ⟦<u32 as BitArray>⟧.number weights.now) symbols.now)
+    ensures { Told result needed.old needed.new (LargeAnsPuts (ByRows width (map word weights.now) symbols.now)
         (coder_of head.old words.old len.old) (coder_of head.new words.new len.new)) }
 {
     let rows = Rows { weights, width };
@@ -69,8 +67,7 @@ pub extern "C" fn constriction_ans_encode_intervals_reverse_u32(
     ps: &[u32],
     needed: &mut usize,
 ) -> u32
-    ensures { Told result needed.old needed.new (AnsPuts ⟦<u32 as BitArray>⟧.number ⟦<u64 as BitArray>⟧.number 32 64 24
-        (AsIntervals (map ⟦<u32 as BitArray>⟧.number lefts.now) (map ⟦<u32 as BitArray>⟧.number ps.now))
+    ensures { Told result needed.old needed.new (LargeAnsPuts (AsIntervals (map word lefts.now) (map word ps.now))
         (coder_of head.old words.old len.old) (coder_of head.new words.new len.new)) }
 {
     let answer = encode_intervals_reverse::<_, _, u32, 24>(alloc, head, words, len, lefts, ps);
@@ -92,18 +89,11 @@ pub extern "C" fn constriction_ans_encode_quantized_reverse_u32(
     symbols: &[usize],
     needed: &mut usize,
 ) -> u32
-    ensures { Told result needed.old needed.new (AnsPuts ⟦<u32 as BitArray>⟧.number ⟦<u64 as BitArray>⟧.number 32 64 24
-        (InFamily record { family = family; min = min; max = max; locations = locations.now; scales = scales.now }
-        symbols.now)
-        (coder_of head.old words.old len.old) (coder_of head.new words.new len.new)) }
+    ensures { Told result needed.old needed.new (LargeAnsPuts
+        (in_family family min max locations.now scales.now symbols.now) (coder_of head.old words.old len.old)
+        (coder_of head.new words.new len.new)) }
 {
-    let models = Families {
-        family,
-        min,
-        max,
-        locations,
-        scales,
-    };
+    let models = Families::new(family, min, max, locations, scales);
     let answer = encode_reverse::<_, _, u32, _, 24>(alloc, head, words, len, &models, symbols);
     code_of(answer, needed)
 }
@@ -118,10 +108,8 @@ pub extern "C" fn constriction_ans_decode_u32(
     weights: &[u32],
     symbols: &mut [usize],
 ) -> u32
-    ensures { AnsTakes ⟦<u32 as BitArray>⟧.number ⟦<u64 as BitArray>⟧.number 32 64 24
-        (ByWeights (map ⟦<u32 as BitArray>⟧.number weights.now))
-        (coder_of head.old words.now len.old) (coder_of head.new words.now len.new)
-        symbols.old symbols.new (answer_of result 0) }
+    ensures { LargeAnsTakes (ByWeights (map word weights.now)) (coder_of head.old words.now len.old)
+        (coder_of head.new words.now len.new) symbols.old symbols.new (answer_of result 0) }
 {
     let table = Weights { weights };
     code_without_space(decode::<_, _, u32, _, 24>(alloc, head, words, len, &table, symbols))
@@ -138,10 +126,8 @@ pub extern "C" fn constriction_ans_decode_each_u32(
     width: usize,
     symbols: &mut [usize],
 ) -> u32
-    ensures { AnsTakes ⟦<u32 as BitArray>⟧.number ⟦<u64 as BitArray>⟧.number 32 64 24
-        (ByRows width (map ⟦<u32 as BitArray>⟧.number weights.now))
-        (coder_of head.old words.now len.old) (coder_of head.new words.now len.new)
-        symbols.old symbols.new (answer_of result 0) }
+    ensures { LargeAnsTakes (ByRows width (map word weights.now)) (coder_of head.old words.now len.old)
+        (coder_of head.new words.now len.new) symbols.old symbols.new (answer_of result 0) }
 {
     let rows = Rows { weights, width };
     code_without_space(decode::<_, _, u32, _, 24>(alloc, head, words, len, &rows, symbols))
@@ -161,18 +147,10 @@ pub extern "C" fn constriction_ans_decode_quantized_u32(
     scales: &[u32],
     symbols: &mut [usize],
 ) -> u32
-    ensures { AnsTakes ⟦<u32 as BitArray>⟧.number ⟦<u64 as BitArray>⟧.number 32 64 24
-        (InFamily record { family = family; min = min; max = max; locations = locations.now; scales = scales.now })
-        (coder_of head.old words.now len.old) (coder_of head.new words.now len.new)
-        symbols.old symbols.new (answer_of result 0) }
+    ensures { LargeAnsTakes (in_family family min max locations.now scales.now) (coder_of head.old words.now len.old)
+        (coder_of head.new words.now len.new) symbols.old symbols.new (answer_of result 0) }
 {
-    let models = Families {
-        family,
-        min,
-        max,
-        locations,
-        scales,
-    };
+    let models = Families::new(family, min, max, locations, scales);
     code_without_space(decode::<_, _, u32, _, 24>(alloc, head, words, len, &models, symbols))
 }
 
@@ -183,8 +161,8 @@ pub extern "C" fn constriction_ans_from_compressed_u32(
     len: &mut usize,
     head: &mut u64,
 ) -> u32
-    ensures { AnsImports ⟦<u32 as BitArray>⟧.number ⟦<u64 as BitArray>⟧.number (filled 32 64 0) BeginsHigh
-        (coder_of head.old words.now len.old) (coder_of head.new words.now len.new) (answer_of result 0) }
+    ensures { AnsImports word state (filled 32 64 0) BeginsHigh (coder_of head.old words.now len.old)
+        (coder_of head.new words.now len.new) (answer_of result 0) }
 {
     code_without_space(from_compressed(words, len, head))
 }
@@ -196,8 +174,8 @@ pub extern "C" fn constriction_ans_from_binary_u32(
     len: &mut usize,
     head: &mut u64,
 ) -> u32
-    ensures { AnsImports ⟦<u32 as BitArray>⟧.number ⟦<u64 as BitArray>⟧.number (binary_state 32 64) (λ all. Unit {0})
-        (coder_of head.old words.now len.old) (coder_of head.new words.now len.new) (answer_of result 0) }
+    ensures { AnsImports word state (binary_state 32 64) (λ all. Unit {0}) (coder_of head.old words.now len.old)
+        (coder_of head.new words.now len.new) (answer_of result 0) }
 {
     from_binary(words, len, head);
     code_without_space(Ok(()))
@@ -212,8 +190,7 @@ pub extern "C" fn constriction_ans_into_compressed_u32(
     len: &mut usize,
     needed: &mut usize,
 ) -> u32
-    ensures { Told result needed.old needed.new (AnsExports ⟦<u32 as BitArray>⟧.number ⟦<u64 as BitArray>⟧.number
-        (AreCompressed 32) (λ state. Unit {0})
+    ensures { Told result needed.old needed.new (AnsExports word state (AreCompressed 32) (λ state. Unit {0})
         (coder_of head words.old len.old) (coder_of head words.new len.new)) }
 {
     code_of(into_compressed(alloc, head, words, len), needed)
@@ -228,8 +205,7 @@ pub extern "C" fn constriction_ans_into_binary_u32(
     len: &mut usize,
     needed: &mut usize,
 ) -> u32
-    ensures { Told result needed.old needed.new (AnsExports ⟦<u32 as BitArray>⟧.number ⟦<u64 as BitArray>⟧.number
-        (AreBinary 32) (HasBinary 32)
+    ensures { Told result needed.old needed.new (AnsExports word state (AreBinary 32) (HasBinary 32)
         (coder_of head words.old len.old) (coder_of head words.new len.new)) }
 {
     code_of(into_binary(alloc, head, words, len), needed)

@@ -1,11 +1,10 @@
 //! The chain coder at words of 32 bits, heads of 64 and 32, and a precision of 24.
 
 ghost use Rattle.std.specs.Prelude.{map};
-ghost use Rattle.constriction_c.specs.Chains.{large_heads};
+ghost use Rattle.constriction_c.specs.Large.{LargeChainBegins, LargeChainEnds, LargeChainPuts, LargeChainTakes, large_chain, word};
 ghost use Rattle.constriction_c.specs.Codes.{Told, answer_of};
-ghost use Rattle.constriction_calls.specs.ChainCalls.{ChainPuts, ChainTakes, keeps};
-ghost use Rattle.constriction_calls.specs.ChainWords.{ChainBegins, ChainEnds, InBinary, InCompressed, InRemainders};
-ghost use Rattle.constriction_inputs.specs.Coded.{AsIntervals, ByRows, ByWeights, InFamily};
+ghost use Rattle.constriction_calls.specs.ChainWords.{InBinary, InCompressed, InRemainders};
+ghost use Rattle.constriction_inputs.specs.Coded.{AsIntervals, ByRows, ByWeights, in_family};
 
 use crate::chain::ChainHeadsU32;
 use crate::codes::{code_of, code_without_space};
@@ -14,7 +13,6 @@ use constriction_calls::chain::{
     from_remainders, into_binary, into_compressed, into_remainders,
 };
 use constriction_inputs::models::{Families, Rows, Weights};
-use constriction_words::BitArray;
 use std::alloc::Global;
 
 /// Symbols decoded, by the weights of one table, one after the other.
@@ -23,30 +21,21 @@ pub extern "C" fn constriction_chain_decode_u32(
     alloc: Global,
     heads: &mut ChainHeadsU32,
     compressed: &[u32],
-    compressed_len: &mut usize,
+    count: &mut usize,
     remainders: &mut [u32],
-    remainders_len: &mut usize,
+    rest: &mut usize,
     weights: &[u32],
     symbols: &mut [usize],
     needed: &mut usize,
 ) -> u32
-    ensures call { Told result needed.old needed.new (ChainTakes ⟦<u32 as BitArray>⟧.number
-        ⟦<u64 as BitArray>⟧.number 32 64 24 (ByWeights (map ⟦<u32 as BitArray>⟧.number weights.now))
-        (keeps (large_heads heads.old) compressed.now compressed_len.old remainders.old remainders_len.old)
-        (keeps (large_heads heads.new) compressed.now compressed_len.new remainders.new remainders_len.new)
-        symbols.old symbols.new) }
+    ensures { Told result needed.old needed.new (LargeChainTakes (ByWeights (map word weights.now))
+        (large_chain heads.old compressed.now count.old remainders.old rest.old)
+        (large_chain heads.new compressed.now count.new remainders.new rest.new) symbols.old symbols.new) }
 {
     let models = Weights { weights };
     let mut both = heads.parts();
     let answer = decode::<_, _, u32, Weights<'_, u32>, 24>(
-        alloc,
-        &mut both,
-        compressed,
-        compressed_len,
-        remainders,
-        remainders_len,
-        &models,
-        symbols,
+        alloc, &mut both, compressed, count, remainders, rest, &models, symbols,
     );
     *heads = ChainHeadsU32::of(both);
     code_of(answer, needed)
@@ -58,31 +47,22 @@ pub extern "C" fn constriction_chain_decode_each_u32(
     alloc: Global,
     heads: &mut ChainHeadsU32,
     compressed: &[u32],
-    compressed_len: &mut usize,
+    count: &mut usize,
     remainders: &mut [u32],
-    remainders_len: &mut usize,
+    rest: &mut usize,
     weights: &[u32],
     width: usize,
     symbols: &mut [usize],
     needed: &mut usize,
 ) -> u32
-    ensures call { Told result needed.old needed.new (ChainTakes ⟦<u32 as BitArray>⟧.number
-        ⟦<u64 as BitArray>⟧.number 32 64 24 (ByRows width (map ⟦<u32 as BitArray>⟧.number weights.now))
-        (keeps (large_heads heads.old) compressed.now compressed_len.old remainders.old remainders_len.old)
-        (keeps (large_heads heads.new) compressed.now compressed_len.new remainders.new remainders_len.new)
-        symbols.old symbols.new) }
+    ensures { Told result needed.old needed.new (LargeChainTakes (ByRows width (map word weights.now))
+        (large_chain heads.old compressed.now count.old remainders.old rest.old)
+        (large_chain heads.new compressed.now count.new remainders.new rest.new) symbols.old symbols.new) }
 {
     let models = Rows { weights, width };
     let mut both = heads.parts();
     let answer = decode::<_, _, u32, Rows<'_, u32>, 24>(
-        alloc,
-        &mut both,
-        compressed,
-        compressed_len,
-        remainders,
-        remainders_len,
-        &models,
-        symbols,
+        alloc, &mut both, compressed, count, remainders, rest, &models, symbols,
     );
     *heads = ChainHeadsU32::of(both);
     code_of(answer, needed)
@@ -94,9 +74,9 @@ pub extern "C" fn constriction_chain_decode_quantized_u32(
     alloc: Global,
     heads: &mut ChainHeadsU32,
     compressed: &[u32],
-    compressed_len: &mut usize,
+    count: &mut usize,
     remainders: &mut [u32],
-    remainders_len: &mut usize,
+    rest: &mut usize,
     family: u32,
     min: i32,
     max: i32,
@@ -105,30 +85,14 @@ pub extern "C" fn constriction_chain_decode_quantized_u32(
     symbols: &mut [usize],
     needed: &mut usize,
 ) -> u32
-    ensures call { Told result needed.old needed.new (ChainTakes ⟦<u32 as BitArray>⟧.number
-        ⟦<u64 as BitArray>⟧.number 32 64 24
-        (InFamily record { family = family; min = min; max = max; locations = locations.now; scales = scales.now })
-        (keeps (large_heads heads.old) compressed.now compressed_len.old remainders.old remainders_len.old)
-        (keeps (large_heads heads.new) compressed.now compressed_len.new remainders.new remainders_len.new)
-        symbols.old symbols.new) }
+    ensures { Told result needed.old needed.new (LargeChainTakes (in_family family min max locations.now scales.now)
+        (large_chain heads.old compressed.now count.old remainders.old rest.old)
+        (large_chain heads.new compressed.now count.new remainders.new rest.new) symbols.old symbols.new) }
 {
-    let models = Families {
-        family,
-        min,
-        max,
-        locations,
-        scales,
-    };
+    let models = Families::new(family, min, max, locations, scales);
     let mut both = heads.parts();
     let answer = decode::<_, _, u32, Families<'_>, 24>(
-        alloc,
-        &mut both,
-        compressed,
-        compressed_len,
-        remainders,
-        remainders_len,
-        &models,
-        symbols,
+        alloc, &mut both, compressed, count, remainders, rest, &models, symbols,
     );
     *heads = ChainHeadsU32::of(both);
     code_of(answer, needed)
@@ -140,29 +104,21 @@ pub extern "C" fn constriction_chain_encode_reverse_u32(
     alloc: Global,
     heads: &mut ChainHeadsU32,
     compressed: &mut [u32],
-    compressed_len: &mut usize,
+    count: &mut usize,
     remainders: &[u32],
-    remainders_len: &mut usize,
+    rest: &mut usize,
     weights: &[u32],
     symbols: &[usize],
     needed: &mut usize,
 ) -> u32
-    ensures call { Told result needed.old needed.new (ChainPuts ⟦<u32 as BitArray>⟧.number
-        ⟦<u64 as BitArray>⟧.number 32 64 24 (ByWeights (map ⟦<u32 as BitArray>⟧.number weights.now) symbols.now)
-        (keeps (large_heads heads.old) compressed.old compressed_len.old remainders.now remainders_len.old)
-        (keeps (large_heads heads.new) compressed.new compressed_len.new remainders.now remainders_len.new)) }
+    ensures { Told result needed.old needed.new (LargeChainPuts (ByWeights (map word weights.now) symbols.now)
+        (large_chain heads.old compressed.old count.old remainders.now rest.old)
+        (large_chain heads.new compressed.new count.new remainders.now rest.new)) }
 {
     let models = Weights { weights };
     let mut both = heads.parts();
     let answer = encode_reverse::<_, _, u32, Weights<'_, u32>, 24>(
-        alloc,
-        &mut both,
-        compressed,
-        compressed_len,
-        remainders,
-        remainders_len,
-        &models,
-        symbols,
+        alloc, &mut both, compressed, count, remainders, rest, &models, symbols,
     );
     *heads = ChainHeadsU32::of(both);
     code_of(answer, needed)
@@ -174,30 +130,22 @@ pub extern "C" fn constriction_chain_encode_each_reverse_u32(
     alloc: Global,
     heads: &mut ChainHeadsU32,
     compressed: &mut [u32],
-    compressed_len: &mut usize,
+    count: &mut usize,
     remainders: &[u32],
-    remainders_len: &mut usize,
+    rest: &mut usize,
     weights: &[u32],
     width: usize,
     symbols: &[usize],
     needed: &mut usize,
 ) -> u32
-    ensures call { Told result needed.old needed.new (ChainPuts ⟦<u32 as BitArray>⟧.number
-        ⟦<u64 as BitArray>⟧.number 32 64 24 (ByRows width (map ⟦<u32 as BitArray>⟧.number weights.now) symbols.now)
-        (keeps (large_heads heads.old) compressed.old compressed_len.old remainders.now remainders_len.old)
-        (keeps (large_heads heads.new) compressed.new compressed_len.new remainders.now remainders_len.new)) }
+    ensures { Told result needed.old needed.new (LargeChainPuts (ByRows width (map word weights.now) symbols.now)
+        (large_chain heads.old compressed.old count.old remainders.now rest.old)
+        (large_chain heads.new compressed.new count.new remainders.now rest.new)) }
 {
     let models = Rows { weights, width };
     let mut both = heads.parts();
     let answer = encode_reverse::<_, _, u32, Rows<'_, u32>, 24>(
-        alloc,
-        &mut both,
-        compressed,
-        compressed_len,
-        remainders,
-        remainders_len,
-        &models,
-        symbols,
+        alloc, &mut both, compressed, count, remainders, rest, &models, symbols,
     );
     *heads = ChainHeadsU32::of(both);
     code_of(answer, needed)
@@ -209,9 +157,9 @@ pub extern "C" fn constriction_chain_encode_quantized_reverse_u32(
     alloc: Global,
     heads: &mut ChainHeadsU32,
     compressed: &mut [u32],
-    compressed_len: &mut usize,
+    count: &mut usize,
     remainders: &[u32],
-    remainders_len: &mut usize,
+    rest: &mut usize,
     family: u32,
     min: i32,
     max: i32,
@@ -220,30 +168,15 @@ pub extern "C" fn constriction_chain_encode_quantized_reverse_u32(
     symbols: &[usize],
     needed: &mut usize,
 ) -> u32
-    ensures call { Told result needed.old needed.new (ChainPuts ⟦<u32 as BitArray>⟧.number
-        ⟦<u64 as BitArray>⟧.number 32 64 24
-        (InFamily record { family = family; min = min; max = max; locations = locations.now; scales = scales.now }
-        symbols.now)
-        (keeps (large_heads heads.old) compressed.old compressed_len.old remainders.now remainders_len.old)
-        (keeps (large_heads heads.new) compressed.new compressed_len.new remainders.now remainders_len.new)) }
+    ensures { Told result needed.old needed.new (LargeChainPuts
+        (in_family family min max locations.now scales.now symbols.now)
+        (large_chain heads.old compressed.old count.old remainders.now rest.old)
+        (large_chain heads.new compressed.new count.new remainders.now rest.new)) }
 {
-    let models = Families {
-        family,
-        min,
-        max,
-        locations,
-        scales,
-    };
+    let models = Families::new(family, min, max, locations, scales);
     let mut both = heads.parts();
     let answer = encode_reverse::<_, _, u32, Families<'_>, 24>(
-        alloc,
-        &mut both,
-        compressed,
-        compressed_len,
-        remainders,
-        remainders_len,
-        &models,
-        symbols,
+        alloc, &mut both, compressed, count, remainders, rest, &models, symbols,
     );
     *heads = ChainHeadsU32::of(both);
     code_of(answer, needed)
@@ -255,29 +188,20 @@ pub extern "C" fn constriction_chain_encode_intervals_reverse_u32(
     alloc: Global,
     heads: &mut ChainHeadsU32,
     compressed: &mut [u32],
-    compressed_len: &mut usize,
+    count: &mut usize,
     remainders: &[u32],
-    remainders_len: &mut usize,
+    rest: &mut usize,
     lefts: &[u32],
     ps: &[u32],
     needed: &mut usize,
 ) -> u32
-    ensures call { Told result needed.old needed.new (ChainPuts ⟦<u32 as BitArray>⟧.number
-        ⟦<u64 as BitArray>⟧.number 32 64 24
-        (AsIntervals (map ⟦<u32 as BitArray>⟧.number lefts.now) (map ⟦<u32 as BitArray>⟧.number ps.now))
-        (keeps (large_heads heads.old) compressed.old compressed_len.old remainders.now remainders_len.old)
-        (keeps (large_heads heads.new) compressed.new compressed_len.new remainders.now remainders_len.new)) }
+    ensures { Told result needed.old needed.new (LargeChainPuts (AsIntervals (map word lefts.now) (map word ps.now))
+        (large_chain heads.old compressed.old count.old remainders.now rest.old)
+        (large_chain heads.new compressed.new count.new remainders.now rest.new)) }
 {
     let mut both = heads.parts();
     let answer = encode_intervals_reverse::<_, _, u32, 24>(
-        alloc,
-        &mut both,
-        compressed,
-        compressed_len,
-        remainders,
-        remainders_len,
-        lefts,
-        ps,
+        alloc, &mut both, compressed, count, remainders, rest, lefts, ps,
     );
     *heads = ChainHeadsU32::of(both);
     code_of(answer, needed)
@@ -288,15 +212,13 @@ pub extern "C" fn constriction_chain_encode_intervals_reverse_u32(
 pub extern "C" fn constriction_chain_from_compressed_u32(
     alloc: Global,
     words: &[u32],
-    compressed_len: &mut usize,
+    count: &mut usize,
     heads: &mut ChainHeadsU32,
 ) -> u32
-    ensures call { ChainBegins ⟦<u32 as BitArray>⟧.number ⟦<u64 as BitArray>⟧.number 32 64 24 InCompressed words.now
-        record { heads = large_heads heads.old; len = compressed_len.old }
-        record { heads = large_heads heads.new; len = compressed_len.new } (answer_of result 0) }
+    ensures { LargeChainBegins InCompressed words.now heads.old count.old heads.new count.new (answer_of result 0) }
 {
     let mut both = heads.parts();
-    let answer = from_compressed::<_, _, 24>(alloc, words, &mut both, compressed_len);
+    let answer = from_compressed::<_, _, 24>(alloc, words, &mut both, count);
     *heads = ChainHeadsU32::of(both);
     code_without_space(answer)
 }
@@ -306,15 +228,13 @@ pub extern "C" fn constriction_chain_from_compressed_u32(
 pub extern "C" fn constriction_chain_from_binary_u32(
     alloc: Global,
     words: &[u32],
-    compressed_len: &mut usize,
+    count: &mut usize,
     heads: &mut ChainHeadsU32,
 ) -> u32
-    ensures call { ChainBegins ⟦<u32 as BitArray>⟧.number ⟦<u64 as BitArray>⟧.number 32 64 24 InBinary words.now
-        record { heads = large_heads heads.old; len = compressed_len.old }
-        record { heads = large_heads heads.new; len = compressed_len.new } (answer_of result 0) }
+    ensures { LargeChainBegins InBinary words.now heads.old count.old heads.new count.new (answer_of result 0) }
 {
     let mut both = heads.parts();
-    let answer = from_binary::<_, _, 24>(alloc, words, &mut both, compressed_len);
+    let answer = from_binary::<_, _, 24>(alloc, words, &mut both, count);
     *heads = ChainHeadsU32::of(both);
     code_without_space(answer)
 }
@@ -324,15 +244,13 @@ pub extern "C" fn constriction_chain_from_binary_u32(
 pub extern "C" fn constriction_chain_from_remainders_u32(
     alloc: Global,
     words: &[u32],
-    remainders_len: &mut usize,
+    rest: &mut usize,
     heads: &mut ChainHeadsU32,
 ) -> u32
-    ensures call { ChainBegins ⟦<u32 as BitArray>⟧.number ⟦<u64 as BitArray>⟧.number 32 64 24 InRemainders words.now
-        record { heads = large_heads heads.old; len = remainders_len.old }
-        record { heads = large_heads heads.new; len = remainders_len.new } (answer_of result 0) }
+    ensures { LargeChainBegins InRemainders words.now heads.old rest.old heads.new rest.new (answer_of result 0) }
 {
     let mut both = heads.parts();
-    let answer = from_remainders::<_, _, 24>(alloc, words, &mut both, remainders_len);
+    let answer = from_remainders::<_, _, 24>(alloc, words, &mut both, rest);
     *heads = ChainHeadsU32::of(both);
     code_without_space(answer)
 }
@@ -343,18 +261,14 @@ pub extern "C" fn constriction_chain_into_compressed_u32(
     alloc: Global,
     heads: &ChainHeadsU32,
     compressed: &mut [u32],
-    compressed_len: &mut usize,
+    count: &mut usize,
     needed: &mut usize,
 ) -> u32
-    ensures call { Told result needed.old needed.new (ChainEnds ⟦<u32 as BitArray>⟧.number
-        ⟦<u64 as BitArray>⟧.number 32 64 24 InCompressed (large_heads heads.now)
-        record { words = compressed.old; len = compressed_len.old }
-        record { words = compressed.new; len = compressed_len.new }) }
+    ensures { Told result needed.old needed.new (LargeChainEnds InCompressed heads.now
+        compressed.old count.old compressed.new count.new) }
 {
-    code_of(
-        into_compressed::<_, _, 24>(alloc, &heads.parts(), compressed, compressed_len),
-        needed,
-    )
+    let answer = into_compressed::<_, _, 24>(alloc, &heads.parts(), compressed, count);
+    code_of(answer, needed)
 }
 
 /// Those of them that are below the number's leading 1.
@@ -363,18 +277,14 @@ pub extern "C" fn constriction_chain_into_binary_u32(
     alloc: Global,
     heads: &ChainHeadsU32,
     compressed: &mut [u32],
-    compressed_len: &mut usize,
+    count: &mut usize,
     needed: &mut usize,
 ) -> u32
-    ensures call { Told result needed.old needed.new (ChainEnds ⟦<u32 as BitArray>⟧.number
-        ⟦<u64 as BitArray>⟧.number 32 64 24 InBinary (large_heads heads.now)
-        record { words = compressed.old; len = compressed_len.old }
-        record { words = compressed.new; len = compressed_len.new }) }
+    ensures { Told result needed.old needed.new (LargeChainEnds InBinary heads.now
+        compressed.old count.old compressed.new count.new) }
 {
-    code_of(
-        into_binary::<_, _, 24>(alloc, &heads.parts(), compressed, compressed_len),
-        needed,
-    )
+    let answer = into_binary::<_, _, 24>(alloc, &heads.parts(), compressed, count);
+    code_of(answer, needed)
 }
 
 /// Both heads put behind the remainders.
@@ -383,16 +293,12 @@ pub extern "C" fn constriction_chain_into_remainders_u32(
     alloc: Global,
     heads: &ChainHeadsU32,
     remainders: &mut [u32],
-    remainders_len: &mut usize,
+    rest: &mut usize,
     needed: &mut usize,
 ) -> u32
-    ensures call { Told result needed.old needed.new (ChainEnds ⟦<u32 as BitArray>⟧.number
-        ⟦<u64 as BitArray>⟧.number 32 64 24 InRemainders (large_heads heads.now)
-        record { words = remainders.old; len = remainders_len.old }
-        record { words = remainders.new; len = remainders_len.new }) }
+    ensures { Told result needed.old needed.new (LargeChainEnds InRemainders heads.now
+        remainders.old rest.old remainders.new rest.new) }
 {
-    code_of(
-        into_remainders::<_, _, 24>(alloc, &heads.parts(), remainders, remainders_len),
-        needed,
-    )
+    let answer = into_remainders::<_, _, 24>(alloc, &heads.parts(), remainders, rest);
+    code_of(answer, needed)
 }

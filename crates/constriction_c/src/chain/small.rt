@@ -1,11 +1,10 @@
 //! The chain coder at words of 16 bits, heads of 32 and 16, and a precision of 12.
 
 ghost use Rattle.std.specs.Prelude.{map};
-ghost use Rattle.constriction_c.specs.Chains.{small_heads};
+ghost use Rattle.constriction_c.specs.Small.{SmallChainBegins, SmallChainEnds, SmallChainPuts, SmallChainTakes, small_chain, word};
 ghost use Rattle.constriction_c.specs.Codes.{Told, answer_of};
-ghost use Rattle.constriction_calls.specs.ChainCalls.{ChainPuts, ChainTakes, keeps};
-ghost use Rattle.constriction_calls.specs.ChainWords.{ChainBegins, ChainEnds, InBinary, InCompressed, InRemainders};
-ghost use Rattle.constriction_inputs.specs.Coded.{AsIntervals, ByRows, ByWeights, InFamily};
+ghost use Rattle.constriction_calls.specs.ChainWords.{InBinary, InCompressed, InRemainders};
+ghost use Rattle.constriction_inputs.specs.Coded.{AsIntervals, ByRows, ByWeights, in_family};
 
 use crate::chain::ChainHeadsU16;
 use crate::codes::{code_of, code_without_space};
@@ -14,7 +13,6 @@ use constriction_calls::chain::{
     from_remainders, into_binary, into_compressed, into_remainders,
 };
 use constriction_inputs::models::{Families, Rows, Weights};
-use constriction_words::BitArray;
 use std::alloc::Global;
 
 /// Symbols decoded, by the weights of one table, one after the other.
@@ -23,30 +21,21 @@ pub extern "C" fn constriction_chain_decode_u16(
     alloc: Global,
     heads: &mut ChainHeadsU16,
     compressed: &[u16],
-    compressed_len: &mut usize,
+    count: &mut usize,
     remainders: &mut [u16],
-    remainders_len: &mut usize,
+    rest: &mut usize,
     weights: &[u16],
     symbols: &mut [usize],
     needed: &mut usize,
 ) -> u32
-    ensures call { Told result needed.old needed.new (ChainTakes ⟦<u16 as BitArray>⟧.number
-        ⟦<u32 as BitArray>⟧.number 16 32 12 (ByWeights (map ⟦<u16 as BitArray>⟧.number weights.now))
-        (keeps (small_heads heads.old) compressed.now compressed_len.old remainders.old remainders_len.old)
-        (keeps (small_heads heads.new) compressed.now compressed_len.new remainders.new remainders_len.new)
-        symbols.old symbols.new) }
+    ensures { Told result needed.old needed.new (SmallChainTakes (ByWeights (map word weights.now))
+        (small_chain heads.old compressed.now count.old remainders.old rest.old)
+        (small_chain heads.new compressed.now count.new remainders.new rest.new) symbols.old symbols.new) }
 {
     let models = Weights { weights };
     let mut both = heads.parts();
     let answer = decode::<_, _, u16, Weights<'_, u16>, 12>(
-        alloc,
-        &mut both,
-        compressed,
-        compressed_len,
-        remainders,
-        remainders_len,
-        &models,
-        symbols,
+        alloc, &mut both, compressed, count, remainders, rest, &models, symbols,
     );
     *heads = ChainHeadsU16::of(both);
     code_of(answer, needed)
@@ -58,31 +47,22 @@ pub extern "C" fn constriction_chain_decode_each_u16(
     alloc: Global,
     heads: &mut ChainHeadsU16,
     compressed: &[u16],
-    compressed_len: &mut usize,
+    count: &mut usize,
     remainders: &mut [u16],
-    remainders_len: &mut usize,
+    rest: &mut usize,
     weights: &[u16],
     width: usize,
     symbols: &mut [usize],
     needed: &mut usize,
 ) -> u32
-    ensures call { Told result needed.old needed.new (ChainTakes ⟦<u16 as BitArray>⟧.number
-        ⟦<u32 as BitArray>⟧.number 16 32 12 (ByRows width (map ⟦<u16 as BitArray>⟧.number weights.now))
-        (keeps (small_heads heads.old) compressed.now compressed_len.old remainders.old remainders_len.old)
-        (keeps (small_heads heads.new) compressed.now compressed_len.new remainders.new remainders_len.new)
-        symbols.old symbols.new) }
+    ensures { Told result needed.old needed.new (SmallChainTakes (ByRows width (map word weights.now))
+        (small_chain heads.old compressed.now count.old remainders.old rest.old)
+        (small_chain heads.new compressed.now count.new remainders.new rest.new) symbols.old symbols.new) }
 {
     let models = Rows { weights, width };
     let mut both = heads.parts();
     let answer = decode::<_, _, u16, Rows<'_, u16>, 12>(
-        alloc,
-        &mut both,
-        compressed,
-        compressed_len,
-        remainders,
-        remainders_len,
-        &models,
-        symbols,
+        alloc, &mut both, compressed, count, remainders, rest, &models, symbols,
     );
     *heads = ChainHeadsU16::of(both);
     code_of(answer, needed)
@@ -94,9 +74,9 @@ pub extern "C" fn constriction_chain_decode_quantized_u16(
     alloc: Global,
     heads: &mut ChainHeadsU16,
     compressed: &[u16],
-    compressed_len: &mut usize,
+    count: &mut usize,
     remainders: &mut [u16],
-    remainders_len: &mut usize,
+    rest: &mut usize,
     family: u32,
     min: i32,
     max: i32,
@@ -105,30 +85,14 @@ pub extern "C" fn constriction_chain_decode_quantized_u16(
     symbols: &mut [usize],
     needed: &mut usize,
 ) -> u32
-    ensures call { Told result needed.old needed.new (ChainTakes ⟦<u16 as BitArray>⟧.number
-        ⟦<u32 as BitArray>⟧.number 16 32 12
-        (InFamily record { family = family; min = min; max = max; locations = locations.now; scales = scales.now })
-        (keeps (small_heads heads.old) compressed.now compressed_len.old remainders.old remainders_len.old)
-        (keeps (small_heads heads.new) compressed.now compressed_len.new remainders.new remainders_len.new)
-        symbols.old symbols.new) }
+    ensures { Told result needed.old needed.new (SmallChainTakes (in_family family min max locations.now scales.now)
+        (small_chain heads.old compressed.now count.old remainders.old rest.old)
+        (small_chain heads.new compressed.now count.new remainders.new rest.new) symbols.old symbols.new) }
 {
-    let models = Families {
-        family,
-        min,
-        max,
-        locations,
-        scales,
-    };
+    let models = Families::new(family, min, max, locations, scales);
     let mut both = heads.parts();
     let answer = decode::<_, _, u16, Families<'_>, 12>(
-        alloc,
-        &mut both,
-        compressed,
-        compressed_len,
-        remainders,
-        remainders_len,
-        &models,
-        symbols,
+        alloc, &mut both, compressed, count, remainders, rest, &models, symbols,
     );
     *heads = ChainHeadsU16::of(both);
     code_of(answer, needed)
@@ -140,29 +104,21 @@ pub extern "C" fn constriction_chain_encode_reverse_u16(
     alloc: Global,
     heads: &mut ChainHeadsU16,
     compressed: &mut [u16],
-    compressed_len: &mut usize,
+    count: &mut usize,
     remainders: &[u16],
-    remainders_len: &mut usize,
+    rest: &mut usize,
     weights: &[u16],
     symbols: &[usize],
     needed: &mut usize,
 ) -> u32
-    ensures call { Told result needed.old needed.new (ChainPuts ⟦<u16 as BitArray>⟧.number
-        ⟦<u32 as BitArray>⟧.number 16 32 12 (ByWeights (map ⟦<u16 as BitArray>⟧.number weights.now) symbols.now)
-        (keeps (small_heads heads.old) compressed.old compressed_len.old remainders.now remainders_len.old)
-        (keeps (small_heads heads.new) compressed.new compressed_len.new remainders.now remainders_len.new)) }
+    ensures { Told result needed.old needed.new (SmallChainPuts (ByWeights (map word weights.now) symbols.now)
+        (small_chain heads.old compressed.old count.old remainders.now rest.old)
+        (small_chain heads.new compressed.new count.new remainders.now rest.new)) }
 {
     let models = Weights { weights };
     let mut both = heads.parts();
     let answer = encode_reverse::<_, _, u16, Weights<'_, u16>, 12>(
-        alloc,
-        &mut both,
-        compressed,
-        compressed_len,
-        remainders,
-        remainders_len,
-        &models,
-        symbols,
+        alloc, &mut both, compressed, count, remainders, rest, &models, symbols,
     );
     *heads = ChainHeadsU16::of(both);
     code_of(answer, needed)
@@ -174,30 +130,22 @@ pub extern "C" fn constriction_chain_encode_each_reverse_u16(
     alloc: Global,
     heads: &mut ChainHeadsU16,
     compressed: &mut [u16],
-    compressed_len: &mut usize,
+    count: &mut usize,
     remainders: &[u16],
-    remainders_len: &mut usize,
+    rest: &mut usize,
     weights: &[u16],
     width: usize,
     symbols: &[usize],
     needed: &mut usize,
 ) -> u32
-    ensures call { Told result needed.old needed.new (ChainPuts ⟦<u16 as BitArray>⟧.number
-        ⟦<u32 as BitArray>⟧.number 16 32 12 (ByRows width (map ⟦<u16 as BitArray>⟧.number weights.now) symbols.now)
-        (keeps (small_heads heads.old) compressed.old compressed_len.old remainders.now remainders_len.old)
-        (keeps (small_heads heads.new) compressed.new compressed_len.new remainders.now remainders_len.new)) }
+    ensures { Told result needed.old needed.new (SmallChainPuts (ByRows width (map word weights.now) symbols.now)
+        (small_chain heads.old compressed.old count.old remainders.now rest.old)
+        (small_chain heads.new compressed.new count.new remainders.now rest.new)) }
 {
     let models = Rows { weights, width };
     let mut both = heads.parts();
     let answer = encode_reverse::<_, _, u16, Rows<'_, u16>, 12>(
-        alloc,
-        &mut both,
-        compressed,
-        compressed_len,
-        remainders,
-        remainders_len,
-        &models,
-        symbols,
+        alloc, &mut both, compressed, count, remainders, rest, &models, symbols,
     );
     *heads = ChainHeadsU16::of(both);
     code_of(answer, needed)
@@ -209,9 +157,9 @@ pub extern "C" fn constriction_chain_encode_quantized_reverse_u16(
     alloc: Global,
     heads: &mut ChainHeadsU16,
     compressed: &mut [u16],
-    compressed_len: &mut usize,
+    count: &mut usize,
     remainders: &[u16],
-    remainders_len: &mut usize,
+    rest: &mut usize,
     family: u32,
     min: i32,
     max: i32,
@@ -220,30 +168,15 @@ pub extern "C" fn constriction_chain_encode_quantized_reverse_u16(
     symbols: &[usize],
     needed: &mut usize,
 ) -> u32
-    ensures call { Told result needed.old needed.new (ChainPuts ⟦<u16 as BitArray>⟧.number
-        ⟦<u32 as BitArray>⟧.number 16 32 12
-        (InFamily record { family = family; min = min; max = max; locations = locations.now; scales = scales.now }
-        symbols.now)
-        (keeps (small_heads heads.old) compressed.old compressed_len.old remainders.now remainders_len.old)
-        (keeps (small_heads heads.new) compressed.new compressed_len.new remainders.now remainders_len.new)) }
+    ensures { Told result needed.old needed.new (SmallChainPuts
+        (in_family family min max locations.now scales.now symbols.now)
+        (small_chain heads.old compressed.old count.old remainders.now rest.old)
+        (small_chain heads.new compressed.new count.new remainders.now rest.new)) }
 {
-    let models = Families {
-        family,
-        min,
-        max,
-        locations,
-        scales,
-    };
+    let models = Families::new(family, min, max, locations, scales);
     let mut both = heads.parts();
     let answer = encode_reverse::<_, _, u16, Families<'_>, 12>(
-        alloc,
-        &mut both,
-        compressed,
-        compressed_len,
-        remainders,
-        remainders_len,
-        &models,
-        symbols,
+        alloc, &mut both, compressed, count, remainders, rest, &models, symbols,
     );
     *heads = ChainHeadsU16::of(both);
     code_of(answer, needed)
@@ -255,29 +188,20 @@ pub extern "C" fn constriction_chain_encode_intervals_reverse_u16(
     alloc: Global,
     heads: &mut ChainHeadsU16,
     compressed: &mut [u16],
-    compressed_len: &mut usize,
+    count: &mut usize,
     remainders: &[u16],
-    remainders_len: &mut usize,
+    rest: &mut usize,
     lefts: &[u16],
     ps: &[u16],
     needed: &mut usize,
 ) -> u32
-    ensures call { Told result needed.old needed.new (ChainPuts ⟦<u16 as BitArray>⟧.number
-        ⟦<u32 as BitArray>⟧.number 16 32 12
-        (AsIntervals (map ⟦<u16 as BitArray>⟧.number lefts.now) (map ⟦<u16 as BitArray>⟧.number ps.now))
-        (keeps (small_heads heads.old) compressed.old compressed_len.old remainders.now remainders_len.old)
-        (keeps (small_heads heads.new) compressed.new compressed_len.new remainders.now remainders_len.new)) }
+    ensures { Told result needed.old needed.new (SmallChainPuts (AsIntervals (map word lefts.now) (map word ps.now))
+        (small_chain heads.old compressed.old count.old remainders.now rest.old)
+        (small_chain heads.new compressed.new count.new remainders.now rest.new)) }
 {
     let mut both = heads.parts();
     let answer = encode_intervals_reverse::<_, _, u16, 12>(
-        alloc,
-        &mut both,
-        compressed,
-        compressed_len,
-        remainders,
-        remainders_len,
-        lefts,
-        ps,
+        alloc, &mut both, compressed, count, remainders, rest, lefts, ps,
     );
     *heads = ChainHeadsU16::of(both);
     code_of(answer, needed)
@@ -288,15 +212,13 @@ pub extern "C" fn constriction_chain_encode_intervals_reverse_u16(
 pub extern "C" fn constriction_chain_from_compressed_u16(
     alloc: Global,
     words: &[u16],
-    compressed_len: &mut usize,
+    count: &mut usize,
     heads: &mut ChainHeadsU16,
 ) -> u32
-    ensures call { ChainBegins ⟦<u16 as BitArray>⟧.number ⟦<u32 as BitArray>⟧.number 16 32 12 InCompressed words.now
-        record { heads = small_heads heads.old; len = compressed_len.old }
-        record { heads = small_heads heads.new; len = compressed_len.new } (answer_of result 0) }
+    ensures { SmallChainBegins InCompressed words.now heads.old count.old heads.new count.new (answer_of result 0) }
 {
     let mut both = heads.parts();
-    let answer = from_compressed::<_, _, 12>(alloc, words, &mut both, compressed_len);
+    let answer = from_compressed::<_, _, 12>(alloc, words, &mut both, count);
     *heads = ChainHeadsU16::of(both);
     code_without_space(answer)
 }
@@ -306,15 +228,13 @@ pub extern "C" fn constriction_chain_from_compressed_u16(
 pub extern "C" fn constriction_chain_from_binary_u16(
     alloc: Global,
     words: &[u16],
-    compressed_len: &mut usize,
+    count: &mut usize,
     heads: &mut ChainHeadsU16,
 ) -> u32
-    ensures call { ChainBegins ⟦<u16 as BitArray>⟧.number ⟦<u32 as BitArray>⟧.number 16 32 12 InBinary words.now
-        record { heads = small_heads heads.old; len = compressed_len.old }
-        record { heads = small_heads heads.new; len = compressed_len.new } (answer_of result 0) }
+    ensures { SmallChainBegins InBinary words.now heads.old count.old heads.new count.new (answer_of result 0) }
 {
     let mut both = heads.parts();
-    let answer = from_binary::<_, _, 12>(alloc, words, &mut both, compressed_len);
+    let answer = from_binary::<_, _, 12>(alloc, words, &mut both, count);
     *heads = ChainHeadsU16::of(both);
     code_without_space(answer)
 }
@@ -324,15 +244,13 @@ pub extern "C" fn constriction_chain_from_binary_u16(
 pub extern "C" fn constriction_chain_from_remainders_u16(
     alloc: Global,
     words: &[u16],
-    remainders_len: &mut usize,
+    rest: &mut usize,
     heads: &mut ChainHeadsU16,
 ) -> u32
-    ensures call { ChainBegins ⟦<u16 as BitArray>⟧.number ⟦<u32 as BitArray>⟧.number 16 32 12 InRemainders words.now
-        record { heads = small_heads heads.old; len = remainders_len.old }
-        record { heads = small_heads heads.new; len = remainders_len.new } (answer_of result 0) }
+    ensures { SmallChainBegins InRemainders words.now heads.old rest.old heads.new rest.new (answer_of result 0) }
 {
     let mut both = heads.parts();
-    let answer = from_remainders::<_, _, 12>(alloc, words, &mut both, remainders_len);
+    let answer = from_remainders::<_, _, 12>(alloc, words, &mut both, rest);
     *heads = ChainHeadsU16::of(both);
     code_without_space(answer)
 }
@@ -343,18 +261,14 @@ pub extern "C" fn constriction_chain_into_compressed_u16(
     alloc: Global,
     heads: &ChainHeadsU16,
     compressed: &mut [u16],
-    compressed_len: &mut usize,
+    count: &mut usize,
     needed: &mut usize,
 ) -> u32
-    ensures call { Told result needed.old needed.new (ChainEnds ⟦<u16 as BitArray>⟧.number
-        ⟦<u32 as BitArray>⟧.number 16 32 12 InCompressed (small_heads heads.now)
-        record { words = compressed.old; len = compressed_len.old }
-        record { words = compressed.new; len = compressed_len.new }) }
+    ensures { Told result needed.old needed.new (SmallChainEnds InCompressed heads.now
+        compressed.old count.old compressed.new count.new) }
 {
-    code_of(
-        into_compressed::<_, _, 12>(alloc, &heads.parts(), compressed, compressed_len),
-        needed,
-    )
+    let answer = into_compressed::<_, _, 12>(alloc, &heads.parts(), compressed, count);
+    code_of(answer, needed)
 }
 
 /// Those of them that are below the number's leading 1.
@@ -363,18 +277,14 @@ pub extern "C" fn constriction_chain_into_binary_u16(
     alloc: Global,
     heads: &ChainHeadsU16,
     compressed: &mut [u16],
-    compressed_len: &mut usize,
+    count: &mut usize,
     needed: &mut usize,
 ) -> u32
-    ensures call { Told result needed.old needed.new (ChainEnds ⟦<u16 as BitArray>⟧.number
-        ⟦<u32 as BitArray>⟧.number 16 32 12 InBinary (small_heads heads.now)
-        record { words = compressed.old; len = compressed_len.old }
-        record { words = compressed.new; len = compressed_len.new }) }
+    ensures { Told result needed.old needed.new (SmallChainEnds InBinary heads.now
+        compressed.old count.old compressed.new count.new) }
 {
-    code_of(
-        into_binary::<_, _, 12>(alloc, &heads.parts(), compressed, compressed_len),
-        needed,
-    )
+    let answer = into_binary::<_, _, 12>(alloc, &heads.parts(), compressed, count);
+    code_of(answer, needed)
 }
 
 /// Both heads put behind the remainders.
@@ -383,16 +293,12 @@ pub extern "C" fn constriction_chain_into_remainders_u16(
     alloc: Global,
     heads: &ChainHeadsU16,
     remainders: &mut [u16],
-    remainders_len: &mut usize,
+    rest: &mut usize,
     needed: &mut usize,
 ) -> u32
-    ensures call { Told result needed.old needed.new (ChainEnds ⟦<u16 as BitArray>⟧.number
-        ⟦<u32 as BitArray>⟧.number 16 32 12 InRemainders (small_heads heads.now)
-        record { words = remainders.old; len = remainders_len.old }
-        record { words = remainders.new; len = remainders_len.new }) }
+    ensures { Told result needed.old needed.new (SmallChainEnds InRemainders heads.now
+        remainders.old rest.old remainders.new rest.new) }
 {
-    code_of(
-        into_remainders::<_, _, 12>(alloc, &heads.parts(), remainders, remainders_len),
-        needed,
-    )
+    let answer = into_remainders::<_, _, 12>(alloc, &heads.parts(), remainders, rest);
+    code_of(answer, needed)
 }

@@ -1,10 +1,11 @@
 //! The range coder at words of 32 bits, states of 64 and a precision of 24.
 
 ghost use Rattle.std.specs.Prelude.{◌≡◌, map};
+ghost use Rattle.constriction_c.specs.Large.{word, state, large_kept, LargeRangeTakes, LargeRangePuts};
 ghost use Rattle.constriction_c.specs.Codes.{Told, answer_of};
 ghost use Rattle.constriction_c.specs.Ranges.{large_decoder, large_encoder};
-ghost use Rattle.constriction_inputs.specs.Coded.{AsIntervals, ByRows, ByWeights, InFamily};
-ghost use Rattle.constriction_calls.specs.RangeCalls.{IsNew, IsSealed, IsSelfSealed, RangeBegins, RangeMayEnd, RangePuts, RangeSeals, RangeSeeks, RangeTakes, kept_in};
+ghost use Rattle.constriction_inputs.specs.Coded.{AsIntervals, ByRows, ByWeights, in_family};
+ghost use Rattle.constriction_calls.specs.RangeCalls.{IsNew, IsSealed, IsSelfSealed, RangeBegins, RangeMayEnd, RangeSeals, RangeSeeks};
 
 use crate::codes::{code_of, code_without_space};
 use constriction_calls::range::decoding::decode;
@@ -13,7 +14,6 @@ use constriction_calls::range::parts::{DecoderParts, EncoderParts};
 use constriction_calls::range::positions::{from_compressed, maybe_exhausted, seek};
 use constriction_calls::range::words::{into_compressed, into_self_delimited};
 use constriction_inputs::models::{Families, Rows, Weights};
-use constriction_words::BitArray;
 use std::alloc::Global;
 
 /// A range encoder between two calls, as [`EncoderParts`] is one.
@@ -96,7 +96,7 @@ impl RangeDecoderU32 {
 #[unsafe(no_mangle)]
 pub extern "C" fn constriction_range_encoder_u32(encoder: &mut RangeEncoderU32) -> u32
     ensures done { result ≡ 0 }
-    ensures call { IsNew ⟦<u32 as BitArray>⟧.number ⟦<u64 as BitArray>⟧.number 32 64 (large_encoder encoder.new) }
+    ensures { IsNew word state 32 64 (large_encoder encoder.new) }
 {
     *encoder = RangeEncoderU32 {
         lower: 0,
@@ -118,9 +118,8 @@ pub extern "C" fn constriction_range_encode_u32(
     symbols: &[usize],
     needed: &mut usize,
 ) -> u32
-    ensures call { Told result needed.old needed.new (RangePuts ⟦<u32 as BitArray>⟧.number ⟦<u64 as BitArray>⟧.number
-        32 64 24 (ByWeights (map ⟦<u32 as BitArray>⟧.number weights.now)) symbols.now
-        (kept_in (large_encoder encoder.old) words.old len.old) (kept_in (large_encoder encoder.new) words.new len.new)) }
+    ensures { Told result needed.old needed.new (LargeRangePuts (ByWeights (map word weights.now)) symbols.now
+        (large_kept encoder.old words.old len.old) (large_kept encoder.new words.new len.new)) }
 {
     let one = Weights { weights };
     let mut parts = encoder.parts();
@@ -141,9 +140,8 @@ pub extern "C" fn constriction_range_encode_each_u32(
     symbols: &[usize],
     needed: &mut usize,
 ) -> u32
-    ensures call { Told result needed.old needed.new (RangePuts ⟦<u32 as BitArray>⟧.number ⟦<u64 as BitArray>⟧.number
-        32 64 24 (ByRows width (map ⟦<u32 as BitArray>⟧.number weights.now)) symbols.now
-        (kept_in (large_encoder encoder.old) words.old len.old) (kept_in (large_encoder encoder.new) words.new len.new)) }
+    ensures { Told result needed.old needed.new (LargeRangePuts (ByRows width (map word weights.now)) symbols.now
+        (large_kept encoder.old words.old len.old) (large_kept encoder.new words.new len.new)) }
 {
     let rows = Rows { weights, width };
     let mut parts = encoder.parts();
@@ -163,9 +161,8 @@ pub extern "C" fn constriction_range_encode_intervals_u32(
     ps: &[u32],
     needed: &mut usize,
 ) -> u32
-    ensures call { Told result needed.old needed.new (RangePuts ⟦<u32 as BitArray>⟧.number ⟦<u64 as BitArray>⟧.number
-        32 64 24 (AsIntervals (map ⟦<u32 as BitArray>⟧.number lefts.now)) (map ⟦<u32 as BitArray>⟧.number ps.now)
-        (kept_in (large_encoder encoder.old) words.old len.old) (kept_in (large_encoder encoder.new) words.new len.new)) }
+    ensures { Told result needed.old needed.new (LargeRangePuts (AsIntervals (map word lefts.now)) (map word ps.now)
+        (large_kept encoder.old words.old len.old) (large_kept encoder.new words.new len.new)) }
 {
     let mut parts = encoder.parts();
     let answer = encode_intervals::<_, _, _, 24>(alloc, &mut parts, words, len, lefts, ps);
@@ -188,17 +185,10 @@ pub extern "C" fn constriction_range_encode_quantized_u32(
     symbols: &[usize],
     needed: &mut usize,
 ) -> u32
-    ensures call { Told result needed.old needed.new (RangePuts ⟦<u32 as BitArray>⟧.number ⟦<u64 as BitArray>⟧.number 32 64 24
-        (InFamily record { family = family; min = min; max = max; locations = locations.now; scales = scales.now }) symbols.now
-        (kept_in (large_encoder encoder.old) words.old len.old) (kept_in (large_encoder encoder.new) words.new len.new)) }
+    ensures { Told result needed.old needed.new (LargeRangePuts (in_family family min max locations.now scales.now)
+        symbols.now (large_kept encoder.old words.old len.old) (large_kept encoder.new words.new len.new)) }
 {
-    let models = Families {
-        family,
-        min,
-        max,
-        locations,
-        scales,
-    };
+    let models = Families::new(family, min, max, locations, scales);
     let mut parts = encoder.parts();
     let answer = encode::<_, _, u32, _, 24>(alloc, &mut parts, words, len, &models, symbols);
     *encoder = RangeEncoderU32::of(parts);
@@ -214,8 +204,8 @@ pub extern "C" fn constriction_range_into_compressed_u32(
     len: &mut usize,
     needed: &mut usize,
 ) -> u32
-    ensures call { Told result needed.old needed.new (RangeSeals ⟦<u32 as BitArray>⟧.number ⟦<u64 as BitArray>⟧.number
-        32 64 (IsSealed 32 64) (kept_in (large_encoder encoder.now) words.old len.old) (kept_in (large_encoder encoder.now) words.new len.new)) }
+    ensures { Told result needed.old needed.new (RangeSeals word state 32 64 (IsSealed 32 64)
+        (large_kept encoder.now words.old len.old) (large_kept encoder.now words.new len.new)) }
 {
     code_of(into_compressed(alloc, &encoder.parts(), words, len), needed)
 }
@@ -229,13 +219,11 @@ pub extern "C" fn constriction_range_into_self_delimited_u32(
     len: &mut usize,
     needed: &mut usize,
 ) -> u32
-    ensures call { Told result needed.old needed.new (RangeSeals ⟦<u32 as BitArray>⟧.number ⟦<u64 as BitArray>⟧.number
-        32 64 (IsSelfSealed 32 64) (kept_in (large_encoder encoder.now) words.old len.old) (kept_in (large_encoder encoder.now) words.new len.new)) }
+    ensures { Told result needed.old needed.new (RangeSeals word state 32 64 (IsSelfSealed 32 64)
+        (large_kept encoder.now words.old len.old) (large_kept encoder.now words.new len.new)) }
 {
-    code_of(
-        into_self_delimited(alloc, &encoder.parts(), words, len),
-        needed,
-    )
+    let answer = into_self_delimited(alloc, &encoder.parts(), words, len);
+    code_of(answer, needed)
 }
 
 /// `from_compressed`: a decoder of words, before its first symbol.
@@ -245,7 +233,7 @@ pub extern "C" fn constriction_range_from_compressed_u32(
     decoder: &mut RangeDecoderU32,
 ) -> u32
     ensures done { result ≡ 0 }
-    ensures call { RangeBegins ⟦<u32 as BitArray>⟧.number ⟦<u64 as BitArray>⟧.number 32 64 words.now (large_decoder decoder.new) }
+    ensures { RangeBegins word state 32 64 words.now (large_decoder decoder.new) }
 {
     *decoder = RangeDecoderU32::of(from_compressed(words));
     0
@@ -260,8 +248,8 @@ pub extern "C" fn constriction_range_decode_u32(
     weights: &[u32],
     symbols: &mut [usize],
 ) -> u32
-    ensures call { RangeTakes ⟦<u64 as BitArray>⟧.number 32 64 24 (ByWeights (map ⟦<u32 as BitArray>⟧.number weights.now))
-        (map ⟦<u32 as BitArray>⟧.number words.now) (large_decoder decoder.old) (large_decoder decoder.new) symbols.old symbols.new (answer_of result 0) }
+    ensures { LargeRangeTakes (ByWeights (map word weights.now)) words.now (large_decoder decoder.old)
+        (large_decoder decoder.new) symbols.old symbols.new (answer_of result 0) }
 {
     let one = Weights { weights };
     let mut parts = decoder.parts();
@@ -280,8 +268,8 @@ pub extern "C" fn constriction_range_decode_each_u32(
     width: usize,
     symbols: &mut [usize],
 ) -> u32
-    ensures call { RangeTakes ⟦<u64 as BitArray>⟧.number 32 64 24 (ByRows width (map ⟦<u32 as BitArray>⟧.number weights.now))
-        (map ⟦<u32 as BitArray>⟧.number words.now) (large_decoder decoder.old) (large_decoder decoder.new) symbols.old symbols.new (answer_of result 0) }
+    ensures { LargeRangeTakes (ByRows width (map word weights.now)) words.now (large_decoder decoder.old)
+        (large_decoder decoder.new) symbols.old symbols.new (answer_of result 0) }
 {
     let rows = Rows { weights, width };
     let mut parts = decoder.parts();
@@ -303,17 +291,10 @@ pub extern "C" fn constriction_range_decode_quantized_u32(
     scales: &[u32],
     symbols: &mut [usize],
 ) -> u32
-    ensures call { RangeTakes ⟦<u64 as BitArray>⟧.number 32 64 24
-        (InFamily record { family = family; min = min; max = max; locations = locations.now; scales = scales.now })
-        (map ⟦<u32 as BitArray>⟧.number words.now) (large_decoder decoder.old) (large_decoder decoder.new) symbols.old symbols.new (answer_of result 0) }
+    ensures { LargeRangeTakes (in_family family min max locations.now scales.now) words.now (large_decoder decoder.old)
+        (large_decoder decoder.new) symbols.old symbols.new (answer_of result 0) }
 {
-    let models = Families {
-        family,
-        min,
-        max,
-        locations,
-        scales,
-    };
+    let models = Families::new(family, min, max, locations, scales);
     let mut parts = decoder.parts();
     let answer = decode::<_, _, u32, _, 24>(alloc, &mut parts, words, &models, symbols);
     *decoder = RangeDecoderU32::of(parts);
@@ -329,8 +310,8 @@ pub extern "C" fn constriction_range_seek_u32(
     lower: u64,
     range: u64,
 ) -> u32
-    ensures call { RangeSeeks ⟦<u32 as BitArray>⟧.number ⟦<u64 as BitArray>⟧.number 32 64 words.now pos lower range
-        (large_decoder decoder.old) (large_decoder decoder.new) (answer_of result 0) }
+    ensures { RangeSeeks word state 32 64 words.now pos lower range (large_decoder decoder.old)
+        (large_decoder decoder.new) (answer_of result 0) }
 {
     let mut parts = decoder.parts();
     let answer = seek(&mut parts, words, pos, lower, range);
@@ -345,8 +326,8 @@ pub extern "C" fn constriction_range_maybe_exhausted_u32(
     words: &[u32],
     maybe: &mut u32,
 ) -> u32
-    ensures call { RangeMayEnd ⟦<u64 as BitArray>⟧.number 32 64 (map ⟦<u32 as BitArray>⟧.number words.now) (large_decoder decoder.now)
-        maybe.old maybe.new (answer_of result 0) }
+    ensures { RangeMayEnd state 32 64 (map word words.now) (large_decoder decoder.now) maybe.old maybe.new
+        (answer_of result 0) }
 {
     code_without_space(maybe_exhausted(&decoder.parts(), words, maybe))
 }

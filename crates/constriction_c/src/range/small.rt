@@ -1,10 +1,11 @@
 //! The range coder at words of 16 bits, states of 32 and a precision of 12.
 
 ghost use Rattle.std.specs.Prelude.{◌≡◌, map};
+ghost use Rattle.constriction_c.specs.Small.{word, state, small_kept, SmallRangeTakes, SmallRangePuts};
 ghost use Rattle.constriction_c.specs.Codes.{Told, answer_of};
 ghost use Rattle.constriction_c.specs.Ranges.{small_decoder, small_encoder};
-ghost use Rattle.constriction_inputs.specs.Coded.{AsIntervals, ByRows, ByWeights, InFamily};
-ghost use Rattle.constriction_calls.specs.RangeCalls.{IsNew, IsSealed, IsSelfSealed, RangeBegins, RangeMayEnd, RangePuts, RangeSeals, RangeSeeks, RangeTakes, kept_in};
+ghost use Rattle.constriction_inputs.specs.Coded.{AsIntervals, ByRows, ByWeights, in_family};
+ghost use Rattle.constriction_calls.specs.RangeCalls.{IsNew, IsSealed, IsSelfSealed, RangeBegins, RangeMayEnd, RangeSeals, RangeSeeks};
 
 use crate::codes::{code_of, code_without_space};
 use constriction_calls::range::decoding::decode;
@@ -13,7 +14,6 @@ use constriction_calls::range::parts::{DecoderParts, EncoderParts};
 use constriction_calls::range::positions::{from_compressed, maybe_exhausted, seek};
 use constriction_calls::range::words::{into_compressed, into_self_delimited};
 use constriction_inputs::models::{Families, Rows, Weights};
-use constriction_words::BitArray;
 use std::alloc::Global;
 
 /// A range encoder between two calls, as [`EncoderParts`] is one.
@@ -96,7 +96,7 @@ impl RangeDecoderU16 {
 #[unsafe(no_mangle)]
 pub extern "C" fn constriction_range_encoder_u16(encoder: &mut RangeEncoderU16) -> u32
     ensures done { result ≡ 0 }
-    ensures call { IsNew ⟦<u16 as BitArray>⟧.number ⟦<u32 as BitArray>⟧.number 16 32 (small_encoder encoder.new) }
+    ensures { IsNew word state 16 32 (small_encoder encoder.new) }
 {
     *encoder = RangeEncoderU16 {
         lower: 0,
@@ -118,9 +118,8 @@ pub extern "C" fn constriction_range_encode_u16(
     symbols: &[usize],
     needed: &mut usize,
 ) -> u32
-    ensures call { Told result needed.old needed.new (RangePuts ⟦<u16 as BitArray>⟧.number ⟦<u32 as BitArray>⟧.number
-        16 32 12 (ByWeights (map ⟦<u16 as BitArray>⟧.number weights.now)) symbols.now
-        (kept_in (small_encoder encoder.old) words.old len.old) (kept_in (small_encoder encoder.new) words.new len.new)) }
+    ensures { Told result needed.old needed.new (SmallRangePuts (ByWeights (map word weights.now)) symbols.now
+        (small_kept encoder.old words.old len.old) (small_kept encoder.new words.new len.new)) }
 {
     let one = Weights { weights };
     let mut parts = encoder.parts();
@@ -141,9 +140,8 @@ pub extern "C" fn constriction_range_encode_each_u16(
     symbols: &[usize],
     needed: &mut usize,
 ) -> u32
-    ensures call { Told result needed.old needed.new (RangePuts ⟦<u16 as BitArray>⟧.number ⟦<u32 as BitArray>⟧.number
-        16 32 12 (ByRows width (map ⟦<u16 as BitArray>⟧.number weights.now)) symbols.now
-        (kept_in (small_encoder encoder.old) words.old len.old) (kept_in (small_encoder encoder.new) words.new len.new)) }
+    ensures { Told result needed.old needed.new (SmallRangePuts (ByRows width (map word weights.now)) symbols.now
+        (small_kept encoder.old words.old len.old) (small_kept encoder.new words.new len.new)) }
 {
     let rows = Rows { weights, width };
     let mut parts = encoder.parts();
@@ -163,9 +161,8 @@ pub extern "C" fn constriction_range_encode_intervals_u16(
     ps: &[u16],
     needed: &mut usize,
 ) -> u32
-    ensures call { Told result needed.old needed.new (RangePuts ⟦<u16 as BitArray>⟧.number ⟦<u32 as BitArray>⟧.number
-        16 32 12 (AsIntervals (map ⟦<u16 as BitArray>⟧.number lefts.now)) (map ⟦<u16 as BitArray>⟧.number ps.now)
-        (kept_in (small_encoder encoder.old) words.old len.old) (kept_in (small_encoder encoder.new) words.new len.new)) }
+    ensures { Told result needed.old needed.new (SmallRangePuts (AsIntervals (map word lefts.now)) (map word ps.now)
+        (small_kept encoder.old words.old len.old) (small_kept encoder.new words.new len.new)) }
 {
     let mut parts = encoder.parts();
     let answer = encode_intervals::<_, _, _, 12>(alloc, &mut parts, words, len, lefts, ps);
@@ -188,17 +185,10 @@ pub extern "C" fn constriction_range_encode_quantized_u16(
     symbols: &[usize],
     needed: &mut usize,
 ) -> u32
-    ensures call { Told result needed.old needed.new (RangePuts ⟦<u16 as BitArray>⟧.number ⟦<u32 as BitArray>⟧.number 16 32 12
-        (InFamily record { family = family; min = min; max = max; locations = locations.now; scales = scales.now }) symbols.now
-        (kept_in (small_encoder encoder.old) words.old len.old) (kept_in (small_encoder encoder.new) words.new len.new)) }
+    ensures { Told result needed.old needed.new (SmallRangePuts (in_family family min max locations.now scales.now)
+        symbols.now (small_kept encoder.old words.old len.old) (small_kept encoder.new words.new len.new)) }
 {
-    let models = Families {
-        family,
-        min,
-        max,
-        locations,
-        scales,
-    };
+    let models = Families::new(family, min, max, locations, scales);
     let mut parts = encoder.parts();
     let answer = encode::<_, _, u16, _, 12>(alloc, &mut parts, words, len, &models, symbols);
     *encoder = RangeEncoderU16::of(parts);
@@ -214,8 +204,8 @@ pub extern "C" fn constriction_range_into_compressed_u16(
     len: &mut usize,
     needed: &mut usize,
 ) -> u32
-    ensures call { Told result needed.old needed.new (RangeSeals ⟦<u16 as BitArray>⟧.number ⟦<u32 as BitArray>⟧.number
-        16 32 (IsSealed 16 32) (kept_in (small_encoder encoder.now) words.old len.old) (kept_in (small_encoder encoder.now) words.new len.new)) }
+    ensures { Told result needed.old needed.new (RangeSeals word state 16 32 (IsSealed 16 32)
+        (small_kept encoder.now words.old len.old) (small_kept encoder.now words.new len.new)) }
 {
     code_of(into_compressed(alloc, &encoder.parts(), words, len), needed)
 }
@@ -229,13 +219,11 @@ pub extern "C" fn constriction_range_into_self_delimited_u16(
     len: &mut usize,
     needed: &mut usize,
 ) -> u32
-    ensures call { Told result needed.old needed.new (RangeSeals ⟦<u16 as BitArray>⟧.number ⟦<u32 as BitArray>⟧.number
-        16 32 (IsSelfSealed 16 32) (kept_in (small_encoder encoder.now) words.old len.old) (kept_in (small_encoder encoder.now) words.new len.new)) }
+    ensures { Told result needed.old needed.new (RangeSeals word state 16 32 (IsSelfSealed 16 32)
+        (small_kept encoder.now words.old len.old) (small_kept encoder.now words.new len.new)) }
 {
-    code_of(
-        into_self_delimited(alloc, &encoder.parts(), words, len),
-        needed,
-    )
+    let answer = into_self_delimited(alloc, &encoder.parts(), words, len);
+    code_of(answer, needed)
 }
 
 /// `from_compressed`: a decoder of words, before its first symbol.
@@ -245,7 +233,7 @@ pub extern "C" fn constriction_range_from_compressed_u16(
     decoder: &mut RangeDecoderU16,
 ) -> u32
     ensures done { result ≡ 0 }
-    ensures call { RangeBegins ⟦<u16 as BitArray>⟧.number ⟦<u32 as BitArray>⟧.number 16 32 words.now (small_decoder decoder.new) }
+    ensures { RangeBegins word state 16 32 words.now (small_decoder decoder.new) }
 {
     *decoder = RangeDecoderU16::of(from_compressed(words));
     0
@@ -260,8 +248,8 @@ pub extern "C" fn constriction_range_decode_u16(
     weights: &[u16],
     symbols: &mut [usize],
 ) -> u32
-    ensures call { RangeTakes ⟦<u32 as BitArray>⟧.number 16 32 12 (ByWeights (map ⟦<u16 as BitArray>⟧.number weights.now))
-        (map ⟦<u16 as BitArray>⟧.number words.now) (small_decoder decoder.old) (small_decoder decoder.new) symbols.old symbols.new (answer_of result 0) }
+    ensures { SmallRangeTakes (ByWeights (map word weights.now)) words.now (small_decoder decoder.old)
+        (small_decoder decoder.new) symbols.old symbols.new (answer_of result 0) }
 {
     let one = Weights { weights };
     let mut parts = decoder.parts();
@@ -280,8 +268,8 @@ pub extern "C" fn constriction_range_decode_each_u16(
     width: usize,
     symbols: &mut [usize],
 ) -> u32
-    ensures call { RangeTakes ⟦<u32 as BitArray>⟧.number 16 32 12 (ByRows width (map ⟦<u16 as BitArray>⟧.number weights.now))
-        (map ⟦<u16 as BitArray>⟧.number words.now) (small_decoder decoder.old) (small_decoder decoder.new) symbols.old symbols.new (answer_of result 0) }
+    ensures { SmallRangeTakes (ByRows width (map word weights.now)) words.now (small_decoder decoder.old)
+        (small_decoder decoder.new) symbols.old symbols.new (answer_of result 0) }
 {
     let rows = Rows { weights, width };
     let mut parts = decoder.parts();
@@ -303,17 +291,10 @@ pub extern "C" fn constriction_range_decode_quantized_u16(
     scales: &[u32],
     symbols: &mut [usize],
 ) -> u32
-    ensures call { RangeTakes ⟦<u32 as BitArray>⟧.number 16 32 12
-        (InFamily record { family = family; min = min; max = max; locations = locations.now; scales = scales.now })
-        (map ⟦<u16 as BitArray>⟧.number words.now) (small_decoder decoder.old) (small_decoder decoder.new) symbols.old symbols.new (answer_of result 0) }
+    ensures { SmallRangeTakes (in_family family min max locations.now scales.now) words.now (small_decoder decoder.old)
+        (small_decoder decoder.new) symbols.old symbols.new (answer_of result 0) }
 {
-    let models = Families {
-        family,
-        min,
-        max,
-        locations,
-        scales,
-    };
+    let models = Families::new(family, min, max, locations, scales);
     let mut parts = decoder.parts();
     let answer = decode::<_, _, u16, _, 12>(alloc, &mut parts, words, &models, symbols);
     *decoder = RangeDecoderU16::of(parts);
@@ -329,8 +310,8 @@ pub extern "C" fn constriction_range_seek_u16(
     lower: u32,
     range: u32,
 ) -> u32
-    ensures call { RangeSeeks ⟦<u16 as BitArray>⟧.number ⟦<u32 as BitArray>⟧.number 16 32 words.now pos lower range
-        (small_decoder decoder.old) (small_decoder decoder.new) (answer_of result 0) }
+    ensures { RangeSeeks word state 16 32 words.now pos lower range (small_decoder decoder.old)
+        (small_decoder decoder.new) (answer_of result 0) }
 {
     let mut parts = decoder.parts();
     let answer = seek(&mut parts, words, pos, lower, range);
@@ -345,8 +326,8 @@ pub extern "C" fn constriction_range_maybe_exhausted_u16(
     words: &[u16],
     maybe: &mut u32,
 ) -> u32
-    ensures call { RangeMayEnd ⟦<u32 as BitArray>⟧.number 16 32 (map ⟦<u16 as BitArray>⟧.number words.now) (small_decoder decoder.now)
-        maybe.old maybe.new (answer_of result 0) }
+    ensures { RangeMayEnd state 16 32 (map word words.now) (small_decoder decoder.now) maybe.old maybe.new
+        (answer_of result 0) }
 {
     code_without_space(maybe_exhausted(&decoder.parts(), words, maybe))
 }

@@ -1,12 +1,12 @@
 //! Stores at words of 32 bits, states of 64 and a precision of 24.
 
 ghost use Rattle.std.specs.Prelude.{map};
+ghost use Rattle.constriction_c.specs.Large.{word, state};
 ghost use Rattle.constriction_c.specs.Codes.{Told, answer_of};
 ghost use Rattle.constriction_calls.specs.StoreCalls.{StoreBuilds, StoreGives};
 
 use crate::codes::{code_of, code_without_space};
 use constriction_calls::store::{build, chunk};
-use constriction_words::BitArray;
 use std::alloc::Global;
 
 /// `build`: the words and the index of the store of chunks, by the weights of one table.
@@ -23,8 +23,8 @@ pub extern "C" fn constriction_store_build_u32(
     lengths: &[usize],
     needed: &mut usize,
 ) -> u32
-    ensures call { Told result needed.old needed.new (StoreBuilds ⟦<u32 as BitArray>⟧.number ⟦<u64 as BitArray>⟧.number 32 64 24
-        (map ⟦<u32 as BitArray>⟧.number weights.now) symbols.now lengths.now
+    ensures { Told result needed.old needed.new (StoreBuilds word state 32 64 24 (map word weights.now)
+        symbols.now lengths.now
         record { positions = positions.old; lowers = lowers.old; ranges = ranges.old; words = words.old; len = len.old }
         record { positions = positions.new; lowers = lowers.new; ranges = ranges.new; words = words.new; len = len.new }) }
 {
@@ -47,8 +47,8 @@ pub extern "C" fn constriction_store_chunk_u32(
     weights: &[u32],
     symbols: &mut [usize],
 ) -> u32
-    ensures call { StoreGives ⟦<u64 as BitArray>⟧.number 32 64 24 (map ⟦<u32 as BitArray>⟧.number weights.now)
-        (map ⟦<u32 as BitArray>⟧.number words.now) pos lower range symbols.old symbols.new (answer_of result 0) }
+    ensures { StoreGives state 32 64 24 (map word weights.now) (map word words.now) pos lower range symbols.old
+        symbols.new (answer_of result 0) }
 {
     code_without_space(chunk::<u32, _, _, 24>(alloc, words, pos, lower, range, weights, symbols))
 }

@@ -1,12 +1,12 @@
 //! Stores at words of 16 bits, states of 32 and a precision of 12.
 
 ghost use Rattle.std.specs.Prelude.{map};
+ghost use Rattle.constriction_c.specs.Small.{word, state};
 ghost use Rattle.constriction_c.specs.Codes.{Told, answer_of};
 ghost use Rattle.constriction_calls.specs.StoreCalls.{StoreBuilds, StoreGives};
 
 use crate::codes::{code_of, code_without_space};
 use constriction_calls::store::{build, chunk};
-use constriction_words::BitArray;
 use std::alloc::Global;
 
 /// `build`: the words and the index of the store of chunks, by the weights of one table.
@@ -23,8 +23,8 @@ pub extern "C" fn constriction_store_build_u16(
     lengths: &[usize],
     needed: &mut usize,
 ) -> u32
-    ensures call { Told result needed.old needed.new (StoreBuilds ⟦<u16 as BitArray>⟧.number ⟦<u32 as BitArray>⟧.number 16 32 12
-        (map ⟦<u16 as BitArray>⟧.number weights.now) symbols.now lengths.now
+    ensures { Told result needed.old needed.new (StoreBuilds word state 16 32 12 (map word weights.now)
+        symbols.now lengths.now
         record { positions = positions.old; lowers = lowers.old; ranges = ranges.old; words = words.old; len = len.old }
         record { positions = positions.new; lowers = lowers.new; ranges = ranges.new; words = words.new; len = len.new }) }
 {
@@ -47,8 +47,8 @@ pub extern "C" fn constriction_store_chunk_u16(
     weights: &[u16],
     symbols: &mut [usize],
 ) -> u32
-    ensures call { StoreGives ⟦<u32 as BitArray>⟧.number 16 32 12 (map ⟦<u16 as BitArray>⟧.number weights.now)
-        (map ⟦<u16 as BitArray>⟧.number words.now) pos lower range symbols.old symbols.new (answer_of result 0) }
+    ensures { StoreGives state 16 32 12 (map word weights.now) (map word words.now) pos lower range symbols.old
+        symbols.new (answer_of result 0) }
 {
     code_without_space(chunk::<u16, _, _, 12>(alloc, words, pos, lower, range, weights, symbols))
 }

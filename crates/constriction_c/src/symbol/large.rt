@@ -1,13 +1,13 @@
 //! Lists of symbols as words of 32 bits, and back. `needed` is written only where there is no space.
 
 ghost use Rattle.std.specs.Prelude.{map};
+ghost use Rattle.constriction_c.specs.Large.{word};
 ghost use Rattle.constriction_c.specs.Codes.{Told, answer_of};
 ghost use Rattle.constriction_calls.specs.SymbolCalls.{AsQueue, AsStack, OfNumbers, OfWeights, PutsCodewords, TakesCodewords};
 
 use crate::codes::{code_of, code_without_space};
 use constriction_calls::symbol::{Tree, decode_queue, decode_stack, encode_queue, encode_stack};
 use constriction_symbol::exp_golomb::ExpGolomb;
-use constriction_words::BitArray;
 use std::alloc::Global;
 
 /// Puts the words of a queue of bits with the numbers' Exp-Golomb codewords into a buffer.
@@ -19,8 +19,7 @@ pub extern "C" fn constriction_exp_golomb_encode_queue_u32(
     len: &mut usize,
     needed: &mut usize,
 ) -> u32
-    ensures call { Told result needed.old needed.new (PutsCodewords
-        ⟦<u32 as BitArray>⟧.number ⟦<u32 as BitArray>⟧.number 32 AsQueue (OfNumbers 32) symbols.now
+    ensures { Told result needed.old needed.new (PutsCodewords word word 32 AsQueue (OfNumbers 32) symbols.now
         record { words = words.old; len = len.old } record { words = words.new; len = len.new }) }
 {
     let answer = encode_queue(alloc, &ExpGolomb::<u32>::new(), symbols, words, len);
@@ -36,8 +35,7 @@ pub extern "C" fn constriction_exp_golomb_encode_stack_u32(
     len: &mut usize,
     needed: &mut usize,
 ) -> u32
-    ensures call { Told result needed.old needed.new (PutsCodewords
-        ⟦<u32 as BitArray>⟧.number ⟦<u32 as BitArray>⟧.number 32 AsStack (OfNumbers 32) symbols.now
+    ensures { Told result needed.old needed.new (PutsCodewords word word 32 AsStack (OfNumbers 32) symbols.now
         record { words = words.old; len = len.old } record { words = words.new; len = len.new }) }
 {
     let answer = encode_stack(alloc, &ExpGolomb::<u32>::new(), symbols, words, len);
@@ -54,9 +52,9 @@ pub extern "C" fn constriction_huffman_encode_queue_u32(
     len: &mut usize,
     needed: &mut usize,
 ) -> u32
-    ensures call { Told result needed.old needed.new (PutsCodewords (λ s. s) ⟦<u32 as BitArray>⟧.number 32 AsQueue
-        (OfWeights 32 (map ⟦<u32 as BitArray>⟧.number weights.now)) symbols.now
-        record { words = words.old; len = len.old } record { words = words.new; len = len.new }) }
+    ensures { Told result needed.old needed.new (PutsCodewords (λ s. s) word 32 AsQueue
+        (OfWeights 32 (map word weights.now)) symbols.now record { words = words.old; len = len.old }
+        record { words = words.new; len = len.new }) }
 {
     let answer = encode_queue(alloc, &Tree { weights }, symbols, words, len);
     code_of(answer, needed)
@@ -72,9 +70,9 @@ pub extern "C" fn constriction_huffman_encode_stack_u32(
     len: &mut usize,
     needed: &mut usize,
 ) -> u32
-    ensures call { Told result needed.old needed.new (PutsCodewords (λ s. s) ⟦<u32 as BitArray>⟧.number 32 AsStack
-        (OfWeights 32 (map ⟦<u32 as BitArray>⟧.number weights.now)) symbols.now
-        record { words = words.old; len = len.old } record { words = words.new; len = len.new }) }
+    ensures { Told result needed.old needed.new (PutsCodewords (λ s. s) word 32 AsStack
+        (OfWeights 32 (map word weights.now)) symbols.now record { words = words.old; len = len.old }
+        record { words = words.new; len = len.new }) }
 {
     let answer = encode_stack(alloc, &Tree { weights }, symbols, words, len);
     code_of(answer, needed)
@@ -87,8 +85,8 @@ pub extern "C" fn constriction_exp_golomb_decode_queue_u32(
     words: &[u32],
     symbols: &mut [u32],
 ) -> u32
-    ensures call { TakesCodewords ⟦<u32 as BitArray>⟧.number 32 AsQueue (OfNumbers 32)
-        (map ⟦<u32 as BitArray>⟧.number words.now) symbols.old symbols.new (answer_of result 0) }
+    ensures { TakesCodewords word 32 AsQueue (OfNumbers 32) (map word words.now) symbols.old symbols.new
+        (answer_of result 0) }
 {
     code_without_space(decode_queue(alloc, &ExpGolomb::<u32>::new(), words, symbols))
 }
@@ -100,8 +98,8 @@ pub extern "C" fn constriction_exp_golomb_decode_stack_u32(
     words: &[u32],
     symbols: &mut [u32],
 ) -> u32
-    ensures call { TakesCodewords ⟦<u32 as BitArray>⟧.number 32 AsStack (OfNumbers 32)
-        (map ⟦<u32 as BitArray>⟧.number words.now) symbols.old symbols.new (answer_of result 0) }
+    ensures { TakesCodewords word 32 AsStack (OfNumbers 32) (map word words.now) symbols.old symbols.new
+        (answer_of result 0) }
 {
     code_without_space(decode_stack(alloc, &ExpGolomb::<u32>::new(), words, symbols))
 }
@@ -114,8 +112,8 @@ pub extern "C" fn constriction_huffman_decode_queue_u32(
     words: &[u32],
     symbols: &mut [usize],
 ) -> u32
-    ensures call { TakesCodewords (λ s. s) 32 AsQueue (OfWeights 32 (map ⟦<u32 as BitArray>⟧.number weights.now))
-        (map ⟦<u32 as BitArray>⟧.number words.now) symbols.old symbols.new (answer_of result 0) }
+    ensures { TakesCodewords (λ s. s) 32 AsQueue (OfWeights 32 (map word weights.now)) (map word words.now) symbols.old
+        symbols.new (answer_of result 0) }
 {
     code_without_space(decode_queue(alloc, &Tree { weights }, words, symbols))
 }
@@ -128,8 +126,8 @@ pub extern "C" fn constriction_huffman_decode_stack_u32(
     words: &[u32],
     symbols: &mut [usize],
 ) -> u32
-    ensures call { TakesCodewords (λ s. s) 32 AsStack (OfWeights 32 (map ⟦<u32 as BitArray>⟧.number weights.now))
-        (map ⟦<u32 as BitArray>⟧.number words.now) symbols.old symbols.new (answer_of result 0) }
+    ensures { TakesCodewords (λ s. s) 32 AsStack (OfWeights 32 (map word weights.now)) (map word words.now) symbols.old
+        symbols.new (answer_of result 0) }
 {
     code_without_space(decode_stack(alloc, &Tree { weights }, words, symbols))
 }

@@ -1,13 +1,13 @@
 //! Lists of symbols as words of 16 bits, and back. `needed` is written only where there is no space.
 
 ghost use Rattle.std.specs.Prelude.{map};
+ghost use Rattle.constriction_c.specs.Small.{word, state};
 ghost use Rattle.constriction_c.specs.Codes.{Told, answer_of};
 ghost use Rattle.constriction_calls.specs.SymbolCalls.{AsQueue, AsStack, OfNumbers, OfWeights, PutsCodewords, TakesCodewords};
 
 use crate::codes::{code_of, code_without_space};
 use constriction_calls::symbol::{Tree, decode_queue, decode_stack, encode_queue, encode_stack};
 use constriction_symbol::exp_golomb::ExpGolomb;
-use constriction_words::BitArray;
 use std::alloc::Global;
 
 /// Puts the words of a queue of bits with the numbers' Exp-Golomb codewords into a buffer.
@@ -19,8 +19,7 @@ pub extern "C" fn constriction_exp_golomb_encode_queue_u16(
     len: &mut usize,
     needed: &mut usize,
 ) -> u32
-    ensures call { Told result needed.old needed.new (PutsCodewords
-        ⟦<u16 as BitArray>⟧.number ⟦<u16 as BitArray>⟧.number 16 AsQueue (OfNumbers 16) symbols.now
+    ensures { Told result needed.old needed.new (PutsCodewords word word 16 AsQueue (OfNumbers 16) symbols.now
         record { words = words.old; len = len.old } record { words = words.new; len = len.new }) }
 {
     let answer = encode_queue(alloc, &ExpGolomb::<u16>::new(), symbols, words, len);
@@ -36,8 +35,7 @@ pub extern "C" fn constriction_exp_golomb_encode_stack_u16(
     len: &mut usize,
     needed: &mut usize,
 ) -> u32
-    ensures call { Told result needed.old needed.new (PutsCodewords
-        ⟦<u16 as BitArray>⟧.number ⟦<u16 as BitArray>⟧.number 16 AsStack (OfNumbers 16) symbols.now
+    ensures { Told result needed.old needed.new (PutsCodewords word word 16 AsStack (OfNumbers 16) symbols.now
         record { words = words.old; len = len.old } record { words = words.new; len = len.new }) }
 {
     let answer = encode_stack(alloc, &ExpGolomb::<u16>::new(), symbols, words, len);
@@ -54,9 +52,9 @@ pub extern "C" fn constriction_huffman_encode_queue_u16(
     len: &mut usize,
     needed: &mut usize,
 ) -> u32
-    ensures call { Told result needed.old needed.new (PutsCodewords (λ s. s) ⟦<u16 as BitArray>⟧.number 16 AsQueue
-        (OfWeights 32 (map ⟦<u32 as BitArray>⟧.number weights.now)) symbols.now
-        record { words = words.old; len = len.old } record { words = words.new; len = len.new }) }
+    ensures { Told result needed.old needed.new (PutsCodewords (λ s. s) word 16 AsQueue
+        (OfWeights 32 (map state weights.now)) symbols.now record { words = words.old; len = len.old }
+        record { words = words.new; len = len.new }) }
 {
     let answer = encode_queue(alloc, &Tree { weights }, symbols, words, len);
     code_of(answer, needed)
@@ -72,9 +70,9 @@ pub extern "C" fn constriction_huffman_encode_stack_u16(
     len: &mut usize,
     needed: &mut usize,
 ) -> u32
-    ensures call { Told result needed.old needed.new (PutsCodewords (λ s. s) ⟦<u16 as BitArray>⟧.number 16 AsStack
-        (OfWeights 32 (map ⟦<u32 as BitArray>⟧.number weights.now)) symbols.now
-        record { words = words.old; len = len.old } record { words = words.new; len = len.new }) }
+    ensures { Told result needed.old needed.new (PutsCodewords (λ s. s) word 16 AsStack
+        (OfWeights 32 (map state weights.now)) symbols.now record { words = words.old; len = len.old }
+        record { words = words.new; len = len.new }) }
 {
     let answer = encode_stack(alloc, &Tree { weights }, symbols, words, len);
     code_of(answer, needed)
@@ -87,8 +85,8 @@ pub extern "C" fn constriction_exp_golomb_decode_queue_u16(
     words: &[u16],
     symbols: &mut [u16],
 ) -> u32
-    ensures call { TakesCodewords ⟦<u16 as BitArray>⟧.number 16 AsQueue (OfNumbers 16)
-        (map ⟦<u16 as BitArray>⟧.number words.now) symbols.old symbols.new (answer_of result 0) }
+    ensures { TakesCodewords word 16 AsQueue (OfNumbers 16) (map word words.now) symbols.old symbols.new
+        (answer_of result 0) }
 {
     code_without_space(decode_queue(alloc, &ExpGolomb::<u16>::new(), words, symbols))
 }
@@ -100,8 +98,8 @@ pub extern "C" fn constriction_exp_golomb_decode_stack_u16(
     words: &[u16],
     symbols: &mut [u16],
 ) -> u32
-    ensures call { TakesCodewords ⟦<u16 as BitArray>⟧.number 16 AsStack (OfNumbers 16)
-        (map ⟦<u16 as BitArray>⟧.number words.now) symbols.old symbols.new (answer_of result 0) }
+    ensures { TakesCodewords word 16 AsStack (OfNumbers 16) (map word words.now) symbols.old symbols.new
+        (answer_of result 0) }
 {
     code_without_space(decode_stack(alloc, &ExpGolomb::<u16>::new(), words, symbols))
 }
@@ -114,8 +112,8 @@ pub extern "C" fn constriction_huffman_decode_queue_u16(
     words: &[u16],
     symbols: &mut [usize],
 ) -> u32
-    ensures call { TakesCodewords (λ s. s) 16 AsQueue (OfWeights 32 (map ⟦<u32 as BitArray>⟧.number weights.now))
-        (map ⟦<u16 as BitArray>⟧.number words.now) symbols.old symbols.new (answer_of result 0) }
+    ensures { TakesCodewords (λ s. s) 16 AsQueue (OfWeights 32 (map state weights.now)) (map word words.now)
+        symbols.old symbols.new (answer_of result 0) }
 {
     code_without_space(decode_queue(alloc, &Tree { weights }, words, symbols))
 }
@@ -128,8 +126,8 @@ pub extern "C" fn constriction_huffman_decode_stack_u16(
     words: &[u16],
     symbols: &mut [usize],
 ) -> u32
-    ensures call { TakesCodewords (λ s. s) 16 AsStack (OfWeights 32 (map ⟦<u32 as BitArray>⟧.number weights.now))
-        (map ⟦<u16 as BitArray>⟧.number words.now) symbols.old symbols.new (answer_of result 0) }
+    ensures { TakesCodewords (λ s. s) 16 AsStack (OfWeights 32 (map state weights.now)) (map word words.now)
+        symbols.old symbols.new (answer_of result 0) }
 {
     code_without_space(decode_stack(alloc, &Tree { weights }, words, symbols))
 }

@@ -70,6 +70,20 @@ impl<'a, P: WordOf<u32>, const PRECISION: usize> Models<P, PRECISION> for Famili
 }
 
 impl<'a> Families<'a> {
+    /// Of these numbers.
+    #[inline]
+    pub fn new(family: u32, min: i32, max: i32, locations: &'a [i64], scales: &'a [u32]) -> Self
+        ensures { result ≡ record { family = family; min = min; max = max; locations = locations; scales = scales } }
+    {
+        Families {
+            family,
+            min,
+            max,
+            locations,
+            scales,
+        }
+    }
+
     /// The family, and the quantizer of the range. It takes no memory.
     ///
     /// # Errors

@@ -6,4 +6,4 @@ use Rattle.constriction_c.proofs.range.small.constriction_range_decode_quantized
 pub returns : goal.returns
 returns c =
     let family = family_same (to_z-of_z w32 c.args.min c.ranges.min) (to_z-of_z w32 c.args.max c.ranges.max) in
-    record { call = takes_told c.parts-parts.ensures c.of.ensures c.code_without_space.ensures (takes_same family c.decode-answer.ensures.call); }
+    record { call = takes_told c.parts-parts.ensures c.of.ensures c.code_without_space.ensures (takes_same family c.decode-answer.ensures.call) }

@@ -10,24 +10,24 @@ use Rattle.constriction_calls.proofs.store.building.build.Goals as goal
 
 pub put_index-requires-clause-positions : goal.put_index-requires-clause-positions
 put_index-requires-clause-positions g c =
-    let items = c.in-Some-stored.index.items in
-    let built = c.in-Some-stored.ensures.built in
+    let items = c.in-Some.index.items in
+    let built = c.in-Some.ensures.built in
     let fit = c.if-not-fit.ensures.0 refl in
     let many = as_many _ _ _ c.args.symbols.now c.args.lengths.now (map entry_at items) _ _ built.1 in
     omega (arith, fit.positions_are, many, length-map items entry_at, ap length c.deref-in-Ok.ensures.value)
 
 pub put_index-requires-clause-lowers : goal.put_index-requires-clause-lowers
 put_index-requires-clause-lowers g c =
-    let items = c.in-Some-stored.index.items in
-    let built = c.in-Some-stored.ensures.built in
+    let items = c.in-Some.index.items in
+    let built = c.in-Some.ensures.built in
     let fit = c.if-not-fit.ensures.0 refl in
     let many = as_many _ _ _ c.args.symbols.now c.args.lengths.now (map entry_at items) _ _ built.1 in
     omega (arith, fit.lowers_are, many, length-map items entry_at, ap length c.deref-in-Ok.ensures.value)
 
 pub put_index-requires-clause-ranges : goal.put_index-requires-clause-ranges
 put_index-requires-clause-ranges g c =
-    let items = c.in-Some-stored.index.items in
-    let built = c.in-Some-stored.ensures.built in
+    let items = c.in-Some.index.items in
+    let built = c.in-Some.ensures.built in
     let fit = c.if-not-fit.ensures.0 refl in
     let many = as_many _ _ _ c.args.symbols.now c.args.lengths.now (map entry_at items) _ _ built.1 in
     omega (arith, fit.ranges_are, many, length-map items entry_at, ap length c.deref-in-Ok.ensures.value)
@@ -36,7 +36,7 @@ pub returns-in-Ok : goal.returns-in-Ok
 returns-in-Ok g c =
     let number = g.Word.BitArray.number in
     let state = g.State.BitArray.number in
-    let made = c.in-Some-stored in
+    let made = c.in-Some in
     let weights = map g.P.BitArray.number c.args.weights.now in
     let fit = c.if-not-fit.ensures.0 refl in
     let total : IsTotal g.row.PRECISION weights = search rules in
@@ -54,7 +54,7 @@ pub returns : goal.returns
 returns g c =
     let number = g.Word.BitArray.number in
     let state = g.State.BitArray.number in
-    let made = c.in-Some-stored in
+    let made = c.in-Some in
     let weights = map g.P.BitArray.number c.args.weights.now in
     let fit = c.if-not-fit.ensures.0 refl in
     let total : IsTotal g.row.PRECISION weights = search rules in
