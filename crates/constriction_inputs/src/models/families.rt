@@ -73,7 +73,8 @@ impl<'a> Families<'a> {
     /// Of these numbers.
     #[inline]
     pub fn new(family: u32, min: i32, max: i32, locations: &'a [i64], scales: &'a [u32]) -> Self
-        ensures { result ≡ record { family = family; min = min; max = max; locations = locations; scales = scales } }
+        ensures numbers { (result.family ≡ family) × (result.min ≡ min) × (result.max ≡ max) }
+        ensures lists { (result.locations.now ≡ locations.now) × (result.scales.now ≡ scales.now) }
     {
         Families {
             family,
