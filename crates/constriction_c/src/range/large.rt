@@ -96,7 +96,7 @@ impl RangeDecoderU32 {
 #[unsafe(no_mangle)]
 pub extern "C" fn constriction_range_encoder_u32(encoder: &mut RangeEncoderU32) -> u32
     ensures done { result ≡ 0 }
-    ensures { IsNew word state 32 64 (large_encoder encoder.new) }
+    ensures call { IsNew word state 32 64 (large_encoder encoder.new) }
 {
     *encoder = RangeEncoderU32 {
         lower: 0,
@@ -233,7 +233,7 @@ pub extern "C" fn constriction_range_from_compressed_u32(
     decoder: &mut RangeDecoderU32,
 ) -> u32
     ensures done { result ≡ 0 }
-    ensures { RangeBegins word state 32 64 words.now (large_decoder decoder.new) }
+    ensures call { RangeBegins word state 32 64 words.now (large_decoder decoder.new) }
 {
     *decoder = RangeDecoderU32::of(from_compressed(words));
     0

@@ -96,7 +96,7 @@ impl RangeDecoderU16 {
 #[unsafe(no_mangle)]
 pub extern "C" fn constriction_range_encoder_u16(encoder: &mut RangeEncoderU16) -> u32
     ensures done { result ≡ 0 }
-    ensures { IsNew word state 16 32 (small_encoder encoder.new) }
+    ensures call { IsNew word state 16 32 (small_encoder encoder.new) }
 {
     *encoder = RangeEncoderU16 {
         lower: 0,
@@ -233,7 +233,7 @@ pub extern "C" fn constriction_range_from_compressed_u16(
     decoder: &mut RangeDecoderU16,
 ) -> u32
     ensures done { result ≡ 0 }
-    ensures { RangeBegins word state 16 32 words.now (small_decoder decoder.new) }
+    ensures call { RangeBegins word state 16 32 words.now (small_decoder decoder.new) }
 {
     *decoder = RangeDecoderU16::of(from_compressed(words));
     0
