@@ -1,36 +1,53 @@
--- What a call of the range coder did to the numbers that a C function took out of a caller's struct, and put into it again.
+-- What a call did to the numbers that a C function took out of a caller's struct, and put into it again; and models of a family, by the numbers
+-- that a struct holds for them.
 use Rattle.std.proofs.Common.{◌≡◌, ℕ, ℤ, List, Result, refl, sym}
 use Rattle.constriction_c.specs.Codes.{Told, answer_of, needed_by}
-use Rattle.constriction_inputs.specs.Coded.{Coded, InFamily}
-use Rattle.constriction_calls.specs.RangeCalls.{RangeKept, RangePuts, RangeTakes, kept_in}
+use Rattle.constriction_inputs.specs.Coded.{Coded, InFamily, in_family}
+use Rattle.constriction_calls.specs.AnsCalls.{AnsKept, AnsTakes}
+use Rattle.constriction_calls.specs.ChainCalls.{ChainPuts, ChainTakes, keeps}
+use Rattle.constriction_calls.specs.RangeCalls.{RangePuts, RangeTakes, kept_in}
+use Rattle.constriction_calls.specs.declared.chain.ChainHeads.{ChainHeads}
 use Rattle.constriction_calls.specs.declared.range.parts.DecoderParts.{DecoderParts}
 use Rattle.constriction_calls.specs.declared.range.parts.EncoderParts.{EncoderParts}
 use Rattle.constriction_inputs.specs.declared.refusal.Refusal.{Refusal}
 
-pub puts_told : {Word State : Type 0} {number : Word → ℕ} {state : State → ℕ} {w s precision : ℕ} {coded : List ℕ → Coded} {symbols : List ℕ}
+-- models of a family
+pub family_is : {made family : ℕ} {low high min max : ℤ} {places locations : List ℤ} {widths scales : List ℕ} → (made ≡ family) × (low ≡ min) × (high ≡ max)
+    → (places ≡ locations) × (widths ≡ scales)
+    → ◌≡◌ {A = List ℕ → Coded} (InFamily (record { family = made; min = low; max = high; locations = places; scales = widths })) (in_family family min max locations scales)
+family_is numbers lists = rw (numbers.0, numbers.1, numbers.2, lists.0, lists.1) refl
+
+-- ---- the stack coder
+pub ans_takes : {Word State : Type 0} {number : Word → ℕ} {state : State → ℕ} {w s precision : ℕ} {coded other : List ℕ → Coded} {old new : AnsKept Word State}
+    {symbols new_symbols : List ℕ} {answer told : Result (Unit {0}) Refusal} → coded ≡ other → told ≡ answer
+    → AnsTakes number state w s precision coded old new symbols new_symbols answer → AnsTakes number state w s precision other old new symbols new_symbols told
+ans_takes is answer_is call = rw (sym is, answer_is) call
+
+-- ---- the range coder
+pub puts_told : {Word State : Type 0} {number : Word → ℕ} {state : State → ℕ} {w s precision : ℕ} {coded other : List ℕ → Coded} {symbols : List ℕ}
     {old kept new put : EncoderParts Word State} {words new_words : List Word} {len new_len : ℕ} {answer : Result (Unit {0}) Refusal} (code old_needed needed : ℕ)
-    → old ≡ kept → put ≡ new → answer_of code needed ≡ answer → needed ≡ needed_by answer old_needed
+    → coded ≡ other → old ≡ kept → put ≡ new → answer_of code needed ≡ answer → needed ≡ needed_by answer old_needed
     → RangePuts number state w s precision coded symbols (kept_in old words len) (kept_in new new_words new_len) answer
-    → Told code old_needed needed (RangePuts number state w s precision coded symbols (kept_in kept words len) (kept_in put new_words new_len))
-puts_told code old_needed needed old_is new_is answer_is needed_is call = (rw (sym old_is, new_is, answer_is) call, rw answer_is needed_is)
+    → Told code old_needed needed (RangePuts number state w s precision other symbols (kept_in kept words len) (kept_in put new_words new_len))
+puts_told code old_needed needed is old_is new_is answer_is needed_is call = (rw (sym is, sym old_is, new_is, answer_is) call, rw answer_is needed_is)
 
-pub takes_told : {State : Type 0} {state : State → ℕ} {w s precision : ℕ} {coded : List ℕ → Coded} {buffer : List ℕ} {old kept new put : DecoderParts State}
-    {symbols new_symbols : List ℕ} {answer told : Result (Unit {0}) Refusal} → old ≡ kept → put ≡ new → told ≡ answer
-    → RangeTakes state w s precision coded buffer old new symbols new_symbols answer → RangeTakes state w s precision coded buffer kept put symbols new_symbols told
-takes_told old_is new_is answer_is call = rw (sym old_is, new_is, answer_is) call
+pub takes_told : {State : Type 0} {state : State → ℕ} {w s precision : ℕ} {coded other : List ℕ → Coded} {buffer : List ℕ} {old kept new put : DecoderParts State}
+    {symbols new_symbols : List ℕ} {answer told : Result (Unit {0}) Refusal} → coded ≡ other → old ≡ kept → put ≡ new → told ≡ answer
+    → RangeTakes state w s precision coded buffer old new symbols new_symbols answer → RangeTakes state w s precision other buffer kept put symbols new_symbols told
+takes_told is old_is new_is answer_is call = rw (sym is, sym old_is, new_is, answer_is) call
 
--- models of a family, by the numbers that a struct holds for its range
-pub family_same : {family : ℕ} {low high min max : ℤ} {locations : List ℤ} {scales : List ℕ} → low ≡ min → high ≡ max
-    → ◌≡◌ {A = List ℕ → Coded} (λ symbols. InFamily (record { family = family; min = low; max = high; locations = locations; scales = scales }) symbols)
-    (λ symbols. InFamily (record { family = family; min = min; max = max; locations = locations; scales = scales }) symbols)
-family_same low_is high_is = rw (low_is, high_is) refl
+-- ---- the chain coder
+pub chain_puts : {Word State : Type 0} {number : Word → ℕ} {state : State → ℕ} {w s precision : ℕ} {coded other : Coded} {old kept new put : ChainHeads Word State}
+    {compressed new_compressed remainders new_remainders : List Word} {count new_count rest new_rest : ℕ} {answer : Result (Unit {0}) Refusal} (code old_needed needed : ℕ)
+    → coded ≡ other → old ≡ kept → put ≡ new → answer_of code needed ≡ answer → needed ≡ needed_by answer old_needed
+    → ChainPuts number state w s precision coded (keeps old compressed count remainders rest) (keeps new new_compressed new_count new_remainders new_rest) answer
+    → Told code old_needed needed (ChainPuts number state w s precision other (keeps kept compressed count remainders rest) (keeps put new_compressed new_count new_remainders new_rest))
+chain_puts code old_needed needed is old_is new_is answer_is needed_is call = (rw (sym is, sym old_is, new_is, answer_is) call, rw answer_is needed_is)
 
--- the same of other names of the models
-pub puts_same : {Word State : Type 0} {number : Word → ℕ} {state : State → ℕ} {w s precision : ℕ} {coded other : List ℕ → Coded} {symbols : List ℕ} {old new : RangeKept Word State}
-    {answer : Result (Unit {0}) Refusal} → coded ≡ other → RangePuts number state w s precision coded symbols old new answer → RangePuts number state w s precision other symbols old new answer
-puts_same is call = rw (sym is) call
-
-pub takes_same : {State : Type 0} {state : State → ℕ} {w s precision : ℕ} {coded other : List ℕ → Coded} {buffer : List ℕ} {old new : DecoderParts State}
-    {symbols new_symbols : List ℕ} {answer : Result (Unit {0}) Refusal} → coded ≡ other
-    → RangeTakes state w s precision coded buffer old new symbols new_symbols answer → RangeTakes state w s precision other buffer old new symbols new_symbols answer
-takes_same is call = rw (sym is) call
+pub chain_takes : {Word State : Type 0} {number : Word → ℕ} {state : State → ℕ} {w s precision : ℕ} {coded other : List ℕ → Coded} {old kept new put : ChainHeads Word State}
+    {compressed new_compressed remainders new_remainders : List Word} {count new_count rest new_rest : ℕ} {symbols new_symbols : List ℕ} {answer : Result (Unit {0}) Refusal}
+    (code old_needed needed : ℕ) → coded ≡ other → old ≡ kept → put ≡ new → answer_of code needed ≡ answer → needed ≡ needed_by answer old_needed
+    → ChainTakes number state w s precision coded (keeps old compressed count remainders rest) (keeps new new_compressed new_count new_remainders new_rest) symbols new_symbols answer
+    → Told code old_needed needed
+    (λ told. ChainTakes number state w s precision other (keeps kept compressed count remainders rest) (keeps put new_compressed new_count new_remainders new_rest) symbols new_symbols told)
+chain_takes code old_needed needed is old_is new_is answer_is needed_is call = (rw (sym is, sym old_is, new_is, answer_is) call, rw answer_is needed_is)

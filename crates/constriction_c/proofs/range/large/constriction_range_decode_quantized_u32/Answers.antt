@@ -1,9 +1,5 @@
-use Rattle.std.proofs.Common.{w32}
-use Rattle.std.proofs.lemmas.Int.{to_z-of_z}
-use Rattle.constriction_c.proofs.Told.{family_same, takes_same, takes_told}
+use Rattle.constriction_c.proofs.Told.{family_is, takes_told}
 use Rattle.constriction_c.proofs.range.large.constriction_range_decode_quantized_u32.Goals as goal
 
 pub returns : goal.returns
-returns c =
-    let family = family_same (to_z-of_z w32 c.args.min c.ranges.min) (to_z-of_z w32 c.args.max c.ranges.max) in
-    record { call = takes_told c.parts-parts.ensures c.of.ensures c.code_without_space.ensures (takes_same family c.decode-answer.ensures.call) }
+returns c = takes_told (family_is c.new-models.ensures.numbers c.new-models.ensures.lists) c.parts-parts.ensures c.of.ensures c.code_without_space.ensures c.decode-answer.ensures.call

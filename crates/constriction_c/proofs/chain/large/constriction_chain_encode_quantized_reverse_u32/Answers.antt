@@ -1,0 +1,10 @@
+use Rattle.std.proofs.Common.{ℕ, List, ap}
+use Rattle.constriction_inputs.specs.Coded.{Coded}
+use Rattle.constriction_c.specs.Chains.{large_heads}
+use Rattle.constriction_c.proofs.Told.{chain_puts, family_is}
+use Rattle.constriction_c.proofs.chain.large.constriction_chain_encode_quantized_reverse_u32.Goals as goal
+
+pub returns : goal.returns
+returns c =
+    chain_puts c.code_of.result c.args.needed.now c.code_of.new.needed (ap (λ (coded : List ℕ → Coded). coded c.args.symbols.now) (family_is c.new-models.ensures.numbers c.new-models.ensures.lists))
+    c.parts-both.ensures (ap large_heads c.of.ensures) c.code_of.ensures.code c.code_of.ensures.needed c.encode_reverse-answer.ensures.call
