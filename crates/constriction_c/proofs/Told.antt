@@ -12,10 +12,10 @@ use Rattle.constriction_calls.specs.declared.range.parts.EncoderParts.{EncoderPa
 use Rattle.constriction_inputs.specs.declared.refusal.Refusal.{Refusal}
 
 -- models of a family
-pub family_is : {made family : ℕ} {low high min max : ℤ} {places locations : List ℤ} {widths scales : List ℕ} → (made ≡ family) × (low ≡ min) × (high ≡ max)
-    → (places ≡ locations) × (widths ≡ scales)
-    → ◌≡◌ {A = List ℕ → Coded} (InFamily (record { family = made; min = low; max = high; locations = places; scales = widths })) (in_family family min max locations scales)
-family_is numbers lists = rw (numbers.0, numbers.1, numbers.2, lists.0, lists.1) refl
+pub family_is : {made family : ℕ} {first last low high min max : ℤ} {places locations : List ℤ} {widths scales : List ℕ} → (made ≡ family) × (first ≡ low) × (last ≡ high)
+    → (places ≡ locations) × (widths ≡ scales) → low ≡ min → high ≡ max
+    → ◌≡◌ {A = List ℕ → Coded} (InFamily (record { family = made; min = first; max = last; locations = places; scales = widths })) (in_family family min max locations scales)
+family_is numbers lists low_is high_is = rw (numbers.0, numbers.1, numbers.2, low_is, high_is, lists.0, lists.1) refl
 
 -- ---- the stack coder
 pub ans_takes : {Word State : Type 0} {number : Word → ℕ} {state : State → ℕ} {w s precision : ℕ} {coded other : List ℕ → Coded} {old new : AnsKept Word State}
