@@ -1,5 +1,5 @@
 -- What calls of the range coder did, as their records say it.
-use Rattle.std.proofs.Common.{◌≡◌, ℕ, ◌+◌, ◌/◌, ◌<◌, ◌≤◌, ◌^◌, ◌⊎◌, List, [], ◌∷◌, ◌++◌, length, map, take, refl, sym, ap, ◌∙◌, subst, inl, inr, arith, Result, Ok, Err}
+use Rattle.std.proofs.Common.{◌≡◌, ℕ, ◌+◌, ◌/◌, ◌<◌, ◌≤◌, ◌^◌, ◌⊎◌, List, [], ◌++◌, length, map, take, refl, sym, ap, ◌∙◌, subst, inl, inr, arith, Result, Ok, Err}
 use Rattle.std.specs.Prelude.{OnErr, OnOk, IfErr}
 use Rattle.std.proofs.lemmas.List.{length-append, length-map, length-take}
 use Rattle.constriction_base.specs.Models.{AreKnown}
@@ -9,7 +9,7 @@ use Rattle.constriction_queue.specs.Range.{Run, sealed}
 use Rattle.constriction_queue_laws.specs.Symbols.{NarrowsAll}
 use Rattle.constriction_inputs.specs.Buffers.{Appended}
 use Rattle.constriction_inputs.specs.Coded.{AreFit, AsksFit, Coded, items}
-use Rattle.constriction_calls.specs.RangeCalls.{CanEncode, IsDecoderKept, IsEncodedBy, IsEncoderKept, IsSealed, IsSelfSealed, LacksRoom, LeadsBy, LeadsNowhere, RangeKept, RangePuts, RangeSeals, RangeTakes, RoomFirst, run_kept}
+use Rattle.constriction_calls.specs.RangeCalls.{CanEncode, IsDecoderKept, IsEncoderKept, IsSealed, IsSelfSealed, LacksRoom, LeadsBy, LeadsNowhere, RangeKept, RangePuts, RangeSeals, RangeTakes, RoomFirst, run_kept}
 use Rattle.constriction_inputs.specs.Refusals.{Asks, Else, Never, Room, Words}
 use Rattle.constriction_inputs.specs.declared.refusal.Refusal.{Refusal}
 use Rattle.constriction_inputs.specs.declared.refusal.Refusal.TheVariants as refusals

@@ -1,22 +1,21 @@
 -- Encoders between calls: what one over no words does, said of the caller's whole encoder, behind any words.
-use Rattle.std.proofs.Common.{◌≡◌, ℕ, Option, zero, suc, ◌+◌, ◌-◌, ◌*◌, ◌/◌, ◌^◌, ◌<◌, ◌≤◌, ◌⊎◌, ◌==◌, List, [], ◌∷◌, ◌++◌, length, map, take, refl, sym, ap, ◌∙◌, subst, inl, inr, arith, append-nil, eq-eqb, ne_eqb, mul-le-mul_left, mul-le-mul_right, pow_pos, div-add-mod'}
+use Rattle.std.proofs.Common.{◌≡◌, ℕ, Option, zero, suc, ◌+◌, ◌-◌, ◌*◌, ◌/◌, ◌^◌, ◌<◌, ◌≤◌, List, [], ◌∷◌, ◌++◌, length, map, refl, sym, ap, ◌∙◌, subst, inl, inr, arith, append-nil, eq-eqb, ne_eqb, mul-le-mul_left, mul-le-mul_right, pow_pos, div-add-mod'}
 use native.Mathlib.Nat.{pow-zero}
 use Rattle.std.specs.Prelude.{IfSome, reverse}
 use Rattle.std.proofs.lemmas.Bool.{cases_eq, cases_lt}
 use Rattle.std.proofs.lemmas.List.{reverse-append, reverse-reverse}
 use Rattle.std.proofs.lemmas.Nat.{pow-add}
 use Rattle.constriction_base.specs.Models.{Item, AreKnown}
-use Rattle.constriction_base.specs.Steps.{AreWords, IsSizes}
-use Rattle.constriction_queue.specs.Encoder.{number_of, run_of, words_held}
+use Rattle.constriction_base.specs.Steps.{IsSizes}
+use Rattle.constriction_queue.specs.Encoder.{number_of, run_of}
 use Rattle.constriction_queue.specs.Range.{IsInterval, Run, seal_number, sealed}
 use Rattle.constriction_queue.specs.SelfDelimiting.{AreEnough, SelfDelimits}
 use Rattle.constriction_queue.proofs.SealedRuns.{ceil_below}
 use Rattle.constriction_queue.proofs.SelfSealed.{ends_by_gap}
-use Rattle.constriction_queue.proofs.Seals.{words_of_numbers, words_within}
+use Rattle.constriction_queue.proofs.Seals.{words_of_numbers}
 use Rattle.constriction_queue.proofs.Showing.{queue_is}
 use Rattle.constriction_queue_laws.specs.Symbols.{NarrowsAll}
-use Rattle.constriction_inputs.specs.Buffers.{Appended}
-use Rattle.constriction_calls.specs.RangeCalls.{CanEncode, IsEncodedBy, IsEncoderKept, KeptFit, LacksRoom, kept_words, run_kept}
+use Rattle.constriction_calls.specs.RangeCalls.{IsEncoderKept, KeptFit, kept_words, run_kept}
 use Rattle.constriction_calls.specs.declared.range.parts.EncoderParts.{EncoderParts}
 use Rattle.constriction_calls.proofs.RangeFrame.{held_inside, narrows_above, number_below, run_behind, sealed_behind}
 

@@ -1,9 +1,9 @@
 -- What a build and a look-up say of their last answers: the others only say which of what is asked for isn't so.
-use Rattle.std.specs.Prelude.{Result, Ok, Err, sum}
+use Rattle.std.specs.Prelude.{Ok, Err}
 use Rattle.std.proofs.Common.{◌≡◌, ◌∙◌, ◌⊎◌, ℕ, ◌-◌, ◌<◌, ◌≤◌, ◌^◌, List, drop, length, map, sym, subst, inl, inr, arith}
 use Rattle.constriction_base.specs.Models.{AreKnown, items_of}
 use Rattle.constriction_store.specs.Stores.{Entry, HoldsChunk, HoldsChunks, IsBuilt, entry_of}
-use Rattle.constriction_calls.specs.StoreCalls.{FitKept, StoreBuilds, StoreGives, StoreKept, chunks_by, entries_by, index_kept, words_kept}
+use Rattle.constriction_calls.specs.StoreCalls.{FitKept, StoreBuilds, StoreGives, StoreKept, chunks_by, index_kept, words_kept}
 use Rattle.constriction_inputs.specs.Weights.{IsTotal, weights_model}
 use Rattle.constriction_inputs.specs.declared.refusal.Refusal.{Refusal}
 use Rattle.constriction_inputs.specs.declared.refusal.Refusal.TheVariants as refusals

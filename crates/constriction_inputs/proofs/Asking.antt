@@ -1,6 +1,6 @@
 -- Refusals in their order: what a check that went well or was refused says of the call that made it.
 use Rattle.std.proofs.Common.{◌≡◌, Ok, Err, inl, inr, ap}
-use Rattle.std.specs.Prelude.{ℕ, ◌⊎◌, Result}
+use Rattle.std.specs.Prelude.{ℕ, Result}
 use Rattle.constriction_inputs.specs.Coded.{Coded, AreFit, AsksFit, IntervalsFit, LengthsFit, WeightsFit}
 use Rattle.constriction_inputs.specs.Refusals.{Asks, Else, Never}
 use Rattle.constriction_inputs.specs.declared.refusal.Refusal.{Refusal}

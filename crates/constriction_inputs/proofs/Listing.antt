@@ -1,8 +1,7 @@
 -- Symbols with what their models are made of, as symbols each under a table of its own.
-use Rattle.std.proofs.Common.{◌≡◌, ◌∙◌, ℕ, zero, suc, List, [], ◌∷◌, length, map, drop, take, refl, sym, ap, arith}
+use Rattle.std.proofs.Common.{◌≡◌, ◌∙◌, ℕ, zero, suc, List, [], ◌∷◌, length, drop, take, refl, sym, ap, arith}
 use Rattle.std.specs.Prelude.{replicate}
-use Rattle.std.proofs.lemmas.List.{length-map}
-use Rattle.constriction_base.specs.Models.{Item, Model, item_of, items_of, pairs_of}
+use Rattle.constriction_base.specs.Models.{Item, item_of, items_of, pairs_of}
 use Rattle.constriction_inputs.specs.Weights.{row_items, row_tables, weights_model}
 
 -- under one table, as often as there are symbols

@@ -1,7 +1,7 @@
-use Rattle.std.proofs.Common.{refl, ap, ◌≡◌, ◌∙◌, ◌+◌, ◌≤◌, take, ℕ, List, [], length, inl, inr, arith}
+use Rattle.std.proofs.Common.{refl, ap, ◌≡◌, ◌∙◌, ◌+◌, take, ℕ, [], length, inl, inr, arith}
 use Rattle.constriction_chain.proofs.Chains.{state, state_same}
 use Rattle.constriction_inputs.specs.Buffers.{stack_in}
-use Rattle.constriction_calls.specs.ChainCalls.{AreInUse, HeadsKept, keeps}
+use Rattle.constriction_calls.specs.ChainCalls.{AreInUse, keeps}
 use Rattle.constriction_inputs.specs.Refusals.{Else, Never}
 use Rattle.constriction_inputs.proofs.Asking.{fit_ok}
 use Rattle.constriction_calls.proofs.ChainAnswers.{of_data, of_room, takes_ended, takes_stopped}

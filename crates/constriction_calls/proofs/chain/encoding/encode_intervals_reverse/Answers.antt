@@ -1,4 +1,4 @@
-use Rattle.std.proofs.Common.{rules, ◌≤◌, ◌≡◌, ◌∙◌, ◌*◌, ℕ, List, arith, inl, inr, length, map, refl, sym, subst}
+use Rattle.std.proofs.Common.{rules, ◌≡◌, ◌∙◌, ◌*◌, ℕ, List, arith, inr, length, map, refl, sym}
 use Rattle.std.proofs.lemmas.List.{length-map}
 use Rattle.constriction_calls.specs.ChainCalls.{keeps}
 use Rattle.constriction_inputs.specs.Coded.{AreFit, AsIntervals, ByRows, items}

@@ -1,6 +1,5 @@
-use Rattle.std.proofs.Common.{refl, ap, ◌∙◌, ◌≡◌, ◌+◌, ◌≤◌, take, ℕ, List, [], length, inl, inr, arith}
+use Rattle.std.proofs.Common.{refl, ap, ◌∙◌, ◌≡◌, ◌+◌, take, ℕ, [], length, inl, inr, arith}
 use Rattle.std.specs.Prelude.{reverse}
-use Rattle.constriction_base.specs.Models.{Item}
 use Rattle.constriction_chain.proofs.Chains.{state, state_same}
 use Rattle.constriction_inputs.specs.Buffers.{stack_in}
 use Rattle.constriction_calls.specs.ChainCalls.{AreInUse, keeps}

@@ -1,5 +1,5 @@
-use Rattle.std.proofs.Common.{inr, refl, subst, sym, reverse}
-use Rattle.constriction_base.specs.Models.{AreKnown, pairs_of}
+use Rattle.std.proofs.Common.{inr, refl, subst, sym}
+use Rattle.constriction_base.specs.Models.{AreKnown}
 use Rattle.constriction_calls.proofs.ChainSteps.{known_of}
 use Rattle.constriction_inputs.proofs.RowItems.{known_of_reversed}
 use Rattle.constriction_calls.proofs.chain.encoding.put_by.Goals as goal

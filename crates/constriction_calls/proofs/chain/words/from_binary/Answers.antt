@@ -1,4 +1,4 @@
-use Rattle.std.proofs.Common.{◌≡◌, ◌∙◌, refl, ap, map, reverse, take}
+use Rattle.std.proofs.Common.{◌≡◌, ◌∙◌, ap, map, reverse, take}
 use Rattle.std.specs.declared.convert.Infallible.{Infallible}
 use Rattle.constriction_calls.specs.ChainWords.{InBinary}
 use Rattle.constriction_calls.proofs.ChainWords.{begins_at, begins_none, all_taken, of_binary, too_few}

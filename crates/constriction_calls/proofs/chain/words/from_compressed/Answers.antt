@@ -1,4 +1,4 @@
-use Rattle.std.proofs.Common.{◌≡◌, ◌<◌, ◌-◌, ◌∙◌, arith, refl, pow_pos, ap, map, reverse, take}
+use Rattle.std.proofs.Common.{◌≡◌, ◌<◌, ◌-◌, ◌∙◌, arith, pow_pos, ap, map, reverse, take}
 use Rattle.std.specs.declared.convert.Infallible.{Infallible}
 use Rattle.constriction_base.specs.Backends.{Reads}
 use Rattle.constriction_base.proofs.Exporting.{base_two}

@@ -1,8 +1,4 @@
-use Rattle.std.proofs.Common.{ℕ, List, refl, subst, sym}
-use Rattle.constriction_base.specs.Models.{Item}
-use Rattle.constriction_queue.specs.Encoder.{run_by}
-use Rattle.constriction_queue_laws.specs.Symbols.{NarrowsAll}
-use Rattle.constriction_calls.specs.RangeCalls.{run_kept}
+use Rattle.std.proofs.Common.{refl, sym}
 use Rattle.constriction_calls.proofs.RangeKept.{narrows_same}
 use Rattle.constriction_calls.proofs.range.encoding.put_by.Goals as goal
 

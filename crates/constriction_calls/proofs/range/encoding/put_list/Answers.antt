@@ -1,4 +1,4 @@
-use Rattle.std.proofs.Common.{◌≡◌, ◌+◌, ◌++◌, ap, get_or, ◌∷◌, ◌∙◌, ℕ, List, [], arith, length, map, refl, subst, sym, take}
+use Rattle.std.proofs.Common.{◌≡◌, ◌+◌, ◌++◌, ap, get_or, ◌∷◌, ◌∙◌, ℕ, List, [], arith, refl, subst, sym, take}
 use Rattle.std.proofs.lemmas.List.{length-take-le, take_all, take_more}
 use Rattle.constriction_base.specs.Models.{Item, Model, item_of, pairs_of}
 use Rattle.constriction_base.proofs.InTurn.{InTurn-append}

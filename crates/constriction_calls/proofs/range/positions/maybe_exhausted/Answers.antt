@@ -1,4 +1,4 @@
-use Rattle.std.proofs.Common.{◌≡◌, ◌∙◌, ◌↔◌, ◌≤◌, IsTrue, ap, arith, drop, inr, length, map, pow_pos, refl, rules, sym}
+use Rattle.std.proofs.Common.{◌∙◌, ◌≤◌, ap, arith, drop, inr, length, map, pow_pos, rules, sym}
 use Rattle.std.proofs.lemmas.List.{length-map}
 use Rattle.constriction_calls.specs.RangeCalls.{IsDecoderKept}
 use Rattle.constriction_calls.proofs.RangeTaking.{as_number, may_end, stands_read}

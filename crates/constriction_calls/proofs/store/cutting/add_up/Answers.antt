@@ -1,5 +1,4 @@
-use Rattle.std.proofs.Common.{◌≡◌, ◌∙◌, ◌+◌, ◌-◌, ◌<◌, get_or, drop, length, ap, arith}
-use Rattle.std.specs.Prelude.{sum}
+use Rattle.std.proofs.Common.{arith}
 use Rattle.std.proofs.lemmas.Bool.{false≢true}
 use Rattle.constriction_calls.proofs.StoreIndex.{sum_more}
 use Rattle.constriction_calls.proofs.store.cutting.add_up.Goals as goal

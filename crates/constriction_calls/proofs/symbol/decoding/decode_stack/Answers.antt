@@ -1,4 +1,4 @@
-use Rattle.std.proofs.Common.{◌≡◌, ◌-◌, ◌^◌, ◌∙◌, ap, inl, inr, length, map, refl, reverse, subst, sym, take}
+use Rattle.std.proofs.Common.{◌-◌, ◌^◌, ◌∙◌, ap, inl, inr, length, map, refl, reverse, subst, sym, take}
 use Rattle.std.proofs.lemmas.List.{reverse-reverse}
 use Rattle.std.proofs.Math.Seq.{take-length}
 use Rattle.constriction_symbol.specs.Bits.{HasStackWords}

@@ -1,4 +1,4 @@
-use Rattle.std.proofs.Common.{◌≡◌, ◌++◌, [], ◌∷◌, length, sym, subst, arith}
+use Rattle.std.proofs.Common.{sym, subst, arith}
 use Rattle.constriction_calls.proofs.SymbolLists.{ReadSoFar, read_none, read_one}
 use Rattle.constriction_calls.proofs.symbol.decoding.read_symbols.Goals as goal
 

@@ -1,4 +1,4 @@
-use Rattle.std.proofs.Common.{◌≡◌, ◌∙◌, ◌++◌, ap, map, reverse, sym, subst}
+use Rattle.std.proofs.Common.{◌∙◌, ◌++◌, ap, map, reverse, sym, subst}
 use Rattle.std.proofs.lemmas.Iterator.{items_from_drains, YieldsList-from_slice}
 use Rattle.std.proofs.lemmas.List.{reverse-reverse}
 use Rattle.constriction_symbol.specs.Bits.{IsQueueWords}

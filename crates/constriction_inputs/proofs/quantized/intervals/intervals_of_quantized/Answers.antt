@@ -1,7 +1,7 @@
-use Rattle.std.proofs.Common.{Bool, true, ◌≡◌, ◌∙◌, ◌<◌, ℕ, List, length, map, arith, refl, rules, sym, subst, inl, inr}
+use Rattle.std.proofs.Common.{◌≡◌, ◌∙◌, ◌<◌, ℕ, List, length, map, arith, refl, sym, subst, inr}
 use Rattle.std.specs.List.{AllByRecursion}
 use Rattle.constriction_base.specs.Models.{AreKnown, Item}
-use Rattle.constriction_inputs.specs.Quantized.{AreIntervalsOf, ArePlaces, AreScaled, ByFamily, IsRange, family_items, family_of, symbols_in}
+use Rattle.constriction_inputs.specs.Quantized.{AreIntervalsOf, AreScaled, ByFamily, IsRange, family_items, family_of, symbols_in}
 use Rattle.constriction_inputs.specs.Refusals.{Else, Never}
 use Rattle.constriction_inputs.specs.declared.refusal.Refusal.TheVariants.{WrongInterval, WrongLength, WrongWeights}
 use Rattle.constriction_inputs.proofs.Asking.{three_ok}

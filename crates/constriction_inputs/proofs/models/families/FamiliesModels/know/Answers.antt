@@ -1,5 +1,4 @@
-use Rattle.std.proofs.Common.{◌∙◌, sym, to_z, of_z, w32}
-use Rattle.std.proofs.lemmas.Int.{to_z-of_z}
+use Rattle.std.proofs.Common.{◌∙◌, sym}
 use Rattle.constriction_inputs.specs.Quantized.{family_of, symbols_in}
 use Rattle.constriction_inputs.proofs.FamilyTables.{known_places, places_known}
 use Rattle.constriction_inputs.proofs.models.families.FamiliesModels.know.Goals as goal

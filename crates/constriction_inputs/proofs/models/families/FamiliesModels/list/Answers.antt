@@ -1,4 +1,4 @@
-use Rattle.std.proofs.Common.{◌∙◌, ◌≡◌, ℕ, List, Some, length, ap, sym}
+use Rattle.std.proofs.Common.{◌∙◌, ℕ, List, Some, length, ap, sym}
 use Rattle.constriction_base.specs.Models.{pairs_of}
 use Rattle.constriction_models.specs.Quantizers.{count_of, first_symbol}
 use Rattle.constriction_inputs.specs.Quantized.{ByFamily}
