@@ -38,7 +38,8 @@ fn put_list<
         (pairs_of PRECISION (λ table. table) symbols.now (L.tables list.now)) (run_by Word.BITS State.BITS encoder)
         (run_kept Word.number State.number Word.BITS State.BITS made.1 made.0.items)) }
 {
-    let mut encoder = encoder;
+    let (words, state, situation) = encoder.into_raw_parts();
+    let mut encoder = RangeEncoder::from_raw_parts(words, state, situation);
     for i in 0..symbols.len() {
         match Encode::<PRECISION>::encode_symbol(&mut encoder, &symbols[i], list.at(i)) {
             Ok(()) => {}
