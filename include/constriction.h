@@ -54,7 +54,7 @@
    the state, nor a buffer, nor the symbols; only with CONSTRICTION_NO_SPACE *needed is written, and nothing else is. Where
    several refusals would fit, it is the first of: WRONG_LENGTH; WRONG_INTERVAL; WRONG_WEIGHTS; INVALID_DATA of a state that
    was handed in; IMPOSSIBLE_SYMBOL, of any symbol; OUT_OF_DATA, or INVALID_DATA of words; NO_SPACE. NO_MEMORY can take the
-   place of any of these behind WRONG_LENGTH; with models by a family, of those behind WRONG_WEIGHTS alone.
+   place of those behind IMPOSSIBLE_SYMBOL alone.
 
    MEMORY. Most functions ask malloc, realloc and free of the program for room, and give all of it back before they return.
    These three come from one allocator; malloc and realloc align a block to each power of two up to 16 that divides its size. A

@@ -25,7 +25,7 @@
    There are as many locations and as many scales as symbols. Refusals come in this order: WRONG_LENGTH (there aren't,
    and as of the coder); WRONG_INTERVAL (the range); WRONG_WEIGHTS (a scale is 0, or there is no such family);
    INVALID_DATA of a state; IMPOSSIBLE_SYMBOL (a symbol is past the range); the others as of the coder. NO_MEMORY can
-   take the place of any of these behind WRONG_WEIGHTS. */
+   take the place of those behind IMPOSSIBLE_SYMBOL alone. */
 #ifndef CONSTRICTION_MODELS_H
 #define CONSTRICTION_MODELS_H
 
