@@ -3,7 +3,7 @@
 use Rattle.std.proofs.Common.{◌≡◌, ℕ, ℤ, List, Result, refl, sym}
 use Rattle.constriction_c.specs.Codes.{Told, answer_of, needed_by}
 use Rattle.constriction_inputs.specs.Coded.{Coded, InFamily, in_family}
-use Rattle.constriction_calls.specs.AnsCalls.{AnsKept, AnsTakes}
+use Rattle.constriction_calls.specs.AnsCalls.{AnsKept, AnsPuts, AnsTakes}
 use Rattle.constriction_calls.specs.ChainCalls.{ChainPuts, ChainTakes, keeps}
 use Rattle.constriction_calls.specs.RangeCalls.{RangePuts, RangeTakes, kept_in}
 use Rattle.constriction_calls.specs.declared.chain.ChainHeads.{ChainHeads}
@@ -22,6 +22,11 @@ pub ans_takes : {Word State : Type 0} {number : Word → ℕ} {state : State →
     {symbols new_symbols : List ℕ} {answer told : Result (Unit {0}) Refusal} → coded ≡ other → told ≡ answer
     → AnsTakes number state w s precision coded old new symbols new_symbols answer → AnsTakes number state w s precision other old new symbols new_symbols told
 ans_takes is answer_is call = rw (sym is, answer_is) call
+
+pub ans_puts : {Word State : Type 0} {number : Word → ℕ} {state : State → ℕ} {w s precision : ℕ} {coded other : Coded} {old new : AnsKept Word State} {answer : Result (Unit {0}) Refusal}
+    (code old_needed needed : ℕ) → coded ≡ other → answer_of code needed ≡ answer → needed ≡ needed_by answer old_needed
+    → AnsPuts number state w s precision coded old new answer → Told code old_needed needed (AnsPuts number state w s precision other old new)
+ans_puts code old_needed needed is answer_is needed_is call = (rw (sym is, answer_is) call, rw answer_is needed_is)
 
 -- ---- the range coder
 pub puts_told : {Word State : Type 0} {number : Word → ℕ} {state : State → ℕ} {w s precision : ℕ} {coded other : List ℕ → Coded} {symbols : List ℕ}

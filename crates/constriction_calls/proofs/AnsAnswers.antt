@@ -2,7 +2,7 @@
 use Rattle.std.proofs.Common.{◌≡◌, ◌+◌, ◌^◌, ◌<◌, ◌∙◌, [], ◌∷◌, ◌++◌, Ok, Err, length, map, refl, sym, ap, ap₂, subst, inl, inr, append-nil, arith}
 use Rattle.std.specs.Prelude.{ℕ, List, Result, ◌⊎◌, ◌↔◌, reverse, IfErr, OnErr, OnOk}
 use Rattle.std.proofs.lemmas.Bool.Decides.{eqb_tells, leb_tells}
-use Rattle.std.proofs.lemmas.List.{length-map}
+use Rattle.std.proofs.lemmas.List.{length-append, length-map}
 use Rattle.constriction_base.specs.Models.{AreKnown, AreModels, IsModel, Item}
 use Rattle.constriction_base.specs.Steps.{IsSizes}
 use Rattle.constriction_stack.specs.Ans.{IsValid}
@@ -45,7 +45,7 @@ module _ {Word State : Type 0} (number : Word → ℕ) (state : State → ℕ) (
       → AnsPuts number state w s precision coded old (record { head = top; words = new_words; len = new_len }) (Ok tt)
   puts_done new_words new_len a = record {
     put = λ v. rw (stack_appended number old.words old.len added new_words new_len a) (whole v);
-    behind = (added, a);
+    behind = (added, a, subst (λ (ys : List (Item ℕ)). EncodesAll w s (reverse ys) (record { head = state old.head; words = [] }) (record { head = state top; words = map number (reverse added) })) (sym is) all);
     asked = inr (within, fit_then precision coded behind (Ok tt) fit (inr (items_known, tt)));
     kept = tt;
   }
@@ -62,6 +62,11 @@ module _ {Word State : Type 0} (number : Word → ℕ) (state : State → ℕ) (
         record {
           short = short;
           encoded = λ v. (record { head = state top; words = map number (reverse added) ++ stack_in number old.words old.len }, whole v, counted number old.words old.len added within);
+          alone = (
+            record { head = state top; words = map number (reverse added) },
+            subst (λ (ys : List (Item ℕ)). EncodesAll w s (reverse ys) (record { head = state old.head; words = [] }) (record { head = state top; words = map number (reverse added) })) (sym is) all,
+            omega (arith, counted number old.words old.len added within, length-append (map number (reverse added)) (stack_in number old.words old.len)),
+          );
         },
       )),
     );

@@ -1,13 +1,24 @@
 -- What a build and a look-up say of their last answers: the others only say which of what is asked for isn't so.
 use Rattle.std.specs.Prelude.{Ok, Err}
-use Rattle.std.proofs.Common.{◌≡◌, ◌∙◌, ◌⊎◌, ℕ, ◌-◌, ◌<◌, ◌≤◌, ◌^◌, List, drop, length, map, sym, subst, inl, inr, arith}
+use Rattle.std.proofs.Common.{◌≡◌, ◌∙◌, ◌⊎◌, ℕ, ◌-◌, ◌<◌, ◌≤◌, ◌^◌, List, ap, drop, take, length, map, sym, subst, inl, inr, arith}
+use Rattle.std.proofs.lemmas.Bool.{cases_lt}
+use Rattle.std.proofs.lemmas.List.{length-append, length-take-le, take_all}
 use Rattle.constriction_base.specs.Models.{AreKnown, items_of}
 use Rattle.constriction_store.specs.Stores.{Entry, HoldsChunk, HoldsChunks, IsBuilt, entry_of}
 use Rattle.constriction_calls.specs.StoreCalls.{FitKept, StoreBuilds, StoreGives, StoreKept, chunks_by, index_kept, words_kept}
+use Rattle.constriction_inputs.specs.Buffers.{Appended}
 use Rattle.constriction_inputs.specs.Weights.{IsTotal, weights_model}
 use Rattle.constriction_inputs.specs.declared.refusal.Refusal.{Refusal}
 use Rattle.constriction_inputs.specs.declared.refusal.Refusal.TheVariants as refusals
 use Rattle.constriction_calls.proofs.StoreIndex.{cut_lengths, entries_are, known_chunks, lens_of}
+
+-- words that were put behind others lie within the buffer
+pub lie_within : {W : Type 0} (old added new : List W) (len new_len : ℕ) → len ≤ length old → Appended old len added new new_len → new_len ≤ length new
+lie_within old added new len new_len inside a = elim (cases_lt (length new) new_len) [
+  | inl past ↦ (let all = take_all new_len new (omega (arith, past)) in
+      absurd (omega (arith, past, a.count, ap length a.words, ap length all, length-append (take len old) added, length-take-le len old inside)))
+  | inr few ↦ omega (arith, few)
+]
 
 -- ---- builds: a store that was built, and is put where the caller keeps it
 module _ {Word State : Type 0} (number : Word → ℕ) (state : State → ℕ) (w s precision : ℕ) (weights symbols lengths : List ℕ) (old : StoreKept Word State)
@@ -21,6 +32,7 @@ module _ {Word State : Type 0} (number : Word → ℕ) (state : State → ℕ) (
       subst (λ (e : Refusal). StoreBuilds number state w s precision weights symbols lengths old new (Err e)) (sym space) (record {
         built = tt;
         chunks = tt;
+        within = tt;
         behind = tt;
         asked = inr (fit, inr (total, inr (known, record { less = less; index = index; words = words; built = built; count = is })));
         kept = same;
@@ -29,6 +41,7 @@ module _ {Word State : Type 0} (number : Word → ℕ) (state : State → ℕ) (
       subst (λ (e : Refusal). StoreBuilds number state w s precision weights symbols lengths old new (Err e)) (sym memory.0) (record {
         built = tt;
         chunks = tt;
+        within = tt;
         behind = tt;
         asked = inr (fit, inr (total, inr (known, tt)));
         kept = same;
@@ -36,9 +49,9 @@ module _ {Word State : Type 0} (number : Word → ℕ) (state : State → ℕ) (
 
   pub kept_store : (new : StoreKept Word State) → HoldsChunks w s (weights_model precision weights) words index (chunks_by symbols lengths)
       → new.positions ≡ map (λ e. e.place) index → map state new.lowers ≡ map (λ e. e.lower) index → map state new.ranges ≡ map (λ e. e.range) index
-      → words_kept number new ≡ words → drop new.len new.words ≡ drop new.len old.words
+      → words_kept number new ≡ words → new.len ≤ length new.words → drop new.len new.words ≡ drop new.len old.words
       → StoreBuilds number state w s precision weights symbols lengths old new (Ok tt)
-  kept_store new holds places lowers ranges words_are behind =
+  kept_store new holds places lowers ranges words_are inside behind =
       let model = weights_model precision weights in
       let lens : map (λ e. e.len) index ≡ lengths = lens_of w s model (chunks_by symbols lengths) index _ built.0 built.1 ∙ cut_lengths symbols lengths (omega (arith, fit.all)) in
       let index_is : index_kept state lengths new ≡ index = entries_are index new.positions (map state new.lowers) (map state new.ranges) lengths places lowers ranges lens in
@@ -47,6 +60,7 @@ module _ {Word State : Type 0} (number : Word → ℕ) (state : State → ℕ) (
             (subst (λ (ws : List ℕ). IsBuilt w s model (chunks_by symbols lengths) index ws) (sym words_are) built);
         chunks = subst (λ (es : List Entry). HoldsChunks w s model (words_kept number new) es (chunks_by symbols lengths)) (sym index_is)
             (subst (λ (ws : List ℕ). HoldsChunks w s model ws index (chunks_by symbols lengths)) (sym words_are) holds);
+        within = inside;
         behind = behind;
         asked = inr (fit, inr (total, inr (known, tt)));
         kept = tt;

@@ -1,5 +1,5 @@
 -- Calls of the stack coder: what each does with a coder in a caller's hands, and which refusal comes when.
-use Rattle.std.specs.Prelude.{◌≡◌, ℕ, ◌<◌, ◌≤◌, List, Result, length, map, reverse, OnErr, OnOk}
+use Rattle.std.specs.Prelude.{◌≡◌, ℕ, ◌+◌, ◌<◌, ◌≤◌, List, [], Result, length, map, reverse, OnErr, OnOk}
 use Rattle.constriction_base.specs.Models.{AreKnown, Item}
 use Rattle.constriction_stack.specs.Ans.{AnsState, IsValid, exported}
 use Rattle.constriction_stack.specs.Binary.{IsBinary, binary_words}
@@ -32,10 +32,17 @@ abbrev pub PutsBehind : {Word State : Type 0} → AnsKept Word State → AnsKept
 PutsBehind {Word} old new = (added : List Word) × Appended old.words old.len added new.words new.len
 
 -- ---- symbols
--- the words of the state after the items would be so many, and the buffer, which has so many, is shorter
+-- the words of the state after the items would be so many, and the buffer, which has so many, is shorter: those that encodes of the items write
+-- onto the head alone, behind those below it
 pub record NeedsRoom (w s : ℕ) (items : List (Item ℕ)) (room : ℕ) (old : AnsState) (needed : ℕ) : Type 0 where
   pub short : room < needed
   pub encoded : IsValid w s old → (new : AnsState) × EncodesAll w s items old new × (length new.words ≡ needed)
+  pub alone : (new : AnsState) × EncodesAll w s items (record { head = old.head; words = [] }) new × (needed ≡ length old.words + length new.words)
+
+-- from any head encodes of the items lead to the new one, and the words that they write onto the head alone were put behind those in use
+abbrev pub PutsItems : {Word State : Type 0} → (Word → ℕ) → (State → ℕ) → ℕ → ℕ → List (Item ℕ) → AnsKept Word State → AnsKept Word State → Type 0
+PutsItems {Word} number state w s items old new = (added : List Word) × Appended old.words old.len added new.words new.len
+    × EncodesAll w s items (record { head = state old.head; words = [] }) (record { head = state new.head; words = map number (reverse added) })
 
 -- what an encode of items asks for behind its models: symbols that these know, and room
 abbrev pub AsksItems : ℕ → ℕ → List (Item ℕ) → ℕ → AnsState → Result (Unit {0}) Refusal → Type 0
@@ -44,10 +51,10 @@ AsksItems w s items room old = Asks ImpossibleSymbol (AreKnown items) (Else (Roo
 -- an encode
 pub record AnsPuts {Word State : Type 0} (number : Word → ℕ) (state : State → ℕ) (w s precision : ℕ) (coded : Coded)
     (old new : AnsKept Word State) (answer : Result (Unit {0}) Refusal) : Type 0 where
-  -- from a valid state encodes of the items, the last one first, lead to the new state
+  -- from a valid state, encodes of the items, the last one first, lead to the new one; of any other the words are those of the head alone
   pub put : OnOk answer (IsValid w s (state_kept number state old)
       → EncodesAll w s (reverse (items precision coded)) (state_kept number state old) (state_kept number state new))
-  pub behind : OnOk answer (PutsBehind old new)
+  pub behind : OnOk answer (PutsItems number state w s (reverse (items precision coded)) old new)
   pub asked : Asks WrongLength (IsWithin old)
       (AsksFit precision coded (AsksItems w s (items precision coded) (length old.words) (state_kept number state old))) answer
   pub kept : OnErr answer (new ≡ old)

@@ -63,7 +63,8 @@ pub record StoreBuilds {Word State : Type 0} (number : Word → ℕ) (state : St
   pub built : OnOk answer (IsBuilt w s (weights_model precision weights) (chunks_by symbols lengths) (index_kept state lengths new) (words_kept number new))
   -- each chunk is looked up at its entry
   pub chunks : OnOk answer (HoldsChunks w s (weights_model precision weights) (words_kept number new) (index_kept state lengths new) (chunks_by symbols lengths))
-  -- the buffer behind the words stays
+  -- the words are within the buffer, which stays behind them
+  pub within : OnOk answer (new.len ≤ length new.words)
   pub behind : OnOk answer (drop new.len new.words ≡ drop new.len old.words)
   pub asked : Asks WrongLength (FitKept symbols lengths old) (Asks WrongWeights (IsTotal precision weights)
       (Asks ImpossibleSymbol (AreKnown (items_of (weights_model precision weights) symbols))

@@ -2,7 +2,7 @@ use Rattle.std.proofs.Common.{◌∙◌, length, map, refl, ap, arith, rules}
 use Rattle.std.proofs.lemmas.List.{length-map}
 use Rattle.constriction_store.specs.Stores.{entry_at}
 use Rattle.constriction_inputs.specs.Weights.{IsTotal}
-use Rattle.constriction_calls.proofs.StoreAnswers.{kept_store, space_refused}
+use Rattle.constriction_calls.proofs.StoreAnswers.{kept_store, lie_within, space_refused}
 use Rattle.constriction_calls.proofs.StoreIndex.{as_many}
 use Rattle.constriction_calls.proofs.store.building.build.Goals as goal
 
@@ -45,7 +45,8 @@ returns-in-Ok g c =
           (c.put_index.ensures.positions ∙ ap (λ is. map (λ e. e.place) (map entry_at is)) same)
           (c.put_index.ensures.lowers ∙ ap (λ is. map (λ e. e.lower) (map entry_at is)) same)
           (c.put_index.ensures.ranges ∙ ap (λ is. map (λ e. e.range) (map entry_at is)) same)
-          (ap (map number) (c.in-Ok.ensures.ok.words ∙ c.deref.ensures.value)) c.in-Ok.ensures.ok.behind;
+          (ap (map number) (c.in-Ok.ensures.ok.words ∙ c.deref.ensures.value))
+          (lie_within c.args.words.now c.deref.result.now c.append.new.buffer 0 c.append.new.len (omega arith) c.in-Ok.ensures.ok) c.in-Ok.ensures.ok.behind;
     }
 
 pub returns : goal.returns
