@@ -48,7 +48,7 @@ module _ {W B E S : Type 0} (number : W → ℕ) (holds : holding.Ghosts B W S) 
         begun = rw same (begun_none owed (map number (holds.words old)) some);
         short = elim (cases_lt (writes.room old) (length owed)) [ inl less ↦ less | inr more ↦ absurd (law old (length owed) e more fails) ];
         kept = λ makes. same;
-        error = inl fails;
+        error = inl (fails, same);
       }
 
   -- they are written once there is room for them
@@ -80,7 +80,7 @@ module _ {W B E S : Type 0} (number : W → ℕ) (holds : holding.Ghosts B W S) 
   not_written owed old new e i = (
     i.short,
     elim i.error [
-      | inl fails ↦ inl fails
+      | inl fails ↦ inl fails.0
       | inr refused ↦ inr (refused.0, (refused.1.0, refused.1.1, rw refused.1.2 i.begun))
     ],
   )
