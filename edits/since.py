@@ -119,12 +119,14 @@ class Sources:
         return {"\n".join([head, *texts[head]]): {implemented(head)[0]} for head in texts}
 
     def members(self):
-        """Returns the ghost members that impls choose and of which something is said, each text with that member."""
+        """Returns the ghost members that impls choose and of which something is said, here or by a trait of another library, each text
+        with that member."""
         texts = [it.text for it in self.items()] + [it for parts in self.blocks.values() for it in parts]
         told = collections.Counter(word for text in texts for word in words_of(text))
         ghosts = [it for it in self.items() if it.kind == "ghost"]
         own = collections.Counter(it.name for it in ghosts)
-        chosen = [it for it in ghosts if told[it.name] > own[it.name] and not is_of_trait(it)]
+        declared = {implemented(it.head)[0] for it in self.items() if is_of_trait(it)}
+        chosen = [it for it in ghosts if implemented(it.head)[0] not in declared or told[it.name] > own[it.name] and not is_of_trait(it)]
         return {f"{it.head} {it.text}": {Member(it.name, *implemented(it.head))} for it in chosen}
 
 

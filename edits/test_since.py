@@ -76,12 +76,21 @@ impl<Word> Measured for Pile<Word> {
         3
     }
 }
+
+impl<Word> Iterator for Pile<Word> {
+    ghost next_gives = { Yields };
+
+    fn next(&mut self) -> Option<Word> {
+        None
+    }
+}
 """,
     "crates/upper/edits/first.one_more.edit": "file: src/lib.rt\nold: let value = two(1);\nnew: let value = two(2);\n",
     "crates/upper/edits/second.one_more.edit": "file: src/lib.rt\nold: let value = 7;\nnew: let value = 8;\n",
+    "crates/upper/edits/next.forgets.edit": "file: src/lib.rt\nold:         None\nnew:         none()\n",
     "crates/upper/edits/measure.one_more.edit": "file: src/lib.rt\nold:         3\nnew:         4\n",
 }
-FIRST, ALL = ["first"], ["first", "measure", "second"]
+FIRST, ALL = ["first"], ["first", "measure", "next", "second"]
 # Of each case the changes, each a file, an old text and a new one, the lines of edits/renamed, and the edits that are due or the fault.
 RENAMED = [(WIDE, "pub wide", "pub broad"), (WIDE, "wide =", "broad ="), (UPPER, "{wide}", "{broad}"), (UPPER, "≡ wide", "≡ broad")]
 CASES = {
@@ -103,6 +112,7 @@ CASES = {
     "an impl Model that cites a definition": ([(UPPER, "elements pile.words", "wide pile.words")], "", ALL),
     "a struct": ([(UPPER, "words: Vec<Word>", "words: Vec<Word>, count: usize")], "", ALL),
     "a ghost member of the type": ([(UPPER, "width = { 3 }", "width = { 1 + 2 }")], "", ["measure"]),
+    "a ghost member of another library's trait": ([(UPPER, "{ Yields }", "{ YieldsNone }")], "", ["next"]),
     "the proof of a law": ([(UPPER, "omega arith", "zero_less")], "", []),
     "a trait below": ([(LOWER, "≡ Self.width", "≡ Self.width + 0")], "", ["measure"]),
     "a trait of that trait": ([(LOWER, "0 < width", "1 < width")], "", ["measure"]),
