@@ -54,7 +54,7 @@ def parts(lines, indent):
 
 def header_and_body(lines):
     """Returns the lines of an impl's or trait's header, and those of its members."""
-    ends = next((at for at, it in enumerate(lines) if re.match(r"\S", it) and it.endswith(("{", "{}"))), len(lines) - 1)
+    ends = next((at for at, it in enumerate(lines) if it.endswith(("{", "{}"))), len(lines) - 1)
     body = lines[ends + 1 :]
     return lines[: ends + 1], body[:-1] if body and body[-1] == "}" else body
 

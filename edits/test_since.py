@@ -96,6 +96,7 @@ RENAMED = [(WIDE, "pub wide", "pub broad"), (WIDE, "wide =", "broad ="), (UPPER,
 CASES = {
     "nothing": ([], "", []),
     "layout": ([(UPPER, "same(value)", "same(\n            value,\n        )"), (UPPER, "first(&self)", "first(\n        &self,\n    )")], "", []),
+    "layout of a header": ([(UPPER, "Iterator for Pile", "Iterator\n    for Pile")], "", []),
     "layout of a clause": ([(UPPER, "{ result ≡ wide }", "{\n            result\n                ≡ wide }")], "", []),
     "layout of a definition": ([(WIDE, "wide = suc size", "wide =\n    suc  size")], "", []),
     "comments": ([(UPPER, " // two", ""), (UPPER, "The first.", "Not the last."), (SIZES, "-- how many\n", "-- how\n-- many\n")], "", []),
