@@ -13,6 +13,7 @@ HOLDS_MEMBERS = re.compile(r"(?:pub(?:\([^)]*\))? |unsafe )*(?:impl|trait)\b")
 IN_ANGLES = re.compile(r"<[^<>]*>")
 IMPLEMENTS = re.compile(r".*?\bimpl (?:(.*?) for )?(.*?)(?: where\b.*)? ?\{")
 WORD = re.compile(r"[\w']+")
+HYPHENATED = re.compile(r"[\w']+(?:-[\w']+)+")
 
 # An item: the header of the impl or trait that it is a member of, or '', its kind, its name, and what it says.
 Item = collections.namedtuple("Item", "head kind name text")
@@ -79,4 +80,5 @@ def is_of_trait(it):
 
 
 def words_of(text):
-    return set(WORD.findall(text))
+    """Returns the names in a text, and the words of those that have hyphens."""
+    return {*WORD.findall(text), *HYPHENATED.findall(text)}

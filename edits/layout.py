@@ -55,7 +55,8 @@ def said_by_definitions(text):
     """Returns the parts of a file of specs/ between empty lines, without comments and what they use, each with its lines; a line that is
     indented by more than the fields of a record are goes on with the one before."""
     parts = [[it for it in part.split("\n") if not re.match(r"\s*--|(?:pub )?(?:use|mod) ", it)] for part in re.split(r"\n\s*\n", text)]
-    return [re.sub(r"\n {3,}", " ", "\n".join(map(in_one_space, it))).strip() for it in parts if it]
+    said = [re.sub(r"\n {3,}", " ", "\n".join(map(in_one_space, it))).strip() for it in parts]
+    return [it for it in said if it]
 
 
 def in_one_space(line):

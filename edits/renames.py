@@ -6,7 +6,7 @@ import re
 from items import words_of
 from repository import read
 
-WORD = r"(?<![\w']){}(?![\w'])"
+WORD = r"(?<![\w'-]){}(?![\w'-])"
 
 
 class Renames:
@@ -16,7 +16,7 @@ class Renames:
         self.new = {}
         lines = read(path).split("\n") if os.path.exists(path) else []
         for words in filter(None, (line.partition("#")[0].split() for line in lines)):
-            if len(words) != 2 or words_of(" ".join(words)) != set(words) or words[0] == words[1]:
+            if len(words) != 2 or words[0] == words[1] or not all(re.fullmatch(r"[\w'-]+", it) for it in words):
                 raise ValueError(f"edits/renamed: '{' '.join(words)}' is not a name and its new name")
             if words[0] in self.new or words[1] in self.new.values():
                 raise ValueError(f"edits/renamed: '{' '.join(words)}' names what another line names")

@@ -14,7 +14,7 @@ from renames import Renames
 from repository import Crates, Stamps, files_below, read
 
 # A line that begins a definition, or gives one of its cases.
-DEFINED = re.compile(r"(?:(?:pub|abbrev|record|data|lemma|instance) )*([\w']+)")
+DEFINED = re.compile(r"(?:(?:pub|abbrev|record|data|lemma|instance) )*([\w'-]+)")
 USE = re.compile(r"^ *(?:pub |ghost )*use ([^;{\n]*)(\{[^}]*)?", re.MULTILINE)
 # A ghost member that an impl chooses, its trait, and the impl's type.
 Member = collections.namedtuple("Member", "name trait type")

@@ -16,7 +16,7 @@ LOWER, UPPER, SIZES, WIDE = "crates/lower/src/lib.rt", "crates/upper/src/lib.rt"
 FILES = {
     "crates.txt": "lower:\nupper: lower\n",
     SIZES: "-- how many\nabbrev pub size : ℕ\nsize = 1\n\nabbrev pub other : ℕ\nother = 2\n",
-    WIDE: "use Rattle.lower.specs.Sizes.{size}\n\nabbrev pub wide : ℕ\nwide = suc size\n\nabbrev pub below : ℕ → ℕ\nbelow most = most\n",
+    WIDE: "use Rattle.lower.specs.Sizes.{size}\n\nabbrev pub wide : ℕ\nwide = suc size\n\nabbrev pub below : ℕ → ℕ\nbelow most = most\n\npub words-wide : ℕ\nwords-wide = 0\n",
     LOWER: """pub trait Wide {
     ghost width: { ℕ };
 
@@ -106,6 +106,7 @@ CASES = {
     "the contract": ([(UPPER, "result ≡ wide", "result ≡ wide + 0")], "", FIRST),
     "a definition": ([(WIDE, "wide = suc size", "wide = size + 1")], "", FIRST),
     "a definition that nothing cites": ([(WIDE, "below most = most", "below most = suc most")], "", []),
+    "a definition with a hyphen": ([(WIDE, "words-wide = 0", "words-wide = 1")], "", []),
     "a definition below, by way of another": ([(SIZES, "size = 1", "size = suc 0")], "", FIRST),
     "a definition below that nothing cites": ([(SIZES, "other = 2", "other = 3")], "", []),
     "a where line": ([(UPPER, "Word: Copy", "Word: Clone")], "", ["first", "second"]),
