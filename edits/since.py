@@ -10,7 +10,7 @@ import subprocess
 
 from items import implemented, is_of_trait, items, words_of
 from layout import said_by_definitions, without_comments
-from renames import Renames
+from renames import WORD, Renames
 from repository import Crates, Stamps, files_below, read
 
 # A line that begins a definition, or gives one of its cases.
@@ -75,17 +75,24 @@ class Sources:
         self.blocks = {it: said_by_definitions(texts[it]) for it in texts if it.split("/")[1] == "specs"}
 
     def tell_apart(self, names):
-        """Adds to what names some names, which have more than one definition, where its file has them from."""
+        """Says with some names, which have more than one definition, of which module they are. A name that an item has too stays."""
+        of_items = {it.name for it in self.items() if it.kind != "fn"}
+        modules = {(module_of(file), name) for file, parts in self.blocks.items() for it in parts for name in names_of(it) - of_items}
         for file, parts in self.files.items():
-            self.files[file] = [it._replace(text=self.with_uses(it.text, file, names)) for it in parts]
+            self.files[file] = [it._replace(text=self.with_modules(it.text, file, names, modules)) for it in parts]
         for file, parts in self.blocks.items():
-            self.blocks[file] = [self.with_uses(it, file, names) for it in parts]
+            self.blocks[file] = [self.with_modules(it, file, names, modules) for it in parts]
 
-    def with_uses(self, text, file, names):
-        """Returns a text with where the file has those of its names from that are among these."""
-        said = names & words_of(text)
-        uses = USE.findall(self.texts[file]) if said else []
-        return "\n".join([text, *sorted({f"{name} from {path}" for name in said for path, used in uses if name in words_of(path + used)})])
+    def with_modules(self, text, file, names, modules):
+        """Returns a text in which each of some names has its module, or, where it isn't plain which of these defines it, which has all
+        that its file has it from at its end."""
+        for name in sorted(names & words_of(text)):
+            froms = {path.strip(" .") for path, used in USE.findall(self.texts[file]) if name in words_of(used)} or {module_of(file)}
+            if len(froms) == 1 and (*froms, name) in modules:
+                text = re.sub(WORD.format(re.escape(name)), f"{name}'in'{'_'.join(froms).replace('.', '_')}", text)
+            else:
+                text += f"\n    {name} from {' '.join(sorted(froms))}"
+        return text
 
     def items(self):
         return [it for parts in self.files.values() for it in parts]
@@ -131,7 +138,14 @@ class Sources:
 
 
 def names_of(block):
-    return {it[1] for it in map(DEFINED.match, block.split("\n")) if it}
+    """Returns the names that a part of a file of specs/ defines, without and with their modules."""
+    names = {it[1] for it in map(DEFINED.match, block.split("\n")) if it}
+    return names | {it.partition("'in'")[0] for it in names}
+
+
+def module_of(file):
+    """Returns the name that a file of specs/ has where it is used."""
+    return "Rattle." + os.path.splitext(file)[0].replace("/", ".")
 
 
 class Touched:

@@ -133,6 +133,10 @@ CASES = {
 DOUBLED = {"crates/upper/specs/Other.antt": "abbrev pub wide : ℕ\nwide = 9\n"}
 CASES_OF_DOUBLED = {
     "where a doubled name comes from": ([(UPPER, "specs.Wide.{wide}", "specs.Other.{wide}")], "", FIRST),
+    "the other definition of a doubled name": ([("crates/upper/specs/Other.antt", "wide = 9", "wide = 8")], "", []),
+    "this definition of a doubled name": ([(WIDE, "wide = suc size", "wide = size + 1")], "", FIRST),
+    "a definition that a doubled name cites": ([(SIZES, "size = 1", "size = 3")], "", FIRST),
+    "a doubled name that is used by its module": ([(UPPER, "specs.Wide.{wide}", "specs.Other as wide")], "", FIRST),
     "what else is used beside a doubled name": ([(UPPER, "specs.Wide.{wide}", "specs.Wide.{below, wide}")], "", []),
 }
 # Texts that say the same, and those that don't.
