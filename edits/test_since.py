@@ -65,6 +65,10 @@ where
     }
 }
 
+pub fn weigh(pile: &Pile<u8>) -> u32 {
+    5
+}
+
 impl<Word> Wide for Pile<Word> {
     ghost width = { 3 };
 
@@ -87,10 +91,11 @@ impl<Word> Iterator for Pile<Word> {
 """,
     "crates/upper/edits/first.one_more.edit": "file: src/lib.rt\nold: let value = two(1);\nnew: let value = two(2);\n",
     "crates/upper/edits/second.one_more.edit": "file: src/lib.rt\nold: let value = 7;\nnew: let value = 8;\n",
+    "crates/upper/edits/weigh.one_more.edit": "file: src/lib.rt\nold:     5\nnew:     6\n",
     "crates/upper/edits/next.forgets.edit": "file: src/lib.rt\nold:         None\nnew:         none()\n",
     "crates/upper/edits/measure.one_more.edit": "file: src/lib.rt\nold:         3\nnew:         4\n",
 }
-FIRST, ALL = ["first"], ["first", "measure", "next", "second"]
+FIRST, ALL = ["first"], ["first", "measure", "next", "second", "weigh"]
 # Of each case the changes, each a file, an old text and a new one, the lines of edits/renamed, and the edits that are due or the fault.
 RENAMED = [(WIDE, "pub wide", "pub broad"), (WIDE, "wide =", "broad ="), (UPPER, "{wide}", "{broad}"), (UPPER, "≡ wide", "≡ broad")]
 CASES = {
@@ -129,15 +134,26 @@ CASES = {
     "two renames onto one name": ([], "wide broad\nbelow broad\n", "names what another line names"),
     "a rename of three words": ([], "wide broad narrow\n", "is not a name and its new name"),
 }
-# A name that two files of specs/ define with other texts: then it matters where a source has it from.
-DOUBLED = {"crates/upper/specs/Other.antt": "abbrev pub wide : ℕ\nwide = 9\n"}
+# Names that two files of specs/ define with other texts: then it matters where a source has them from.
+OTHER, ALSO = "crates/upper/specs/Other.antt", "crates/upper/specs/All.antt"
+DOUBLED = {
+    OTHER: "abbrev pub wide : ℕ\nwide = 9\n\nabbrev pub Pile : ℕ\nPile = 2\n",
+    ALSO: "pub use Rattle.upper.specs.Wide.{wide}\n\nabbrev pub Pile : ℕ\nPile = 3\n",
+    UPPER: FILES[UPPER].replace("ghost use", "ghost use Rattle.upper.specs.Other.{Pile};\nghost use"),
+}
+BY_ALL = {UPPER: DOUBLED[UPPER].replace("specs.Wide.{wide}", "specs.All.{wide}")}
 CASES_OF_DOUBLED = {
     "where a doubled name comes from": ([(UPPER, "specs.Wide.{wide}", "specs.Other.{wide}")], "", FIRST),
-    "the other definition of a doubled name": ([("crates/upper/specs/Other.antt", "wide = 9", "wide = 8")], "", []),
+    "the other definition of a doubled name": ([(OTHER, "wide = 9", "wide = 8")], "", []),
     "this definition of a doubled name": ([(WIDE, "wide = suc size", "wide = size + 1")], "", FIRST),
     "a definition that a doubled name cites": ([(SIZES, "size = 1", "size = 3")], "", FIRST),
     "a doubled name that is used by its module": ([(UPPER, "specs.Wide.{wide}", "specs.Other as wide")], "", FIRST),
     "what else is used beside a doubled name": ([(UPPER, "specs.Wide.{wide}", "specs.Wide.{below, wide}")], "", []),
+    "a type of a doubled name": ([(UPPER, "words: Vec<Word>", "words: Vec<Word>, count: usize")], "", ALL),
+}
+CASES_OF_ALL = {
+    "a doubled name that is used by way of a module": ([(WIDE, "wide = suc size", "wide = size + 1")], "", FIRST),
+    "a definition that a name by way of a module cites": ([(SIZES, "size = 1", "size = 3")], "", FIRST),
 }
 # Texts that say the same, and those that don't.
 SAME = [("{ a }", "{\n    a\n}"), ("f  a\n  b", "f a b")]
@@ -187,6 +203,7 @@ def fault(name, files, case):
 def main():
     faults = [fault(name, FILES, case) for name, case in CASES.items()]
     faults += [fault(name, {**FILES, **DOUBLED}, case) for name, case in CASES_OF_DOUBLED.items()]
+    faults += [fault(name, {**FILES, **DOUBLED, **BY_ALL}, case) for name, case in CASES_OF_ALL.items()]
     faults += [f"{pair} don't say the same" for pair in SAME if said(pair[0]) != said(pair[1])]
     faults += [f"{pair} say the same" for pair in OTHER if said(pair[0]) == said(pair[1])]
     print("\n".join(it for it in faults if it))
