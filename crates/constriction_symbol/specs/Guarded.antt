@@ -11,3 +11,7 @@ lender g = g.inner
 -- how many words it wrote onto the coder's backend
 abbrev pub written : {Word S A WordNonZero : Type 0} → CoderGuard Word S A WordNonZero → ℕ
 written g = g.count
+
+-- what a drop of a guard leaves behind its reference: the first of the fields that it gives back
+abbrev pub lent_back : {A B : Type 0} → A × B → A
+lent_back exit = exit.0
