@@ -1,5 +1,5 @@
 -- Bits of words, and what a coder of bits holds.
-use Rattle.std.specs.Prelude.{◌≡◌, ℕ, zero, suc, ◌/◌, ◌%◌, ◌<◌, ◌≤◌, ◌+◌, Bool, true, false, List, [], ◌∷◌, ◌++◌, ◌==◌, ◌⊎◌, flat_map, map, replicate, reverse, length, Result, Ok, Err, Option, Some, None}
+use Rattle.std.specs.Prelude.{◌≡◌, ℕ, zero, suc, ◌/◌, ◌%◌, ◌^◌, ◌<◌, ◌≤◌, ◌+◌, ◌-◌, Bool, true, false, List, [], ◌∷◌, ◌++◌, ◌==◌, ◌⊎◌, flat_map, map, replicate, reverse, length, Result, Ok, Err, Option, Some, None}
 
 -- the n lowest bits of a number, the lowest first
 abbrev pub bits_of : ℕ → ℕ → List Bool
@@ -140,3 +140,13 @@ ClosesStack {B = B} w number write last backend (Err e) =
 abbrev pub ClosesQueue : {W B E : Type 0} → ℕ → (W → ℕ) → (B → W → Result (Unit {0}) E → B → Type 0) → List Bool → B → Result B E → Type 0
 ClosesQueue w number write last backend (Ok all) = ((last ≡ []) × (all ≡ backend)) ⊎ ((last ≡ [] → ⊥) × WritesPadded w number write last backend (Ok tt) all)
 ClosesQueue {B = B} w number write last backend (Err e) = (last ≡ [] → ⊥) × (left : B) × WritesPadded w number write last backend (Err e) left
+
+-- a decoder reads the words that end a queue of bits: its backend comes from theirs, which is as it was where no bit lies outside it
+abbrev pub ReadsClosed : {W B E D : Type 0} → ℕ → (W → ℕ) → (B → List W) → (B → W → Result (Unit {0}) E → B → Type 0) → (B → D → Type 0) → BitsValue B → D → Type 0
+ReadsClosed {B = B} w number words write becomes coder decoder =
+    (all : B) × IsQueueWords w coder.bits (map number (reverse (words all))) × ClosesQueue w number write coder.last coder.backend (Ok all)
+    × (coder.last ≡ [] → all ≡ coder.backend) × becomes all decoder
+
+-- so many of the w bits of a number, from the highest down
+abbrev pub top_bits : ℕ → ℕ → ℕ → List Bool
+top_bits w count x = reverse (bits_of count (x / 2 ^ (w - count)))

@@ -1,7 +1,7 @@
 -- Codewords: what a codebook emits, what a stream of bits then holds, and what a codebook reads.
-use Rattle.std.specs.Prelude.{◌≡◌, ℕ, ◌<◌, ◌-◌, ◌/◌, ◌^◌, reverse, Bool, List, [], ◌∷◌, ◌++◌, ◌⊎◌, Option, Some, None, Result, Ok, Err, map, ⊤}
+use Rattle.std.specs.Prelude.{◌≡◌, ℕ, ◌<◌, ◌^◌, reverse, Bool, List, [], ◌∷◌, ◌++◌, ◌⊎◌, Option, Some, None, Result, Ok, Err, map, ⊤}
 use Rattle.std.specs.Iterator.{Yields}
-use Rattle.constriction_symbol.specs.Bits.{bits_of}
+use Rattle.constriction_symbol.specs.Bits.{bits_of, top_bits}
 use Rattle.std.specs.Fn.{Mut, Called}
 use Rattle.constriction_base.specs.declared.errors.CoderError.{CoderError}
 use Rattle.constriction_base.specs.declared.errors.CoderError.TheVariants.{Frontend, Backend}
@@ -20,6 +20,14 @@ abbrev pub Emits : {F E : Type 0} → Mut F (Bool × Unit {0}) (Result (Unit {0}
 Emits g f [] r last = (r ≡ Ok tt) × (f ≡ last)
 Emits {F} {E} g f (b ∷ bs) r last =
     ((next : F) × Called g f (b, tt) (Ok tt) next × Emits g next bs r last) ⊎ ((e : E) × Called g f (b, tt) (Err e) last × (r ≡ Err (Backend e)))
+
+-- there is want of memory, of which the error is made
+abbrev pub LacksMemory : {A E : Type 0} → Type 0 → (A → E → Type 0) → E → Type 0
+LacksMemory {A} wants gives e = wants × ((a : A) × gives a e)
+
+-- there is want of memory for the codeword of a symbol: in the form that is chosen of prefix and suffix form
+abbrev pub LacksMemoryFor : {A K S E : Type 0} → (Type 0 → Type 0 → Type 0) → (K → S → Type 0) → (K → S → Type 0) → (A → E → Type 0) → K → S → E → Type 0
+LacksMemoryFor chosen prefix suffix gives codebook symbol = LacksMemory (chosen (prefix codebook symbol) (suffix codebook symbol)) gives
 
 -- the bits of a codeword are emitted; or none is, where the symbol has no codeword, or memory was wanted
 abbrev pub EmitsCodeword : {F E : Type 0} → Mut F (Bool × Unit {0}) (Result (Unit {0}) E) → (E → Type 0) → F → Option (List Bool) → Answer E → F → Type 0
@@ -43,15 +51,15 @@ pub record RefusedAt {C E : Type 0} (bits : C → List Bool) (puts : C → Bool 
 
 -- a stream of bits has a codeword more, as if its bits were put one by one; or it has those before a bit that was refused;
 -- or it is as before, where memory was wanted
-abbrev pub Writes : {C E : Type 0} → (C → List Bool) → (C → Bool → Result (Unit {0}) E → C → Type 0) → (E → Type 0) → C → List Bool → Answer E → C → Type 0
-Writes bits puts wants old code (Ok _) new = (bits new ≡ bits old ++ code) × StepsAll puts old code new
-Writes bits puts wants old code (Err (Frontend _)) new = ⊥
-Writes bits puts wants old code (Err (Backend e)) new = RefusedAt bits puts old code e new ⊎ (wants e × (new ≡ old))
+abbrev pub WritesEachBit : {C E : Type 0} → (C → List Bool) → (C → Bool → Result (Unit {0}) E → C → Type 0) → (E → Type 0) → C → List Bool → Answer E → C → Type 0
+WritesEachBit bits puts wants old code (Ok _) new = (bits new ≡ bits old ++ code) × StepsAll puts old code new
+WritesEachBit bits puts wants old code (Err (Frontend _)) new = ⊥
+WritesEachBit bits puts wants old code (Err (Backend e)) new = RefusedAt bits puts old code e new ⊎ (wants e × (new ≡ old))
 
 -- the same of a symbol, which may have no codeword: then nothing changes
 abbrev pub WritesCodeword : {C E : Type 0} → (C → List Bool) → (C → Bool → Result (Unit {0}) E → C → Type 0) → (E → Type 0) → C → Option (List Bool) → Answer E → C → Type 0
 WritesCodeword bits puts wants old None r new = (r ≡ Err (Frontend ImpossibleSymbol)) × (new ≡ old)
-WritesCodeword bits puts wants old (Some code) r new = Writes bits puts wants old code r new
+WritesCodeword bits puts wants old (Some code) r new = WritesEachBit bits puts wants old code r new
 
 -- the form of a codeword, where there is one
 abbrev pub formed : (List Bool → List Bool) → Option (List Bool) → Option (List Bool)
@@ -78,7 +86,7 @@ pub record IsLowBits (w : ℕ) (codeword : Option (List Bool)) (number count : �
 pub record BeginsTopBits (w all number : ℕ) (codeword : Option (List Bool)) (count : ℕ) : Type 0 where
   pub some : 0 < count
   pub part : count < all
-  pub is : codeword ≡ Some (reverse (bits_of count (number / 2 ^ (w - count))))
+  pub is : codeword ≡ Some (top_bits w count number)
 
 -- none of the codewords begins the bits
 abbrev pub NoneBegins : {S : Type 0} → (S → Option (List Bool)) → List Bool → Type 0

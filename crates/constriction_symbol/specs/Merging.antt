@@ -1,5 +1,5 @@
 -- Merging a set of weights: which weights are taken, and which pairs are merged.
-use Rattle.std.specs.Prelude.{◌≡◌, ℕ, ◌<◌, ◌≤◌, ◌^◌, ◌⊎◌, List, [], get_or, length, map, sum_by, Option, Some, Result, Ok, Err}
+use Rattle.std.specs.Prelude.{◌≡◌, ℕ, ◌<◌, ◌≤◌, ◌^◌, ◌⊎◌, List, [], ◌++◌, get_or, length, map, sum_by, Option, Some, Result, Ok, Err}
 use Rattle.std.specs.Iterator.{Drains, YieldsThen}
 use Rattle.constriction_symbol.specs.Huffman.{IsHuffman, IsMerged, Tree, book_of}
 use Rattle.constriction_symbol.specs.declared.huffman.error.HuffmanError.{HuffmanError}
@@ -56,6 +56,14 @@ RefusesGiven {P = P} gives next number bits most e = StopsGiving gives next e �
 abbrev pub MakesTree : {P : Type 0} → (P → ℕ) → ℕ → ℕ → List P → Tree → Type 0
 MakesTree number bits most weights tree = FitTree number bits most weights × IsHuffman (map number weights) (book_of tree)
 
+-- the tree of the weights that come from an iterator of Results, and of those that come from an iterator of what lends them
+abbrev pub MakesGiven : {I P E : Type 0} → (I → Type 0) → (I → Option (Result P E) → I → Type 0) → (P → ℕ) → ℕ → ℕ → Tree → Type 0
+MakesGiven {P = P} gives next number bits most tree = (weights : List P) × GivesWeights gives next weights × MakesTree number bits most weights tree
+
+abbrev pub MakesLent : {I P L : Type 0} → (I → Type 0) → (I → Option L → I → Type 0) → (L → P) → (P → ℕ) → ℕ → ℕ → Tree → Type 0
+MakesLent {P = P} gives next lent number bits most tree =
+    (weights : List P) × LendsWeights gives next lent weights × MakesTree number bits most weights tree
+
 -- why the weights that come from an iterator of what lends them make no tree; there may be no memory for one more weight
 abbrev pub RefusesLent : {I P L E : Type 0} → (I → Type 0) → (I → Option L → I → Type 0) → (L → P) → (P → ℕ) → ℕ → ℕ → HuffmanError E → Type 0
 RefusesLent {P = P} gives next lent number bits most e =
@@ -75,3 +83,7 @@ key_of number item = (number item.weight, item.index)
 
 abbrev pub keys_of : {P Z : Type 0} → (P → ℕ) → List (Weighed P Z) → List (ℕ × ℕ)
 keys_of number items = map (key_of number) items
+
+-- those of two queues
+abbrev pub all_keys : {P Z : Type 0} → (P → ℕ) → List (Weighed P Z) → List (Weighed P Z) → List (ℕ × ℕ)
+all_keys number leaves unions = keys_of number leaves ++ keys_of number unions

@@ -1,5 +1,5 @@
 -- Why codewords weren't written or read, and why they have no cost.
-use Rattle.std.specs.Prelude.{◌≡◌, ℕ, ◌<◌, ◌≤◌, ◌-◌, ◌^◌, ◌⊎◌, ⊤, Bool, List, ◌∷◌, ◌++◌, Option, None, Some, Result, Ok, Err, length, drop}
+use Rattle.std.specs.Prelude.{◌≡◌, ℕ, ◌<◌, ◌≤◌, ◌-◌, ◌^◌, ◌⊎◌, ⊤, Bool, List, ◌∷◌, ◌++◌, Option, None, Some, Result, Err, length, drop}
 use Rattle.std.specs.List.{zip}
 use Rattle.constriction_base.specs.declared.errors.CoderError.{CoderError}
 use Rattle.constriction_base.specs.declared.errors.CoderError.TheVariants.{Frontend, Backend}
@@ -26,9 +26,9 @@ abbrev pub HasNoCodeword : {A : Type 0} → (A → Option (List Bool)) → List 
 HasNoCodeword {A} codeword items = (before after : List A) × (item : A) × (items ≡ before ++ item ∷ after) × (codeword item ≡ None)
 
 -- a refusal of the writer itself says that; one of what holds the bits tells nothing
-abbrev pub NotWritten : {A E : Type 0} → (A → Option (List Bool)) → List A → CoderError DefaultEncoderFrontendError E → Type 0
-NotWritten codeword items (Frontend e) = HasNoCodeword codeword items
-NotWritten codeword items (Backend e) = ⊤
+abbrev pub SymbolNotWritten : {A E : Type 0} → (A → Option (List Bool)) → List A → CoderError DefaultEncoderFrontendError E → Type 0
+SymbolNotWritten codeword items (Frontend e) = HasNoCodeword codeword items
+SymbolNotWritten codeword items (Backend e) = ⊤
 
 -- the bits don't begin with the codewords of so many symbols
 abbrev pub BeginsWithNone : {S : Type 0} → (S → Option (List Bool)) → ℕ → List Bool → Type 0

@@ -44,7 +44,7 @@ impl<Word: BitArray, S: Semantics, A: Allocator> Drop for CoderGuard<'_, Word, S
     /// Takes the words off that were written.
     fn drop(self)
         ensures last { (lent_back self.exit).now.last ≡ (lender self.entry).now.last }
-        ensures restored { (lent_back self.exit).now.bits
+        ensures back { (lent_back self.exit).now.bits
             ≡ bits_without Word.BITS Word.number (written self.entry) (lender self.entry).now }
     {
         let CoderGuard { inner, count } = self;
@@ -67,7 +67,7 @@ impl<Word: BitArray, A: Allocator> StackCoder<Word, Vec<Word, A>> {
         ensures shows { OnOk result (IsStackWords Word.BITS self.old.bits (map Word.number self.new.backend.items)) }
         ensures back { IfOk result (λ count. bits_without Word.BITS Word.number count self.new ≡ self.old.bits) }
         ensures last { self.new.last ≡ self.old.last }
-        ensures left { OnErr result (SameBits self.old self.new) }
+        ensures kept { OnErr result (SameBits self.old self.new) }
         ensures err { OnErr result (LacksEnd Word.BITS self.old) }
     {
         let mut last = self.last.copied();
@@ -98,13 +98,13 @@ impl<Word: BitArray, A: Allocator> StackCoder<Word, Vec<Word, A>> {
 }
 
 impl<Word: BitArray, A: Allocator> QueueEncoder<Word, Vec<Word, A>> {
-    /// Writes the word of the bits outside the vector, and keeps them. Returns how many words it wrote: none where there
-    /// are no such bits, else one.
+    /// Writes the word of the bits outside the vector, and keeps them. Returns how many words it wrote: none where
+    /// there are no such bits, else one.
     fn put_rest(&mut self) -> Result<usize, AllocError>
         ensures shows { OnOk result (IsQueueWords Word.BITS self.old.bits (map Word.number self.new.backend.items)) }
         ensures back { IfOk result (λ count. bits_without Word.BITS Word.number count self.new ≡ self.old.bits) }
         ensures last { self.new.last ≡ self.old.last }
-        ensures left { OnErr result (SameBits self.old self.new) }
+        ensures kept { OnErr result (SameBits self.old self.new) }
         ensures err { OnErr result (LacksRest self.old) }
     {
         if self.last.is_empty() {
@@ -144,7 +144,7 @@ impl<Word: BitArray, A: Allocator> StackCoder<Word, Vec<Word, A>> {
             bits_without Word.BITS Word.number (written g) (lender g).now ≡ self.old.bits) }
         ensures last { IfOk result (λ g. (lender g).now.last ≡ self.old.last) }
         ensures err { OnErr result (LacksEnd Word.BITS self.old) }
-        ensures* left { sem 𝓛 (RestsIfErr
+        ensures* kept { sem 𝓛 (RestsIfErr
             (the_row Word.row order.the_row (vec_row Word.row A.row A.Allocator) Word.NonZero.row Word.BitArray
             ⟦<Vec<Word, A> as Holds<Word, Stack>>⟧)
             self.entry (λ g. (lender g).ghost_name) result (λ after. OnErr result (SameBits self.old after))) }
@@ -172,7 +172,7 @@ impl<Word: BitArray, A: Allocator> QueueEncoder<Word, Vec<Word, A>> {
             bits_without Word.BITS Word.number (written g) (lender g).now ≡ self.old.bits) }
         ensures last { IfOk result (λ g. (lender g).now.last ≡ self.old.last) }
         ensures err { OnErr result (LacksRest self.old) }
-        ensures* left { sem 𝓛 (RestsIfErr
+        ensures* kept { sem 𝓛 (RestsIfErr
             (the_row Word.row order.the_row (vec_row Word.row A.row A.Allocator) Word.NonZero.row Word.BitArray
             ⟦<Vec<Word, A> as Holds<Word, Stack>>⟧)
             self.entry (λ g. (lender g).ghost_name) result (λ after. OnErr result (SameBits self.old after))) }
