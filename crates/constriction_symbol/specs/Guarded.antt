@@ -5,7 +5,8 @@ use Rattle.constriction_symbol.specs.declared.coder.SymbolCoder.{SymbolCoder}
 use Rattle.constriction_symbol.specs.declared.coder.guard.CoderGuard.{CoderGuard}
 
 -- the coder that it borrows
-abbrev pub lender : {Word S A WordNonZero : Type 0} → CoderGuard Word S A WordNonZero → MutBor (SymbolCoder Word S (Vec Word A) WordNonZero)
+abbrev pub lender : {Word S A WordNonZero : Type 0}
+    → CoderGuard Word S A WordNonZero → MutBor (SymbolCoder Word S (Vec Word A) WordNonZero)
 lender g = g.inner
 
 -- how many words it wrote onto the coder's backend

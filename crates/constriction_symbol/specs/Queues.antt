@@ -1,4 +1,5 @@
--- Two queues of trees that are merged, as weights and indices: leaves in order, and unions in the order in which they were made.
+-- Two queues of trees that are merged, as weights and indices: leaves in order, and unions in the order in which they
+-- were made.
 use Rattle.std.specs.Prelude.{ℕ, ◌<◌, ◌≤◌, List, [], ◌∷◌, All, ⊤}
 use Rattle.constriction_symbol.specs.Huffman.{IsPairLe}
 

@@ -8,7 +8,8 @@ use Rattle.constriction_symbol.specs.Codewords.{ReadsSymbol}
 abbrev pub AreCodewords : {A : Type 0} → (A → Option (List Bool)) → List A → List Bool → Type 0
 AreCodewords codeword [] bits = bits ≡ []
 AreCodewords codeword (item ∷ items) bits =
-    (first : List Bool) × (rest : List Bool) × (codeword item ≡ Some first) × (bits ≡ first ++ rest) × AreCodewords codeword items rest
+    (first : List Bool) × (rest : List Bool) × (codeword item ≡ Some first) × (bits ≡ first ++ rest)
+    × AreCodewords codeword items rest
 
 -- the codeword of a symbol by the codebook beside it
 abbrev pub of_pair : {K S : Type 0} → (K → S → Option (List Bool)) → S × K → Option (List Bool)
@@ -26,12 +27,14 @@ AreEach holds (x ∷ xs) [] = ⊥
 AreEach holds (x ∷ xs) (y ∷ ys) = holds x y × AreEach holds xs ys
 
 -- symbols that one codebook reads, one after the other
-abbrev pub ReadsAll : {I S V E : Type 0} → (I → Option (Result Bool E) → I → Type 0) → (S → Option (List Bool)) → (List Bool → Type 0) → (List Bool → V → Type 0) → List S → I → I → Type 0
+abbrev pub ReadsAll : {I S V E : Type 0} → (I → Option (Result Bool E) → I → Type 0) → (S → Option (List Bool))
+    → (List Bool → Type 0) → (List Bool → V → Type 0) → List S → I → I → Type 0
 ReadsAll {E = E} next codeword reads_on is_invalid =
     InTurn (λ symbol old new. ReadsSymbol {E = E} next codeword reads_on is_invalid old (Ok symbol) new)
 
 -- symbols that are read one after the other, each by the codebook beside it
-abbrev pub ReadsPairs : {I K S V E : Type 0} → (I → Option (Result Bool E) → I → Type 0) → (K → S → Option (List Bool)) → (K → List Bool → Type 0) → (K → List Bool → V → Type 0) → List (S × K) → I → I → Type 0
+abbrev pub ReadsPairs : {I K S V E : Type 0} → (I → Option (Result Bool E) → I → Type 0) → (K → S → Option (List Bool))
+    → (K → List Bool → Type 0) → (K → List Bool → V → Type 0) → List (S × K) → I → I → Type 0
 ReadsPairs {E = E} next codeword reads_on is_invalid =
     InTurn (λ pair old new. ReadsSymbol {E = E} next (codeword pair.1) (reads_on pair.1) (is_invalid pair.1) old (Ok pair.0) new)
 
