@@ -1,6 +1,6 @@
 -- What a refused step leaves: no room is lost on the side that would have been written to; and where it says that words ran out,
 -- none was left, if the backend knows its words.
-use Rattle.std.specs.Prelude.{◌≡◌, ℕ, ◌≤◌, List, [], map, Result, Ok, Err}
+use Rattle.std.specs.Prelude.{◌≡◌, ℕ, ◌≤◌, List, [], map, Result, Err}
 use Rattle.std.proofs.Common.{ap, arith, inl, inr, ◌∙◌}
 use Rattle.constriction_base.specs.Steps.{Step}
 use Rattle.constriction_base.specs.declared.backends.reading.Holds as holding

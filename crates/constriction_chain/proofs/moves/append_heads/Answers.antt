@@ -1,5 +1,5 @@
-use Rattle.std.specs.Prelude.{◌^◌, ◌+◌, ◌≡◌, ◌<◌, ◌∷◌, List, length}
-use Rattle.std.proofs.Common.{arith, ap, sym, ◌∙◌, inl, inr}
+use Rattle.std.specs.Prelude.{◌^◌, ◌+◌, ◌≡◌, ◌∷◌, List, length}
+use Rattle.std.proofs.Common.{arith, ap, sym, inl, inr}
 use Rattle.std.proofs.lemmas.Bool.{cases_lt}
 use Rattle.std.specs.Int.Digits.{digits_of}
 use Rattle.constriction_base.proofs.Exporting.{base_two, digits_within}
