@@ -50,7 +50,7 @@ where
     /// The backend, with the words on it.
     pub fn backend(&self) -> &Backend
         ensures backend { result.now ≡ (lender self.now).now.backend }
-        ensures coder { IsCoder Word.number Backend.words Word.BITS State.BITS (lender self.now).now }
+        ensures coder { IsCoder Word.number Backend.Holds Word.BITS State.BITS (lender self.now).now }
     {
         let inner: &AnsCoder<Word, State, Backend> = &*self.inner;
         &inner.bulk
@@ -70,7 +70,7 @@ where
         ensures kept { (lent_back self.exit).now.state.head ≡ (lender self.entry).now.state.head }
         ensures back { NeverRefused Backend.reads →
             (lent_back self.exit).now.state ≡ without (written self.entry) (lender self.entry).now.state }
-        ensures coder { IsCoder Word.number Backend.words Word.BITS State.BITS (lent_back self.exit).now }
+        ensures coder { IsCoder Word.number Backend.Holds Word.BITS State.BITS (lent_back self.exit).now }
     {
         let CoderGuard { inner, count } = self;
         take_back::<Word, Backend>(&mut inner.bulk, count);

@@ -50,7 +50,7 @@ impl<Word: WordOf<State>, State: BitArray, Backend: ReadWords<Word, Stack>> AnsC
         ensures ok { Backend.is_list → IfOk result (λ new.
             new.state ≡ filled Word.BITS State.BITS 0 (map Word.number (Backend.words bulk))) }
         ensures high { Backend.is_list → OnOk result (BeginsHigh (map Word.number (Backend.words bulk))) }
-        ensures coder { IfOk result (λ new. IsCoder Word.number Backend.words Word.BITS State.BITS new) }
+        ensures coder { IfOk result (λ new. IsCoder Word.number Backend.Holds Word.BITS State.BITS new) }
         ensures reads { IfOk result (λ new.
             FilledBy Word.number Backend.reads Word.BITS State.BITS bulk new.state.head new.backend) }
         ensures err { IfErr result (λ rest.
@@ -109,7 +109,7 @@ impl<Word: WordOf<State>, State: BitArray, Backend: WriteWords<Word>> AnsCoder<
             Backend.prepare_fails self.backend (count_of_words Word.BITS self.state.head) e
             ⊎ ((Backend.makes_room → ⊥) × ((last : Backend) × Backend.write_fails last e
             × PartlyExported Word.BITS self.state (map Word.number (Backend.words last))))) }
-        ensures coder { IsCoder Word.number Backend.words Word.BITS State.BITS self }
+        ensures coder { IsCoder Word.number Backend.Holds Word.BITS State.BITS self }
     {
         let AnsCoder {
             mut bulk,
@@ -153,7 +153,7 @@ impl<Word: WordOf<State>, State: BitArray, Backend: ReadWords<Word, Stack>> AnsC
         requires { IsSizes Word.BITS State.BITS }
         ensures ok { Backend.is_list → IfOk result (λ new.
             new.state ≡ binary_state Word.BITS State.BITS (map Word.number (Backend.words bulk))) }
-        ensures coder { IfOk result (λ new. IsCoder Word.number Backend.words Word.BITS State.BITS new) }
+        ensures coder { IfOk result (λ new. IsCoder Word.number Backend.Holds Word.BITS State.BITS new) }
         ensures reads { IfOk result (λ new.
             BinaryFilledBy Word.number Backend.reads Word.BITS State.BITS bulk new.state.head new.backend) }
         ensures err { IfErr result (λ e.
@@ -202,7 +202,7 @@ impl<Word: WordOf<State>, State: BitArray, Backend: WriteWords<Word>> AnsCoder<
             × (Backend.prepare_fails self.backend m e
             ⊎ ((Backend.makes_room → ⊥) × ((last : Backend) × Backend.write_fails last e
             × PartlyBinary Word.BITS m self.state (map Word.number (Backend.words last))))) }
-        ensures coder { IsCoder Word.number Backend.words Word.BITS State.BITS self }
+        ensures coder { IsCoder Word.number Backend.Holds Word.BITS State.BITS self }
     {
         let AnsCoder {
             mut bulk,
