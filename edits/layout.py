@@ -6,6 +6,8 @@ import re
 # A comment, a text, a character, a word (also a lifetime), an arrow or comparison, white space, or another character.
 TOKEN = re.compile(r"""//[^\n]*|b?"(?:\\.|[^"\\])*"|b?'(?:\\.[^']*|[^'\\])'|[\w']+|[-=]>|[<>=!]=|\s+|.""", re.DOTALL)
 TEXT_OR_SPACE = re.compile(r'"(?:\\.|[^"\\\n])*"|\s+')
+# A line of a file of specs/ that is a comment, or says what the file uses or has below it.
+UNSAID = re.compile(r"\s*--|(?:pub )?(?:use|mod) ")
 OPENING, CLOSING = ("(", "[", "{"), (")", "]", "}")
 
 
@@ -52,11 +54,10 @@ def is_layout(before, gap, after):
 
 @functools.lru_cache(maxsize=None)
 def said_by_definitions(text):
-    """Returns the parts of a file of specs/ between empty lines, without comments and what they use, each with its lines; a line that is
-    indented by more than the fields of a record are goes on with the one before."""
-    parts = [[it for it in part.split("\n") if not re.match(r"\s*--|(?:pub )?(?:use|mod) ", it)] for part in re.split(r"\n\s*\n", text)]
-    said = [re.sub(r"\n {3,}", " ", "\n".join(map(in_one_space, it))).strip() for it in parts]
-    return [it for it in said if it]
+    """Returns the parts of a file of specs/ that an empty line and a line without indent begin, without comments and what they use; a
+    line that is indented by more than the fields of a record are goes on with the one before."""
+    parts = [[it for it in part.split("\n") if it.strip() and not UNSAID.match(it)] for part in re.split(r"\n\s*\n(?=\S)", text)]
+    return [re.sub(r"\n {3,}", " ", "\n".join(map(in_one_space, it))) for it in parts if it]
 
 
 def in_one_space(line):

@@ -16,6 +16,7 @@ from repository import Crates, Stamps, files_below, read
 # A line that begins a definition, or gives one of its cases.
 DEFINED = re.compile(r"(?:(?:pub|abbrev|record|data|lemma|instance) )*([\w'-]+)")
 USE = re.compile(r"^ *(?:pub |ghost )*use ([^;{\n]*)(\{[^}]*)?", re.MULTILINE)
+LABEL = re.compile(r"\b(requires|ensures\*?) [\w']+ \{")
 # A ghost member that an impl chooses, its trait, and the impl's type.
 Member = collections.namedtuple("Member", "name trait type")
 TYPES = ("struct", "enum", "union", "type", "const", "static")
@@ -82,6 +83,11 @@ class Sources:
             self.files[file] = [it._replace(text=self.with_modules(it.text, file, names, modules)) for it in parts]
         for file, parts in self.blocks.items():
             self.blocks[file] = [self.with_modules(it, file, names, modules) for it in parts]
+
+    def take_labels_out(self):
+        """Takes out what the clauses of functions are called, which is no part of what they say."""
+        for file, parts in self.files.items():
+            self.files[file] = [it._replace(text=LABEL.sub(r"\1 {", it.text)) for it in parts]
 
     def with_modules(self, text, file, names, modules):
         """Returns a text in which each of some names has its module, or, where it isn't plain which of these defines it, which has all
@@ -154,8 +160,9 @@ class Touched:
     def __init__(self, before, now):
         self.before, self.now = before, now
         doubled = before.doubled() | now.doubled()
-        before.tell_apart(doubled)
-        now.tell_apart(doubled)
+        for sources in (before, now):
+            sources.take_labels_out()
+            sources.tell_apart(doubled)
         self.names = touched_names(before.definitions(), now.definitions())
         self.traits = touched_traits(before.traits(), now.traits(), self.names)
         self.members = names_of_touched(before.members(), now.members(), self.names)

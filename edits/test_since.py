@@ -16,7 +16,8 @@ LOWER, UPPER, SIZES, WIDE = "crates/lower/src/lib.rt", "crates/upper/src/lib.rt"
 FILES = {
     "crates.txt": "lower:\nupper: lower\n",
     SIZES: "-- how many\nabbrev pub size : ℕ\nsize = 1\n\nabbrev pub other : ℕ\nother = 2\n",
-    WIDE: "use Rattle.lower.specs.Sizes.{size}\n\nabbrev pub wide : ℕ\nwide = suc size\n\nabbrev pub below : ℕ → ℕ\nbelow most = most\n\npub words-wide : ℕ\nwords-wide = 0\n",
+    WIDE: "use Rattle.lower.specs.Sizes.{size}\n\nabbrev pub wide : ℕ\nwide = suc size\n\nabbrev pub below : ℕ → ℕ\nbelow most = most\n\npub words-wide : ℕ\nwords-wide = 0\n\n"
+    "pub record Kept (n : ℕ) : Type 0 where\n  pub any : 0 < n\n\n  -- and no more\n  pub few : n < 9\n",
     LOWER: """pub trait Wide {
     ghost width: { ℕ };
 
@@ -50,14 +51,15 @@ where
 {
     /// The first.
     pub fn first(&self) -> u32
-        ensures { result ≡ wide }
+        ensures kept { result ≡ wide }
     {
         let value = two(1); // two
         value
     }
 
     pub fn second(&self) -> u32
-        ensures { result ≡ 7 }
+        ensures value { result ≡ 7 }
+        ensures again { Kept result }
     {
         let value = 7;
         let same = same(value);
@@ -108,9 +110,13 @@ CASES = {
     "what is used": ([(UPPER, "use lower::Measured;", "use lower::{Measured, Other};"), (UPPER, "{wide}", "{below, wide}")], "", []),
     "another function": ([(UPPER, "same(value)", "same(value + 0)")], "", ["second"]),
     "the body": ([(UPPER, "        value\n    }", "        value + 0\n    }")], "", FIRST),
+    "what a clause is called": ([(UPPER, "ensures kept", "ensures value")], "", []),
+    "the keyword of a clause": ([(UPPER, "ensures kept", "requires kept")], "", FIRST),
     "the contract": ([(UPPER, "result ≡ wide", "result ≡ wide + 0")], "", FIRST),
     "a definition": ([(WIDE, "wide = suc size", "wide = size + 1")], "", FIRST),
     "a definition that nothing cites": ([(WIDE, "below most = most", "below most = suc most")], "", []),
+    "a field behind an empty line": ([(WIDE, "n < 9", "n < 10")], "", ["second"]),
+    "an empty line and a comment in a record": ([(WIDE, "\n\n  -- and no more\n", "\n")], "", []),
     "a definition with a hyphen": ([(WIDE, "words-wide = 0", "words-wide = 1")], "", []),
     "a definition below, by way of another": ([(SIZES, "size = 1", "size = suc 0")], "", FIRST),
     "a definition below that nothing cites": ([(SIZES, "other = 2", "other = 3")], "", []),
