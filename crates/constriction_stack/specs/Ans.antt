@@ -76,14 +76,6 @@ filled w s head (word ∷ words) =
 abbrev pub exported : ℕ → AnsState → List ℕ
 exported w x = digits_of (2 ^ w) x.head ++ x.words
 
--- the words of a state of which the last of the head's digits to be written are missing
-pub record PartlyExported (w : ℕ) (x : AnsState) (words : List ℕ) : Type 0 where
-  pub missing : List ℕ
-  pub written : List ℕ
-  pub some_missing : 0 < length missing
-  pub digits : missing ++ written ≡ digits_of (2 ^ w) x.head
-  pub holds : words ≡ written ++ x.words
-
 -- ---- coders: a word's number is told by `number`, what a backend says of its words by `holds`, and of its writes and
 -- its reads by `writes` and `reads`
 
@@ -92,9 +84,13 @@ pub record AnsValue (B : Type 0) : Type 0 where
   pub state : AnsState
   pub backend : B
 
+-- the state of a head above the words that a backend holds
+abbrev pub state_of : {W B S : Type 0} → (W → ℕ) → holding.Ghosts B W S → ℕ → B → AnsState
+state_of number holds head backend = record { head = head; words = map number (holds.words backend) }
+
 -- the value of a coder that has this head and holds its words on this backend
 abbrev pub value_of : {W B S : Type 0} → (W → ℕ) → holding.Ghosts B W S → ℕ → B → AnsValue B
-value_of number holds head backend = record { state = record { head = head; words = map number (holds.words backend) }; backend = backend }
+value_of number holds head backend = record { state = state_of number holds head backend; backend = backend }
 
 -- what is true of every coder: its sizes are allowed, its head has s bits at most, and the words below
 -- its head are those of the backend

@@ -12,8 +12,8 @@ pub mod symbols;
 pub mod words;
 
 ghost use Rattle.constriction_base.specs.Steps.{IsSizes};
-ghost use Rattle.constriction_stack.specs.Ans.{AnsValue, IsCoder, empty, value_of};
-ghost use Rattle.std.specs.Prelude.{IsTrue, [], map, ◌↔◌, ◌≡◌};
+ghost use Rattle.constriction_stack.specs.Ans.{AnsValue, IsCoder, empty, state_of, value_of};
+ghost use Rattle.std.specs.Prelude.{IsTrue, [], ◌↔◌, ◌≡◌};
 
 use constriction_base::backends::{Holds, Stack, WriteWords};
 use constriction_words::{BitArray, WordOf};
@@ -101,8 +101,7 @@ impl<Word: WordOf<State>, State: BitArray, Backend: Holds<Word, Stack>> AnsCoder
     #[inline(always)]
     pub fn from_raw_parts(bulk: Backend, state: State) -> Self
         requires { IsSizes Word.BITS State.BITS }
-        ensures state { result.state
-            ≡ record { head = State.number state; words = map Word.number (Backend.words bulk) } }
+        ensures state { result.state ≡ state_of Word.number Backend.Holds (State.number state) bulk }
         ensures backend { result.backend ≡ bulk }
         ensures coder { IsCoder Word.number Backend.Holds Word.BITS State.BITS result }
     {
@@ -117,8 +116,7 @@ impl<Word: WordOf<State>, State: BitArray, Backend: Holds<Word, Stack>> AnsCoder
     #[inline]
     pub fn into_raw_parts(self) -> (Backend, State)
         ensures backend { result.0 ≡ self.backend }
-        ensures state { self.state
-            ≡ record { head = State.number result.1; words = map Word.number (Backend.words result.0) } }
+        ensures state { self.state ≡ state_of Word.number Backend.Holds (State.number result.1) result.0 }
         ensures coder { IsCoder Word.number Backend.Holds Word.BITS State.BITS self }
     {
         let AnsCoder {

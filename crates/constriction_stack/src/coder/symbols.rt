@@ -3,7 +3,8 @@
 
 ghost use Rattle.constriction_base.specs.declared.errors.DefaultEncoderFrontendError.TheVariants.{ImpossibleSymbol};
 ghost use Rattle.constriction_stack.specs.Ans.{DecodeCall, EncodeCall, IsCoder};
-ghost use Rattle.constriction_stream.specs.Symbols.{ByBackend, EncodesSymbol, GoesOn, HasRoom, IsBackendError, never_frontend};
+ghost use Rattle.constriction_stream.specs.Symbols.{ByBackend, EncodesSymbol, GoesOn, HasRoom, IsBackendError};
+ghost use Rattle.constriction_stream.specs.Symbols.{never_frontend};
 ghost use Rattle.std.specs.Bool.{OnFalse};
 ghost use Rattle.std.specs.Prelude.{IsTrue, ⊤, ◌+◌, ◌↔◌, ◌≡◌, ◌≤◌};
 
@@ -24,7 +25,8 @@ impl<Word: WordOf<State>, State: BitArray, Backend: Holds<Word, Stack>> Code
 
     type State = State;
 
-    ghost shows = { λ coder head. (State.number head ≡ coder.state.head) × IsCoder Word.number Backend.Holds Word.BITS State.BITS coder };
+    ghost shows = { λ coder head. (State.number head ≡ coder.state.head)
+        × IsCoder Word.number Backend.Holds Word.BITS State.BITS coder };
 
     /// The head.
     #[inline]

@@ -1,5 +1,4 @@
-use Rattle.std.proofs.Common.{◌≡◌, ◌-◌, length, take, inl, inr, rules}
-use Rattle.std.specs.Prelude.{reverse}
+use Rattle.std.proofs.Common.{◌≡◌, inl, inr, rules}
 use Rattle.constriction_base.specs.declared.errors.BoundedWriteError.TheVariants.{OutOfSpace}
 use Rattle.constriction_base.specs.declared.errors.DefaultEncoderFrontendError.TheVariants.{ImpossibleSymbol}
 use Rattle.constriction_stream.specs.Symbols.{ByBackend, IsBackendError}
