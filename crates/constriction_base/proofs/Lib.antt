@@ -14,5 +14,6 @@ pub mod Guards
 pub mod OneAbove
 pub mod MovingIn
 pub mod Written
+pub mod WordLists
 pub mod Made
 pub mod Results

@@ -1,5 +1,5 @@
 -- Numbers that are a one above whole words.
-use Rattle.std.proofs.Common.{◌≡◌, ℕ, zero, suc, ◌+◌, ◌-◌, ◌*◌, ◌/◌, ◌%◌, ◌^◌, ◌<◌, ◌≤◌, ap, ◌∙◌, arith, inl, inr, pow_pos, pow-add, div-add-mod'}
+use Rattle.std.proofs.Common.{◌≡◌, ℕ, zero, suc, ◌+◌, ◌-◌, ◌*◌, ◌/◌, ◌%◌, ◌^◌, ◌<◌, ◌≤◌, ap, ◌∙◌, arith, inl, inr, pow_pos, pow-add, div-add-mod', div-lt_iff_lt-mul, le-div_iff_mul-le}
 use Rattle.std.proofs.lemmas.Bool.{cases_lt}
 use Rattle.std.proofs.lemmas.Nat.{mod-mul-add}
 use Rattle.constriction_base.proofs.Sizes.{pow_le}
@@ -11,6 +11,13 @@ power_more w m = let e : suc m * w ≡ m * w + w = omega arith in ap (λ n. 2 ^ 
 
 pub limit_more : (w m : ℕ) → 2 ^ (suc m * w + 1) ≡ 2 ^ (m * w + 1) * 2 ^ w
 limit_more w m = let e : suc m * w + 1 ≡ (m * w + 1) + w = omega arith in ap (λ n. 2 ^ n) e ∙ pow-add 2 (m * w + 1) w
+
+-- without its lowest word it has a word less
+pub one_rest : (w m n : ℕ) → 2 ^ (suc m * w) ≤ n → n < 2 ^ (suc m * w + 1) → (2 ^ (m * w) ≤ n / 2 ^ w) × (n / 2 ^ w < 2 ^ (m * w + 1))
+one_rest w m n from below = (
+  (le-div_iff_mul-le (pow_pos w)).1 (omega (arith, from, power_more w m)),
+  (div-lt_iff_lt-mul (pow_pos w)).1 (omega (arith, below, limit_more w m)),
+)
 
 -- what a count of bits says
 ones_of_bits : (w m bits n : ℕ) → n < 2 ^ bits → 2 ^ bits ≤ 2 * n + 1 → bits ≡ m * w + 1 → IsOneAbove w m n

@@ -1,7 +1,8 @@
 -- Words that are written one after another, and writes that are refused.
-use Rattle.std.specs.Prelude.{◌≡◌, ℕ, zero, suc, ◌-◌, ◌/◌, ◌%◌, ◌<◌, ◌≤◌, List, [], ◌∷◌, ◌++◌, Result, Ok, Err, length, map}
-use Rattle.std.proofs.Common.{refl, sym, ap, arith, inl, inr, append_assoc, append-nil}
+use Rattle.std.specs.Prelude.{◌≡◌, ℕ, zero, suc, ◌+◌, ◌-◌, ◌*◌, ◌/◌, ◌%◌, ◌<◌, ◌≤◌, List, [], ◌∷◌, ◌++◌, Result, Ok, Err, length, map}
+use Rattle.std.proofs.Common.{◌∙◌, refl, sym, ap, arith, inl, inr, append_assoc, append-nil}
 use Rattle.std.proofs.lemmas.Bool.{cases_lt}
+use Rattle.std.proofs.lemmas.Nat.{div-mul-add, mod-mul-add}
 use Rattle.constriction_base.specs.Digits.{fixed_digits}
 use Rattle.constriction_base.specs.Writing.{Appends, IsBegun, NotWritten, WritesAll}
 use Rattle.constriction_base.specs.declared.backends.reading.Holds as holding
@@ -14,10 +15,14 @@ fixed_less b (suc count) n ws some =
     let less : suc count - 1 ≡ count = omega arith in
     rw less (sym (append_assoc (fixed_digits b count (n / b)) (n % b ∷ []) ws))
 
--- a number that isn't above 0
-pub none_left : (n : ℕ) → (0 < n → ⊥) → n ≡ 0
-none_left zero h = refl
-none_left (suc n) h = absurd (h (omega arith))
+-- the lowest digit goes to the words behind
+pub fixed_next : (b m n : ℕ) (ws : List ℕ) → fixed_digits b (suc m) n ++ ws ≡ fixed_digits b m (n / b) ++ (n % b ∷ ws)
+fixed_next b m n ws = append_assoc (fixed_digits b m (n / b)) (n % b ∷ []) ws
+
+-- one more word moves into a number
+pub fixed_push : (b m n v : ℕ) → v < b → fixed_digits b (suc m) (n * b + v) ≡ fixed_digits b m n ++ (v ∷ [])
+fixed_push b m n v h =
+    ap (λ x. fixed_digits b m x ++ ((n * b + v) % b ∷ [])) (div-mul-add n b v h) ∙ ap (λ x. fixed_digits b m n ++ (x ∷ [])) (mod-mul-add n b v h)
 
 -- nothing was written of something
 pub begun_none : (owed old : List ℕ) → 0 < length owed → IsBegun owed old old
@@ -48,7 +53,7 @@ module _ {W B E S : Type 0} (number : W → ℕ) (holds : holding.Ghosts B W S) 
         begun = rw same (begun_none owed (map number (holds.words old)) some);
         short = elim (cases_lt (writes.room old) (length owed)) [ inl less ↦ less | inr more ↦ absurd (law old (length owed) e more fails) ];
         kept = λ makes. same;
-        error = inl fails;
+        error = inl (fails, same);
       }
 
   -- they are written once there is room for them
@@ -80,7 +85,7 @@ module _ {W B E S : Type 0} (number : W → ℕ) (holds : holding.Ghosts B W S) 
   not_written owed old new e i = (
     i.short,
     elim i.error [
-      | inl fails ↦ inl fails
+      | inl fails ↦ inl fails.0
       | inr refused ↦ inr (refused.0, (refused.1.0, refused.1.1, rw refused.1.2 i.begun))
     ],
   )

@@ -38,8 +38,9 @@ pub record Appends {W B E S : Type 0} (number : W → ℕ) (holds : holding.Ghos
   pub short : OnErr answer (writes.room old < length owed)
   -- where asking for room makes room, none is written
   pub kept : writes.makes_room → OnErr answer (holds.words new ≡ holds.words old)
-  -- the error is the answer to that; or, where asking makes no room, that of a write
-  pub error : IfErr answer (λ e. writes.prepare_fails old (length owed) e ⊎ RefusesWrite holds writes e (λ words. words ≡ holds.words new))
+  -- the error is the answer to that, and none is written; or, where asking makes no room, that of a write
+  pub error : IfErr answer (λ e. (writes.prepare_fails old (length owed) e × (holds.words new ≡ holds.words old))
+      ⊎ RefusesWrite holds writes e (λ words. words ≡ holds.words new))
 
 -- words that a call owes could not be written, and its backend is gone: there is no room for them all, and it said so where
 -- it was asked; or, where asking for room makes none, it refused a write behind a beginning of them

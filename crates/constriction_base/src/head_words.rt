@@ -1,6 +1,7 @@
 //! The number that a coder holds above its words: how many words it has, and words that move between it and a backend.
 
-ghost use Rattle.std.specs.Prelude.{Err, IfErr, IfNone, IfOk, IfSome, MatchBool, MatchResult, None, Ok, drop, ℕ, ◌+◌, ◌<◌, ◌^◌, ◌≡◌, ◌≤◌, ◌⊎◌};
+ghost use Rattle.std.specs.Prelude.{Err, IfErr, IfNone, IfOk, IfSome, MatchBool, MatchResult, None, Ok, drop, ℕ, ◌+◌, ◌<◌};
+ghost use Rattle.std.specs.Prelude.{◌^◌, ◌≡◌, ◌≤◌, ◌⊎◌};
 ghost use Rattle.constriction_base.specs.Digits.{count_of_words, fixed_digits};
 ghost use Rattle.constriction_base.specs.Readings.{MovesIn, StopsAt};
 ghost use Rattle.constriction_base.specs.Steps.{IsSizes};
@@ -109,8 +110,8 @@ pub fn append_words<Word: WordOf<State>, State: BitArray, Backend: WriteWords<Wo
     write_words(bulk, head, count)
 }
 
-/// A head above 0, into which words move as long as it is below 2 to the `bits` and one is left; and whether it came that
-/// far.
+/// A head above 0, into which words move as long as it is below 2 to the `bits` and one is left; and whether it came
+/// that far.
 ///
 /// # Errors
 ///
@@ -125,13 +126,16 @@ pub fn fill<Word: WordOf<State>, State: BitArray, Backend: ReadWords<Word, Stack
     requires some { 0 < State.number head }
     ensures moves { MatchResult result
         (λ found. MatchBool found.1
-        (MovesIn Word.number Backend.Holds Backend.ReadWords.own Word.BITS (State.number head) bulk.old (State.number found.0) bulk.new
+        (MovesIn Word.number Backend.Holds Backend.ReadWords.own Word.BITS (State.number head) bulk.old
+        (State.number found.0) bulk.new
         × (2 ^ bits ≤ State.number found.0))
         (StopsAt Word.number Backend.Holds Backend.ReadWords.own Word.BITS (2 ^ bits) (State.number head) bulk.old
         (State.number found.0) (Ok None) bulk.new))
-        (λ e. (n : ℕ) × StopsAt Word.number Backend.Holds Backend.ReadWords.own Word.BITS (2 ^ bits) (State.number head) bulk.old
+        (λ e. (n : ℕ)
+        × StopsAt Word.number Backend.Holds Backend.ReadWords.own Word.BITS (2 ^ bits) (State.number head) bulk.old
         n (Err e) bulk.new) }
-    ensures below { State.number head < 2 ^ (bits + Word.BITS) → IfOk result (λ found. State.number found.0 < 2 ^ (bits + Word.BITS)) }
+    ensures below { State.number head < 2 ^ (bits + Word.BITS)
+        → IfOk result (λ found. State.number found.0 < 2 ^ (bits + Word.BITS)) }
 {
     let mut full = head;
     'words: while full.shifted_right(bits).is_nothing() {

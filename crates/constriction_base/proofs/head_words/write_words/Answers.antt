@@ -1,8 +1,9 @@
 use Rattle.std.specs.Prelude.{◌≡◌, ◌%◌, ◌^◌, [], ◌∷◌, ◌++◌, List, ℕ, map}
 use Rattle.std.proofs.Common.{arith, ◌∙◌, ap, refl, sym, append-nil}
 use Rattle.constriction_base.specs.Digits.{fixed_digits}
+use Rattle.constriction_base.proofs.Exporting.{no_room}
 use Rattle.constriction_base.proofs.Guards.{drop_written, drop_nothing, fixed-length}
-use Rattle.constriction_base.proofs.Written.{fixed_less, none_left}
+use Rattle.constriction_base.proofs.Written.{fixed_less}
 use Rattle.constriction_base.proofs.head_words.write_words.Goals as goal
 
 pub words-init : goal.words-init
@@ -33,7 +34,7 @@ pub returns-in-Err-clause-written : goal.returns-in-Err-clause-written
 returns-in-Err-clause-written g c =
     let b = 2 ^ g.Word.BitArray.BITS in
     let len = fixed-length b c.args.count (g.State.BitArray.number c.args.head) in
-    let none = none_left _ (λ some. g.met.Backend.WriteWords.room_law c.words.bulk c.in-Err.refusal some c.in-Err.ensures.err) in
+    let none = no_room _ (λ some. g.met.Backend.WriteWords.room_law c.words.bulk c.in-Err.refusal some c.in-Err.ensures.err) in
     record {
       words = tt;
       room_used = tt;
