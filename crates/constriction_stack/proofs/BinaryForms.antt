@@ -1,35 +1,17 @@
 -- Any words are those of one binary state, and a binary state has one number of words.
-use Rattle.std.proofs.Common.{◌≡◌, ℕ, zero, suc, ◌+◌, ◌-◌, ◌*◌, ◌/◌, ◌%◌, ◌^◌, ◌<◌, ◌≤◌, List, [], ◌∷◌, ◌++◌, refl, ap, ◌∙◌, arith, inl, inr, pow_pos, le-ltb, append_assoc, div-add-mod', div-lt_iff_lt-mul, le-div_iff_mul-le, mul-le-mul_right}
+use Rattle.std.proofs.Common.{◌≡◌, ℕ, zero, suc, ◌+◌, ◌-◌, ◌*◌, ◌/◌, ◌%◌, ◌^◌, ◌<◌, ◌≤◌, List, [], ◌∷◌, ◌++◌, refl, ap, ◌∙◌, arith, inl, inr, pow_pos, le-ltb, append_assoc, div-add-mod', div-lt_iff_lt-mul, mul-le-mul_right}
 use Rattle.std.proofs.lemmas.Bool.{cases_lt}
-use Rattle.std.proofs.lemmas.Nat.{div-mul-add, mod-mul-add}
 use Rattle.constriction_base.specs.Digits.{fixed_digits}
 use Rattle.constriction_base.specs.Steps.{IsSizes, AreWords}
 use Rattle.constriction_stack.specs.Ans.{AnsState, IsValid, filled}
 use Rattle.constriction_base.specs.Writing.{IsOneAbove}
-use Rattle.constriction_base.proofs.OneAbove.{power_more, limit_more}
+use Rattle.constriction_base.proofs.OneAbove.{limit_more, one_rest, power_more}
+use Rattle.constriction_base.proofs.Written.{fixed_next, fixed_push}
 use Rattle.constriction_stack.specs.Binary.{binary_state, binary_words}
 use Rattle.constriction_stack.proofs.Importing.{filled_low, filled_full, valid_filled}
 use Rattle.constriction_base.proofs.Sizes.{Facts, facts, pow_le}
 
--- ---- digits
-
--- the lowest digit goes to the words behind
-pub fixed_next : (b m n : ℕ) (ws : List ℕ) → fixed_digits b (suc m) n ++ ws ≡ fixed_digits b m (n / b) ++ (n % b ∷ ws)
-fixed_next b m n ws = append_assoc (fixed_digits b m (n / b)) (n % b ∷ []) ws
-
--- one more word moves into a number
-pub fixed_push : (b m n v : ℕ) → v < b → fixed_digits b (suc m) (n * b + v) ≡ fixed_digits b m n ++ (v ∷ [])
-fixed_push b m n v h =
-    ap (λ x. fixed_digits b m x ++ ((n * b + v) % b ∷ [])) (div-mul-add n b v h) ∙ ap (λ x. fixed_digits b m n ++ (x ∷ [])) (mod-mul-add n b v h)
-
 -- ---- binary heads
-
--- without its lowest word a binary head has a word less
-pub binary_rest : (w m n : ℕ) → 2 ^ (suc m * w) ≤ n → n < 2 ^ (suc m * w + 1) → (2 ^ (m * w) ≤ n / 2 ^ w) × (n / 2 ^ w < 2 ^ (m * w + 1))
-binary_rest w m n from below = (
-  (le-div_iff_mul-le (pow_pos w)).1 (omega (arith, from, power_more w m)),
-  (div-lt_iff_lt-mul (pow_pos w)).1 (omega (arith, below, limit_more w m)),
-)
 
 -- a head of one alone has no word below it
 pub binary_one : (w m n : ℕ) → 1 ≤ w → 2 ^ (m * w) ≤ n → n < 2 → m ≡ 0
@@ -85,7 +67,7 @@ digits_fill_one w s zero n vs base from below top =
     rw one refl
 digits_fill_one w s (suc m) n vs base from below top =
     let b : ℕ = 2 ^ w in
-    let rest = binary_rest w m n from below in
+    let rest = one_rest w m n from below in
     let low : n / b < 2 ^ (s - w) = (div-lt_iff_lt-mul (pow_pos w)).1 top in
     let wide : 2 ^ (s - w) * 1 ≤ 2 ^ (s - w) * b = (let m : 1 * 2 ^ (s - w) ≤ b * 2 ^ (s - w) = mul-le-mul_right (2 ^ (s - w)) (omega (arith, base)) in omega (arith, m)) in
     let before : filled w s 1 (fixed_digits b m (n / b) ++ (n % b ∷ vs)) ≡ filled w s (n / b) (n % b ∷ vs) =

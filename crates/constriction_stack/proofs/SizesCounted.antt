@@ -1,5 +1,5 @@
 -- Sizes of states: what is exported, and what a count of bits says.
-use Rattle.std.proofs.Common.{◌≡◌, ℕ, zero, suc, ◌+◌, ◌*◌, ◌/◌, ◌^◌, ◌<◌, ◌≤◌, ◌↔◌, length, refl, sym, ap, ◌∙◌, arith, lit≤, pow_pos, pow-add, le-div_iff_mul-le, mul-le-mul_right}
+use Rattle.std.proofs.Common.{◌≡◌, ℕ, zero, suc, ◌+◌, ◌*◌, ◌/◌, ◌^◌, ◌<◌, ◌≤◌, length, refl, sym, ap, ◌∙◌, arith, lit≤, pow_pos, pow-add, mul-le-mul_right}
 use Rattle.std.proofs.lemmas.List.{length-append}
 use Rattle.std.proofs.lemmas.Int.Digits.{length-digits_of_step, length-digits_of-le, all_below_base_digits_of, number_digits_of, number_lt}
 use Rattle.std.specs.Int.Digits.{digits_of}
@@ -60,11 +60,3 @@ pub words_within : (w : ℕ) (x : AnsState) → 1 ≤ w → length (exported w x
 words_within w x some =
     let more : 1 * length (exported w x) ≤ w * length (exported w x) = mul-le-mul_right (length (exported w x)) some in
     omega (arith, more)
-
--- the test of the words by a quotient
-pub fit_by_quotient : (w n : ℕ) → 1 ≤ w → (n ≤ 18446744073709551615 / w) ↔ (w * n < 2 ^ 64)
-fit_by_quotient w n some =
-    let top : 2 ^ 64 ≡ 18446744073709551616 = refl in (
-      λ h. let within : n * w ≤ 18446744073709551615 = (le-div_iff_mul-le some).0 h in omega (arith, within, top),
-      λ h. (le-div_iff_mul-le some).1 (omega (arith, h, top)),
-    )

@@ -1,27 +1,22 @@
 -- The words of a coder as it shows them, the first one first; and what reads keep of a backend.
 use Rattle.std.specs.Prelude.{Option, None, Result, Ok, map, reverse}
-use Rattle.std.proofs.Common.{◌≡◌, ℕ, ◌/◌, ◌%◌, ◌^◌, ◌<◌, ◌≤◌, List, [], ◌∷◌, ◌++◌, length, refl, sym, ap, ◌∙◌, arith, inl, inr}
-use Rattle.std.proofs.lemmas.List.{map-append, reverse-append, reverse-reverse}
+use Rattle.std.proofs.Common.{◌≡◌, ℕ, ◌/◌, ◌%◌, ◌^◌, ◌<◌, ◌≤◌, List, [], ◌∷◌, ◌++◌, length, sym, ap, ◌∙◌, arith, inl, inr}
+use Rattle.std.proofs.lemmas.List.{reverse-append, reverse-reverse}
 use Rattle.std.proofs.lemmas.Int.Digits.{digits_of_step}
 use Rattle.std.specs.Int.Digits.{digits_of}
 use Rattle.constriction_stack.specs.Ans.{exported}
 use Rattle.constriction_stack.specs.Binary.{BinaryFilledBy}
 use Rattle.constriction_stack.specs.Imports.{FilledBy}
 use Rattle.constriction_base.proofs.Exporting.{base_two, gives_keeps}
+use Rattle.constriction_base.proofs.Turns.{map-reverse}
 
 -- ---- words in the order in which they were written
-
-map_reversed : {A B : Type 0} (f : A → B) (xs : List A) → map f (reverse xs) ≡ reverse (map f xs)
-map_reversed f [] = refl
-map_reversed f (x ∷ xs) =
-    ap (map f) (reverse-append (x ∷ []) xs) ∙ map-append f (reverse xs) (x ∷ []) ∙ ap (λ ys. ys ++ (f x ∷ [])) (map_reversed f xs)
-    ∙ sym (reverse-append (f x ∷ []) (map f xs))
 
 pub shown_is : {W : Type 0} (number : W → ℕ) (w head : ℕ) (held lent : List W) → held ≡ reverse lent
     → map number lent ++ reverse (digits_of (2 ^ w) head) ≡ reverse (exported w (record { head = head; words = map number held }))
 shown_is number w head held lent is =
     let below : reverse (map number held) ≡ map number lent =
-    ap (λ ws. reverse (map number ws)) is ∙ ap reverse (map_reversed number lent) ∙ reverse-reverse (map number lent) in
+    ap (λ ws. reverse (map number ws)) is ∙ ap reverse (map-reverse number lent) ∙ reverse-reverse (map number lent) in
     ap (λ ws. ws ++ reverse (digits_of (2 ^ w) head)) (sym below) ∙ sym (reverse-append (digits_of (2 ^ w) head) (map number held))
 
 -- the head's lowest word comes first, where no word is left below it

@@ -101,7 +101,7 @@ where
         ensures back { IfOk result (λ count. without count self.new.state ≡ self.old.state) }
         ensures err { IfErr result
             (ExportNotWritten Word.number Backend.Holds Backend.WriteWords.own Word.BITS self.old) }
-        ensures left { IfErr result (λ e. ExportLeft Word.number Backend.Holds Backend.WriteWords.own Backend.reads
+        ensures kept { IfErr result (λ e. ExportLeft Word.number Backend.Holds Backend.WriteWords.own Backend.reads
             Word.BITS self.old e self.new) }
     {
         let count = count_of_words::<Word, State>(self.state);
@@ -121,7 +121,7 @@ where
             ↔ ((m : ℕ) → IsOneAbove Word.BITS m self.old.state.head → ⊥) }
         ensures err { (e : Backend.WriteError) → result ≡ Err (coder_error.Backend e) →
             BinaryExportNotWritten Word.number Backend.Holds Backend.WriteWords.own Word.BITS self.old e }
-        ensures left { IfErr result (λ error. BinaryLeft Word.number Backend.Holds Backend.WriteWords.own Backend.reads
+        ensures kept { IfErr result (λ error. BinaryLeft Word.number Backend.Holds Backend.WriteWords.own Backend.reads
             Word.BITS self.old error self.new) }
     {
         let Some(count) = words_below_one::<Word, State>(self.state) else {
@@ -228,12 +228,12 @@ where
     Backend: WriteWords<Word> + ReadWords<Word, Stack>,
     Backend::ReadError: Drop,
     requires { IsSizes Word.BITS State.BITS }
-    ensures shown { OnOk result (map Word.number (Backend.words bulk.new)
+    ensures words { OnOk result (map Word.number (Backend.words bulk.new)
         ≡ fixed_digits (2 ^ Word.BITS) count (State.number head) ++ map Word.number (Backend.words bulk.old)) }
     ensures back { OnOk result (drop count (Backend.words bulk.new) ≡ Backend.words bulk.old) }
     ensures err { IfErr result (NotWritten Word.number Backend.Holds Backend.WriteWords.own
         (fixed_digits (2 ^ Word.BITS) count (State.number head)) bulk.old) }
-    ensures left { IfErr result (λ e. LeftByRefusal Word.number Backend.Holds Backend.WriteWords.own Backend.reads
+    ensures kept { IfErr result (λ e. LeftByRefusal Word.number Backend.Holds Backend.WriteWords.own Backend.reads
         (fixed_digits (2 ^ Word.BITS) count (State.number head))
         (value_of Word.number Backend.Holds (State.number head) bulk.old) e
         (state_of Word.number Backend.Holds (State.number head) bulk.new)) }

@@ -17,7 +17,7 @@ returns-in-Ok g c = (
 
 pub returns-in-Err : goal.returns-in-Err
 returns-in-Err g c = (
-  (refl, λ w. tt, c.in-Err.ensures.left),
+  (refl, λ w. tt, c.in-Err.ensures.kept),
   record {
     same_reference = tt;
     shows = tt;

@@ -10,7 +10,7 @@ returns-in_default-clause-frontend g c = rw (← c.self.view_is) (λ is m i. c.i
 pub returns-clause-shows : goal.returns-clause-shows
 returns-clause-shows g c =
     let state : List ℕ → AnsState = λ ws. record { head = g.State.BitArray.number c.self.inside.state; words = ws } in
-    rw (← c.self.view_is) (c.in-Some.count, c.in-Some.ensures.some, ap state c.in-Ok.ensures.shown)
+    rw (← c.self.view_is) (c.in-Some.count, c.in-Some.ensures.some, ap state c.in-Ok.ensures.words)
 
 pub returns-clause-back : goal.returns-clause-back
 returns-clause-back g c =
@@ -28,5 +28,5 @@ returns-in-Err-clause-err g c =
     let same : e ≡ c.in-Err.error = cc in
     rw same (c.in-Some.count, c.in-Some.ensures.some, c.in-Err.ensures.err))
 
-pub returns-in-Err-clause-left : goal.returns-in-Err-clause-left
-returns-in-Err-clause-left g c = rw (← c.self.view_is) (c.in-Some.count, c.in-Some.ensures.some, c.in-Err.ensures.left)
+pub returns-in-Err-clause-kept : goal.returns-in-Err-clause-kept
+returns-in-Err-clause-kept g c = rw (← c.self.view_is) (c.in-Some.count, c.in-Some.ensures.some, c.in-Err.ensures.kept)

@@ -13,7 +13,7 @@ returns-clause-shows g c =
     let below = map number (g.Backend.Holds.words c.self.inside.bulk) in
     let state : List ℕ → AnsState = λ ws. record { head = head; words = ws } in
     let digits = counted_digits g.Word.BitArray.BITS c.count_of_words-count.result head c.self.invariant.some_bits c.count_of_words-count.ensures in
-    rw (← c.self.view_is) (ap state (c.in-Ok.ensures.shown ∙ ap (λ (ds : List ℕ). ds ++ below) digits))
+    rw (← c.self.view_is) (ap state (c.in-Ok.ensures.words ∙ ap (λ (ds : List ℕ). ds ++ below) digits))
 
 pub returns-clause-back : goal.returns-clause-back
 returns-clause-back g c =
@@ -24,12 +24,12 @@ returns-in-Err-clause-err g c =
     let digits = counted_digits g.Word.BitArray.BITS c.count_of_words-count.result (g.State.BitArray.number c.self.inside.state) c.self.invariant.some_bits c.count_of_words-count.ensures in
     rw (← c.self.view_is) (subst (λ ds. NotWritten g.Word.BitArray.number g.Backend.Holds g.Backend.WriteWords ds c.self.inside.bulk c.in-Err.error) digits c.in-Err.ensures.err)
 
-pub returns-in-Err-clause-left : goal.returns-in-Err-clause-left
-returns-in-Err-clause-left g c =
+pub returns-in-Err-clause-kept : goal.returns-in-Err-clause-kept
+returns-in-Err-clause-kept g c =
     let number = g.Word.BitArray.number in
     let head = g.State.BitArray.number c.self.inside.state in
     let digits = counted_digits g.Word.BitArray.BITS c.count_of_words-count.result head c.self.invariant.some_bits c.count_of_words-count.ensures in
     rw (← c.self.view_is) (
     subst (λ ds. LeftByRefusal number g.Backend.Holds g.Backend.WriteWords g.Backend.ReadWords.reads ds (value_of number g.Backend.Holds head c.self.inside.bulk) c.in-Err.error
-    (value_of number g.Backend.Holds head c.show_words.new.bulk).state) digits c.in-Err.ensures.left
+    (value_of number g.Backend.Holds head c.show_words.new.bulk).state) digits c.in-Err.ensures.kept
     )

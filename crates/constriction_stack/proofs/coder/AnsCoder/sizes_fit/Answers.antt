@@ -3,7 +3,8 @@ use Rattle.std.proofs.Common.{arith, refl}
 use Rattle.std.proofs.lemmas.Bool.{false≢true, leb-true, le-leb}
 use Rattle.std.proofs.lemmas.List.{length-map}
 use Rattle.constriction_stack.specs.Ans.{AnsState, exported}
-use Rattle.constriction_stack.proofs.SizesCounted.{exported_length, fit_by_quotient, words_within}
+use Rattle.constriction_stack.proofs.SizesCounted.{exported_length, words_within}
+use Rattle.constriction_base.proofs.Sizes.{fit_by_quotient}
 use Rattle.constriction_stack.proofs.coder.AnsCoder.sizes_fit.Goals as goal
 
 pub returns-in_default : goal.returns-in_default

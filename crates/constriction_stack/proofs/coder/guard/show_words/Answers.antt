@@ -7,8 +7,8 @@ use Rattle.constriction_stack.proofs.coder.guard.show_words.Goals as goal
 pub returns-in-Err-clause-err : goal.returns-in-Err-clause-err
 returns-in-Err-clause-err g c = not_written g.Word.BitArray.number g.Backend.Holds g.Backend.WriteWords _ _ _ _ c.in-Err.ensures.written
 
-pub returns-in-Err-clause-left : goal.returns-in-Err-clause-left
-returns-in-Err-clause-left g c =
+pub returns-in-Err-clause-kept : goal.returns-in-Err-clause-kept
+returns-in-Err-clause-kept g c =
     let state : List g.row.Word.Denot → AnsState = λ ws. record { head = g.State.BitArray.number c.args.head; words = map g.Word.BitArray.number ws } in
     elim c.in-Err.ensures.refused [
       | inl none ↦ inl (ap state (ap g.Backend.Holds.words (c.take_back.ensures.none none) ∙ (rw none at c.in-Err.ensures.back)))
