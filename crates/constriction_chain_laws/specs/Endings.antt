@@ -104,5 +104,5 @@ NotPutBack w s P words items unequal put.NoMemory = ⊤
 -- ---- the way by the remainders
 
 -- a coder is as it was before symbols were taken out, but that the words below stand under its remainders, and the prefix is gone
-abbrev pub ComesBack : ChainState → List ℕ → List ℕ → ChainState → Type 0
-ComesBack x below prefix last = (last.h ≡ 1) × (last.r ≡ x.r) × (last.remainders ≡ below) × (x.compressed ≡ last.compressed ++ prefix)
+abbrev pub ComesBackOver : ChainState → List ℕ → List ℕ → ChainState → Type 0
+ComesBackOver x below prefix last = (last.h ≡ 1) × (last.r ≡ x.r) × (last.remainders ≡ below) × (x.compressed ≡ last.compressed ++ prefix)

@@ -2,7 +2,7 @@
 
 ghost use Rattle.std.specs.Prelude.{◌≡◌, ◌≢◌, ◌↔◌, ◌⊎◌, ◌*◌, ◌+◌, ◌^◌, ◌≤◌, length, map, IsTrue, IfOk, IfErr, OnOk, IsErrOf};
 ghost use Rattle.constriction_inputs.specs.Weights.{AreTotals, row_items};
-ghost use Rattle.constriction_inputs.specs.Intervals.{IsInterval, AreIntervals, interval_items, rows_between};
+ghost use Rattle.constriction_inputs.specs.Intervals.{IsIntervalWithin, AreIntervals, interval_items, rows_between};
 ghost use Rattle.constriction_inputs.specs.declared.refusal.Refusal.TheVariants as refusals;
 
 use crate::refusal::Refusal;
@@ -51,7 +51,7 @@ pub fn rows_by_intervals<P: BitArray, const PRECISION: usize>(
 /// Whether a number and a length are an interval of the numbers below two to the precision.
 fn is_interval<P: BitArray, const PRECISION: usize>(left: P, p: P) -> bool
     requires { (1 ≤ PRECISION) × (PRECISION ≤ P.BITS) }
-    ensures { IsTrue result ↔ IsInterval PRECISION (P.number left) (P.number p) }
+    ensures { IsTrue result ↔ IsIntervalWithin PRECISION (P.number left) (P.number p) }
 {
     let last = ones::<P>(PRECISION);
     if p.is_nothing() || last.is_below(left) {
@@ -77,7 +77,7 @@ fn are_intervals<P: BitArray, const PRECISION: usize>(lefts: &[P], ps: &[P]) -> 
 /// What lies above an interval.
 fn above<P: BitArray, const PRECISION: usize>(left: P, p: P) -> P
     requires sizes { (1 ≤ PRECISION) × (PRECISION ≤ P.BITS) }
-    requires interval { IsInterval PRECISION (P.number left) (P.number p) }
+    requires interval { IsIntervalWithin PRECISION (P.number left) (P.number p) }
     ensures { P.number result + (P.number left + P.number p) ≡ 2 ^ PRECISION }
 {
     ones::<P>(PRECISION).minus(left).minus(p.minus(P::unit()))

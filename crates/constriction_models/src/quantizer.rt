@@ -39,7 +39,7 @@ pub struct LeakyQuantizer<Probability: WordOf<u32>, const PRECISION: usize> {
 }
 
 impl<Probability: WordOf<u32>, const PRECISION: usize> LeakyQuantizer<Probability, PRECISION> {
-    ghost use Rattle.constriction_models.specs.Quantizers.{first_symbol, count_of};
+    ghost use Rattle.constriction_models.specs.Quantizers.{first_symbol, symbol_count};
 
     /// The quantizer of the symbols from `min` to `max`, of which there are two at least.
     ///
@@ -49,7 +49,7 @@ impl<Probability: WordOf<u32>, const PRECISION: usize> LeakyQuantizer<Probabilit
     pub fn new(min: i32, max: i32) -> Result<Self, SupportError>
         requires { (1 ≤ PRECISION) × (PRECISION ≤ Probability.BITS) }
         ensures first { IfOk result (λ q. first_symbol q ≡ min) }
-        ensures count { IfOk result (λ q. (min +ℤ pos (count_of q)) ≡ (max +ℤ pos 1)) }
+        ensures count { IfOk result (λ q. (min +ℤ pos (symbol_count q)) ≡ (max +ℤ pos 1)) }
         ensures few { IsErrOf result SupportError.TooFew ↔ (max ≤ℤ min) }
         ensures many { IsErrOf result SupportError.TooMany ↔ ((min +ℤ pos (2 ^ PRECISION)) ≤ℤ max) }
     {
@@ -72,7 +72,7 @@ impl<Probability: WordOf<u32>, const PRECISION: usize> LeakyQuantizer<Probabilit
         &self,
         distribution: D,
     ) -> LeakilyQuantizedDistribution<D, Probability, PRECISION>
-        ensures table { ⟦<LeakilyQuantizedDistribution<D, Probability, PRECISION> as EntropyModel<PRECISION>>⟧.table result ≡ quantized PRECISION (D.below distribution) (first_symbol self.now) (count_of self.now) }
+        ensures table { ⟦<LeakilyQuantizedDistribution<D, Probability, PRECISION> as EntropyModel<PRECISION>>⟧.table result ≡ quantized PRECISION (D.below distribution) (first_symbol self.now) (symbol_count self.now) }
     {
         LeakilyQuantizedDistribution {
             distribution,

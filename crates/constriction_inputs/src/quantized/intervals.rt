@@ -3,7 +3,7 @@
 ghost use Rattle.std.specs.Prelude.{◌≡◌, ◌<◌, ◌≤◌, Some, length, map};
 ghost use Rattle.std.specs.List.{AllByRecursion};
 ghost use Rattle.constriction_base.specs.Models.{pairs_of};
-ghost use Rattle.constriction_models.specs.Quantizers.{count_of, first_symbol};
+ghost use Rattle.constriction_models.specs.Quantizers.{symbol_count, first_symbol};
 ghost use Rattle.constriction_inputs.specs.Quantized.{AreIntervalsOf, tables_by};
 ghost use Rattle.constriction_inputs.specs.QuantizedCalls.{GivesIntervals};
 
@@ -70,9 +70,9 @@ fn put_intervals<P: WordOf<u32>, const PRECISION: usize>(
     requires counted { (length locations.now ≡ length symbols.now) × (length scales.now ≡ length symbols.now) }
     requires room { (length lefts.now ≡ length symbols.now) × (length ps.now ≡ length symbols.now) }
     requires scaled { AllByRecursion (λ scale. 0 < scale) scales.now }
-    requires places { AllByRecursion (λ symbol. symbol < count_of quantizer.now) symbols.now }
+    requires places { AllByRecursion (λ symbol. symbol < symbol_count quantizer.now) symbols.now }
     ensures { AreIntervalsOf
-        (pairs_of PRECISION (λ table. table) symbols.now (tables_by PRECISION (Some family) (first_symbol quantizer.now) (count_of quantizer.now) locations.now scales.now))
+        (pairs_of PRECISION (λ table. table) symbols.now (tables_by PRECISION (Some family) (first_symbol quantizer.now) (symbol_count quantizer.now) locations.now scales.now))
         (map P.number lefts.new) (map P.number ps.new) }
 {
     for i in 0..symbols.len() {

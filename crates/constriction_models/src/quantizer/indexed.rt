@@ -26,14 +26,14 @@ pub struct IndexedDistribution<
 }
 
 impl<Probability: WordOf<u32>, const PRECISION: usize> LeakyQuantizer<Probability, PRECISION> {
-    ghost use Rattle.constriction_models.specs.Quantizers.{first_symbol, count_of};
+    ghost use Rattle.constriction_models.specs.Quantizers.{first_symbol, symbol_count};
 
     /// The model of a distribution, cut at half symbols, whose symbols are places: that of `min` is 0.
     pub fn quantize_indexed<D: CumulativeDistribution>(
         &self,
         distribution: D,
     ) -> IndexedDistribution<D, Probability, PRECISION>
-        ensures table { ⟦<IndexedDistribution<D, Probability, PRECISION> as EntropyModel<PRECISION>>⟧.table result ≡ indexed PRECISION (D.below distribution) (first_symbol self.now) (count_of self.now) }
+        ensures table { ⟦<IndexedDistribution<D, Probability, PRECISION> as EntropyModel<PRECISION>>⟧.table result ≡ indexed PRECISION (D.below distribution) (first_symbol self.now) (symbol_count self.now) }
     {
         IndexedDistribution {
             model: LeakilyQuantizedDistribution {
