@@ -28,7 +28,7 @@ impl<'a, P: BitArray, const PRECISION: usize> Row<'a, P, PRECISION> {
     /// The model of these weights, if they add up to two to the precision.
     pub fn new(weights: &'a [P]) -> Option<Self>
         requires { (1 ≤ PRECISION) × (PRECISION ≤ P.BITS) }
-        ensures some { IfSome result (λ row. ⟦<Row<'a, P, PRECISION> as EntropyModel<PRECISION>>⟧.table row ≡ table_of (map P.number weights.now)) }
+        ensures ok { IfSome result (λ row. ⟦<Row<'a, P, PRECISION> as EntropyModel<PRECISION>>⟧.table row ≡ table_of (map P.number weights.now)) }
         ensures variant { IsSome result ↔ IsTotal PRECISION (map P.number weights.now) }
     {
         if is_total::<P, PRECISION>(weights) {

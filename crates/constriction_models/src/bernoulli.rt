@@ -34,7 +34,7 @@ impl<Probability: WordOf<u32>, const PRECISION: usize> BernoulliModel<Probabilit
     /// has nothing.
     pub fn new(weight: Probability) -> Option<Self>
         requires { (1 ≤ PRECISION) × (PRECISION ≤ Probability.BITS) }
-        ensures some { IfSome result (λ m. ⟦<BernoulliModel<Probability, PRECISION> as EntropyModel<PRECISION>>⟧.table m ≡ bernoulli PRECISION (Probability.number weight)) }
+        ensures ok { IfSome result (λ m. ⟦<BernoulliModel<Probability, PRECISION> as EntropyModel<PRECISION>>⟧.table m ≡ bernoulli PRECISION (Probability.number weight)) }
         ensures none { IsNone result ↔ ((Probability.number weight ≡ 0) ⊎ (2 ^ PRECISION ≤ Probability.number weight)) }
     {
         let weight = weight.widen() as u64;

@@ -43,8 +43,8 @@ where
     M::Probability: WordOf<u32>,
     requires { PRECISION ≤ 16 }
     ensures found { IfOk result (λ symbols. AreFound (M.table model.now) symbols.items (2 ^ PRECISION)) }
-    ensures low { IfOk result (λ _. HasLowSymbols (M.table model.now)) }
-    ensures high { IsErrOf result LookupError.Symbol → HasHighSymbol (M.table model.now) }
+    ensures fits { IfOk result (λ _. HasLowSymbols (M.table model.now)) }
+    ensures symbol { IsErrOf result LookupError.Symbol → HasHighSymbol (M.table model.now) }
 {
     let mut symbols = Vec::new(alloc);
     for quantile in 0..1u32 << PRECISION as u32 {
@@ -74,8 +74,8 @@ where
     pub fn new(alloc: Global, model: M) -> Result<Self, LookupError>
         requires { PRECISION ≤ 16 }
         ensures ok { IfOk result (λ t. ⟦<ContiguousLookupDecoderModel<M, PRECISION> as EntropyModel<PRECISION>>⟧.table t ≡ M.table model) }
-        ensures low { IfOk result (λ _. HasLowSymbols (M.table model)) }
-        ensures high { IsErrOf result LookupError.Symbol → HasHighSymbol (M.table model) }
+        ensures fits { IfOk result (λ _. HasLowSymbols (M.table model)) }
+        ensures symbol { IsErrOf result LookupError.Symbol → HasHighSymbol (M.table model) }
     {
         let symbols = symbols_of(alloc, &model)?;
         Ok(ContiguousLookupDecoderModel { model, symbols })

@@ -50,8 +50,8 @@ impl<Probability: WordOf<u32>, const PRECISION: usize> LeakyQuantizer<Probabilit
         requires { (1 ≤ PRECISION) × (PRECISION ≤ Probability.BITS) }
         ensures first { IfOk result (λ q. first_symbol q ≡ min) }
         ensures count { IfOk result (λ q. (min +ℤ pos (symbol_count q)) ≡ (max +ℤ pos 1)) }
-        ensures few { IsErrOf result SupportError.TooFew ↔ (max ≤ℤ min) }
-        ensures many { IsErrOf result SupportError.TooMany ↔ ((min +ℤ pos (2 ^ PRECISION)) ≤ℤ max) }
+        ensures too_few { IsErrOf result SupportError.TooFew ↔ (max ≤ℤ min) }
+        ensures too_many { IsErrOf result SupportError.TooMany ↔ ((min +ℤ pos (2 ^ PRECISION)) ≤ℤ max) }
     {
         if max <= min {
             return Err(SupportError::TooFew);

@@ -112,7 +112,7 @@ pub trait Decode<const PRECISION: usize>: Code {
         M::Probability: WordOf<Self::Word>,
         ensures same_reference { result.decoder.ghost_name ≡ self.entry.ghost_name }
         ensures decoder { result.decoder.now ≡ self.old }
-        ensures amt { result.amt ≡ amt }
+        ensures count { result.amt ≡ amt }
         ensures model { result.model ≡ model }
     {
         DecodeIidSymbols {

@@ -11,7 +11,7 @@ loop-i-preserved g c =
     let i : ℕ = c.loop-i.i in
     let low = first_symbol c.args.quantizer.now in
     let count = symbol_count c.args.quantizer.now in
-    let some = rw c.unwrap-distribution.ensures at c.distribution.ensures.some in
+    let some = rw c.unwrap-distribution.ensures at c.distribution.ensures.ok in
     let table = c.quantize_indexed.ensures.table ∙ ap (λ (below : ℤ → ℕ). indexed g.row.PRECISION below low count) some in
     record {
       tables = rw c.push_reserved.ensures.items (tables_more _ g.row.PRECISION (Some c.args.family) low count c.args.locations.now c.args.scales.now c.loop-i.models.items c.quantize_indexed.result

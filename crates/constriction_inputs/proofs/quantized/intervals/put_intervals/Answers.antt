@@ -14,7 +14,7 @@ unwrap-left-requires g c =
     let i : ℕ = c.loop-i.i in
     let low = first_symbol c.args.quantizer.now in
     let count = symbol_count c.args.quantizer.now in
-    let some = rw c.unwrap-distribution.ensures at c.distribution.ensures.some in
+    let some = rw c.unwrap-distribution.ensures at c.distribution.ensures.ok in
     let table = c.quantize_indexed-model.ensures.table ∙ ap (λ (below : ℤ → ℕ). indexed g.row.PRECISION below low count) some in
     let inside : get_or c.args.symbols.now i 0 < count = All-from_recursion (λ (symbol : ℕ). symbol < count) c.args.symbols.now c.requires.places i 0 c.loop-i-test.true in
     some_unless c.left_cumulative_and_probability.result _ c.left_cumulative_and_probability.ensures.impossible
@@ -29,7 +29,7 @@ loop-i-preserved g c =
     let symbol : ℕ = get_or c.args.symbols.now i 0 in
     let location : ℤ = to_z w64 (of_z w64 (get_or c.args.locations.now i (pos 0))) in
     let scale : ℕ = get_or c.args.scales.now i 0 in
-    let some = rw c.unwrap-distribution.ensures at c.distribution.ensures.some in
+    let some = rw c.unwrap-distribution.ensures at c.distribution.ensures.ok in
     let table = c.quantize_indexed-model.ensures.table ∙ ap (λ (below : ℤ → ℕ). indexed g.row.PRECISION below low count) some in
     let found = rw c.unwrap-left.ensures at c.left_cumulative_and_probability.ensures.found in
     let has = subst (λ (t : List (ℕ × ℕ × ℕ)). Has t symbol (number c.unwrap-left.result.0) (g.P.BitArray.nonzero_number c.unwrap-left.result.1)) table found in
