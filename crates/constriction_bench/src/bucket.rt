@@ -29,7 +29,9 @@ pub struct BucketTable {
 impl BucketTable {
     /// The table of these weights, or nothing where there is none or memory is missing.
     pub fn new(alloc: Global, weights: &[u32]) -> Option<Self>
-        ensures { IfSome result (λ table. ⟦<BucketTable as EntropyModel<24>>⟧.table table ≡ table_of (map (λ weight. weight % 2 ^ 32) weights.now)) }
+        ensures { IfSome result
+            (λ table. ⟦<BucketTable as EntropyModel<24>>⟧.table table
+            ≡ table_of (map (λ weight. weight % 2 ^ 32) weights.now)) }
     {
         let count = weights.len();
         let table = WeightTable::<u32, 24>::new(alloc, weights).ok()?;
@@ -74,7 +76,8 @@ fn firsts_of(
 ) -> Option<Vec<u8>>
     requires { length starts.now ≡ count + 1 }
     ensures all { IfSome result (λ firsts. length firsts.items ≡ 4096) }
-    ensures begin { IfSome result (λ firsts. (part : ℕ) → part < 4096 → BeginsBefore starts.now count (slice_index firsts.items part) part) }
+    ensures begin { IfSome result
+        (λ firsts. (part : ℕ) → part < 4096 → BeginsBefore starts.now count (slice_index firsts.items part) part) }
 {
     let mut firsts = Vec::new(alloc);
     for part in 0..4096u32 {

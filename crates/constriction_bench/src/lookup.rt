@@ -28,7 +28,9 @@ pub struct LookupTable {
 impl LookupTable {
     /// The table of these weights, or nothing where there is none or memory is missing.
     pub fn new(alloc: Global, weights: &[u16]) -> Option<Self>
-        ensures { IfSome result (λ table. ⟦<LookupTable as EntropyModel<12>>⟧.table table ≡ table_of (map (λ weight. weight % 2 ^ 16) weights.now)) }
+        ensures { IfSome result
+            (λ table. ⟦<LookupTable as EntropyModel<12>>⟧.table table
+            ≡ table_of (map (λ weight. weight % 2 ^ 16) weights.now)) }
     {
         let count = weights.len();
         let table = WeightTable::<u16, 12>::new(alloc, weights).ok()?;
@@ -73,7 +75,8 @@ fn symbols_of(
 ) -> Option<Vec<u8>>
     requires { length starts.now ≡ count + 1 }
     ensures all { IfSome result (λ symbols. length symbols.items ≡ 4096) }
-    ensures finds { IfSome result (λ symbols. (q : ℕ) → q < 4096 → HoldsQuantile starts.now count (slice_index symbols.items q) q) }
+    ensures finds { IfSome result
+        (λ symbols. (q : ℕ) → q < 4096 → HoldsQuantile starts.now count (slice_index symbols.items q) q) }
 {
     let mut symbols = Vec::new(alloc);
     for quantile in 0..4096u16 {

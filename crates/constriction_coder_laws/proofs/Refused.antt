@@ -1,6 +1,6 @@
 -- Lists of encodes that the coder itself refused: one of the symbols has no entry, for any coder that refuses nothing else.
 use Rattle.std.specs.Iterator.{Yields, YieldsThen}
-use Rattle.std.specs.Iterator.Adapters.{zip_first, zip_second, zip_steps, zip_steps_back}
+use Rattle.std.specs.Iterator.Adapters.{zip_steps, zip_steps_back}
 use Rattle.std.specs.Slice.Iter.{iter_rest, iter_steps, iter_steps_back}
 use Rattle.std.specs.declared.iter.Zip.{Zip}
 use Rattle.std.specs.List.{zip}

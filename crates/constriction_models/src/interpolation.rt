@@ -1,7 +1,7 @@
 //! Functions by a table of values, between which they go straight.
 
 ghost use Rattle.std.specs.Prelude.{◌≡◌, ◌+◌, ◌-◌, ◌*◌, ◌/◌, ◌<◌, ◌≤◌, length, ℤ, pos, ◌+ℤ◌, ◌-ℤ◌};
-ghost use Rattle.constriction_models.specs.Interpolation.{AreValues, value_at, value_above, located};
+ghost use Rattle.constriction_models.specs.Interpolation.{AreValues, value_at, located};
 ghost use Rattle.constriction_models.specs.laws.Interpolating.{Fits};
 
 /// The value at a place, in 65536ths of a step.

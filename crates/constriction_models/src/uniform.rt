@@ -39,7 +39,9 @@ impl<Probability: WordOf<u32>, const PRECISION: usize> UniformModel<Probability,
     /// `TooFew` where there are fewer than two, and `TooMany` where there are more than two to the precision.
     pub fn new(count: usize) -> Result<Self, SupportError>
         requires { (1 ≤ PRECISION) × (PRECISION ≤ Probability.BITS) }
-        ensures ok { IfOk result (λ m. ⟦<UniformModel<Probability, PRECISION> as EntropyModel<PRECISION>>⟧.table m ≡ uniform PRECISION count) }
+        ensures ok { IfOk result
+            (λ m. ⟦<UniformModel<Probability, PRECISION> as EntropyModel<PRECISION>>⟧.table m
+            ≡ uniform PRECISION count) }
         ensures too_few { IsErrOf result SupportError.TooFew ↔ (count < 2) }
         ensures too_many { IsErrOf result SupportError.TooMany ↔ (2 ^ PRECISION < count) }
     {

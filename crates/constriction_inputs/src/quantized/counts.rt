@@ -23,7 +23,8 @@ pub fn put_weights_of_counts<P: WordOf<u32>, const PRECISION: usize>(
     weights: &mut [P],
 ) -> Result<(), Refusal>
     requires { (PRECISION < P.BITS) × (PRECISION ≤ 31) }
-    ensures call { GivesWeightsOfCounts PRECISION counts.now (map P.number weights.old) (map P.number weights.new) result }
+    ensures call { GivesWeightsOfCounts PRECISION counts.now (map P.number weights.old)
+        (map P.number weights.new) result }
 {
     if weights.len() != counts.len() {
         return Err(Refusal::WrongLength);

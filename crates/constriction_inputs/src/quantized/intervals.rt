@@ -14,13 +14,13 @@ use constriction_models::families::Family;
 use constriction_models::quantizer::LeakyQuantizer;
 use constriction_words::{BitArray, WordOf};
 
-/// Writes for each symbol where its interval begins into `lefts`, and how long it is into `ps`, by its model. It takes no
-/// memory.
+/// Writes for each symbol where its interval begins into `lefts`, and how long it is into `ps`, by its model. It takes
+/// no memory.
 ///
 /// # Errors
 ///
-/// In this order, each just in its case, and nothing changed: `WrongLength`, where `lefts` or `ps` are not as many as the
-/// symbols; those of the models; `ImpossibleSymbol`, where a symbol is past the range.
+/// In this order, each just in its case, and nothing changed: `WrongLength`, where `lefts` or `ps` are not as many as
+/// the symbols; those of the models; `ImpossibleSymbol`, where a symbol is past the range.
 pub fn intervals_of_quantized<P: WordOf<u32>, const PRECISION: usize>(
     families: &Families<'_>,
     symbols: &[usize],
@@ -29,7 +29,13 @@ pub fn intervals_of_quantized<P: WordOf<u32>, const PRECISION: usize>(
 ) -> Result<(), Refusal>
     requires { (1 ≤ PRECISION) × (PRECISION ≤ P.BITS) }
     ensures call { GivesIntervals P.number PRECISION
-        record { family = families.now.family; min = families.now.min; max = families.now.max; locations = families.now.locations.now; scales = families.now.scales.now } symbols.now
+        record {
+          family = families.now.family;
+          min = families.now.min;
+          max = families.now.max;
+          locations = families.now.locations.now;
+          scales = families.now.scales.now;
+        } symbols.now
         record { lefts = lefts.old; ps = ps.old } record { lefts = lefts.new; ps = ps.new } result }
 {
     if lefts.len() != symbols.len() || ps.len() != symbols.len() {
@@ -72,7 +78,9 @@ fn put_intervals<P: WordOf<u32>, const PRECISION: usize>(
     requires scaled { AllByRecursion (λ scale. 0 < scale) scales.now }
     requires places { AllByRecursion (λ symbol. symbol < symbol_count quantizer.now) symbols.now }
     ensures { AreIntervalsOf
-        (pairs_of PRECISION (λ table. table) symbols.now (tables_by PRECISION (Some family) (first_symbol quantizer.now) (symbol_count quantizer.now) locations.now scales.now))
+        (pairs_of PRECISION (λ table. table) symbols.now
+        (tables_by PRECISION (Some family) (first_symbol quantizer.now)
+        (symbol_count quantizer.now) locations.now scales.now))
         (map P.number lefts.new) (map P.number ps.new) }
 {
     for i in 0..symbols.len() {
