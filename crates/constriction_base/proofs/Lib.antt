@@ -11,5 +11,9 @@ pub mod Heads
 pub mod Sizes
 pub mod Exporting
 pub mod Guards
+pub mod OneAbove
+pub mod MovingIn
+pub mod Written
+pub mod WordLists
 pub mod Made
-mod Results
+pub mod Results

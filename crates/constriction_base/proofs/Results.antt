@@ -1,6 +1,6 @@
 -- Clauses on answers that are known to be one or the other.
 use Rattle.std.proofs.Common.{Result, Ok, Err}
-use Rattle.std.specs.Prelude.{IsErr, IfOk, OnOk}
+use Rattle.std.specs.Prelude.{IsErr, IfOk, MatchResult, OnOk}
 
 -- an error has made nothing
 pub none_made : {T E : Type 0} (P : T → Type 0) (answer : Result T E) → IsErr answer → IfOk answer P
@@ -11,3 +11,9 @@ none_made P (Err e) h = tt
 pub either_way : {T E P : Type 0} (answer : Result T E) → P → OnOk answer P
 either_way (Ok x) h = h
 either_way (Err e) h = tt
+
+-- each outcome tells more
+pub mapped : {T E : Type 0} (P P' : T → Type 0) (Q Q' : E → Type 0) (answer : Result T E) → ((x : T) → P x → P' x) → ((e : E) → Q e → Q' e)
+    → MatchResult answer P Q → MatchResult answer P' Q'
+mapped P P' Q Q' (Ok x) f g m = f x m
+mapped P P' Q Q' (Err e) f g m = g e m

@@ -1,5 +1,5 @@
 -- Powers of two at the sizes of words, states and tables.
-use Rattle.std.proofs.Common.{◌≡◌, ℕ, zero, suc, ◌+◌, ◌-◌, ◌*◌, ◌/◌, ◌^◌, ◌≤◌, refl, sym, ap, ◌∙◌, arith, pow-add, pow_mono, zero-mul, div-add-mod', le-div_iff_mul-le}
+use Rattle.std.proofs.Common.{◌≡◌, ◌↔◌, ℕ, zero, suc, ◌+◌, ◌-◌, ◌*◌, ◌/◌, ◌^◌, ◌<◌, ◌≤◌, refl, sym, ap, ◌∙◌, arith, pow-add, pow_mono, zero-mul, div-add-mod', le-div_iff_mul-le}
 use native.Mathlib.Nat.{pow-suc, pow-zero}
 use Rattle.constriction_base.specs.Steps.{Step, IsStep, IsSizes}
 
@@ -12,6 +12,14 @@ pow-mul w zero = rw (pow-zero, zero-mul) refl
 pow-mul w (suc j) =
     let e : suc j * w ≡ j * w + w = omega arith in
     rw (pow-suc, pow-mul w j, e, pow-add 2 (j * w) w) refl
+
+-- a test of a number of words by a quotient
+pub fit_by_quotient : (w n : ℕ) → 1 ≤ w → (n ≤ 18446744073709551615 / w) ↔ (w * n < 2 ^ 64)
+fit_by_quotient w n some =
+    let top : 2 ^ 64 ≡ 18446744073709551616 = refl in (
+      λ h. let within : n * w ≤ 18446744073709551615 = (le-div_iff_mul-le some).0 h in omega (arith, within, top),
+      λ h. (le-div_iff_mul-le some).1 (omega (arith, h, top)),
+    )
 
 -- what the laws use of the sizes
 pub record Facts (w s : ℕ) : Type 0 where

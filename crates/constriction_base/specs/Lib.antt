@@ -9,4 +9,5 @@ pub mod Windows
 pub mod WeightTables
 pub mod Digits
 pub mod Readings
+pub mod Writing
 pub mod laws

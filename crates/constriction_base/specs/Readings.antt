@@ -1,7 +1,10 @@
 -- Words that the reads of a backend give, as coders take them.
-use Rattle.std.specs.Prelude.{◌≡◌, ℕ, ◌<◌, ◌^◌, ⊤, List, [], ◌∷◌, Option, Some, Result, Ok, Err, map}
-use Rattle.std.specs.Int.Digits.{number_from_digits}
+use Rattle.std.specs.Prelude.{◌≡◌, ℕ, ◌<◌, ◌^◌, ⊤, List, [], ◌∷◌, ◌++◌, Option, Some, Result, Ok, Err, map}
+use Rattle.std.specs.Int.Digits.{number_from_digits, number_from_digits_after}
+use Rattle.constriction_base.specs.Backends.{Reads}
 use Rattle.constriction_base.specs.Steps.{InTurn}
+use Rattle.constriction_base.specs.declared.backends.reading.Holds as holding
+use Rattle.constriction_base.specs.declared.backends.reading.ReadWords as reading
 
 -- no read of such a backend is ever refused
 abbrev pub NeverRefused : {W E B : Type 0} → (B → Result (Option W) E → B → Type 0) → Type 0
@@ -22,3 +25,25 @@ pub record Imports {W E B : Type 0} (number : W → ℕ) (reads : B → Result (
   pub given : Gives reads old words new
   pub high : BeginsHigh (map number words)
   pub is : head ≡ number_from_digits (2 ^ w) (map number words)
+
+-- ---- by a backend's rules for reads
+
+-- a read, by what the backend tells of its reads, and by its words where it knows them
+abbrev pub ReadsAs : {W B E S : Type 0} → holding.Ghosts B W S → reading.Ghosts B W S E → B → Result (Option W) E → B → Type 0
+ReadsAs holds reads old answer new = reads.reads old answer new × (holds.is_list → Reads (holds.words old) answer (holds.words new))
+
+-- words that reads gave, which moved in below a number one after another
+pub record MovesIn {W B E S : Type 0} (number : W → ℕ) (holds : holding.Ghosts B W S) (reads : reading.Ghosts B W S E) (w from : ℕ) (old : B) (n : ℕ) (new : B) : Type 0 where
+  pub words : List W
+  pub given : Gives reads.reads old words new
+  -- of a backend that knows its words they were the first
+  pub taken : holds.is_list → holds.words old ≡ words ++ holds.words new
+  pub is : n ≡ number_from_digits_after (2 ^ w) from (map number words)
+
+-- of the words that moved in below a number, this was reached, which is below the bound, and the next read answered this
+-- in place of a word
+pub record StopsAt {W B E S : Type 0} (number : W → ℕ) (holds : holding.Ghosts B W S) (reads : reading.Ghosts B W S E) (w bound from : ℕ) (old : B) (n : ℕ) (answer : Result (Option W) E) (new : B) : Type 0 where
+  pub last : B
+  pub moved : MovesIn number holds reads w from old n last
+  pub low : n < bound
+  pub read : ReadsAs holds reads last answer new

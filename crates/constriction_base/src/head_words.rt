@@ -1,9 +1,15 @@
-//! The number that a coder holds above its words.
+//! The number that a coder holds above its words: how many words it has, and words that move between it and a backend.
 
-ghost use Rattle.std.specs.Prelude.{◌≡◌};
-ghost use Rattle.constriction_base.specs.Digits.{count_of_words};
+ghost use Rattle.std.specs.Prelude.{Err, IfNone, IfOk, IfSome, MatchBool, MatchResult, None, Ok, drop, ℕ, ◌+◌, ◌<◌};
+ghost use Rattle.std.specs.Prelude.{◌^◌, ◌≡◌, ◌≤◌};
+ghost use Rattle.constriction_base.specs.Digits.{count_of_words, fixed_digits};
+ghost use Rattle.constriction_base.specs.Readings.{MovesIn, StopsAt};
 ghost use Rattle.constriction_base.specs.Steps.{IsSizes};
+ghost use Rattle.constriction_base.specs.Writing.{Appends, IsOneAbove, WritesAll};
 
+use crate::backends::reading::{Holds, ReadWords};
+use crate::backends::semantics::Stack;
+use crate::backends::writing::WriteWords;
 use constriction_words::{BitArray, WordOf};
 
 /// How many words a head has without leading zeros.
@@ -19,4 +25,122 @@ pub fn count_of_words<Word: WordOf<State>, State: BitArray>(head: State) -> usiz
         rest = rest.shifted_right(Word::BITS);
     }
     count
+}
+
+/// How many words a head has below its leading one, if these are whole words.
+pub fn words_below_one<Word: WordOf<State>, State: BitArray>(head: State) -> Option<usize>
+    requires { IsSizes Word.BITS State.BITS }
+    ensures some { IfSome result (λ m. IsOneAbove Word.BITS m (State.number head)) }
+    ensures none { IfNone result ((m : ℕ) → IsOneAbove Word.BITS m (State.number head) → ⊥) }
+{
+    if head.is_nothing() {
+        return None;
+    }
+    let bits = head.bit_length() - 1;
+    if bits % Word::BITS != 0 {
+        return None;
+    }
+    Some((bits / Word::BITS) as usize)
+}
+
+/// Writes the lowest words of a head onto a backend, the lowest first. It asks for no room.
+///
+/// # Errors
+///
+/// That of a write, and how many words were written before it: these stay.
+pub fn write_words<Word: WordOf<State>, State: BitArray, Backend: WriteWords<Word>>(
+    bulk: &mut Backend,
+    head: State,
+    count: usize,
+) -> Result<(), (usize, Backend::WriteError)>
+    requires { IsSizes Word.BITS State.BITS }
+    ensures written { MatchResult result
+        (λ done. WritesAll Word.number Backend.Holds Backend.WriteWords.own
+        (fixed_digits (2 ^ Word.BITS) count (State.number head)) bulk.old (Ok done) bulk.new)
+        (λ refused. WritesAll Word.number Backend.Holds Backend.WriteWords.own
+        (fixed_digits (2 ^ Word.BITS) count (State.number head)) bulk.old (Err refused.1) bulk.new) }
+    ensures back { MatchResult result
+        (λ _. drop count (Backend.words bulk.new) ≡ Backend.words bulk.old)
+        (λ refused. drop refused.0 (Backend.words bulk.new) ≡ Backend.words bulk.old) }
+{
+    let mut rest = head;
+    let mut left = count;
+    'words: while left > 0 {
+        match bulk.write(Word::narrow(rest)) {
+            Ok(()) => {}
+            Err(refusal) => return Err((count - left, refusal)),
+        }
+        rest = rest.shifted_right(Word::BITS);
+        left -= 1;
+    }
+    Ok(())
+}
+
+/// Writes the lowest words of a head onto a backend, the lowest first, once there is room for them all. Where there are
+/// none, the backend isn't called.
+///
+/// # Errors
+///
+/// That of `prepare`, or of a write, and how many words were written before it: these stay.
+pub fn append_words<Word: WordOf<State>, State: BitArray, Backend: WriteWords<Word>>(
+    bulk: &mut Backend,
+    head: State,
+    count: usize,
+) -> Result<(), (usize, Backend::WriteError)>
+    requires { IsSizes Word.BITS State.BITS }
+    ensures written { MatchResult result
+        (λ done. Appends Word.number Backend.Holds Backend.WriteWords.own
+        (fixed_digits (2 ^ Word.BITS) count (State.number head)) bulk.old (Ok done) bulk.new)
+        (λ refused. Appends Word.number Backend.Holds Backend.WriteWords.own
+        (fixed_digits (2 ^ Word.BITS) count (State.number head)) bulk.old (Err refused.1) bulk.new) }
+    ensures back { MatchResult result
+        (λ _. drop count (Backend.words bulk.new) ≡ Backend.words bulk.old)
+        (λ refused. drop refused.0 (Backend.words bulk.new) ≡ Backend.words bulk.old) }
+{
+    if count == 0 {
+        return Ok(());
+    }
+    match bulk.prepare(count) {
+        Ok(()) => {}
+        Err(error) => return Err((0, error)),
+    }
+    write_words(bulk, head, count)
+}
+
+/// A head above 0, into which words move as long as it is below 2 to the `bits` and one is left; and whether it came
+/// that far.
+///
+/// # Errors
+///
+/// That of a read. The words that moved in before are gone.
+pub fn fill<Word: WordOf<State>, State: BitArray, Backend: ReadWords<Word, Stack>>(
+    bulk: &mut Backend,
+    head: State,
+    bits: u32,
+) -> Result<(State, bool), Backend::ReadError>
+    requires some_bits { 1 ≤ Word.BITS }
+    requires within { bits + Word.BITS ≤ State.BITS }
+    requires some { 0 < State.number head }
+    ensures moves { MatchResult result
+        (λ found. MatchBool found.1
+        (MovesIn Word.number Backend.Holds Backend.ReadWords.own Word.BITS (State.number head) bulk.old
+        (State.number found.0) bulk.new
+        × (2 ^ bits ≤ State.number found.0))
+        (StopsAt Word.number Backend.Holds Backend.ReadWords.own Word.BITS (2 ^ bits) (State.number head) bulk.old
+        (State.number found.0) (Ok None) bulk.new))
+        (λ e. (n : ℕ)
+        × StopsAt Word.number Backend.Holds Backend.ReadWords.own Word.BITS (2 ^ bits) (State.number head) bulk.old
+        n (Err e) bulk.new) }
+    ensures below { State.number head < 2 ^ (bits + Word.BITS)
+        → IfOk result (λ found. State.number found.0 < 2 ^ (bits + Word.BITS)) }
+{
+    let mut full = head;
+    'words: while full.shifted_right(bits).is_nothing() {
+        match bulk.read() {
+            Ok(Some(word)) => full = full.shifted_left(Word::BITS).plus(word.widen()),
+            Ok(None) => return Ok((full, false)),
+            Err(error) => return Err(error),
+        }
+    }
+    Ok((full, true))
 }

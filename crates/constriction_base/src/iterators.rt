@@ -48,7 +48,8 @@ impl<Word, ReadError, Iter: Iterator<Item = Result<Word, ReadError>>> FallibleIt
     pub fn new(iter: Iter) -> Self
         requires { Iter.can_next iter }
         ensures value { result ≡ (iter, false) }
-        ensures reads { (results : List (Result Word ReadError)) → Drains Iter.next_gives iter results ↔ CanGive (FusedRead Iter.next_gives) result results }
+        ensures reads { (results : List (Result Word ReadError))
+            → Drains Iter.next_gives iter results ↔ CanGive (FusedRead Iter.next_gives) result results }
     {
         FallibleIteratorReadWords { inner: iter.fuse() }
     }
@@ -59,7 +60,8 @@ impl<Iter: Iterator> IntoIterator for FallibleIteratorReadWords<Iter> {
 
     type IntoIter = Fuse<Iter>;
 
-    ghost into_iter_gives = { λ backend rest. (fuse_source rest ≡ backend.0) × (fuse_done rest ≡ backend.1) × (fuse_done rest ≡ false → Iter.can_next (fuse_source rest)) };
+    ghost into_iter_gives = { λ backend rest. (fuse_source rest ≡ backend.0) × (fuse_done rest ≡ backend.1)
+        × (fuse_done rest ≡ false → Iter.can_next (fuse_source rest)) };
 
     /// The iterator as the reads left it, which gives nothing more once it has ended.
     fn into_iter(self) -> Fuse<Iter> {

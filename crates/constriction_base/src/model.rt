@@ -53,13 +53,15 @@ pub trait EncoderModel<const PRECISION: usize>: EntropyModel<PRECISION> {
         &self,
         symbol: &Self::Symbol,
     ) -> Option<(Self::Probability, <Self::Probability as BitArray>::NonZero)>
-        ensures found { IfSome result (λ found. Has (Self.table self.now) symbol.now (Self.Probability.number found.0) (Self.Probability.nonzero_number found.1)) }
+        ensures found { IfSome result (λ found.
+            Has (Self.table self.now) symbol.now (Self.Probability.number found.0)
+            (Self.Probability.nonzero_number found.1)) }
         ensures impossible { IfNone result (Impossible (Self.table self.now) symbol.now) };
 
     /// The same, and the reciprocal of how long the interval is, where the model has one.
     ///
-    /// An encoder that divides by it then takes a product in place of the division. A model that keeps no reciprocals has none,
-    /// and needs no such method of its own.
+    /// An encoder that divides by it then takes a product in place of the division. A model that keeps no reciprocals
+    /// has none, and needs no such method of its own.
     fn left_cumulative_and_reciprocal(
         &self,
         symbol: &Self::Symbol,
@@ -70,8 +72,11 @@ pub trait EncoderModel<const PRECISION: usize>: EntropyModel<PRECISION> {
             Option<Reciprocal>,
         ),
     >
-        ensures found { IfSome result (λ found. Has (Self.table self.now) symbol.now (Self.Probability.number found.0) (Self.Probability.nonzero_number found.1)) }
-        ensures reciprocal { IfSome result (λ found. IfSome found.2 (λ r. IsReciprocalOf r (Self.Probability.nonzero_number found.1))) }
+        ensures found { IfSome result (λ found.
+            Has (Self.table self.now) symbol.now (Self.Probability.number found.0)
+            (Self.Probability.nonzero_number found.1)) }
+        ensures reciprocal { IfSome result (λ found. IfSome found.2 (λ r.
+            IsReciprocalOf r (Self.Probability.nonzero_number found.1))) }
         ensures impossible { IfNone result (Impossible (Self.table self.now) symbol.now) }
     {
         match self.left_cumulative_and_probability(symbol) {
@@ -97,8 +102,10 @@ pub trait DecoderModel<const PRECISION: usize>: EntropyModel<PRECISION> {
         <Self::Probability as BitArray>::NonZero,
     )
         requires { Self.Probability.number quantile < 2 ^ PRECISION }
-        ensures found { Has (Self.table self.now) result.0 (Self.Probability.number result.1) (Self.Probability.nonzero_number result.2) }
-        ensures covers { Covers (Self.Probability.number result.1) (Self.Probability.nonzero_number result.2) (Self.Probability.number quantile) };
+        ensures found { Has (Self.table self.now) result.0 (Self.Probability.number result.1)
+            (Self.Probability.nonzero_number result.2) }
+        ensures covers { Covers (Self.Probability.number result.1) (Self.Probability.nonzero_number result.2)
+            (Self.Probability.number quantile) };
 }
 
 impl<const PRECISION: usize, M: EntropyModel<PRECISION>> EntropyModel<PRECISION> for &M {

@@ -49,7 +49,8 @@ impl<A: Allocator + Copy> BoundedReadWords<usize, Stack> for SmallVec<usize, 1, 
 impl<A: Allocator + Copy> WriteWords<usize> for SmallVec<usize, 1, A> {
     type WriteError = AllocError;
 
-    ghost writes = { λ old word r new. Writes (reverse old.items) word r (reverse new.items) × (old.capacity ≤ new.capacity) };
+    ghost writes = { λ old word r new. Writes (reverse old.items) word r (reverse new.items)
+        × (old.capacity ≤ new.capacity) };
 
     ghost write_fails = { λ v _. (v.capacity ≤ length v.items) × (1 ≤ length v.items) };
 

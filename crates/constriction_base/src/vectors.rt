@@ -3,7 +3,8 @@
 //! Its writes and `prepare` return want of memory, and nothing else; reading it never fails, takes no
 //! memory and keeps the capacity. Any allocator serves.
 
-ghost use Rattle.std.specs.Prelude.{◌≡◌, ◌+◌, ◌-◌, false, ◌<◌, ◌≤◌, ◌==◌, Option, Result, Ok, Err, reverse, vec_len, vec_capacity, take};
+ghost use Rattle.std.specs.Prelude.{◌≡◌, ◌+◌, ◌-◌, false, ◌<◌, ◌≤◌, ◌==◌, Option, Result, Ok, Err, reverse, vec_len};
+ghost use Rattle.std.specs.Prelude.{vec_capacity, take};
 ghost use Rattle.constriction_base.specs.Backends.{Reads, Writes};
 ghost use Rattle.constriction_base.specs.laws.Room.{no_room_left, room_for, at_length, within, words_counted};
 ghost use Rattle.std.proofs.Common.{sym};
@@ -35,7 +36,8 @@ impl<Word: BitArray, A: Allocator> Holds<Word, Queue> for Vec<Word, A> {
 impl<Word: BitArray, A: Allocator> ReadWords<Word, Stack> for Vec<Word, A> {
     type ReadError = Infallible;
 
-    ghost reads = { λ old r new. Reads (reverse old.items) r (reverse new.items) × (vec_capacity new ≡ vec_capacity old) };
+    ghost reads = { λ old r new. Reads (reverse old.items) r (reverse new.items)
+        × (vec_capacity new ≡ vec_capacity old) };
 
     ghost seems_exhausted = { λ v. vec_len v == 0 };
 
@@ -62,7 +64,8 @@ impl<Word: BitArray, A: Allocator> BoundedReadWords<Word, Stack> for Vec<Word, A
 impl<Word: BitArray, A: Allocator> WriteWords<Word> for Vec<Word, A> {
     type WriteError = AllocError;
 
-    ghost writes = { λ old word r new. Writes (reverse old.items) word r (reverse new.items) × (vec_capacity old ≤ vec_capacity new) };
+    ghost writes = { λ old word r new. Writes (reverse old.items) word r (reverse new.items)
+        × (vec_capacity old ≤ vec_capacity new) };
 
     ghost write_fails = { λ v _. vec_capacity v ≤ vec_len v };
 
@@ -119,7 +122,8 @@ impl<Word: BitArray, A: Allocator> Seek for Vec<Word, A> {
 
     ghost seek_fails = { λ v position. vec_len v < position };
 
-    ghost sought = { λ old position new. (new.items ≡ take position old.items) × (vec_capacity new ≡ vec_capacity old) };
+    ghost sought = { λ old position new. (new.items ≡ take position old.items)
+        × (vec_capacity new ≡ vec_capacity old) };
 
     ghost stays = { λ old _ new. new ≡ old };
 

@@ -3,7 +3,8 @@
 mod hints;
 mod starts;
 
-ghost use Rattle.std.specs.Prelude.{◌≡◌, ◌≢◌, ◌+◌, ◌-◌, ◌*◌, ◌^◌, ◌<◌, ◌≤◌, ◌↔◌, [], length, map, sum_by, slice_index, OnOk, IfOk, IfSome, IfNone, IsErrOf};
+ghost use Rattle.std.specs.Prelude.{◌≡◌, ◌≢◌, ◌+◌, ◌-◌, ◌*◌, ◌^◌, ◌<◌, ◌≤◌, ◌↔◌, [], length, map, sum_by, slice_index};
+ghost use Rattle.std.specs.Prelude.{OnOk, IfOk, IfSome, IfNone, IsErrOf};
 ghost use Rattle.constriction_base.specs.Tables.{Has, Impossible, IsRising, table_of, weights_between};
 ghost use Rattle.constriction_base.specs.Hints.{AreHints};
 ghost use Rattle.constriction_base.specs.Reciprocals.{AreReciprocals};
@@ -60,7 +61,8 @@ pub struct WeightTable<Probability: BitArray, const PRECISION: usize> {
     pub ghost fits: { PRECISION ≤ Probability.BITS },
     ghost has_symbols: { 0 < length starts.items },
     ghost rising: { IsRising (map Probability.number starts.items) (2 ^ PRECISION) },
-    ghost last: { 2 ^ PRECISION - slice_index (map Probability.number starts.items) (length starts.items - 1) < 2 ^ Probability.BITS },
+    ghost last: { 2 ^ PRECISION - slice_index (map Probability.number starts.items) (length starts.items - 1)
+        < 2 ^ Probability.BITS },
     ghost cut: { (shift < PRECISION) × (PRECISION - shift ≤ 63) },
     ghost buckets: { length hints.items ≡ 2 ^ (PRECISION - shift) + 1 },
     ghost hinted: { AreHints (map Probability.number starts.items) (2 ^ PRECISION) (2 ^ shift) hints.items },
@@ -74,8 +76,8 @@ impl<Probability: BitArray, const PRECISION: usize> WeightTable<Probability, PRE
     ///
     /// With all bits of `Probability` as precision the total does not fit one weight, so that at least two are
     /// above 0. It keeps a start for each symbol up to the last of a weight above 0, and more than two hints
-    /// for each of these, at most four, in `alloc`. At a precision of at most 63 bits it keeps a reciprocal of each weight
-    /// too, 24 bytes a symbol, so that the encoders that divide by weights need no division.
+    /// for each of these, at most four, in `alloc`. At a precision of at most 63 bits it keeps a reciprocal of each
+    /// weight too, 24 bytes a symbol, so that the encoders that divide by weights need no division.
     /// [`for_decoding`](WeightTable::for_decoding) makes a table without these, in less time.
     ///
     /// # Errors
@@ -98,7 +100,8 @@ impl<Probability: BitArray, const PRECISION: usize> WeightTable<Probability, PRE
         ensures reciprocals { IfOk result (λ t. PRECISION ≤ 63 → KeepsReciprocals t) }
         ensures total { OnOk result (sum_by Probability.number weights.now ≡ 2 ^ PRECISION) }
         ensures empty { IsErrOf result TableError.Empty ↔ (weights.now ≡ []) }
-        ensures wrong_total { IsErrOf result TableError.WrongTotal ↔ ((weights.now ≢ []) × (sum_by Probability.number weights.now ≢ 2 ^ PRECISION)) }
+        ensures wrong_total { IsErrOf result TableError.WrongTotal ↔ ((weights.now ≢ [])
+            × (sum_by Probability.number weights.now ≢ 2 ^ PRECISION)) }
         ensures memory { IsErrOf result TableError.Memory → sum_by Probability.number weights.now ≡ 2 ^ PRECISION }
     {
         let table = Self::for_decoding(alloc, weights)?;
@@ -108,11 +111,11 @@ impl<Probability: BitArray, const PRECISION: usize> WeightTable<Probability, PRE
         }
     }
 
-    /// The table of these weights without reciprocals, for decoding, and for encoders that divide by no weight, as the range
-    /// coder's.
+    /// The table of these weights without reciprocals, for decoding, and for encoders that divide by no weight, as the
+    /// range coder's.
     ///
-    /// It is the same table as that of [`new`](WeightTable::new), made in less time and memory. Encoders that divide by weights
-    /// take it too, and are slower.
+    /// It is the same table as that of [`new`](WeightTable::new), made in less time and memory. Encoders that divide by
+    /// weights take it too, and are slower.
     ///
     /// # Errors
     ///
@@ -128,7 +131,8 @@ impl<Probability: BitArray, const PRECISION: usize> WeightTable<Probability, PRE
         ensures ok { IfOk result (λ t. entries t ≡ table_of (map Probability.number weights.now)) }
         ensures total { OnOk result (sum_by Probability.number weights.now ≡ 2 ^ PRECISION) }
         ensures empty { IsErrOf result TableError.Empty ↔ (weights.now ≡ []) }
-        ensures wrong_total { IsErrOf result TableError.WrongTotal ↔ ((weights.now ≢ []) × (sum_by Probability.number weights.now ≢ 2 ^ PRECISION)) }
+        ensures wrong_total { IsErrOf result TableError.WrongTotal ↔ ((weights.now ≢ [])
+            × (sum_by Probability.number weights.now ≢ 2 ^ PRECISION)) }
         ensures memory { IsErrOf result TableError.Memory → sum_by Probability.number weights.now ≡ 2 ^ PRECISION }
     {
         if weights.is_empty() {
@@ -164,7 +168,9 @@ impl<Probability: BitArray, const PRECISION: usize> WeightTable<Probability, PRE
     fn made_reciprocals(&self, alloc: Global) -> Result<Vec<Reciprocal>, AllocError>
         requires { PRECISION ≤ 63 }
         ensures count { IfOk result (λ made. length made.items ≡ length self.now.starts.items) }
-        ensures reciprocals { IfOk result (λ made. AreReciprocals (weights_between (map Probability.number self.now.starts.items) (2 ^ PRECISION)) made.items) }
+        ensures reciprocals { IfOk result (λ made.
+            AreReciprocals (weights_between (map Probability.number self.now.starts.items) (2 ^ PRECISION))
+            made.items) }
     {
         let mut made = Vec::with_capacity(alloc, self.starts.len())?;
         for symbol in 0..self.starts.len() {
@@ -195,7 +201,8 @@ impl<Probability: BitArray, const PRECISION: usize> WeightTable<Probability, PRE
     /// How long the interval of a symbol is.
     fn weight(&self, symbol: usize) -> Probability
         requires { symbol < length self.now.starts.items }
-        ensures { Probability.number result ≡ slice_index (weights_between (map Probability.number self.now.starts.items) (2 ^ PRECISION)) symbol }
+        ensures { Probability.number result
+            ≡ slice_index (weights_between (map Probability.number self.now.starts.items) (2 ^ PRECISION)) symbol }
     {
         let start = self.start(symbol);
         if symbol + 1 < self.starts.len() {
@@ -209,7 +216,10 @@ impl<Probability: BitArray, const PRECISION: usize> WeightTable<Probability, PRE
 
     /// The reciprocal of a symbol's weight, where the table keeps it.
     fn reciprocal(&self, symbol: usize) -> Option<Reciprocal>
-        ensures ok { IfSome result (λ r. 0 < slice_index (weights_between (map Probability.number self.now.starts.items) (2 ^ PRECISION)) symbol → IsReciprocalOf r (slice_index (weights_between (map Probability.number self.now.starts.items) (2 ^ PRECISION)) symbol)) }
+        ensures ok { IfSome result (λ r.
+            0 < slice_index (weights_between (map Probability.number self.now.starts.items) (2 ^ PRECISION)) symbol
+            → IsReciprocalOf r
+            (slice_index (weights_between (map Probability.number self.now.starts.items) (2 ^ PRECISION)) symbol)) }
         ensures none { IfNone result (length self.now.reciprocals.items ≤ symbol) }
     {
         if symbol >= self.reciprocals.len() {
@@ -263,8 +273,10 @@ impl<Probability: BitArray, const PRECISION: usize> EncoderModel<PRECISION>
             Option<Reciprocal>,
         ),
     >
-        ensures found { IfSome result (λ found. Has (entries self.now) symbol.now (Probability.number found.0) (Probability.nonzero_number found.1)) }
-        ensures reciprocal { IfSome result (λ found. IfSome found.2 (λ r. IsReciprocalOf r (Probability.nonzero_number found.1))) }
+        ensures found { IfSome result (λ found.
+            Has (entries self.now) symbol.now (Probability.number found.0) (Probability.nonzero_number found.1)) }
+        ensures reciprocal { IfSome result (λ found. IfSome found.2 (λ r.
+            IsReciprocalOf r (Probability.nonzero_number found.1))) }
         ensures kept { IfSome result (λ found. IfNone found.2 (KeepsReciprocals self.now → ⊥)) }
         ensures impossible { IfNone result (Impossible (entries self.now) symbol.now) }
     {

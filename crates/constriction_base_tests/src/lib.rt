@@ -19,6 +19,8 @@ mod cursors;
 #[cfg(test)]
 mod errors;
 #[cfg(test)]
+mod head_words;
+#[cfg(test)]
 mod iterators;
 #[cfg(test)]
 mod laws;

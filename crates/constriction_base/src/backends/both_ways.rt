@@ -14,7 +14,8 @@ use crate::backends::writing::WriteWords;
 /// other. An implementation chooses nothing here: the law ties the two lists of [`Holds`].
 pub trait BothWays<Word>: Holds<Word, Stack> + Holds<Word, Queue> {
     // The one list is the other turned round.
-    ghost turned_law: { (b : Self) → ⟦<Self as Holds<Word, Queue>>⟧.words b ≡ reverse (⟦<Self as Holds<Word, Stack>>⟧.words b) };
+    ghost turned_law: { (b : Self)
+        → ⟦<Self as Holds<Word, Queue>>⟧.words b ≡ reverse (⟦<Self as Holds<Word, Stack>>⟧.words b) };
 }
 
 /// Hands on what was written, to be read in the order in which it was written.
@@ -31,7 +32,8 @@ pub fn written_to_queue<
     Word,
     Backend: WriteWords<Word> + IntoReadWords<Word, Queue> + BothWays<Word>,
 >(backend: Backend) -> Backend::IntoReadWords
-    ensures words { ⟦<Backend::IntoReadWords as Holds<Word, Queue>>⟧.words result ≡ reverse (⟦<Backend as Holds<Word, Stack>>⟧.words backend) }
+    ensures words { ⟦<Backend::IntoReadWords as Holds<Word, Queue>>⟧.words result
+        ≡ reverse (⟦<Backend as Holds<Word, Stack>>⟧.words backend) }
     ensures place { Backend.becomes backend result }
 {
     backend.into_read_words()

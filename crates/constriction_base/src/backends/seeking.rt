@@ -79,5 +79,6 @@ pub trait SeeksBack: Pos + Seek {
     ghost reach_law: { (b : Self) (position : Self.Position) → Self.stands_at b position → Self.can_seek b position };
 
     // Going there is not refused.
-    ghost accept_law: { (b : Self) (position : Self.Position) → Self.stands_at b position → Self.seek_fails b position → ⊥ };
+    ghost accept_law: { (b : Self) (position : Self.Position) → Self.stands_at b position → Self.seek_fails b position
+        → ⊥ };
 }

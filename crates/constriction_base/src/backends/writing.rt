@@ -16,9 +16,9 @@ pub trait WriteWords<Word>: Holds<Word, Stack> {
     /// Why a word could not be written: want of memory for a vector, want of room for a cursor.
     type WriteError;
 
-    /// What the next write of the word may return, and what it leaves: of the whole value, as the place and the capacity,
-    /// where `words` and `room` tell a part of it. So calls that write several words say by it that each is a write
-    /// to what the one before left.
+    /// What the next write of the word may return, and what it leaves: of the whole value, as the place and the
+    /// capacity, where `words` and `room` tell a part of it. So calls that write several words say by it that each is a
+    /// write to what the one before left.
     ghost writes: { Self → Word → Result (Unit {0}) Self.WriteError → Self → Type 0 };
 
     /// Which error the next write may return.
@@ -80,7 +80,8 @@ pub trait WriteWords<Word>: Holds<Word, Stack> {
     ghost prepare_law: { (b : Self) (count : ℕ) (e : Self.WriteError) → count ≤ room b → prepare_fails b count e → ⊥ };
 
     // Where it doesn't seem full, room for a word is not refused for lack of room.
-    ghost full_law: { (b : Self) (e : Self.WriteError) → seems_full b ≡ false → is_lack_of_room e → prepare_fails b 1 e → ⊥ };
+    ghost full_law: { (b : Self) (e : Self.WriteError) → seems_full b ≡ false → is_lack_of_room e → prepare_fails b 1 e
+        → ⊥ };
 
     ghost knows_words: { Self.is_list };
 }

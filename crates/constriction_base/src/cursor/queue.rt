@@ -17,7 +17,8 @@ impl<Word: BitArray, Buf: Words<Word> + Drop> Holds<Word, Queue> for Cursor<Word
 impl<Word: BitArray, Buf: Words<Word> + Drop> ReadWords<Word, Queue> for Cursor<Word, Buf> {
     type ReadError = Infallible;
 
-    ghost reads = { λ old r new. Reads (drop old.pos (Buf.lent old.buf)) r (drop new.pos (Buf.lent new.buf)) × (new.buf ≡ old.buf) };
+    ghost reads = { λ old r new. Reads (drop old.pos (Buf.lent old.buf)) r (drop new.pos (Buf.lent new.buf))
+        × (new.buf ≡ old.buf) };
 
     ghost seems_exhausted = { λ c. c.pos == length (Buf.lent c.buf) };
 

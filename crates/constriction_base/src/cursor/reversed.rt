@@ -43,8 +43,10 @@ impl<Word: BitArray, Buf: WordsMut<Word> + Drop> Cursor<Word, Buf> {
     /// cursor.into_reversed() // reads 3, 2, 1 as before; the buffer is [3, 2, 1]
     /// ```
     pub fn into_reversed(self) -> Reverse<Self>
-        ensures stack { ⟦<Reverse<Cursor<Word, Buf>> as Holds<Word, Stack>>⟧.words result ≡ ⟦<Cursor<Word, Buf> as Holds<Word, Stack>>⟧.words self }
-        ensures queue { ⟦<Reverse<Cursor<Word, Buf>> as Holds<Word, Queue>>⟧.words result ≡ ⟦<Cursor<Word, Buf> as Holds<Word, Queue>>⟧.words self }
+        ensures stack { ⟦<Reverse<Cursor<Word, Buf>> as Holds<Word, Stack>>⟧.words result
+            ≡ ⟦<Cursor<Word, Buf> as Holds<Word, Stack>>⟧.words self }
+        ensures queue { ⟦<Reverse<Cursor<Word, Buf>> as Holds<Word, Queue>>⟧.words result
+            ≡ ⟦<Cursor<Word, Buf> as Holds<Word, Queue>>⟧.words self }
         ensures buffer { Buf.lent result.0.buf ≡ reverse (Buf.lent self.buf) }
         ensures place { result.0.pos ≡ length (Buf.lent self.buf) - self.pos }
     {
@@ -55,8 +57,10 @@ impl<Word: BitArray, Buf: WordsMut<Word> + Drop> Cursor<Word, Buf> {
 impl<Word: BitArray, Buf: WordsMut<Word> + Drop> Reverse<Cursor<Word, Buf>> {
     /// The same stack and the same queue, over the buffer turned round.
     pub fn into_reversed(self) -> Cursor<Word, Buf>
-        ensures stack { ⟦<Cursor<Word, Buf> as Holds<Word, Stack>>⟧.words result ≡ ⟦<Reverse<Cursor<Word, Buf>> as Holds<Word, Stack>>⟧.words self }
-        ensures queue { ⟦<Cursor<Word, Buf> as Holds<Word, Queue>>⟧.words result ≡ ⟦<Reverse<Cursor<Word, Buf>> as Holds<Word, Queue>>⟧.words self }
+        ensures stack { ⟦<Cursor<Word, Buf> as Holds<Word, Stack>>⟧.words result
+            ≡ ⟦<Reverse<Cursor<Word, Buf>> as Holds<Word, Stack>>⟧.words self }
+        ensures queue { ⟦<Cursor<Word, Buf> as Holds<Word, Queue>>⟧.words result
+            ≡ ⟦<Reverse<Cursor<Word, Buf>> as Holds<Word, Queue>>⟧.words self }
         ensures buffer { Buf.lent result.buf ≡ reverse (Buf.lent self.0.buf) }
         ensures place { result.pos ≡ length (Buf.lent self.0.buf) - self.0.pos }
     {
@@ -68,7 +72,8 @@ impl<Word: BitArray, Buf: WordsMut<Word> + Drop> Reverse<Cursor<Word, Buf>> {
 impl<Word: BitArray, Buf: WordsMut<Word> + Drop> IntoReversed<Word> for Cursor<Word, Buf> {
     type IntoReversed = Reverse<Cursor<Word, Buf>>;
 
-    ghost turns = { λ old new. (Buf.lent new.0.buf ≡ reverse (Buf.lent old.buf)) × (new.0.pos ≡ length (Buf.lent old.buf) - old.pos) };
+    ghost turns = { λ old new. (Buf.lent new.0.buf ≡ reverse (Buf.lent old.buf))
+        × (new.0.pos ≡ length (Buf.lent old.buf) - old.pos) };
 
     fn into_reversed_stack(self) -> Reverse<Cursor<Word, Buf>> {
         self.into_reversed()
@@ -78,7 +83,8 @@ impl<Word: BitArray, Buf: WordsMut<Word> + Drop> IntoReversed<Word> for Cursor<W
 impl<Word: BitArray, Buf: WordsMut<Word> + Drop> IntoReversed<Word> for Reverse<Cursor<Word, Buf>> {
     type IntoReversed = Cursor<Word, Buf>;
 
-    ghost turns = { λ old new. (Buf.lent new.buf ≡ reverse (Buf.lent old.0.buf)) × (new.pos ≡ length (Buf.lent old.0.buf) - old.0.pos) };
+    ghost turns = { λ old new. (Buf.lent new.buf ≡ reverse (Buf.lent old.0.buf))
+        × (new.pos ≡ length (Buf.lent old.0.buf) - old.0.pos) };
 
     fn into_reversed_stack(self) -> Cursor<Word, Buf> {
         self.into_reversed()

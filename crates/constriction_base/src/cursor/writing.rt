@@ -1,6 +1,7 @@
 //! Writing to a cursor, at the position, until the buffer ends.
 
-ghost use Rattle.std.specs.Prelude.{◌≡◌, ◌+◌, ◌-◌, ◌∷◌, ◌<◌, ◌≤◌, ◌==◌, Result, Ok, Err, length, reverse, IsOk, OnOk, OnErr, IfErr, slice_set, take};
+ghost use Rattle.std.specs.Prelude.{◌≡◌, ◌+◌, ◌-◌, ◌∷◌, ◌<◌, ◌≤◌, ◌==◌, Result, Ok, Err, length, reverse, IsOk, OnOk};
+ghost use Rattle.std.specs.Prelude.{OnErr, IfErr, slice_set, take};
 ghost use Rattle.constriction_base.specs.laws.Room.{no_room_at};
 ghost use Rattle.constriction_base.specs.declared.errors.BoundedWriteError.TheVariants.{OutOfSpace};
 
@@ -34,9 +35,12 @@ impl<Word: BitArray, Buf: WordsMut<Word> + Drop> WriteWords<Word> for Cursor<Wor
     /// `OutOfSpace` at the buffer's end. Nothing changes then.
     #[tactic(auto, using(crate::proofs::Ends::reverse_push))]
     fn write(&mut self, word: Word) -> Result<(), BoundedWriteError>
-        ensures ok { OnOk result (reverse (take self.new.pos (Buf.lent self.new.buf)) ≡ word ∷ reverse (take self.old.pos (Buf.lent self.old.buf))) }
-        ensures room { OnOk result (length (Buf.lent self.old.buf) - self.old.pos ≤ length (Buf.lent self.new.buf) - self.new.pos + 1) }
-        ensures kept { OnErr result (reverse (take self.new.pos (Buf.lent self.new.buf)) ≡ reverse (take self.old.pos (Buf.lent self.old.buf))) }
+        ensures ok { OnOk result (reverse (take self.new.pos (Buf.lent self.new.buf))
+            ≡ word ∷ reverse (take self.old.pos (Buf.lent self.old.buf))) }
+        ensures room { OnOk result (length (Buf.lent self.old.buf) - self.old.pos
+            ≤ length (Buf.lent self.new.buf) - self.new.pos + 1) }
+        ensures kept { OnErr result (reverse (take self.new.pos (Buf.lent self.new.buf))
+            ≡ reverse (take self.old.pos (Buf.lent self.old.buf))) }
         ensures err { IfErr result (λ e. (e ≡ OutOfSpace) × (self.old.pos ≡ length (Buf.lent self.old.buf))) }
         ensures buffer { OnOk result (Buf.lent self.new.buf ≡ slice_set (Buf.lent self.old.buf) self.old.pos word) }
         ensures place { OnOk result (self.new.pos ≡ self.old.pos + 1) }

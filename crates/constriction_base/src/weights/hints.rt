@@ -34,7 +34,8 @@ fn symbol_from<Probability: BitArray>(
     ensures order { from ≤ result }
     ensures within { result < length starts.now }
     ensures above { slice_index (map Probability.number starts.now) result ≤ Probability.number quantile }
-    ensures below { result + 1 < length starts.now → Probability.number quantile < slice_index (map Probability.number starts.now) (result + 1) }
+    ensures below { result + 1 < length starts.now
+        → Probability.number quantile < slice_index (map Probability.number starts.now) (result + 1) }
 {
     let mut symbol = from;
     while symbol + 1 < starts.len() && !quantile.is_below(starts[symbol + 1]) {
@@ -54,7 +55,8 @@ pub fn hints_of<Probability: BitArray, const PRECISION: usize>(
     requires rising { IsRising (map Probability.number starts.now) (2 ^ PRECISION) }
     requires within { (shift < PRECISION) × (PRECISION - shift ≤ 63) }
     ensures count { IfOk result (λ hints. length hints.items ≡ 2 ^ (PRECISION - shift) + 1) }
-    ensures ok { IfOk result (λ hints. AreHints (map Probability.number starts.now) (2 ^ PRECISION) (2 ^ shift) hints.items) }
+    ensures ok { IfOk result (λ hints.
+        AreHints (map Probability.number starts.now) (2 ^ PRECISION) (2 ^ shift) hints.items) }
 {
     let count = 1usize << (PRECISION as u32 - shift);
     let width = Probability::unit().shifted_left(shift);

@@ -19,7 +19,8 @@ pub fn known_symbols<Probability: BitArray, const PRECISION: usize>(
     weights: &[Probability],
 ) -> Option<usize>
     requires { (1 ≤ PRECISION) × (PRECISION ≤ Probability.BITS) }
-    ensures ok { IfSome result (λ n. IsLastSymbol Probability.number weights.now n (2 ^ PRECISION) (2 ^ Probability.BITS)) }
+    ensures ok { IfSome result (λ n.
+        IsLastSymbol Probability.number weights.now n (2 ^ PRECISION) (2 ^ Probability.BITS)) }
     ensures none { IfNone result (sum_by Probability.number weights.now ≢ 2 ^ PRECISION) }
 {
     let last = ones::<Probability>(PRECISION);
@@ -53,7 +54,8 @@ pub fn starts_of<Probability: BitArray>(
 ) -> Result<Vec<Probability>, AllocError>
     requires total { sum_by Probability.number weights.now < 2 ^ Probability.BITS }
     requires few { length weights.now + 1 < 2 ^ 64 }
-    ensures { IfOk result (λ starts. Sums Probability.number weights.now (map Probability.number starts.items) (length weights.now + 1)) }
+    ensures { IfOk result (λ starts.
+        Sums Probability.number weights.now (map Probability.number starts.items) (length weights.now + 1)) }
 {
     let mut left = Probability::nothing();
     let mut starts = Vec::with_capacity(alloc, weights.len() + 1)?;

@@ -1,0 +1,24 @@
+use Rattle.std.specs.Prelude.{◌^◌, Ok, Err}
+use Rattle.std.proofs.Common.{arith}
+use Rattle.constriction_base.specs.Digits.{fixed_digits}
+use Rattle.constriction_base.proofs.Guards.{fixed-length}
+use Rattle.constriction_base.proofs.Results.{mapped}
+use Rattle.constriction_base.proofs.Written.{appended, not_prepared}
+use Rattle.constriction_base.proofs.head_words.append_words.Goals as goal
+
+pub returns-in-Err-clause-written : goal.returns-in-Err-clause-written
+returns-in-Err-clause-written g c =
+    let owed = fixed_digits (2 ^ g.Word.BitArray.BITS) c.args.count (g.State.BitArray.number c.args.head) in
+    let len = fixed-length (2 ^ g.Word.BitArray.BITS) c.args.count (g.State.BitArray.number c.args.head) in
+    not_prepared g.Word.BitArray.number g.Backend.Holds g.Backend.WriteWords g.met.Backend.WriteWords.prepare_law owed c.args.bulk.now c.prepare.new.self c.in-Err.error
+    (rw len c.in-Err.ensures.err) c.prepare.ensures.words (omega (arith, len))
+
+pub returns-clause-written : goal.returns-clause-written
+returns-clause-written g c =
+    let owed = fixed_digits (2 ^ g.Word.BitArray.BITS) c.args.count (g.State.BitArray.number c.args.head) in
+    let len = fixed-length (2 ^ g.Word.BitArray.BITS) c.args.count (g.State.BitArray.number c.args.head) in
+    let after = appended g.Word.BitArray.number g.Backend.Holds g.Backend.WriteWords owed c.args.bulk.now c.prepare.new.self c.write_words.new.bulk in
+    mapped _ _ _ _ c.write_words.result
+    (λ done i. after (Ok done) c.in-Ok.ensures.room c.prepare.ensures.words (λ m. rw len (c.in-Ok.ensures.made m)) (omega (arith, len)) i)
+    (λ refused i. after (Err refused.1) c.in-Ok.ensures.room c.prepare.ensures.words (λ m. rw len (c.in-Ok.ensures.made m)) (omega (arith, len)) i)
+    c.write_words.ensures.written

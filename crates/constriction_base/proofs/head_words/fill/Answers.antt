@@ -1,0 +1,47 @@
+use Rattle.std.proofs.Common.{arith, ◌∙◌, refl, sym}
+use Rattle.std.proofs.lemmas.Bool.{false≢true}
+use Rattle.constriction_base.proofs.Exporting.{word_grows}
+use Rattle.constriction_base.proofs.Heads.{large_of_shr}
+use Rattle.constriction_base.proofs.MovingIn.{moves_more, room_below}
+use Rattle.constriction_base.proofs.head_words.fill.Goals as goal
+
+pub shifted_left-requires-clause-fits : goal.shifted_left-requires-clause-fits
+shifted_left-requires-clause-fits g c =
+    let none = sym c.shifted_right.ensures ∙ c.words-test.ensures.0 refl in
+    let room = room_below c.args.bits g.Word.BitArray.BITS g.State.BitArray.BITS (g.State.BitArray.number c.words.full) (g.Word.BitArray.number c.in-Ok-Some.word) c.requires.within none (g.met.Word.BitArray.number_law _) in
+    rw c.BITS.ensures (omega (arith, room.1))
+
+pub plus-full-requires : goal.plus-full-requires
+plus-full-requires g c =
+    let none = sym c.shifted_right.ensures ∙ c.words-test.ensures.0 refl in
+    let room = room_below c.args.bits g.Word.BitArray.BITS g.State.BitArray.BITS (g.State.BitArray.number c.words.full) (g.Word.BitArray.number c.in-Ok-Some.word) c.requires.within none (g.met.Word.BitArray.number_law _) in
+    rw (c.shifted_left.ensures, c.BITS.ensures, c.widen.ensures) room.1
+
+pub words-smaller : goal.words-smaller
+words-smaller g c =
+    let none = sym c.shifted_right.ensures ∙ c.words-test.ensures.0 refl in
+    let room = room_below c.args.bits g.Word.BitArray.BITS g.State.BitArray.BITS (g.State.BitArray.number c.words.full) (g.Word.BitArray.number c.in-Ok-Some.word) c.requires.within none (g.met.Word.BitArray.number_law _) in
+    let grows = word_grows g.Word.BitArray.BITS (g.State.BitArray.number c.words.full) (g.Word.BitArray.number c.in-Ok-Some.word) c.requires.some_bits c.words.invariant.some in
+    rw (c.plus-full.ensures, c.shifted_left.ensures, c.BITS.ensures, c.widen.ensures) (omega (arith, room.1, grows))
+
+pub words-preserved : goal.words-preserved
+words-preserved g c =
+    let w = g.Word.BitArray.BITS in
+    let n = g.State.BitArray.number c.words.full in
+    let word = c.in-Ok-Some.word in
+    let none = sym c.shifted_right.ensures ∙ c.words-test.ensures.0 refl in
+    let room = room_below c.args.bits w g.State.BitArray.BITS n (g.Word.BitArray.number word) c.requires.within none (g.met.Word.BitArray.number_law _) in
+    let grows = word_grows w n (g.Word.BitArray.number word) c.requires.some_bits c.words.invariant.some in
+    let reads = rw c.in-Ok-Some.field-0-is at c.in-Ok-Some.ensures.reads in
+    let top = rw c.in-Ok-Some.field-0-is at c.in-Ok-Some.ensures.words in
+    let sum = rw (c.shifted_left.ensures, c.BITS.ensures, c.widen.ensures) at c.plus-full.ensures in
+    record {
+      some = rw sum (omega (arith, grows));
+      below = λ small. rw sum room.0;
+      moved = moves_more g.Word.BitArray.number g.Backend.Holds g.Backend.ReadWords w (g.State.BitArray.number c.args.head) n (g.State.BitArray.number c.plus-full.result) c.args.bulk.now c.words.bulk c.read.new.self word c.words.invariant.moved reads top sum;
+    }
+
+pub returns-clause-moves : goal.returns-clause-moves
+returns-clause-moves g c =
+    let full = large_of_shr _ _ (λ e. false≢true (c.words-test.ensures.1 (c.shifted_right.ensures ∙ e))) in
+    (c.words.invariant.moved, full)

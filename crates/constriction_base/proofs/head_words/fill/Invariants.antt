@@ -1,0 +1,16 @@
+use Rattle.std.specs.Prelude.{◌+◌, ◌-◌, ◌^◌, ◌<◌}
+use Rattle.constriction_base.specs.Readings.{MovesIn}
+use Rattle.constriction_base.proofs.head_words.fill.Given as goal
+
+abbrev pub invariant-words : goal.invariant-words
+invariant-words g l =
+    let w = g.Word.BitArray.BITS in
+    let n = g.State.BitArray.number l.full in
+    record {
+      some : 0 < n;
+      below : g.State.BitArray.number l.fn.head < 2 ^ (l.bits + w) → n < 2 ^ (l.bits + w);
+      moved : MovesIn g.Word.BitArray.number g.Backend.Holds g.Backend.ReadWords w (g.State.BitArray.number l.fn.head) l.initial.bulk n l.bulk;
+    }
+
+abbrev pub decreases-words : goal.decreases-words
+decreases-words g l = 2 ^ g.State.BitArray.BITS - g.State.BitArray.number l.full

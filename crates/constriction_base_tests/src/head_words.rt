@@ -1,0 +1,97 @@
+//! The words of a number, at words of 8 bits and numbers of 16: how many there are, and how they move between a number and a
+//! backend.
+
+use constriction_base::backends::{ReadWords, Stack, WriteWords};
+use constriction_base::cursor::Cursor;
+use constriction_base::errors::BoundedWriteError;
+use constriction_base::head_words::{
+    append_words, count_of_words, fill, words_below_one, write_words,
+};
+use std::convert::Infallible;
+use std::test::Fail;
+
+/// What became of a call that writes words.
+#[derive(PartialEq, Eq, Drop)]
+enum Wrote {
+    All,
+    OutOfSpaceAfter(usize),
+}
+
+/// Writes so many words of a number, once there is room for them all.
+fn appends<B: WriteWords<u8, WriteError = BoundedWriteError>>(
+    words: &mut B,
+    number: u16,
+    count: usize,
+) -> Wrote {
+    match append_words::<u8, u16, B>(words, number, count) {
+        Ok(()) => Wrote::All,
+        Err((before, _)) => Wrote::OutOfSpaceAfter(before),
+    }
+}
+
+/// The same without a request for room.
+fn writes<B: WriteWords<u8, WriteError = BoundedWriteError>>(
+    words: &mut B,
+    number: u16,
+    count: usize,
+) -> Wrote {
+    match write_words::<u8, u16, B>(words, number, count) {
+        Ok(()) => Wrote::All,
+        Err((before, _)) => Wrote::OutOfSpaceAfter(before),
+    }
+}
+
+/// Words move in below a number above 0, as long as it is less than 2^8.
+fn fills<B: ReadWords<u8, Stack, ReadError = Infallible>>(
+    words: &mut B,
+    number: u16,
+) -> (u16, bool) {
+    if number == 0 {
+        return (0, false);
+    }
+    match fill::<u8, u16, B>(words, number, 8) {
+        Ok(found) => found,
+        Err(never) => match never {},
+    }
+}
+
+/// A number has these counts of words, and of words below its leading one.
+fn counts(number: u16, words: usize, below_one: Option<usize>) -> bool {
+    (count_of_words::<u8, u16>(number) == words) & (words_below_one::<u8, u16>(number) == below_one)
+}
+
+#[test]
+fn words_of_a_number_are_counted(rt: HostRuntime) {
+    assert!(rt; counts(0, 0, None) & counts(1, 1, Some(0)) & counts(2, 1, None));
+    assert!(rt; counts(255, 1, None) & counts(256, 2, Some(1)) & counts(511, 2, Some(1)));
+    assert!(rt; counts(512, 2, None));
+}
+
+#[test]
+fn the_lowest_word_is_written_first(rt: HostRuntime) {
+    let mut buffer = [9u8, 0, 0, 0];
+    let mut cursor = Cursor::new_at_write_beginning(&mut buffer[1..]);
+    assert!(rt; appends(&mut cursor, 0x0201, 2) == Wrote::All);
+    assert!(rt; appends(&mut cursor, 0x0504, 0) == Wrote::All);
+    assert!(rt; writes(&mut cursor, 0x0403, 1) == Wrote::All);
+    assert!(rt; buffer == [9, 1, 2, 3]);
+}
+
+#[test]
+fn a_refused_word_leaves_those_before_it(rt: HostRuntime) {
+    let mut buffer = [0u8, 0];
+    let mut cursor = Cursor::new_at_write_beginning(&mut buffer[1..]);
+    assert!(rt; appends(&mut cursor, 0x0201, 2) == Wrote::OutOfSpaceAfter(1));
+    assert!(rt; writes(&mut cursor, 0x0403, 2) == Wrote::OutOfSpaceAfter(0));
+    assert!(rt; buffer == [0, 1]);
+}
+
+#[test]
+fn words_move_in_below_a_number(rt: HostRuntime) {
+    let words = [5u8, 7];
+    let mut cursor = Cursor::new_at_write_end(words.as_slice());
+    assert!(rt; fills(&mut cursor, 1) == (0x0107, true));
+    assert!(rt; fills(&mut cursor, 0x0100) == (0x0100, true));
+    assert!(rt; fills(&mut cursor, 2) == (0x0205, true));
+    assert!(rt; fills(&mut cursor, 3) == (3, false));
+}
