@@ -73,7 +73,7 @@ impl<Word: BitArray, Buf: Words<Word> + Drop> Cursor<Word, Buf> {
 
     /// The buffer, of which the position is no place past the end.
     pub fn buf(&self) -> &Buf
-        ensures buf { result.now ≡ self.now.buf }
+        ensures buffer { result.now ≡ self.now.buf }
         ensures within { self.now.pos ≤ length (Buf.lent self.now.buf) }
     {
         &self.buf
@@ -81,7 +81,7 @@ impl<Word: BitArray, Buf: Words<Word> + Drop> Cursor<Word, Buf> {
 
     /// The buffer and the position.
     pub fn into_buf_and_pos(self) -> (Buf, usize)
-        ensures buf { result.0 ≡ self.buf }
+        ensures buffer { result.0 ≡ self.buf }
         ensures pos { result.1 ≡ self.pos }
         ensures within { self.pos ≤ length (Buf.lent self.buf) }
     {

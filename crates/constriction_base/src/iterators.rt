@@ -48,7 +48,7 @@ impl<Word, ReadError, Iter: Iterator<Item = Result<Word, ReadError>>> FallibleIt
     pub fn new(iter: Iter) -> Self
         requires { Iter.can_next iter }
         ensures value { result ≡ (iter, false) }
-        ensures lists { (results : List (Result Word ReadError))
+        ensures reads { (results : List (Result Word ReadError))
             → Drains Iter.next_gives iter results ↔ CanGive (FusedRead Iter.next_gives) result results }
     {
         FallibleIteratorReadWords { inner: iter.fuse() }

@@ -155,7 +155,7 @@ impl<Probability: BitArray, const PRECISION: usize> WeightTable<Probability, PRE
 
     /// The same table, with a reciprocal of each weight where the precision is at most 63 bits.
     fn with_reciprocals(mut self, alloc: Global) -> Result<Self, AllocError>
-        ensures same { IfOk result (λ t. entries t ≡ entries self) }
+        ensures kept { IfOk result (λ t. entries t ≡ entries self) }
         ensures reciprocals { IfOk result (λ t. PRECISION ≤ 63 → KeepsReciprocals t) }
     {
         if PRECISION > 63 {
@@ -169,7 +169,7 @@ impl<Probability: BitArray, const PRECISION: usize> WeightTable<Probability, PRE
     fn made_reciprocals(&self, alloc: Global) -> Result<Vec<Reciprocal>, AllocError>
         requires { PRECISION ≤ 63 }
         ensures count { IfOk result (λ made. length made.items ≡ length self.now.starts.items) }
-        ensures inverse { IfOk result (λ made.
+        ensures reciprocals { IfOk result (λ made.
             AreReciprocals (weights_between (map Probability.number self.now.starts.items) (2 ^ PRECISION))
             made.items) }
     {
@@ -185,7 +185,7 @@ impl<Probability: BitArray, const PRECISION: usize> WeightTable<Probability, PRE
     fn bucket(&self, quantile: Probability) -> usize
         requires { Probability.number quantile < 2 ^ PRECISION }
         ensures within { result + 1 < length self.now.hints.items }
-        ensures from { result * 2 ^ self.now.shift ≤ Probability.number quantile }
+        ensures above { result * 2 ^ self.now.shift ≤ Probability.number quantile }
         ensures below { Probability.number quantile < (result + 1) * 2 ^ self.now.shift }
     {
         quantile.shifted_right(self.shift).to_index()
@@ -217,7 +217,7 @@ impl<Probability: BitArray, const PRECISION: usize> WeightTable<Probability, PRE
 
     /// The reciprocal of a symbol's weight, where the table keeps it.
     fn reciprocal(&self, symbol: usize) -> Option<Reciprocal>
-        ensures some { IfSome result (λ r.
+        ensures ok { IfSome result (λ r.
             0 < slice_index (weights_between (map Probability.number self.now.starts.items) (2 ^ PRECISION)) symbol
             → IsReciprocalOf r
             (slice_index (weights_between (map Probability.number self.now.starts.items) (2 ^ PRECISION)) symbol)) }

@@ -5,19 +5,19 @@ use Rattle.std.proofs.lemmas.Bool.{eq-eqb, cases_lt}
 use Rattle.std.proofs.lemmas.Bool.Decides.{eqb_tells}
 use Rattle.std.proofs.lemmas.List.{get_or_push, get_or_append_left}
 use Rattle.constriction_base.specs.Tables.{Has, AreDistinct}
-use Rattle.constriction_bench.specs.Starts.{entry_of, AreStarts}
+use Rattle.constriction_bench.specs.Starts.{interval_in, AreStarts}
 
 same_symbol : (s t l p : ℕ) → s ≡ t → ◌≡◌ {A = ℕ × ℕ × ℕ} (s, l, p) (t, l, p)
 same_symbol s t l p e = cc
 
 -- an interval that isn't empty is an entry
-pub entry_has : (es : List (ℕ × ℕ × ℕ)) (k : ℕ) → 0 < (entry_of es k).1 → Has es k (entry_of es k).0 (entry_of es k).1
+pub entry_has : (es : List (ℕ × ℕ × ℕ)) (k : ℕ) → 0 < (interval_in es k).1 → Has es k (interval_in es k).0 (interval_in es k).1
 entry_has [] k some = absurd (omega arith)
 entry_has (e ∷ es) k some =
     elim (eqb_tells e.0 k) [ inl same ↦ rw same.0 (inl (same_symbol e.0 k e.1 e.2 same.1)) | inr other ↦ rw other.0 (inr (entry_has es k (rw other.0 at some))) ]
 
 -- an entry is the one that its symbol has
-pub entry_one : (es : List (ℕ × ℕ × ℕ)) (k l p : ℕ) → AreDistinct es → Has es k l p → ((entry_of es k).0 ≡ l) × ((entry_of es k).1 ≡ p)
+pub entry_one : (es : List (ℕ × ℕ × ℕ)) (k l p : ℕ) → AreDistinct es → Has es k l p → ((interval_in es k).0 ≡ l) × ((interval_in es k).1 ≡ p)
 entry_one [] k l p distinct has = absurd has
 entry_one (e ∷ es) k l p distinct (inl is) =
     let same : e.0 ≡ k = ap (λ (x : ℕ × ℕ × ℕ). x.0) is in
@@ -34,9 +34,9 @@ one_more precision table starts count l p end are distinct has begins some ends 
     let last : slice_index (starts ++ end ∷ []) (count + 1) ≡ end = get_or_push starts end 0 (count + 1) are.len in
     record {
       len = omega (arith, length-append starts (end ∷ []), are.len);
-      begins = λ k h. elim (cases_lt k count) [ inl below ↦ omega (arith, old k h, are.begins k below) | inr past ↦ at_end count k (omega arith) (λ n. (entry_of table n).0 ≡ slice_index (starts ++ end ∷ []) n) (omega (arith, old count (omega arith), is.0)) ];
-      ends = λ k h. elim (cases_lt k count) [ inl below ↦ omega (arith, old k h, old (k + 1) (omega arith), are.ends k below) | inr past ↦ at_end count k (omega arith) (λ n. slice_index (starts ++ end ∷ []) n + (entry_of table n).1 ≡ slice_index (starts ++ end ∷ []) (n + 1)) (omega (arith, old count (omega arith), is.1, last)) ];
-      some = λ k h. elim (cases_lt k count) [ inl below ↦ are.some k below | inr past ↦ at_end count k (omega arith) (λ n. 0 < (entry_of table n).1) (omega (arith, is.1)) ];
+      begins = λ k h. elim (cases_lt k count) [ inl below ↦ omega (arith, old k h, are.begins k below) | inr past ↦ at_end count k (omega arith) (λ n. (interval_in table n).0 ≡ slice_index (starts ++ end ∷ []) n) (omega (arith, old count (omega arith), is.0)) ];
+      ends = λ k h. elim (cases_lt k count) [ inl below ↦ omega (arith, old k h, old (k + 1) (omega arith), are.ends k below) | inr past ↦ at_end count k (omega arith) (λ n. slice_index (starts ++ end ∷ []) n + (interval_in table n).1 ≡ slice_index (starts ++ end ∷ []) (n + 1)) (omega (arith, old count (omega arith), is.1, last)) ];
+      some = λ k h. elim (cases_lt k count) [ inl below ↦ are.some k below | inr past ↦ at_end count k (omega arith) (λ n. 0 < (interval_in table n).1) (omega (arith, is.1)) ];
       within = λ k h. elim (cases_lt k (count + 1)) [ inl below ↦ omega (arith, old k below, are.within k (omega arith)) | inr past ↦ at_end (count + 1) k (omega arith) (λ n. slice_index (starts ++ end ∷ []) n ≤ 2 ^ precision) (omega (arith, last)) ];
     }
   where
@@ -47,7 +47,7 @@ one_more precision table starts count l p end are distinct has begins some ends 
 pub has_between : (precision : ℕ) (table : List (ℕ × ℕ × ℕ)) (starts : List ℕ) (count k l p : ℕ) → AreStarts precision table starts count → k < count
     → l ≡ slice_index starts k → l + p ≡ slice_index starts (k + 1) → Has table k l p
 has_between precision table starts count k l p are known left right =
-    let weight : (entry_of table k).1 ≡ p = omega (arith, are.begins k known, are.ends k known) in
+    let weight : (interval_in table k).1 ≡ p = omega (arith, are.begins k known, are.ends k known) in
     let has = entry_has table k (are.some k known) in
     rw (are.begins k known ∙ sym left, weight) at has
 

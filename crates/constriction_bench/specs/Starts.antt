@@ -2,25 +2,25 @@
 use Rattle.std.specs.Prelude.{◌≡◌, ℕ, ◌+◌, ◌*◌, ◌<◌, ◌≤◌, ◌^◌, List, [], ◌∷◌, length, slice_index, cond, nat_eq}
 
 -- where a symbol's interval begins in a table, and how long it is: 0 where it has none
-abbrev pub entry_of : List (ℕ × ℕ × ℕ) → ℕ → ℕ × ℕ
-entry_of [] symbol = (0, 0)
-entry_of (e ∷ es) symbol = cond (nat_eq e.0 symbol) (e.1, e.2) (entry_of es symbol)
+abbrev pub interval_in : List (ℕ × ℕ × ℕ) → ℕ → ℕ × ℕ
+interval_in [] symbol = (0, 0)
+interval_in (e ∷ es) symbol = cond (nat_eq e.0 symbol) (e.1, e.2) (interval_in es symbol)
 
 -- the intervals of the first so many symbols of a table begin at these places, and each ends at the next
 pub record AreStarts (precision : ℕ) (table : List (ℕ × ℕ × ℕ)) (starts : List ℕ) (count : ℕ) : Type 0 where
   pub len : length starts ≡ count + 1
-  pub begins : (k : ℕ) → k < count → (entry_of table k).0 ≡ slice_index starts k
-  pub ends : (k : ℕ) → k < count → slice_index starts k + (entry_of table k).1 ≡ slice_index starts (k + 1)
-  pub some : (k : ℕ) → k < count → 0 < (entry_of table k).1
+  pub begins : (k : ℕ) → k < count → (interval_in table k).0 ≡ slice_index starts k
+  pub ends : (k : ℕ) → k < count → slice_index starts k + (interval_in table k).1 ≡ slice_index starts (k + 1)
+  pub some : (k : ℕ) → k < count → 0 < (interval_in table k).1
   pub within : (k : ℕ) → k ≤ count → slice_index starts k ≤ 2 ^ precision
 
 -- a symbol of so many whose interval holds a quantile
-pub record Finds (starts : List ℕ) (count symbol quantile : ℕ) : Type 0 where
+pub record HoldsQuantile (starts : List ℕ) (count symbol quantile : ℕ) : Type 0 where
   pub known : symbol < count
   pub low : slice_index starts symbol ≤ quantile
   pub high : quantile < slice_index starts (symbol + 1)
 
 -- a symbol of so many whose interval begins at or before the first quantile of a part
-pub record Begins (starts : List ℕ) (count symbol part : ℕ) : Type 0 where
+pub record BeginsBefore (starts : List ℕ) (count symbol part : ℕ) : Type 0 where
   pub known : symbol < count
   pub low : slice_index starts symbol ≤ part * 4096

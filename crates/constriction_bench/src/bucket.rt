@@ -3,7 +3,7 @@
 ghost use Rattle.std.specs.Prelude.{◌≡◌, ℕ, ◌+◌, ◌-◌, ◌*◌, ◌^◌, ◌<◌, ◌%◌, length, map, slice_index, IfSome};
 ghost use Rattle.constriction_base.specs.Tables.{table_of};
 ghost use Rattle.std.proofs.Common.{arith, rules};
-ghost use Rattle.constriction_bench.specs.Starts.{AreStarts, Begins};
+ghost use Rattle.constriction_bench.specs.Starts.{AreStarts, BeginsBefore};
 
 use crate::starts::starts_of;
 use constriction_base::model::{DecoderModel, EncoderModel, EntropyModel};
@@ -23,13 +23,15 @@ pub struct BucketTable {
     ghost are_starts: { AreStarts 24 (⟦<WeightTable<u32, 24> as EntropyModel<24>>⟧.table table) starts.items count },
     ghost ends: { slice_index starts.items count ≡ 16777216 },
     ghost all: { length firsts.items ≡ 4096 },
-    ghost begin: { (part : ℕ) → part < 4096 → Begins starts.items count (slice_index firsts.items part) part },
+    ghost begin: { (part : ℕ) → part < 4096 → BeginsBefore starts.items count (slice_index firsts.items part) part },
 }
 
 impl BucketTable {
     /// The table of these weights, or nothing where there is none or memory is missing.
     pub fn new(alloc: Global, weights: &[u32]) -> Option<Self>
-        ensures { IfSome result (λ table. ⟦<BucketTable as EntropyModel<24>>⟧.table table ≡ table_of (map (λ weight. weight % 2 ^ 32) weights.now)) }
+        ensures { IfSome result
+            (λ table. ⟦<BucketTable as EntropyModel<24>>⟧.table table
+            ≡ table_of (map (λ weight. weight % 2 ^ 32) weights.now)) }
     {
         let count = weights.len();
         let table = WeightTable::<u32, 24>::new(alloc, weights).ok()?;
@@ -52,7 +54,7 @@ impl BucketTable {
 fn first_of(table: &WeightTable<u32, 24>, starts: &[u32], count: usize, part: u32) -> Option<u8>
     requires starts { length starts.now ≡ count + 1 }
     requires part { part < 4096 }
-    ensures { IfSome result (λ symbol. Begins starts.now count symbol part) }
+    ensures { IfSome result (λ symbol. BeginsBefore starts.now count symbol part) }
 {
     let quantile = part * 4096;
     let (symbol, _, _) = table.quantile_function(quantile);
@@ -74,7 +76,8 @@ fn firsts_of(
 ) -> Option<Vec<u8>>
     requires { length starts.now ≡ count + 1 }
     ensures all { IfSome result (λ firsts. length firsts.items ≡ 4096) }
-    ensures begin { IfSome result (λ firsts. (part : ℕ) → part < 4096 → Begins starts.now count (slice_index firsts.items part) part) }
+    ensures begin { IfSome result
+        (λ firsts. (part : ℕ) → part < 4096 → BeginsBefore starts.now count (slice_index firsts.items part) part) }
 {
     let mut firsts = Vec::new(alloc);
     for part in 0..4096u32 {

@@ -26,7 +26,9 @@ impl<Probability: WordOf<u32>, const PRECISION: usize> Flat<Probability, PRECISI
     /// The model of `2^bits` symbols, if the precision has so many bits and they are below 32.
     pub fn new(bits: u32) -> Option<Self>
         requires { (1 ≤ PRECISION) × (PRECISION ≤ Probability.BITS) }
-        ensures some { IfSome result (λ flat. ⟦<Flat<Probability, PRECISION> as EntropyModel<PRECISION>>⟧.table flat ≡ equal_table bits (PRECISION - bits)) }
+        ensures some { IfSome result
+            (λ flat. ⟦<Flat<Probability, PRECISION> as EntropyModel<PRECISION>>⟧.table flat
+            ≡ equal_table bits (PRECISION - bits)) }
         ensures none { IfNone result ((bits ≡ 0) ⊎ (32 ≤ bits) ⊎ (PRECISION < bits)) }
     {
         if bits == 0 || bits >= 32 || bits as usize > PRECISION {

@@ -8,7 +8,8 @@
 //! - `small`: the cases at words of 16 bits, states of 32 and a precision of 12.
 //! - `ranges`: the measured loops of the range coder, and its cases at the same sizes.
 //! - `chains`: the measured loops of the chain coder, and its cases at the same sizes.
-//! - `bits`: the cases of bit coders, with words of 32 bits; `codewords`: those of Exp-Golomb codewords and Huffman trees.
+//! - `bits`: the cases of bit coders, with words of 32 bits; `codewords`: those of Exp-Golomb codewords and Huffman
+//!   trees.
 #![tactic(auto)]
 
 pub mod bits;

@@ -3,7 +3,7 @@
 ghost use Rattle.std.specs.Prelude.{◌≡◌, ℕ, ◌+◌, ◌-◌, ◌^◌, ◌<◌, ◌%◌, length, map, slice_index, IfSome};
 ghost use Rattle.constriction_base.specs.Tables.{table_of};
 ghost use Rattle.std.proofs.Common.{arith, rules};
-ghost use Rattle.constriction_bench.specs.Starts.{AreStarts, Finds};
+ghost use Rattle.constriction_bench.specs.Starts.{AreStarts, HoldsQuantile};
 
 use crate::starts::starts_of;
 use constriction_base::model::{DecoderModel, EncoderModel, EntropyModel};
@@ -22,13 +22,15 @@ pub struct LookupTable {
     symbols: Vec<u8>,
     ghost are_starts: { AreStarts 12 (⟦<WeightTable<u16, 12> as EntropyModel<12>>⟧.table table) starts.items count },
     ghost all: { length symbols.items ≡ 4096 },
-    ghost finds: { (q : ℕ) → q < 4096 → Finds starts.items count (slice_index symbols.items q) q },
+    ghost finds: { (q : ℕ) → q < 4096 → HoldsQuantile starts.items count (slice_index symbols.items q) q },
 }
 
 impl LookupTable {
     /// The table of these weights, or nothing where there is none or memory is missing.
     pub fn new(alloc: Global, weights: &[u16]) -> Option<Self>
-        ensures { IfSome result (λ table. ⟦<LookupTable as EntropyModel<12>>⟧.table table ≡ table_of (map (λ weight. weight % 2 ^ 16) weights.now)) }
+        ensures { IfSome result
+            (λ table. ⟦<LookupTable as EntropyModel<12>>⟧.table table
+            ≡ table_of (map (λ weight. weight % 2 ^ 16) weights.now)) }
     {
         let count = weights.len();
         let table = WeightTable::<u16, 12>::new(alloc, weights).ok()?;
@@ -52,7 +54,7 @@ fn symbol_at(
 ) -> Option<u8>
     requires starts { length starts.now ≡ count + 1 }
     requires quantile { quantile < 4096 }
-    ensures { IfSome result (λ symbol. Finds starts.now count symbol quantile) }
+    ensures { IfSome result (λ symbol. HoldsQuantile starts.now count symbol quantile) }
 {
     let (symbol, _, _) = table.quantile_function(quantile);
     if symbol >= count || symbol > 255 {
@@ -73,7 +75,8 @@ fn symbols_of(
 ) -> Option<Vec<u8>>
     requires { length starts.now ≡ count + 1 }
     ensures all { IfSome result (λ symbols. length symbols.items ≡ 4096) }
-    ensures finds { IfSome result (λ symbols. (q : ℕ) → q < 4096 → Finds starts.now count (slice_index symbols.items q) q) }
+    ensures finds { IfSome result
+        (λ symbols. (q : ℕ) → q < 4096 → HoldsQuantile starts.now count (slice_index symbols.items q) q) }
 {
     let mut symbols = Vec::new(alloc);
     for quantile in 0..4096u16 {

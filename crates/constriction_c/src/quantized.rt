@@ -2,7 +2,7 @@
 
 ghost use Rattle.std.specs.Prelude.{map};
 ghost use Rattle.constriction_c.specs.Codes.{answer_of};
-ghost use Rattle.constriction_inputs.specs.QuantizedCalls.{GivesIntervals, GivesWeights};
+ghost use Rattle.constriction_inputs.specs.QuantizedCalls.{GivesIntervals, GivesWeightsOfCounts};
 
 use crate::codes::code_without_space;
 use constriction_inputs::models::Families;
@@ -58,7 +58,7 @@ pub extern "C" fn constriction_weights_of_counts_u32(
     counts: &[u64],
     weights: &mut [u32],
 ) -> u32
-    ensures { GivesWeights 24 counts.now (map ⟦<u32 as BitArray>⟧.number weights.old) (map ⟦<u32 as BitArray>⟧.number weights.new)
+    ensures { GivesWeightsOfCounts 24 counts.now (map ⟦<u32 as BitArray>⟧.number weights.old) (map ⟦<u32 as BitArray>⟧.number weights.new)
         (answer_of result 0) }
 {
     code_without_space(put_weights_of_counts::<u32, 24>(alloc, counts, weights))
@@ -71,7 +71,7 @@ pub extern "C" fn constriction_weights_of_counts_u16(
     counts: &[u64],
     weights: &mut [u16],
 ) -> u32
-    ensures { GivesWeights 12 counts.now (map ⟦<u16 as BitArray>⟧.number weights.old) (map ⟦<u16 as BitArray>⟧.number weights.new)
+    ensures { GivesWeightsOfCounts 12 counts.now (map ⟦<u16 as BitArray>⟧.number weights.old) (map ⟦<u16 as BitArray>⟧.number weights.new)
         (answer_of result 0) }
 {
     code_without_space(put_weights_of_counts::<u16, 12>(alloc, counts, weights))

@@ -6,7 +6,7 @@ use Rattle.std.proofs.lemmas.List.{length-map}
 use Rattle.constriction_base.specs.Models.{AreKnown, Item}
 use Rattle.constriction_base.specs.Tables.{Has, table_of}
 use Rattle.constriction_inputs.specs.Coded.{AreFit, AsIntervals, ByRows, items}
-use Rattle.constriction_inputs.specs.Intervals.{AreIntervals, IsInterval, interval_items}
+use Rattle.constriction_inputs.specs.Intervals.{AreIntervals, IsIntervalWithin, interval_items}
 use Rattle.constriction_calls.specs.RangeCalls.{CanEncode, IsEncodedBy, LacksRoom, RangeKept, RangePuts}
 use Rattle.constriction_inputs.specs.Refusals.{Asks, Else, Room}
 use Rattle.constriction_inputs.specs.Weights.{AreTotals, row_items}
@@ -26,7 +26,7 @@ known_intervals precision (left ∷ lefts) [] all = tt
 known_intervals precision (left ∷ lefts) (p ∷ ps) all = ((left, p, has_interval left p _ all.0.not_empty), known_intervals precision lefts ps all.1)
 
 -- they are intervals, or not
-is_interval : (precision left p : ℕ) → IsInterval precision left p ⊎ (IsInterval precision left p → ⊥)
+is_interval : (precision left p : ℕ) → IsIntervalWithin precision left p ⊎ (IsIntervalWithin precision left p → ⊥)
 is_interval precision left p = elim (cases_lt 0 p) [
   | inl some ↦ elim (cases_lt (2 ^ precision) (left + p)) [
     | inl past ↦ inr (λ is. omega (arith, past, is.inside))

@@ -8,7 +8,7 @@ use Rattle.constriction_chain.specs.Symbols.{IsModelAt, PutsBackAll, TakesOffAll
 use Rattle.constriction_base.specs.Writing.{IsOneAbove}
 use Rattle.constriction_chain.specs.Words.{remainder_words}
 use Rattle.constriction_base.specs.Digits.{fixed_digits}
-use Rattle.constriction_chain_laws.specs.Endings.{ComesBack}
+use Rattle.constriction_chain_laws.specs.Endings.{ComesBackOver}
 use Rattle.constriction_chain_laws.proofs.ComingBack.{come_back}
 use Rattle.constriction_chain_laws.proofs.ListCalls.{models_at}
 use Rattle.constriction_chain_laws.proofs.OneBinary.{one_form}
@@ -18,7 +18,7 @@ use Rattle.constriction_coder_laws.proofs.Turned.{map-reverse}
 -- symbols that are put back to the coder of the suffix, over these words
 pub comes_back : {S : Type 0} (w s P : ℕ) (model : Model S) (symbols given : List S) (below words : List ℕ) (x y z last : ChainState) → IsSized w s P → IsModelAt P model → IsWhole w s P x
     → TakesOffAll w s (items_of model symbols) x y → words ≡ remainder_words w y ++ below → FromRemainders w s P words z
-    → given ≡ symbols → PutsBackAll w s (items_of model (reverse given)) z last → ComesBack x below y.compressed last
+    → given ≡ symbols → PutsBackAll w s (items_of model (reverse given)) z last → ComesBackOver x below y.compressed last
 comes_back {S} w s P model symbols given below words x y z last sized at whole taken are from same put =
     let encoded : PutsBackAll w s (reverse (items_of model symbols)) z last =
     subst (λ items. PutsBackAll w s items z last) (ap (λ (xs : List S). items_of model (reverse xs)) same ∙ map-reverse (item_of model) symbols) put in
@@ -26,7 +26,7 @@ comes_back {S} w s P model symbols given below words x y z last sized at whole t
     (subst (λ (ws : List ℕ). FromRemainders w s P ws z) are from) encoded
 
 -- the words of a form, which begins with something of the number alone
-pub form_back : {W : Type 0} (number : W → ℕ) (words rest prefix : List W) (form : ℕ → List ℕ) (below : List ℕ) (x last : ChainState) → ComesBack x below (map number (reverse prefix)) last
+pub form_back : {W : Type 0} (number : W → ℕ) (words rest prefix : List W) (form : ℕ → List ℕ) (below : List ℕ) (x last : ChainState) → ComesBackOver x below (map number (reverse prefix)) last
     → map number (reverse words) ≡ form x.r ++ x.compressed → map number (reverse rest) ≡ form last.r ++ last.compressed
     → map number (prefix ++ rest) ≡ map number words
 form_back {W} number words rest prefix form below x last back was is =
@@ -36,7 +36,7 @@ form_back {W} number words rest prefix form below x last back was is =
     whole_way number words rest prefix (form last.r ++ last.compressed) (map number (reverse prefix)) is refl all
 
 -- the same in binary form, of which a number has one
-pub binary_form_back : {W : Type 0} (number : W → ℕ) (words rest prefix : List W) (w m n : ℕ) (below : List ℕ) (x last : ChainState) → 1 ≤ w → ComesBack x below (map number (reverse prefix)) last
+pub binary_form_back : {W : Type 0} (number : W → ℕ) (words rest prefix : List W) (w m n : ℕ) (below : List ℕ) (x last : ChainState) → 1 ≤ w → ComesBackOver x below (map number (reverse prefix)) last
     → IsOneAbove w m x.r → map number (reverse words) ≡ fixed_digits (2 ^ w) m x.r ++ x.compressed
     → IsOneAbove w n last.r → map number (reverse rest) ≡ fixed_digits (2 ^ w) n last.r ++ last.compressed
     → map number (prefix ++ rest) ≡ map number words

@@ -117,5 +117,5 @@ abbrev pub BeginInBinary : ℕ → List ℕ → ChainState → List ℕ → Type
 BeginInBinary w words x others = (written : List ℕ) × AreBinaryWords w written x × (words ≡ written ++ others)
 
 -- a coder is as it was before symbols were taken out, but that the words below stand under its remainders, and the prefix is gone
-abbrev pub ComesBack : ChainState → List ℕ → List ℕ → ChainState → Type 0
-ComesBack x below prefix last = (last.h ≡ 1) × (last.r ≡ x.r) × (last.remainders ≡ below) × (x.compressed ≡ last.compressed ++ prefix)
+abbrev pub ComesBackOver : ChainState → List ℕ → List ℕ → ChainState → Type 0
+ComesBackOver x below prefix last = (last.h ≡ 1) × (last.r ≡ x.r) × (last.remainders ≡ below) × (x.compressed ≡ last.compressed ++ prefix)

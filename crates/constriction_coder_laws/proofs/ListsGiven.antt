@@ -1,8 +1,8 @@
 -- What lists of decodes and iterators over slices gave, for any coder.
 use Rattle.std.specs.Iterator.{Yields, Drains}
 use Rattle.std.specs.Slice.Iter.{iter_rest, iter_steps_back}
-use Rattle.std.proofs.Common.{◌≡◌, ◌∙◌, ◌<◌, ◌^◌, ℕ, Bor, Iter, Option, Some, None, List, [], ◌∷◌, ◌++◌, Result, Ok, Err, length, map, refl, sym, ap, subst, arith, append_assoc}
-use Rattle.std.specs.Prelude.{reverse, drop, IfSome, IfOk}
+use Rattle.std.proofs.Common.{◌≡◌, ◌∙◌, ◌<◌, ◌^◌, ℕ, Bor, Iter, List, [], ◌∷◌, ◌++◌, Result, Ok, Err, length, map, refl, sym, ap, subst, arith, append_assoc}
+use Rattle.std.specs.Prelude.{reverse, drop, IfOk}
 use Rattle.std.specs.List.{zip}
 use Rattle.std.proofs.lemmas.List.{reverse-append, reverse-reverse, append-nil}
 use Rattle.constriction_base.specs.Steps.{Step, InTurn, AreWords}
@@ -71,13 +71,6 @@ all_from_back {A} i xs run =
     sym (reverse-reverse (map (λ x. x.now) xs)) ∙ ap (λ (ys : List A). reverse ys) (sym all)
 
 -- ---- answers that may be missing
-pub some_weaker : {X : Type 0} (r : Option X) {P Q : X → Type 0} → IfSome r P → ((x : X) → P x → Q x) → IfSome r Q
-some_weaker None h k = tt
-some_weaker (Some x) h k = k x h
-
-pub some_both : {X : Type 0} (r : Option X) {P Q R : X → Type 0} → IfSome r P → IfSome r Q → ((x : X) → P x → Q x → R x) → IfSome r R
-some_both None h i k = tt
-some_both (Some x) h i k = k x h i
 
 -- ---- answers that may be errors
 pub ok_weaker : {X E : Type 0} (r : Result X E) {P Q : X → Type 0} → IfOk r P → ((x : X) → P x → Q x) → IfOk r Q

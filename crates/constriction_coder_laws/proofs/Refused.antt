@@ -1,6 +1,6 @@
 -- Lists of encodes that the coder itself refused: one of the symbols has no entry, for any coder that refuses nothing else.
 use Rattle.std.specs.Iterator.{Yields, YieldsThen}
-use Rattle.std.specs.Iterator.Adapters.{zip_first, zip_second, zip_steps, zip_steps_back}
+use Rattle.std.specs.Iterator.Adapters.{zip_steps, zip_steps_back}
 use Rattle.std.specs.Slice.Iter.{iter_rest, iter_steps, iter_steps_back}
 use Rattle.std.specs.declared.iter.Zip.{Zip}
 use Rattle.std.specs.List.{zip}
@@ -78,13 +78,6 @@ module _ {C B : Type 0} (steps : C → Step → Result (Unit {0}) B → C → Ty
 
   -- the same of symbols that have a model each
   module _ {S M : Type 0} (table : M → List (S × ℕ × ℕ)) (symbols : List S) (models : List M) (i : Zip (Iter S) (Iter M)) (is : rest_of i ≡ zip symbols models) where
-    pub pair_impossible_from_front : (coded : List (Bor S × Bor M)) (pair : Bor S × Bor M) (rest : Zip (Iter S) (Iter M)) (old new : C) (refusal : DefaultEncoderFrontendError)
-        → YieldsThen (zip_steps iter_steps iter_steps) i coded (Some pair) rest → EncodesByBackend steps precision (table pair.1.now) pair.0.now old (Err (Frontend refusal)) new
-        → HasImpossibleItem (pairs_of precision table symbols models)
-    pair_impossible_from_front coded pair rest old new refusal gave step =
-        among precision table (map both_now coded) (rest_of rest) (zip symbols models) (both_now pair)
-        (sym is ∙ (pairs_from_front i coded gave.0 gave.1 ∙ ap (λ (ps : List (S × M)). map both_now coded ++ ps) (pairs_from_front gave.0 (pair ∷ []) rest (rest, gave.2, refl))))
-        (frontend_by steps precision (table pair.1.now) pair.0.now old new refusal step).0
 
     pub pair_impossible_from_back : (coded : List (Bor S × Bor M)) (pair : Bor S × Bor M) (rest : Zip (Iter S) (Iter M)) (old new : C) (refusal : DefaultEncoderFrontendError)
         → SameLength i → YieldsThen (zip_steps_back iter_steps_back iter_steps_back left_in left_in) i coded (Some pair) rest
@@ -96,13 +89,6 @@ module _ {C B : Type 0} (steps : C → Step → Result (Unit {0}) B → C → Ty
         (sym is ∙ (front.0 ∙ (ap (λ (ps : List (S × M)). ps ++ reverse (map both_now coded)) last.0
         ∙ append_assoc (rest_of rest) (both_now pair ∷ []) (reverse (map both_now coded)))))
         (frontend_by steps precision (table pair.1.now) pair.0.now old new refusal step).0
-
-    pub pairs_impossible : (coded : List (Bor S × Bor M)) (old new : C) (error : CoderError DefaultEncoderFrontendError B)
-        → ((pair : Bor S × Bor M) × (rest : Zip (Iter S) (Iter M)) × YieldsThen (zip_steps iter_steps iter_steps) i coded (Some pair) rest
-        × EncodesByBackend steps precision (table pair.1.now) pair.0.now old (Err error) new)
-        → WhereFrontend error (HasImpossibleItem (pairs_of precision table symbols models))
-    pairs_impossible coded old new (Backend e) h = tt
-    pairs_impossible coded old new (Frontend e) h = pair_impossible_from_front coded h.0 h.1 old new e h.2 h.3
 
     pub reversed_pairs_impossible : (coded : List (Bor S × Bor M)) (old new : C) (error : CoderError DefaultEncoderFrontendError B) → SameLength i
         → ((pair : Bor S × Bor M) × (rest : Zip (Iter S) (Iter M)) × YieldsThen (zip_steps_back iter_steps_back iter_steps_back left_in left_in) i coded (Some pair) rest

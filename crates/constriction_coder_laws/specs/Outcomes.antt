@@ -13,10 +13,10 @@ use Rattle.constriction_coder_laws.specs.declared.errors.RoundTripError.{RoundTr
 use Rattle.constriction_coder_laws.specs.declared.errors.RoundTripError.TheVariants as trip
 
 -- fewer symbols were given than asked for, and then a step was refused
-abbrev pub StopsAt : {C S E : Type 0} → (C → Step → Result (Unit {0}) E → C → Type 0) → (C → E → C → Type 0) → ℕ → List (S × ℕ × ℕ) → ℕ → C → Stopped E → C → Type 0
-StopsAt {C} {S} {E} decodes halts precision table amt old (Refused e) new = (given : List S) × (mid : C) × (length given < amt)
+abbrev pub StopsShort : {C S E : Type 0} → (C → Step → Result (Unit {0}) E → C → Type 0) → (C → E → C → Type 0) → ℕ → List (S × ℕ × ℕ) → ℕ → C → Stopped E → C → Type 0
+StopsShort {C} {S} {E} decodes halts precision table amt old (Refused e) new = (given : List S) × (mid : C) × (length given < amt)
     × InTurn (λ symbol old new. DecodesSymbol decodes halts precision table old (Ok symbol) new) given old mid × DecodesSymbol {S = S} decodes halts precision table mid (Err e) new
-StopsAt decodes halts precision table amt old NoMemory new = ⊤
+StopsShort decodes halts precision table amt old NoMemory new = ⊤
 
 -- the same where each symbol has a model of its own: symbols came by the first models, and the step by the next one was refused
 abbrev pub StopsAmong : {C S M E : Type 0} → (C → Step → Result (Unit {0}) E → C → Type 0) → (C → E → C → Type 0) → ℕ → (M → List (S × ℕ × ℕ)) → List M → C → Stopped E → C → Type 0

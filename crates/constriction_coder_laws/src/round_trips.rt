@@ -4,7 +4,7 @@ ghost use Rattle.std.specs.Prelude.{◌≡◌, length, Ok, IfOk, IfErr};
 ghost use Rattle.std.specs.List.{zip};
 ghost use Rattle.constriction_base.specs.Steps.{InTurn};
 ghost use Rattle.constriction_stream.specs.Symbols.{DecodesSymbol, DecodesByModel};
-ghost use Rattle.constriction_coder_laws.specs.Outcomes.{StopsAt, StopsAmong};
+ghost use Rattle.constriction_coder_laws.specs.Outcomes.{StopsShort, StopsAmong};
 
 use crate::errors::Stopped;
 use constriction_base::errors::CoderError;
@@ -32,7 +32,8 @@ where
     ensures steps { IfOk result (λ symbols. InTurn
         (λ symbol old new. DecodesSymbol C.decodes C.halts PRECISION (M.table model.now) old (Ok symbol) new)
         symbols.items decoder.old decoder.new) }
-    ensures err { IfErr result (λ e. StopsAt C.decodes C.halts PRECISION (M.table model.now) amt decoder.old e decoder.new) }
+    ensures err { IfErr result
+        (λ e. StopsShort C.decodes C.halts PRECISION (M.table model.now) amt decoder.old e decoder.new) }
 {
     let mut symbols = Vec::new(alloc);
     'decode: for answer in decoder.decode_iid_symbols(amt, model) {
@@ -65,7 +66,8 @@ where
     ensures steps { IfOk result (λ symbols. InTurn
         (λ pair old new. DecodesByModel C.decodes C.halts PRECISION M.table old pair.1 (Ok pair.0) new)
         (zip symbols.items models.now) decoder.old decoder.new) }
-    ensures err { IfErr result (λ e. StopsAmong C.decodes C.halts PRECISION M.table models.now decoder.old e decoder.new) }
+    ensures err { IfErr result
+        (λ e. StopsAmong C.decodes C.halts PRECISION M.table models.now decoder.old e decoder.new) }
 {
     let mut symbols = Vec::new(alloc);
     'decode: for answer in decoder.decode_symbols(models) {

@@ -12,13 +12,6 @@ use Rattle.constriction_models.specs.declared.families.Family.{Family}
 use Rattle.constriction_models.specs.laws.Indexing.{indexed_has, indexed_impossible}
 use Rattle.constriction_inputs.specs.Quantized.{AreIntervalsOf, ByFamily, below_by, family_items, family_of, family_tables, symbols_in, tables_by}
 
--- a code above 2 is that of no family
-pub no_family : (code : ℕ) → 2 < code → family_of code ≡ None
-no_family zero past = absurd (omega arith)
-no_family (suc zero) past = absurd (omega arith)
-no_family (suc (suc zero)) past = absurd (omega arith)
-no_family (suc (suc (suc other))) past = refl
-
 -- how many symbols a range has
 pub count_is : (min max : ℤ) (count : ℕ) → min <ℤ max → (min +ℤ pos count) ≡ (max +ℤ pos 1) → count ≡ symbols_in min max
 count_is min max count less is = omega (arith, ints)
@@ -33,12 +26,6 @@ pub tables_counted : (precision : ℕ) (family : Option Family) (min : ℤ) (cou
     → length (tables_by precision family min count locations scales) ≡ length locations
 tables_counted precision family min count locations scales same =
     length-map (zip locations scales) (λ (at : ℤ × ℕ). indexed precision (below_by family at.0 at.1) min count) ∙ zip_counted locations scales same
-
--- as many models have these tables
-pub models_counted : {M : Type 0} (table : M → List (ℕ × ℕ × ℕ)) (precision : ℕ) (family : Option Family) (min : ℤ) (count : ℕ) (locations : List ℤ) (scales : List ℕ) (lent models : List M)
-    → length locations ≡ length scales → lent ≡ models → map table models ≡ tables_by precision family min count locations scales → length lent ≡ length locations
-models_counted table precision family min count locations scales lent models same is tables =
-    ap length is ∙ (sym (length-map models table) ∙ (ap length tables ∙ tables_counted precision family min count locations scales same))
 
 -- ---- one table more
 zip_push : {A B : Type 0} (xs : List A) (ys : List B) (x : A) (y : B) → length xs ≡ length ys → zip (xs ++ x ∷ []) (ys ++ y ∷ []) ≡ zip xs ys ++ (x, y) ∷ []
@@ -71,12 +58,6 @@ pairs_by_tables precision table [] models = refl
 pairs_by_tables precision table (symbol ∷ symbols) [] = refl
 pairs_by_tables precision table (symbol ∷ symbols) (model ∷ models) =
     ap (λ (items : List (Item ℕ)). item_of (record { precision = precision; table = table model }) symbol ∷ items) (pairs_by_tables precision table symbols models)
-
-pub pairs_are_items : {M : Type 0} (precision : ℕ) (table : M → List (ℕ × ℕ × ℕ)) (symbols : List ℕ) (lent models : List M) (tables : List (List (ℕ × ℕ × ℕ)))
-    → lent ≡ models → map table models ≡ tables → pairs_of precision table symbols lent ≡ pairs_of precision (λ (t : List (ℕ × ℕ × ℕ)). t) symbols tables
-pairs_are_items {M} precision table symbols lent models tables is tables_are =
-    ap (λ (ms : List M). pairs_of precision table symbols ms) is
-    ∙ (pairs_by_tables precision table symbols models ∙ ap (λ (ts : List (List (ℕ × ℕ × ℕ))). pairs_of precision (λ (t : List (ℕ × ℕ × ℕ)). t) symbols ts) tables_are)
 
 -- ---- which symbols are known: the places in the range
 module _ (precision : ℕ) (family : Option Family) (min : ℤ) (count : ℕ) where
@@ -188,13 +169,6 @@ pub items_same : (precision : ℕ) (by : ByFamily) (symbols : List ℕ) (family 
     → pairs_of precision (λ (t : List (ℕ × ℕ × ℕ)). t) symbols (tables_by precision family min count by.locations by.scales) ≡ family_items precision by symbols
 items_same precision by symbols family min count family_is min_is count_is =
     ap (λ (ts : List (List (ℕ × ℕ × ℕ))). pairs_of precision (λ (t : List (ℕ × ℕ × ℕ)). t) symbols ts) (tables_same precision by family min count family_is min_is count_is)
-
--- items under models of such tables
-pub models_are_items : {M : Type 0} (precision : ℕ) (by : ByFamily) (table : M → List (ℕ × ℕ × ℕ)) (symbols : List ℕ) (lent models : List M) (family : Option Family) (min : ℤ) (count : ℕ)
-    → family_of by.family ≡ family → min ≡ by.min → count ≡ symbols_in by.min by.max → lent ≡ models → map table models ≡ tables_by precision family min count by.locations by.scales
-    → pairs_of precision table symbols lent ≡ family_items precision by symbols
-models_are_items precision by table symbols lent models family min count family_is min_is count_is is tables =
-    pairs_are_items precision table symbols lent models _ is (tables ∙ tables_same precision by family min count family_is min_is count_is)
 
 -- what is not none is some
 pub some_unless : {T : Type 0} (r : Option T) (A : Type 0) → IfNone r A → (A → ⊥) → IsSome r

@@ -45,8 +45,5 @@ pub all_reversed : {X : Type 0} (P : X → Type 0) (xs : List X) → AllByRecurs
 all_reversed P [] all = tt
 all_reversed P (x ∷ xs) all = rw (reverse_onto xs x []) (all_append P (reverse xs) (x ∷ []) (all_reversed P xs all.1) (all.0, tt))
 
-pub known_reversed : {S : Type 0} (items : List (Item S)) → AreKnown items → AreKnown (reverse items)
-known_reversed items known = all_reversed _ items known
-
 pub known_of_reversed : {S : Type 0} (items : List (Item S)) → AreKnown (reverse items) → AreKnown items
 known_of_reversed items known = subst AreKnown (reverse-reverse items) (all_reversed _ (reverse items) known)

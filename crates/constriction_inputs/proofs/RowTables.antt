@@ -1,5 +1,5 @@
 -- Rows of weights, taken from the first on.
-use Rattle.std.proofs.Common.{◌≡◌, ℕ, suc, ◌+◌, ◌-◌, ◌*◌, ◌≤◌, List, ◌∷◌, map, take, drop, arith, sym, ap, subst, ◌∙◌, ◌++◌, [], append_assoc}
+use Rattle.std.proofs.Common.{◌≡◌, ℕ, suc, ◌+◌, ◌-◌, ◌*◌, List, ◌∷◌, map, take, drop, arith, sym, ap, subst, ◌∙◌, ◌++◌, [], append_assoc}
 use Rattle.std.proofs.lemmas.List.{take-map, map_push}
 use Rattle.std.proofs.Math.Seq.{drop-drop}
 use Rattle.constriction_base.specs.Tables.{table_of}
@@ -9,10 +9,6 @@ use Rattle.constriction_inputs.specs.Weights.{IsTotal, AreTotals, row_tables}
 -- what is left behind a row
 pub rest_behind : (start width left next len end : ℕ) → start + width * left ≡ len → left ≡ suc next → end ≡ start + width → end + width * next ≡ len
 rest_behind start width left next len end rest is to = let all = rw is at rest in omega (arith, all, to)
-
--- a row that is left stands within
-pub row_within : (start width left next len : ℕ) → start + width * left ≡ len → left ≡ suc next → start + width ≤ len
-row_within start width left next len rest is = let all = rw is at rest in omega (arith, all)
 
 -- a row as numbers
 pub row_numbers : {W : Type 0} (number : W → ℕ) (ws : List W) (start end width : ℕ) → end ≡ start + width → map number (take (end - start) (drop start ws)) ≡ take width (drop start (map number ws))

@@ -5,7 +5,7 @@ use Rattle.constriction_base.specs.Models.{Item, item_of}
 use Rattle.constriction_inputs.specs.Weights.{weights_model}
 
 -- an interval from left, p long: not empty, and inside
-pub record IsInterval (precision left p : ℕ) : Type 0 where
+pub record IsIntervalWithin (precision left p : ℕ) : Type 0 where
   pub not_empty : 0 < p
   pub inside : left + p ≤ 2 ^ precision
 
@@ -20,7 +20,7 @@ interval_items precision lefts ps =
 
 -- each of them is one
 abbrev pub AreIntervals : ℕ → List ℕ → List ℕ → Type 0
-AreIntervals precision lefts ps = AllByRecursion (λ (pair : ℕ × ℕ). IsInterval precision pair.0 pair.1) (zip lefts ps)
+AreIntervals precision lefts ps = AllByRecursion (λ (pair : ℕ × ℕ). IsIntervalWithin precision pair.0 pair.1) (zip lefts ps)
 
 -- their weights, one row behind another
 abbrev pub rows_between : ℕ → List ℕ → List ℕ → List ℕ

@@ -60,8 +60,8 @@ abbrev pub AreScaled : ℕ → List ℕ → Type 0
 AreScaled family scales = IsSome (family_of family) × AllByRecursion (λ scale. 0 < scale) scales
 
 -- each symbol is the place of one of the range
-abbrev pub ArePlaces : ℤ → ℤ → List ℕ → Type 0
-ArePlaces min max symbols = AllByRecursion (λ symbol. symbol < symbols_in min max) symbols
+abbrev pub ArePlacesInRange : ℤ → ℤ → List ℕ → Type 0
+ArePlacesInRange min max symbols = AllByRecursion (λ symbol. symbol < symbols_in min max) symbols
 
 -- ---- intervals
 -- of each item where its interval begins, and how long it is

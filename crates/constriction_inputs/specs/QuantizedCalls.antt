@@ -33,7 +33,7 @@ abbrev pub AreCounts : ℕ → List ℕ → Type 0
 AreCounts precision counts = (0 < sum_by positive counts) × (sum_by positive counts ≤ 2 ^ precision)
 
 -- weights in proportion to counts
-pub record GivesWeights (precision : ℕ) (counts old new : List ℕ) (answer : Result (Unit {0}) Refusal) : Type 0 where
+pub record GivesWeightsOfCounts (precision : ℕ) (counts old new : List ℕ) (answer : Result (Unit {0}) Refusal) : Type 0 where
   pub weights : OnOk answer (AreWeights counts (2 ^ precision) new)
   pub total : OnOk answer ((length new ≡ length counts) × (sum new ≡ 2 ^ precision))
   -- just the counts above 0 have a weight above 0

@@ -14,7 +14,8 @@ use constriction_words::BitArray;
 /// As [`append`] of so many words.
 pub fn room_for(count: usize, len: usize, size: usize) -> Result<(), Refusal>
     ensures ok { OnOk result (len + count ≤ size) }
-    ensures err { IfErr result (λ e. (e ≡ refusals.NoSpace (len + count)) ⊎ ((e ≡ refusals.NoMemory) × (2 ^ 64 ≤ len + count))) }
+    ensures err { IfErr result
+        (λ e. (e ≡ refusals.NoSpace (len + count)) ⊎ ((e ≡ refusals.NoMemory) × (2 ^ 64 ≤ len + count))) }
     ensures full { OnErr result (size < len + count) }
 {
     let Some(end) = len.checked_add(count) else {
@@ -39,7 +40,8 @@ pub fn append<Word: BitArray>(
 ) -> Result<(), Refusal>
     requires { len.now ≤ length buffer.now }
     ensures ok { OnOk result (Appended buffer.old len.old added.now buffer.new len.new) }
-    ensures err { IfErr result (λ e. (e ≡ refusals.NoSpace (len.old + length added.now)) ⊎ ((e ≡ refusals.NoMemory) × (2 ^ 64 ≤ len.old + length added.now))) }
+    ensures err { IfErr result (λ e. (e ≡ refusals.NoSpace (len.old + length added.now))
+        ⊎ ((e ≡ refusals.NoMemory) × (2 ^ 64 ≤ len.old + length added.now))) }
     ensures full { OnErr result (length buffer.old < len.old + length added.now) }
     ensures kept { OnErr result ((buffer.new ≡ buffer.old) × (len.new ≡ len.old)) }
 {

@@ -1,8 +1,10 @@
-//! Intervals without a table, as rows of three weights: of what lies below, of the interval itself, and of what lies above.
+//! Intervals without a table, as rows of three weights: of what lies below, of the interval itself, and of what lies
+//! above.
 
-ghost use Rattle.std.specs.Prelude.{◌≡◌, ◌≢◌, ◌↔◌, ◌⊎◌, ◌*◌, ◌+◌, ◌^◌, ◌≤◌, length, map, IsTrue, IfOk, IfErr, OnOk, IsErrOf};
+ghost use Rattle.std.specs.Prelude.{◌≡◌, ◌≢◌, ◌↔◌, ◌⊎◌, ◌*◌, ◌+◌, ◌^◌, ◌≤◌, length, map, IsTrue, IfOk, IfErr, OnOk};
+ghost use Rattle.std.specs.Prelude.{IsErrOf};
 ghost use Rattle.constriction_inputs.specs.Weights.{AreTotals, row_items};
-ghost use Rattle.constriction_inputs.specs.Intervals.{IsInterval, AreIntervals, interval_items, rows_between};
+ghost use Rattle.constriction_inputs.specs.Intervals.{IsIntervalWithin, AreIntervals, interval_items, rows_between};
 ghost use Rattle.constriction_inputs.specs.declared.refusal.Refusal.TheVariants as refusals;
 
 use crate::refusal::Refusal;
@@ -25,13 +27,19 @@ pub fn rows_by_intervals<P: BitArray, const PRECISION: usize>(
     ps: &[P],
 ) -> Result<(Vec<P>, Vec<usize>), Refusal>
     requires { (1 ≤ PRECISION) × (PRECISION ≤ P.BITS) }
-    ensures ok { IfOk result (λ made. row_items PRECISION 3 (map P.number made.0.items) made.1.items ≡ interval_items PRECISION (map P.number lefts.now) (map P.number ps.now)) }
+    ensures ok { IfOk result (λ made. row_items PRECISION 3 (map P.number made.0.items) made.1.items
+        ≡ interval_items PRECISION (map P.number lefts.now) (map P.number ps.now)) }
     ensures totals { IfOk result (λ made. AreTotals PRECISION 3 (length lefts.now) (map P.number made.0.items)) }
-    ensures counted { IfOk result (λ made. (length made.0.items ≡ 3 * length lefts.now) × (length made.1.items ≡ length lefts.now)) }
-    ensures intervals { OnOk result ((length lefts.now ≡ length ps.now) × AreIntervals PRECISION (map P.number lefts.now) (map P.number ps.now)) }
+    ensures counted { IfOk result
+        (λ made. (length made.0.items ≡ 3 * length lefts.now) × (length made.1.items ≡ length lefts.now)) }
+    ensures intervals { OnOk result
+        ((length lefts.now ≡ length ps.now) × AreIntervals PRECISION (map P.number lefts.now) (map P.number ps.now)) }
     ensures wrong_length { IsErrOf result refusals.WrongLength ↔ (length lefts.now ≢ length ps.now) }
-    ensures wrong_interval { IsErrOf result refusals.WrongInterval ↔ ((length lefts.now ≡ length ps.now) × (AreIntervals PRECISION (map P.number lefts.now) (map P.number ps.now) → ⊥)) }
-    ensures err { IfErr result (λ e. (e ≡ refusals.WrongLength) ⊎ (e ≡ refusals.WrongInterval) ⊎ (e ≡ refusals.NoMemory)) }
+    ensures wrong_interval { IsErrOf result refusals.WrongInterval
+        ↔ ((length lefts.now ≡ length ps.now)
+        × (AreIntervals PRECISION (map P.number lefts.now) (map P.number ps.now) → ⊥)) }
+    ensures err { IfErr result
+        (λ e. (e ≡ refusals.WrongLength) ⊎ (e ≡ refusals.WrongInterval) ⊎ (e ≡ refusals.NoMemory)) }
 {
     if lefts.len() != ps.len() {
         return Err(Refusal::WrongLength);
@@ -51,7 +59,7 @@ pub fn rows_by_intervals<P: BitArray, const PRECISION: usize>(
 /// Whether a number and a length are an interval of the numbers below two to the precision.
 fn is_interval<P: BitArray, const PRECISION: usize>(left: P, p: P) -> bool
     requires { (1 ≤ PRECISION) × (PRECISION ≤ P.BITS) }
-    ensures { IsTrue result ↔ IsInterval PRECISION (P.number left) (P.number p) }
+    ensures { IsTrue result ↔ IsIntervalWithin PRECISION (P.number left) (P.number p) }
 {
     let last = ones::<P>(PRECISION);
     if p.is_nothing() || last.is_below(left) {
@@ -77,7 +85,7 @@ fn are_intervals<P: BitArray, const PRECISION: usize>(lefts: &[P], ps: &[P]) -> 
 /// What lies above an interval.
 fn above<P: BitArray, const PRECISION: usize>(left: P, p: P) -> P
     requires sizes { (1 ≤ PRECISION) × (PRECISION ≤ P.BITS) }
-    requires interval { IsInterval PRECISION (P.number left) (P.number p) }
+    requires interval { IsIntervalWithin PRECISION (P.number left) (P.number p) }
     ensures { P.number result + (P.number left + P.number p) ≡ 2 ^ PRECISION }
 {
     ones::<P>(PRECISION).minus(left).minus(p.minus(P::unit()))
@@ -92,7 +100,8 @@ fn rows_made<P: BitArray, const PRECISION: usize>(
     requires sizes { (1 ≤ PRECISION) × (PRECISION ≤ P.BITS) }
     requires counted { length lefts.now ≡ length ps.now }
     requires intervals { AreIntervals PRECISION (map P.number lefts.now) (map P.number ps.now) }
-    ensures { IfOk result (λ rows. map P.number rows.items ≡ rows_between PRECISION (map P.number lefts.now) (map P.number ps.now)) }
+    ensures { IfOk result
+        (λ rows. map P.number rows.items ≡ rows_between PRECISION (map P.number lefts.now) (map P.number ps.now)) }
 {
     let mut rows = Vec::new(alloc);
     for i in 0..lefts.len() {

@@ -58,13 +58,15 @@ pub trait Models<P: BitArray, const PRECISION: usize> {
         requires { AreFit PRECISION (coded self.now symbols.now) }
         ensures { IsTrue result ↔ AreKnown (items PRECISION (coded self.now symbols.now)) };
 
-    /// The models of the symbols, for steps that divide by a symbol's weight, or that don't. `None` says that memory is missing.
+    /// The models of the symbols, for steps that divide by a symbol's weight, or that don't. `None` says that memory is
+    /// missing.
     fn list(&self, alloc: Global, symbols: &[usize], divides: bool) -> Option<Self::List>
         requires precision { (1 ≤ PRECISION) × (PRECISION ≤ P.BITS) }
         requires fit { AreFit PRECISION (coded self.now symbols.now) }
         ensures count { IfSome result (λ list. length (Self.List.tables list) ≡ length symbols.now) }
         ensures items { IfSome result (λ list. (others : List ℕ) → length others ≡ length symbols.now →
-            items PRECISION (coded self.now others) ≡ pairs_of PRECISION (λ table. table) others (Self.List.tables list)) };
+            items PRECISION (coded self.now others)
+            ≡ pairs_of PRECISION (λ table. table) others (Self.List.tables list)) };
 }
 
 /// One model for so many symbols.

@@ -1,4 +1,5 @@
-//! Models in whole numbers, for callers who look at them: where the intervals of a family's symbols lie, and weights of counts.
+//! Models in whole numbers, for callers who look at them: where the intervals of a family's symbols lie, and weights of
+//! counts.
 
 pub mod counts;
 pub mod intervals;

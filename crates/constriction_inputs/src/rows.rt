@@ -28,7 +28,9 @@ impl<'a, P: BitArray, const PRECISION: usize> Row<'a, P, PRECISION> {
     /// The model of these weights, if they add up to two to the precision.
     pub fn new(weights: &'a [P]) -> Option<Self>
         requires { (1 ≤ PRECISION) × (PRECISION ≤ P.BITS) }
-        ensures some { IfSome result (λ row. ⟦<Row<'a, P, PRECISION> as EntropyModel<PRECISION>>⟧.table row ≡ table_of (map P.number weights.now)) }
+        ensures ok { IfSome result
+            (λ row. ⟦<Row<'a, P, PRECISION> as EntropyModel<PRECISION>>⟧.table row
+            ≡ table_of (map P.number weights.now)) }
         ensures variant { IsSome result ↔ IsTotal PRECISION (map P.number weights.now) }
     {
         if is_total::<P, PRECISION>(weights) {
@@ -49,7 +51,8 @@ pub fn total_rows<'a, P: BitArray, const PRECISION: usize>(
     requires sizes { (1 ≤ PRECISION) × (PRECISION ≤ P.BITS) }
     requires counted { length weights.now ≡ width * count }
     requires totals { AreTotals PRECISION width count (map P.number weights.now) }
-    ensures { IfOk result (λ rows. map ⟦<Row<'a, P, PRECISION> as EntropyModel<PRECISION>>⟧.table rows.items ≡ row_tables width count (map P.number weights.now)) }
+    ensures { IfOk result (λ rows. map ⟦<Row<'a, P, PRECISION> as EntropyModel<PRECISION>>⟧.table rows.items
+        ≡ row_tables width count (map P.number weights.now)) }
 {
     let mut rows = Vec::with_capacity(alloc, count)?;
     let mut start = 0;

@@ -1,6 +1,6 @@
 //! Two symbols, one of which comes with a probability.
 
-ghost use Rattle.std.specs.Prelude.{◌≡◌, ℕ, ◌-◌, ◌^◌, ◌<◌, ◌≤◌, ◌⊎◌, ◌↔◌, IfSome, IsNone};
+ghost use Rattle.std.specs.Prelude.{◌≡◌, ◌-◌, ◌^◌, ◌<◌, ◌≤◌, ◌⊎◌, ◌↔◌, IfSome, IsNone};
 ghost use Rattle.constriction_base.specs.Tables.{Has};
 ghost use Rattle.constriction_models.specs.Bernoulli.{bernoulli};
 ghost use Rattle.constriction_models.specs.laws.Bernoulli.{bernoulli_is_table, bernoulli_two};
@@ -34,7 +34,8 @@ impl<Probability: WordOf<u32>, const PRECISION: usize> BernoulliModel<Probabilit
     /// has nothing.
     pub fn new(weight: Probability) -> Option<Self>
         requires { (1 ≤ PRECISION) × (PRECISION ≤ Probability.BITS) }
-        ensures some { IfSome result (λ m. ⟦<BernoulliModel<Probability, PRECISION> as EntropyModel<PRECISION>>⟧.table m ≡ bernoulli PRECISION (Probability.number weight)) }
+        ensures ok { IfSome result (λ m. ⟦<BernoulliModel<Probability, PRECISION> as EntropyModel<PRECISION>>⟧.table m
+            ≡ bernoulli PRECISION (Probability.number weight)) }
         ensures none { IsNone result ↔ ((Probability.number weight ≡ 0) ⊎ (2 ^ PRECISION ≤ Probability.number weight)) }
     {
         let weight = weight.widen() as u64;
@@ -50,7 +51,8 @@ impl<Probability: WordOf<u32>, const PRECISION: usize> BernoulliModel<Probabilit
     /// The interval of a symbol.
     #[inline(always)]
     fn interval_of(&self, symbol: bool) -> (Probability, <Probability as BitArray>::NonZero)
-        ensures { Has (bernoulli PRECISION self.now.weight) symbol (Probability.number result.0) (Probability.nonzero_number result.1) }
+        ensures { Has (bernoulli PRECISION self.now.weight) symbol (Probability.number result.0)
+            (Probability.nonzero_number result.1) }
     {
         let all = 1u64 << PRECISION as u32;
         let rest = all - self.weight;

@@ -65,7 +65,8 @@ impl Family {
     /// The distribution of a location and a scale above 0, both as multiples of `2^-16`; `None` where the scale is 0.
     #[inline]
     pub fn distribution(self, location: i64, scale: u32) -> Option<FamilyDistribution>
-        ensures some { IfSome result (λ d. ⟦<FamilyDistribution as CumulativeDistribution>⟧.below d ≡ family_below self location scale) }
+        ensures ok { IfSome result
+            (λ d. ⟦<FamilyDistribution as CumulativeDistribution>⟧.below d ≡ family_below self location scale) }
         ensures none { IsNone result ↔ (scale ≡ 0) }
     {
         match self {

@@ -1,14 +1,14 @@
 //! Functions by a table of values, between which they go straight.
 
 ghost use Rattle.std.specs.Prelude.{◌≡◌, ◌+◌, ◌-◌, ◌*◌, ◌/◌, ◌<◌, ◌≤◌, length, ℤ, pos, ◌+ℤ◌, ◌-ℤ◌};
-ghost use Rattle.constriction_models.specs.Interpolation.{AreValues, value_at, value_above, located};
+ghost use Rattle.constriction_models.specs.Interpolation.{AreValues, value_at, located};
 ghost use Rattle.constriction_models.specs.laws.Interpolating.{Fits};
 
 /// The value at a place, in 65536ths of a step.
 #[inline(always)]
 fn value_at(values: &[u64], place: u64) -> u64
     requires values { AreValues values.now }
-    requires inside { place < 134217728 }
+    requires within { place < 134217728 }
     ensures { result ≡ value_at values.now place }
 {
     let step = (place / 65536) as usize;
@@ -60,7 +60,7 @@ fn place_of(places: &[u32], below: u64) -> u64
 /// About which place has so much below it, where the middle of the table lies at another and the table is so wide.
 #[inline(always)]
 pub fn guessed(places: &[u32], wide: u64, middle: i64, below: u64) -> i64
-    requires long { length places.now ≡ 1025 }
+    requires count { length places.now ≡ 1025 }
     requires fits { wide ≤ 274877906944 }
 {
     let far = place_of(places, below) / 4 * wide / 33554432;

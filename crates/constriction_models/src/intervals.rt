@@ -11,9 +11,9 @@ pub fn interval<Probability: WordOf<u32>>(
     end: u64,
 ) -> (Probability, <Probability as BitArray>::NonZero)
     requires some { left < end }
-    requires low { left < 2 ^ Probability.BITS }
+    requires fits { left < 2 ^ Probability.BITS }
     requires long { end - left < 2 ^ Probability.BITS }
-    ensures left { Probability.number result.0 ≡ left }
+    ensures lower { Probability.number result.0 ≡ left }
     ensures long { Probability.nonzero_number result.1 ≡ end - left }
 {
     (

@@ -4,10 +4,11 @@
 //! otherwise on another machine, and then the message is lost. Here every model is computed in whole numbers, and
 //! proved to be a table.
 //!
-//! - [`distribution`]: `CumulativeDistribution`, a distribution function in whole numbers, of which one thing is asked: it
-//!   never falls.
-//! - [`quantizer`]: `LeakyQuantizer`, which cuts such a distribution at half symbols, and `LeakilyQuantizedDistribution`,
-//!   the model that it makes; `IndexedDistribution` is the same of places in the range, as `usize`.
+//! - [`distribution`]: `CumulativeDistribution`, a distribution function in whole numbers, of which one thing is asked:
+//!   it never falls.
+//! - [`quantizer`]: `LeakyQuantizer`, which cuts such a distribution at half symbols, and
+//!   `LeakilyQuantizedDistribution`, the model that it makes; `IndexedDistribution` is the same of places in the range,
+//!   as `usize`.
 //! - [`location_scale`]: `LocationScale`, a distribution by the table of a standard one, a location and a scale.
 //! - [`gaussian`], [`laplace`], [`logistic`]: `Gaussian`, `Laplace`, `Logistic`.
 //! - [`families`]: `Family`, one of these three, chosen while a program runs.

@@ -62,7 +62,8 @@ impl<D: StandardDistribution> LocationScale<D> {
     /// The distribution of a location and a scale above 0, both as multiples of `2^-16`; `None` where the scale is 0.
     #[inline]
     pub fn new(location: i64, scale: u32) -> Option<Self>
-        ensures some { IfSome result (λ d. ⟦<LocationScale<D> as CumulativeDistribution>⟧.below d ≡ scaled D.values D.WIDTH location scale) }
+        ensures ok { IfSome result
+            (λ d. ⟦<LocationScale<D> as CumulativeDistribution>⟧.below d ≡ scaled D.values D.WIDTH location scale) }
         ensures none { IsNone result ↔ (scale ≡ 0) }
     {
         if scale == 0 {

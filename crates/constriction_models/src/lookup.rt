@@ -1,6 +1,6 @@
 //! A model with the symbol of each quantile in a list.
 
-ghost use Rattle.std.specs.Prelude.{◌≡◌, ℕ, ◌^◌, ◌≤◌, IfOk, IsErrOf};
+ghost use Rattle.std.specs.Prelude.{◌≡◌, ◌^◌, ◌≤◌, IfOk, IsErrOf};
 ghost use Rattle.constriction_models.specs.Lookup.{AreFound, HasHighSymbol, HasLowSymbols};
 
 use constriction_base::model::{DecoderModel, EncoderModel, EntropyModel};
@@ -43,8 +43,8 @@ where
     M::Probability: WordOf<u32>,
     requires { PRECISION ≤ 16 }
     ensures found { IfOk result (λ symbols. AreFound (M.table model.now) symbols.items (2 ^ PRECISION)) }
-    ensures low { IfOk result (λ _. HasLowSymbols (M.table model.now)) }
-    ensures high { IsErrOf result LookupError.Symbol → HasHighSymbol (M.table model.now) }
+    ensures fits { IfOk result (λ _. HasLowSymbols (M.table model.now)) }
+    ensures symbol { IsErrOf result LookupError.Symbol → HasHighSymbol (M.table model.now) }
 {
     let mut symbols = Vec::new(alloc);
     for quantile in 0..1u32 << PRECISION as u32 {
@@ -73,9 +73,10 @@ where
     /// `Symbol` where the model knows a symbol above 65535, and `Memory` for want of memory.
     pub fn new(alloc: Global, model: M) -> Result<Self, LookupError>
         requires { PRECISION ≤ 16 }
-        ensures ok { IfOk result (λ t. ⟦<ContiguousLookupDecoderModel<M, PRECISION> as EntropyModel<PRECISION>>⟧.table t ≡ M.table model) }
-        ensures low { IfOk result (λ _. HasLowSymbols (M.table model)) }
-        ensures high { IsErrOf result LookupError.Symbol → HasHighSymbol (M.table model) }
+        ensures ok { IfOk result
+            (λ t. ⟦<ContiguousLookupDecoderModel<M, PRECISION> as EntropyModel<PRECISION>>⟧.table t ≡ M.table model) }
+        ensures fits { IfOk result (λ _. HasLowSymbols (M.table model)) }
+        ensures symbol { IsErrOf result LookupError.Symbol → HasHighSymbol (M.table model) }
     {
         let symbols = symbols_of(alloc, &model)?;
         Ok(ContiguousLookupDecoderModel { model, symbols })

@@ -2,7 +2,8 @@
 
 mod indexed;
 
-ghost use Rattle.std.specs.Prelude.{◌≡◌, ℕ, pos, ◌+◌, ◌-◌, ◌*◌, ◌^◌, ◌<◌, ◌≤◌, ◌+ℤ◌, ◌-ℤ◌, ◌≤ℤ◌, ◌<ℤ◌, ◌↔◌, IfOk, IsErrOf, MatchOption, IsSome};
+ghost use Rattle.std.specs.Prelude.{◌≡◌, ℕ, pos, ◌+◌, ◌-◌, ◌*◌, ◌^◌, ◌<◌, ◌≤◌, ◌+ℤ◌, ◌≤ℤ◌, ◌↔◌, IfOk};
+ghost use Rattle.std.specs.Prelude.{IsErrOf, MatchOption};
 ghost use Rattle.constriction_models.specs.Quantized.{symbol_of, below_edge, start_of, quantized};
 ghost use Rattle.constriction_models.specs.laws.Quantizing.{quantized_is_table, quantized_two};
 
@@ -14,8 +15,8 @@ use constriction_words::{BitArray, WordOf};
 pub use indexed::IndexedDistribution;
 use std::marker::PhantomData;
 
-/// A range of symbols, which cuts distributions at half symbols: every symbol of the range gets a weight above 0, however
-/// unlikely it is (the cut leaks to all of them), and no other symbol does.
+/// A range of symbols, which cuts distributions at half symbols: every symbol of the range gets a weight above 0,
+/// however unlikely it is (the cut leaks to all of them), and no other symbol does.
 ///
 /// # Examples
 ///
@@ -39,7 +40,7 @@ pub struct LeakyQuantizer<Probability: WordOf<u32>, const PRECISION: usize> {
 }
 
 impl<Probability: WordOf<u32>, const PRECISION: usize> LeakyQuantizer<Probability, PRECISION> {
-    ghost use Rattle.constriction_models.specs.Quantizers.{first_symbol, count_of};
+    ghost use Rattle.constriction_models.specs.Quantizers.{first_symbol, symbol_count};
 
     /// The quantizer of the symbols from `min` to `max`, of which there are two at least.
     ///
@@ -49,9 +50,9 @@ impl<Probability: WordOf<u32>, const PRECISION: usize> LeakyQuantizer<Probabilit
     pub fn new(min: i32, max: i32) -> Result<Self, SupportError>
         requires { (1 ≤ PRECISION) × (PRECISION ≤ Probability.BITS) }
         ensures first { IfOk result (λ q. first_symbol q ≡ min) }
-        ensures count { IfOk result (λ q. (min +ℤ pos (count_of q)) ≡ (max +ℤ pos 1)) }
-        ensures few { IsErrOf result SupportError.TooFew ↔ (max ≤ℤ min) }
-        ensures many { IsErrOf result SupportError.TooMany ↔ ((min +ℤ pos (2 ^ PRECISION)) ≤ℤ max) }
+        ensures count { IfOk result (λ q. (min +ℤ pos (symbol_count q)) ≡ (max +ℤ pos 1)) }
+        ensures too_few { IsErrOf result SupportError.TooFew ↔ (max ≤ℤ min) }
+        ensures too_many { IsErrOf result SupportError.TooMany ↔ ((min +ℤ pos (2 ^ PRECISION)) ≤ℤ max) }
     {
         if max <= min {
             return Err(SupportError::TooFew);
@@ -72,7 +73,8 @@ impl<Probability: WordOf<u32>, const PRECISION: usize> LeakyQuantizer<Probabilit
         &self,
         distribution: D,
     ) -> LeakilyQuantizedDistribution<D, Probability, PRECISION>
-        ensures table { ⟦<LeakilyQuantizedDistribution<D, Probability, PRECISION> as EntropyModel<PRECISION>>⟧.table result ≡ quantized PRECISION (D.below distribution) (first_symbol self.now) (count_of self.now) }
+        ensures table { ⟦<LeakilyQuantizedDistribution<D, Probability, PRECISION> as EntropyModel<PRECISION>>⟧.table
+            result ≡ quantized PRECISION (D.below distribution) (first_symbol self.now) (symbol_count self.now) }
     {
         LeakilyQuantizedDistribution {
             distribution,
@@ -109,7 +111,8 @@ impl<
     #[inline(always)]
     fn below(&self, k: u64) -> u64
         requires { k ≤ self.now.quantizer.count }
-        ensures { result ≡ below_edge (D.below self.now.distribution) self.now.quantizer.min self.now.quantizer.count k }
+        ensures { result ≡ below_edge (D.below self.now.distribution) self.now.quantizer.min
+            self.now.quantizer.count k }
     {
         if k == 0 {
             return 0;
@@ -133,7 +136,8 @@ impl<
     #[inline(always)]
     fn start(&self, k: u64) -> u64
         requires { k ≤ self.now.quantizer.count }
-        ensures { result ≡ start_of PRECISION (D.below self.now.distribution) self.now.quantizer.min self.now.quantizer.count k }
+        ensures { result ≡ start_of PRECISION
+            (D.below self.now.distribution) self.now.quantizer.min self.now.quantizer.count k }
     {
         self.free() * self.below(k) / 4294967296 + k
     }
@@ -168,7 +172,9 @@ impl<
     /// How far above the first a symbol is, if it is one of the range.
     #[inline(always)]
     fn place(&self, symbol: i32) -> Option<u64>
-        ensures { MatchOption result ((k : ℕ) → k < self.now.quantizer.count → symbol_of self.now.quantizer.min k ≡ symbol → ⊥) (λ k. (k < self.now.quantizer.count) × (symbol ≡ symbol_of self.now.quantizer.min k)) }
+        ensures { MatchOption result
+            ((k : ℕ) → k < self.now.quantizer.count → symbol_of self.now.quantizer.min k ≡ symbol → ⊥)
+            (λ k. (k < self.now.quantizer.count) × (symbol ≡ symbol_of self.now.quantizer.min k)) }
     {
         let from = symbol as i64 - self.quantizer.min as i64;
         if from < 0 || from as u64 >= self.quantizer.count {
@@ -187,11 +193,13 @@ impl<D: CumulativeDistribution, Probability: WordOf<u32>, const PRECISION: usize
 
     ghost table = { λ m. quantized PRECISION (D.below m.distribution) m.quantizer.min m.quantizer.count };
 
-    ghost lawful = { λ m. quantized_is_table PRECISION (D.below m.distribution) m.quantizer.min m.quantizer.count (D.never_falls m.distribution) m.quantizer.some m.quantizer.room };
+    ghost lawful = { λ m. quantized_is_table PRECISION (D.below m.distribution) m.quantizer.min m.quantizer.count
+        (D.never_falls m.distribution) m.quantizer.some m.quantizer.room };
 
     ghost sized = { λ m. (m.quantizer.positive, m.quantizer.fits) };
 
-    ghost two_symbols = { λ m _. quantized_two PRECISION (D.below m.distribution) m.quantizer.min m.quantizer.count m.quantizer.some };
+    ghost two_symbols = { λ m _. quantized_two PRECISION
+        (D.below m.distribution) m.quantizer.min m.quantizer.count m.quantizer.some };
 }
 
 impl<D: CumulativeDistribution, Probability: WordOf<u32>, const PRECISION: usize> EncoderModel<

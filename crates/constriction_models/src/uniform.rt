@@ -39,9 +39,11 @@ impl<Probability: WordOf<u32>, const PRECISION: usize> UniformModel<Probability,
     /// `TooFew` where there are fewer than two, and `TooMany` where there are more than two to the precision.
     pub fn new(count: usize) -> Result<Self, SupportError>
         requires { (1 ≤ PRECISION) × (PRECISION ≤ Probability.BITS) }
-        ensures ok { IfOk result (λ m. ⟦<UniformModel<Probability, PRECISION> as EntropyModel<PRECISION>>⟧.table m ≡ uniform PRECISION count) }
-        ensures few { IsErrOf result SupportError.TooFew ↔ (count < 2) }
-        ensures many { IsErrOf result SupportError.TooMany ↔ (2 ^ PRECISION < count) }
+        ensures ok { IfOk result
+            (λ m. ⟦<UniformModel<Probability, PRECISION> as EntropyModel<PRECISION>>⟧.table m
+            ≡ uniform PRECISION count) }
+        ensures too_few { IsErrOf result SupportError.TooFew ↔ (count < 2) }
+        ensures too_many { IsErrOf result SupportError.TooMany ↔ (2 ^ PRECISION < count) }
     {
         if count < 2 {
             return Err(SupportError::TooFew);
@@ -74,9 +76,9 @@ impl<Probability: WordOf<u32>, const PRECISION: usize> UniformModel<Probability,
     #[inline(always)]
     fn symbol_at(&self, quantile: u64) -> u64
         requires { quantile < 2 ^ PRECISION }
-        ensures known { result < self.now.count }
-        ensures low { even_start (2 ^ PRECISION) self.now.count result ≤ quantile }
-        ensures high { quantile < even_start (2 ^ PRECISION) self.now.count (result + 1) }
+        ensures within { result < self.now.count }
+        ensures above { even_start (2 ^ PRECISION) self.now.count result ≤ quantile }
+        ensures below { quantile < even_start (2 ^ PRECISION) self.now.count (result + 1) }
     {
         let symbol = quantile / self.weight;
         if symbol < self.count {

@@ -16,7 +16,7 @@ use Rattle.constriction_queue.specs.Decoder.{Decoder, distance, quantile_read, S
 use Rattle.constriction_queue.specs.Calls as calls
 use Rattle.constriction_queue.proofs.Pointing.{takes_is, mod_sum}
 use Rattle.constriction_queue.proofs.Showing.{queue_is}
-use Rattle.constriction_queue_laws.specs.Outcomes.{ReadsAll}
+use Rattle.constriction_queue_laws.specs.Outcomes.{ReadsToEnd}
 use Rattle.constriction_queue.specs.Symbols.{Narrows, Finds, NarrowsAll, FindsAll, MayEnd, NearsEnd}
 use Rattle.constriction_queue_laws.proofs.ComingBack.{decodes_unique}
 use Rattle.constriction_coder_laws.proofs.SameModel.{are_models, models-alike, symbols-items_of}
@@ -94,7 +94,7 @@ pairs_back {S} precision table w s words symbols again ms old last new lawful co
 
 -- what was read of a list's own words is the list, and they have ended there
 pub sealed_back : {S : Type 0} (w s : ℕ) (items : List S → List (Item S)) (symbols again : List S) (words : List ℕ) (last : Run) (ended : Bool) → AreModels w (items symbols)
-    → FindsAll w s words (items symbols) (start s) last → MayEnd w s words last → again ≡ symbols → ReadsAll w s words (items again) ended → (again ≡ symbols) × IsTrue ended
+    → FindsAll w s words (items symbols) (start s) last → MayEnd w s words last → again ≡ symbols → ReadsToEnd w s words (items again) ended → (again ≡ symbols) × IsTrue ended
 sealed_back {S} w s items symbols again words last ended ms found may is read =
     let here : FindsAll w s words (items symbols) (start s) read.0 = subst (λ (xs : List S). FindsAll w s words (items xs) (start s) read.0) is read.1 in
     let same = decodes_unique w s words (items symbols) (items symbols) (start s) last read.0 ms refl found here in

@@ -15,7 +15,7 @@ use Rattle.constriction_base.specs.declared.errors.CoderError.{CoderError}
 use Rattle.constriction_base.specs.declared.errors.CoderError.TheVariants.{Frontend}
 use Rattle.constriction_base.specs.declared.errors.DefaultEncoderFrontendError.{DefaultEncoderFrontendError}
 use Rattle.constriction_stream.proofs.Outcomes.{EncodesByBackend, frontend_by}
-use Rattle.constriction_coder_laws.specs.Outcomes.{HasImpossible, HasImpossibleItem, Reasons, StopsAmong, StopsAt}
+use Rattle.constriction_coder_laws.specs.Outcomes.{HasImpossible, HasImpossibleItem, Reasons, StopsAmong, StopsShort}
 use Rattle.constriction_coder_laws.specs.declared.errors.RoundTripError.{RoundTripError}
 use Rattle.constriction_coder_laws.specs.declared.errors.RoundTripError.TheVariants as trip
 use Rattle.constriction_coder_laws.specs.declared.errors.Stopped.TheVariants.{Refused}
@@ -61,7 +61,7 @@ module _ {S W B E Q : Type 0} (F : Type 0) (number : W → ℕ) (holds : holding
 module _ {S W B E Q : Type 0} (number : W → ℕ) (holds : holding.Ghosts B W Q) (reads : reading.Ghosts B W Q E) (w s : ℕ) (words : List ℕ) (known : holds.is_list) where
   pub never_stopped : (model : Model S) → IsModel w model → 0 < 2 ^ s → (symbols : List S) (r last : Run) (amt : ℕ) (old new : Decoder B) (f : DecoderFrontendError) → amt ≡ length symbols
       → StandsAt w s words r old → FindsAll w s words (items_of model symbols) r last
-      → StopsAt {E = CoderError DecoderFrontendError E} (ByBackend {F = DecoderFrontendError} (calls.DecodeCall number holds reads w s))
+      → StopsShort {E = CoderError DecoderFrontendError E} (ByBackend {F = DecoderFrontendError} (calls.DecodeCall number holds reads w s))
       (λ old error new. (error ≡ Frontend InvalidData) × (2 ^ model.precision ≤ quantile_read s model.precision old) × (new ≡ old)) model.precision model.table amt old (Refused (Frontend f)) new → ⊥
   never_stopped model m some symbols r last amt old new f count at found (given, mid, less, all, inl halt) =
       omega (arith, halt.1, more_to_read DecoderFrontendError number holds reads w s words known model m some given symbols r last old mid (omega (arith, less, count)) at all found)

@@ -44,8 +44,8 @@ abbrev pub StandsBefore : {S B : Type 0} → ℕ → ℕ → List (Item S) → R
 StandsBefore w s items old decoder = (last : Run) × NarrowsAll w s items old last × StandsAt w s (sealed w s last) (start s) decoder
 
 -- a new decoder of the words reads these items, and then says whether the words may have ended
-abbrev pub ReadsAll : {S : Type 0} → ℕ → ℕ → List ℕ → List (Item S) → Bool → Type 0
-ReadsAll w s words items ended =
+abbrev pub ReadsToEnd : {S : Type 0} → ℕ → ℕ → List ℕ → List (Item S) → Bool → Type 0
+ReadsToEnd w s words items ended =
     (last : Run) × FindsAll w s words items (start s) last × (MayEnd w s words last → IsTrue ended) × (IsTrue ended → NearsEnd w s words last)
 
 -- as many symbols are read, by a new decoder, from the sealed words of these, which stand behind those of a run
@@ -58,7 +58,7 @@ ReadsSealed w s items old symbols again =
 abbrev pub ReadsAllSealed : {S : Type 0} → ℕ → ℕ → (List S → List (Item S)) → Run → List S → List S → Bool → Type 0
 ReadsAllSealed w s items old symbols again ended =
     (length again ≡ length symbols)
-    × ((words : List ℕ) × SealsAll w s (items symbols) old words × ReadsAll w s words (items again) ended)
+    × ((words : List ℕ) × SealsAll w s (items symbols) old words × ReadsToEnd w s words (items again) ended)
 
 -- where words that hold no such list stopped it: they are these sealed words, and hold none of so many symbols
 abbrev pub NoneSealed : {S : Type 0} → ℕ → ℕ → (List S → List (Item S)) → Run → List S → RoundTripError → Type 0

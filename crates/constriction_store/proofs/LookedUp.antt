@@ -7,7 +7,7 @@ use Rattle.constriction_base.specs.Models.{Model, IsModel, items_of}
 use Rattle.constriction_queue.specs.Decoder.{Decoder, StandsAt}
 use Rattle.constriction_queue.specs.Range.{Run}
 use Rattle.constriction_queue.specs.Symbols.{FindsAll}
-use Rattle.constriction_store.specs.LookedUp.{CannotLookUp, ChunkFails, HoldsSome, IsChunk, IsRefused}
+use Rattle.constriction_store.specs.LookedUp.{CannotLookUp, ChunkFails, HoldsSome, IsChunk, LookUpFails}
 use Rattle.constriction_store.specs.Chunks.{chunk_in}
 use Rattle.constriction_store.specs.Stores.{Entry, HoldsChunk, HoldsChunks, HoldsNoChunk, entry_in, run_at}
 use Rattle.constriction_store.specs.declared.looking_up.ChunkError.{ChunkError}
@@ -23,7 +23,7 @@ module _ {B : Type 0} (w s : ℕ) (model : Model ℕ) (words : List ℕ) (e : En
 
   pub chunk_err : {A : Type 0} (answer : Result (Vec ℕ A) ChunkError) (index : List Entry) (i : ℕ) → i < length index → entry_in index i ≡ e
       → ((words : List ℕ) (there : Run) → StandsAt w s words there d → IfErr answer (ChunkFails w s model words there e.len))
-      → IfErr answer (IsRefused w s model words index i)
+      → IfErr answer (LookUpFails w s model words index i)
   chunk_err (Ok v) index i inside is err = tt
   chunk_err (Err NoSuchChunk) index i inside is err = absurd (err words (run_at e) at)
   chunk_err (Err Invalid) index i inside is err = (inside, subst (λ (e : Entry). HoldsNoChunk w s model words e) (sym is) (err words (run_at e) at))

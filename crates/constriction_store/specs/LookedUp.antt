@@ -26,10 +26,10 @@ HoldsSome w s model words entry =
     (symbols : List ℕ) × (run : Run) × FindsAll w s words (items_of model symbols) (run_at entry) run × (0 < length symbols) × (length symbols ≤ entry.len)
 
 -- why a look-up gives no chunk; want of memory is met behind a symbol
-abbrev pub IsRefused : ℕ → ℕ → Model ℕ → List ℕ → List Entry → ℕ → ChunkError → Type 0
-IsRefused w s model words index i NoSuchChunk = length index ≤ i
-IsRefused w s model words index i Invalid = (i < length index) × HoldsNoChunk w s model words (entry_in index i)
-IsRefused w s model words index i Memory = (i < length index) × HoldsSome w s model words (entry_in index i)
+abbrev pub LookUpFails : ℕ → ℕ → Model ℕ → List ℕ → List Entry → ℕ → ChunkError → Type 0
+LookUpFails w s model words index i NoSuchChunk = length index ≤ i
+LookUpFails w s model words index i Invalid = (i < length index) × HoldsNoChunk w s model words (entry_in index i)
+LookUpFails w s model words index i Memory = (i < length index) × HoldsSome w s model words (entry_in index i)
 
 -- these symbols, or want of memory
 abbrev pub IsChunk : {A : Type 0} → List ℕ → Result (Vec ℕ A) ChunkError → Type 0

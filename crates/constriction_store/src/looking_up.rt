@@ -7,7 +7,7 @@ ghost use Rattle.constriction_queue.specs.Decoder.{StandsAt};
 ghost use Rattle.constriction_queue.specs.Range.{Run};
 ghost use Rattle.constriction_queue.specs.States.{lower_of, range_of};
 ghost use Rattle.constriction_queue.specs.Symbols.{FindsAll};
-ghost use Rattle.constriction_store.specs.LookedUp.{ChunkFails, IsChunk, IsRefused};
+ghost use Rattle.constriction_store.specs.LookedUp.{ChunkFails, IsChunk, LookUpFails};
 ghost use Rattle.constriction_store.specs.Stores.{HoldsChunk, entry_in, run_from};
 
 use crate::Store;
@@ -120,7 +120,7 @@ where
         ensures none { (result ≡ Err ChunkError.NoSuchChunk) ↔ (length self.now.index ≤ i) }
         ensures ok { IfOk result (λ symbols. HoldsChunk Word.BITS State.BITS
             record { precision = PRECISION; table = M.table self.now.model } self.now.words (entry_in self.now.index i) symbols.items) }
-        ensures err { IfErr result (IsRefused Word.BITS State.BITS
+        ensures err { IfErr result (LookUpFails Word.BITS State.BITS
             record { precision = PRECISION; table = M.table self.now.model } self.now.words self.now.index i) }
         ensures back { i < length self.now.index → (symbols : List ℕ) → HoldsChunk Word.BITS State.BITS
             record { precision = PRECISION; table = M.table self.now.model } self.now.words (entry_in self.now.index i) symbols →

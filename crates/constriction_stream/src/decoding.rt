@@ -27,7 +27,8 @@ pub trait Decode<const PRECISION: usize>: Code {
 
     /// What the step of an interval may return, and the coder that it leaves. It is chosen freely: it is
     /// what the coder does.
-    ghost decodes: { Self → Step → Result (Unit {0}) (CoderError Self.FrontendError Self.BackendError) → Self → Type 0 };
+    ghost decodes: { Self → Step → Result (Unit {0}) (CoderError Self.FrontendError Self.BackendError)
+        → Self → Type 0 };
 
     /// How a step may be refused before the model is asked, and the coder that this leaves. It is chosen
     /// freely, and nothing where the model is always asked.
@@ -112,7 +113,7 @@ pub trait Decode<const PRECISION: usize>: Code {
         M::Probability: WordOf<Self::Word>,
         ensures same_reference { result.decoder.ghost_name ≡ self.entry.ghost_name }
         ensures decoder { result.decoder.now ≡ self.old }
-        ensures amt { result.amt ≡ amt }
+        ensures count { result.amt ≡ amt }
         ensures model { result.model ≡ model }
     {
         DecodeIidSymbols {

@@ -50,7 +50,8 @@ pub trait Encode<const PRECISION: usize>: Code {
 
     /// What the step of an interval may return, and the coder that it leaves. It is chosen freely: it is
     /// what the coder does.
-    ghost encodes: { Self → Step → Result (Unit {0}) (CoderError Self.FrontendError Self.BackendError) → Self → Type 0 };
+    ghost encodes: { Self → Step → Result (Unit {0}) (CoderError Self.FrontendError Self.BackendError)
+        → Self → Type 0 };
 
     /// The error says that the model doesn't know the symbol. It is chosen freely among the errors that no
     /// step returns (`never_impossible`).
@@ -93,7 +94,8 @@ pub trait Encode<const PRECISION: usize>: Code {
         M: EncoderModel<PRECISION>,
         M::Probability: WordOf<Self::Word>,
         requires { counts_symbols → 0 < symbols_left self.old }
-        ensures step { EncodesSymbol encodes is_impossible_symbol PRECISION (M.table model) symbol.now self.old result self.new }
+        ensures step { EncodesSymbol encodes is_impossible_symbol PRECISION
+            (M.table model) symbol.now self.old result self.new }
         ensures fewer_left { symbols_left self.old ≤ symbols_left self.new + 1 };
 
     /// Encodes symbols in order, each by its own model, up to the first that is refused. To a coder that
@@ -119,10 +121,12 @@ pub trait Encode<const PRECISION: usize>: Code {
         S: Lent<M::Symbol> + Drop,
         I: IntoIterator<Item = (S, M)>,
         I::IntoIter: Drop,
-        requires { GivesAtMost (I.into_iter_gives symbols_and_models) I.IntoIter.can_next I.IntoIter.remaining counts_symbols (symbols_left self.old) }
+        requires { GivesAtMost (I.into_iter_gives symbols_and_models) I.IntoIter.can_next I.IntoIter.remaining
+            counts_symbols (symbols_left self.old) }
         ensures steps { StepsUntilFault (EncodesPair encodes is_impossible_symbol PRECISION M.table S.lent)
             (I.into_iter_gives symbols_and_models) I.IntoIter.next_gives self.old result self.new }
-        ensures fewer_left { LowersByItems (I.into_iter_gives symbols_and_models) I.IntoIter.remaining (symbols_left self.old) (symbols_left self.new) }
+        ensures fewer_left { LowersByItems (I.into_iter_gives symbols_and_models) I.IntoIter.remaining
+            (symbols_left self.old) (symbols_left self.new) }
     {
         for (symbol, model) in symbols_and_models {
             match self.encode_symbol(symbol.lend(), model) {
@@ -152,10 +156,12 @@ pub trait Encode<const PRECISION: usize>: Code {
         S: Lent<M::Symbol> + Drop,
         I: IntoIterator<Item = Result<(S, M), E>>,
         I::IntoIter: Drop,
-        requires { GivesAtMost (I.into_iter_gives symbols_and_models) I.IntoIter.can_next I.IntoIter.remaining counts_symbols (symbols_left self.old) }
+        requires { GivesAtMost (I.into_iter_gives symbols_and_models) I.IntoIter.can_next I.IntoIter.remaining
+            counts_symbols (symbols_left self.old) }
         ensures steps { StepsUntilFault (TriesItem (EncodesPair encodes is_impossible_symbol PRECISION M.table S.lent))
             (I.into_iter_gives symbols_and_models) I.IntoIter.next_gives self.old result self.new }
-        ensures fewer_left { LowersByItems (I.into_iter_gives symbols_and_models) I.IntoIter.remaining (symbols_left self.old) (symbols_left self.new) }
+        ensures fewer_left { LowersByItems (I.into_iter_gives symbols_and_models) I.IntoIter.remaining
+            (symbols_left self.old) (symbols_left self.new) }
     {
         for symbol_and_model in symbols_and_models {
             let (symbol, model) = match symbol_and_model {
@@ -188,10 +194,14 @@ pub trait Encode<const PRECISION: usize>: Code {
         S: Lent<M::Symbol> + Drop,
         I: IntoIterator<Item = S>,
         I::IntoIter: Drop,
-        requires { GivesAtMost (I.into_iter_gives symbols) I.IntoIter.can_next I.IntoIter.remaining counts_symbols (symbols_left self.old) }
-        ensures steps { StepsUntilFault (λ old symbol result new. EncodesSymbol encodes is_impossible_symbol PRECISION (M.table model) (S.lent symbol) old result new)
+        requires { GivesAtMost (I.into_iter_gives symbols) I.IntoIter.can_next I.IntoIter.remaining counts_symbols
+            (symbols_left self.old) }
+        ensures steps { StepsUntilFault
+            (λ old symbol result new. EncodesSymbol encodes is_impossible_symbol PRECISION (M.table model)
+            (S.lent symbol) old result new)
             (I.into_iter_gives symbols) I.IntoIter.next_gives self.old result self.new }
-        ensures fewer_left { LowersByItems (I.into_iter_gives symbols) I.IntoIter.remaining (symbols_left self.old) (symbols_left self.new) }
+        ensures fewer_left { LowersByItems (I.into_iter_gives symbols) I.IntoIter.remaining (symbols_left self.old)
+            (symbols_left self.new) }
     {
         for symbol in symbols {
             match self.encode_symbol(symbol.lend(), model) {
@@ -211,8 +221,10 @@ pub trait Encode<const PRECISION: usize>: Code {
     }
 
     // The error of an impossible symbol is no step's own refusal.
-    ghost never_impossible: { (old : Self) (step : Step) (e : Self.FrontendError) (new : Self) → is_impossible_symbol e → encodes old step (Err (coder_error.Frontend e)) new → ⊥ };
+    ghost never_impossible: { (old : Self) (step : Step) (e : Self.FrontendError) (new : Self) → is_impossible_symbol e
+        → encodes old step (Err (coder_error.Frontend e)) new → ⊥ };
 
     // It doesn't say that the coder is full.
-    ghost never_full: { (e : Self.FrontendError) → is_impossible_symbol e → is_lack_of_room (coder_error.Frontend e) → ⊥ };
+    ghost never_full: { (e : Self.FrontendError) → is_impossible_symbol e
+        → is_lack_of_room (coder_error.Frontend e) → ⊥ };
 }

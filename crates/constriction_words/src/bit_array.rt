@@ -83,8 +83,8 @@ pub trait BitArray: Copy + Drop {
 
     /// The quotient by `other`, rounded down, by means of the reciprocal of `other`.
     ///
-    /// The words of this crate take a product and a shift in place of a division, except for `u128`. A word that doesn't
-    /// have this method divides.
+    /// The words of this crate take a product and a shift in place of a division, except for `u128`. A word that
+    /// doesn't have this method divides.
     fn quotient_by(self, other: Self, reciprocal: Reciprocal) -> Self
         requires { IsReciprocalOf reciprocal (number other) }
         ensures { number result ≡ number self / number other }

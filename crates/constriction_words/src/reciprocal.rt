@@ -1,9 +1,9 @@
 //! `Reciprocal`: what divides by one number, by a product in place of a division.
 
-ghost use Rattle.std.specs.Prelude.{◌≡◌, ◌+◌, ◌*◌, ◌/◌, ◌^◌, ◌<◌, ℕ};
+ghost use Rattle.std.specs.Prelude.{◌≡◌, ◌+◌, ◌*◌, ◌/◌, ◌<◌, ℕ};
 
-/// The reciprocal of a number above 0, as a multiplier, an addend and a shift that give the exact quotient, rounded down, of
-/// every number below 2^64.
+/// The reciprocal of a number above 0, as a multiplier, an addend and a shift that give the exact quotient, rounded
+/// down, of every number below 2^64.
 ///
 /// Where many numbers are divided by the same one, as states by a symbol's weight, it is made once. A quotient then
 /// takes one product of 128 bits and a shift, which on most machines is several times as fast as a division.

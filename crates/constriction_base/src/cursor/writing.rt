@@ -60,7 +60,7 @@ impl<Word: BitArray, Buf: WordsMut<Word> + Drop> WriteWords<Word> for Cursor<Wor
 
     /// Returns `Ok` without a promise, and changes nothing.
     fn prepare(&mut self, _count: usize) -> Result<(), BoundedWriteError>
-        ensures done { IsOk result }
+        ensures variant { IsOk result }
         ensures unchanged { self.new ≡ self.old }
     {
         // A cursor's room is what its buffer has.

@@ -54,8 +54,8 @@ pub fn hints_of<Probability: BitArray, const PRECISION: usize>(
     requires some { 0 < length starts.now }
     requires rising { IsRising (map Probability.number starts.now) (2 ^ PRECISION) }
     requires within { (shift < PRECISION) × (PRECISION - shift ≤ 63) }
-    ensures len { IfOk result (λ hints. length hints.items ≡ 2 ^ (PRECISION - shift) + 1) }
-    ensures hinted { IfOk result (λ hints.
+    ensures count { IfOk result (λ hints. length hints.items ≡ 2 ^ (PRECISION - shift) + 1) }
+    ensures ok { IfOk result (λ hints.
         AreHints (map Probability.number starts.now) (2 ^ PRECISION) (2 ^ shift) hints.items) }
 {
     let count = 1usize << (PRECISION as u32 - shift);

@@ -19,7 +19,7 @@ pub fn known_symbols<Probability: BitArray, const PRECISION: usize>(
     weights: &[Probability],
 ) -> Option<usize>
     requires { (1 ≤ PRECISION) × (PRECISION ≤ Probability.BITS) }
-    ensures some { IfSome result (λ n.
+    ensures ok { IfSome result (λ n.
         IsLastSymbol Probability.number weights.now n (2 ^ PRECISION) (2 ^ Probability.BITS)) }
     ensures none { IfNone result (sum_by Probability.number weights.now ≢ 2 ^ PRECISION) }
 {
@@ -53,7 +53,7 @@ pub fn starts_of<Probability: BitArray>(
     weights: &[Probability],
 ) -> Result<Vec<Probability>, AllocError>
     requires total { sum_by Probability.number weights.now < 2 ^ Probability.BITS }
-    requires count { length weights.now + 1 < 2 ^ 64 }
+    requires few { length weights.now + 1 < 2 ^ 64 }
     ensures { IfOk result (λ starts.
         Sums Probability.number weights.now (map Probability.number starts.items) (length weights.now + 1)) }
 {

@@ -9,7 +9,7 @@ ghost use Rattle.constriction_base.specs.Models.{items_of};
 ghost use Rattle.constriction_chain.specs.Chain.{ChainState, IsSized};
 ghost use Rattle.constriction_chain.specs.Imports.{FromBinary, FromCompressed, IsWhole};
 ghost use Rattle.constriction_chain.specs.Symbols.{TakesOffAll};
-ghost use Rattle.constriction_chain_laws.specs.Endings.{ComesBack, Ended, EndsFrom, UnlessEnded};
+ghost use Rattle.constriction_chain_laws.specs.Endings.{ComesBackOver, Ended, EndsFrom, UnlessEnded};
 ghost use Rattle.constriction_chain_laws.specs.Fits.{CoderFits};
 ghost use Rattle.constriction_coder_laws.specs.Outcomes.{Reasons};
 
@@ -54,7 +54,7 @@ where
         (items_of record { precision = PRECISION; table = M.table model.now } back.0.items) coder.state after
         × (map Word.number (reverse back.1.items) ≡ after.compressed)) }
     ensures back { IsWhole Word.BITS State.BITS PRECISION coder.state →
-        IfOk result (λ back. ComesBack coder.state [] (map Word.number (reverse back.1.items)) back.2.state) }
+        IfOk result (λ back. ComesBackOver coder.state [] (map Word.number (reverse back.1.items)) back.2.state) }
     ensures err { IfErr result (UnlessEnded (λ taken. (taken < amt) × (after : ChainState)
         × Ended Word.BITS State.BITS PRECISION
         (items_of record { precision = PRECISION; table = M.table model.now }) taken coder.state after)) }
@@ -98,7 +98,7 @@ where
     ensures back { IsWhole Word.BITS State.BITS PRECISION coder.state → IfOk result (λ back. (after : ChainState)
         × TakesOffAll Word.BITS State.BITS (items_of record { precision = PRECISION; table = M.table model.now }
         back.0.items) coder.state after
-        × ComesBack coder.state after.compressed after.compressed back.1.state) }
+        × ComesBackOver coder.state after.compressed after.compressed back.1.state) }
     ensures err { IfErr result (UnlessEnded (λ taken. (taken < amt) × (after : ChainState)
         × Ended Word.BITS State.BITS PRECISION
         (items_of record { precision = PRECISION; table = M.table model.now }) taken coder.state after)) }

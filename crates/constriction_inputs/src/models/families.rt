@@ -2,9 +2,10 @@
 
 ghost use Rattle.std.specs.Prelude.{◌≡◌, ◌↔◌, ◌<◌, ◌≤◌, ◌<ℤ◌, Some, length, map, IfOk, IsTrue};
 ghost use Rattle.std.specs.List.{AllByRecursion};
-ghost use Rattle.constriction_models.specs.Quantizers.{count_of, first_symbol};
+ghost use Rattle.constriction_models.specs.Quantizers.{symbol_count, first_symbol};
 ghost use Rattle.constriction_inputs.specs.Coded.{InFamily};
-ghost use Rattle.constriction_inputs.specs.Quantized.{ArePlaces, AreScaled, IsRange, family_of, symbols_in, tables_by};
+ghost use Rattle.constriction_inputs.specs.Quantized.{ArePlacesInRange, AreScaled, IsRange, family_of, symbols_in};
+ghost use Rattle.constriction_inputs.specs.Quantized.{tables_by};
 ghost use Rattle.constriction_inputs.specs.Refusals.{Asks, Else, Never};
 ghost use Rattle.constriction_inputs.specs.declared.refusal.Refusal.TheVariants as refusals;
 
@@ -37,7 +38,14 @@ pub struct Families<'a> {
 impl<'a, P: WordOf<u32>, const PRECISION: usize> Models<P, PRECISION> for Families<'a> {
     type List = Each<FamilyModel<P, PRECISION>>;
 
-    ghost coded = { λ given. InFamily (record { family = given.family; min = given.min; max = given.max; locations = given.locations.now; scales = given.scales.now }) };
+    ghost coded = { λ given. InFamily
+        (record {
+          family = given.family;
+          min = given.min;
+          max = given.max;
+          locations = given.locations.now;
+          scales = given.scales.now;
+        }) };
 
     fn check(&self, symbols: &[usize]) -> Result<(), Refusal> {
         if self.locations.len() != symbols.len() {
@@ -89,16 +97,16 @@ impl<'a> Families<'a> {
     ///
     /// # Errors
     ///
-    /// In this order, each just in its case: `WrongLength`, where there are not as many scales as locations; `WrongInterval`,
-    /// where the range has fewer than two symbols, or more than two to the precision; `WrongWeights`, where the code is that of
-    /// no family, or a scale is 0.
+    /// In this order, each just in its case: `WrongLength`, where there are not as many scales as locations;
+    /// `WrongInterval`, where the range has fewer than two symbols, or more than two to the precision; `WrongWeights`,
+    /// where the code is that of no family, or a scale is 0.
     pub fn quantizer<P: WordOf<u32>, const PRECISION: usize>(
         &self,
     ) -> Result<(Family, LeakyQuantizer<P, PRECISION>), Refusal>
         requires { (1 ≤ PRECISION) × (PRECISION ≤ P.BITS) }
         ensures family { IfOk result (λ made. family_of self.now.family ≡ Some made.0) }
         ensures first { IfOk result (λ made. first_symbol made.1 ≡ self.now.min) }
-        ensures count { IfOk result (λ made. count_of made.1 ≡ symbols_in self.now.min self.now.max) }
+        ensures count { IfOk result (λ made. symbol_count made.1 ≡ symbols_in self.now.min self.now.max) }
         ensures asks { Asks refusals.WrongLength (length self.now.locations.now ≡ length self.now.scales.now)
             (Asks refusals.WrongInterval (IsRange PRECISION self.now.min self.now.max)
             (Asks refusals.WrongWeights (AreScaled self.now.family self.now.scales.now) (Else Never))) result }
@@ -121,7 +129,7 @@ impl<'a> Families<'a> {
     /// Whether each symbol is the place of one of the range: 0 is that of `min`.
     fn are_places(&self, symbols: &[usize]) -> bool
         requires { self.now.min <ℤ self.now.max }
-        ensures { IsTrue result ↔ ArePlaces self.now.min self.now.max symbols.now }
+        ensures { IsTrue result ↔ ArePlacesInRange self.now.min self.now.max symbols.now }
     {
         let count = (self.max as i64 - self.min as i64) as usize + 1;
         for symbol in symbols {
@@ -168,7 +176,8 @@ fn models_of<P: WordOf<u32>, const PRECISION: usize>(
     requires counted { length locations.now ≡ length scales.now }
     requires scaled { AllByRecursion (λ scale. 0 < scale) scales.now }
     ensures { IfOk result (λ models. map ⟦<FamilyModel<P, PRECISION> as EntropyModel<PRECISION>>⟧.table models.items
-        ≡ tables_by PRECISION (Some family) (first_symbol quantizer.now) (count_of quantizer.now) locations.now scales.now) }
+        ≡ tables_by PRECISION (Some family) (first_symbol quantizer.now)
+        (symbol_count quantizer.now) locations.now scales.now) }
 {
     let mut models = Vec::with_capacity(alloc, locations.len())?;
     for i in 0..locations.len() {

@@ -13,7 +13,8 @@ use constriction_base::weights::WeightTable;
 use constriction_words::BitArray;
 use std::alloc::Global;
 
-/// The weights of the symbols `0`, `1`, .., which add up to two to the precision. A symbol of weight 0, or past them, is impossible.
+/// The weights of the symbols `0`, `1`, .., which add up to two to the precision. A symbol of weight 0, or past them,
+/// is impossible.
 #[derive(Clone, Copy, Drop)]
 pub struct Weights<'a, P> {
     pub weights: &'a [P],
@@ -57,8 +58,8 @@ impl<'a, P: BitArray, const PRECISION: usize> Models<P, PRECISION> for Weights<'
     }
 }
 
-/// The table of weights, with their reciprocals where steps divide by them. `None` says that the weights don't add up, or that memory is
-/// missing.
+/// The table of weights, with their reciprocals where steps divide by them. `None` says that the weights don't add up,
+/// or that memory is missing.
 pub fn table_by<P: BitArray, const PRECISION: usize>(
     alloc: Global,
     weights: &[P],

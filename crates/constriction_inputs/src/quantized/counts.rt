@@ -1,7 +1,7 @@
 //! Weights in proportion to counts, into a caller's buffer.
 
 ghost use Rattle.std.specs.Prelude.{◌≡◌, ◌<◌, ◌≤◌, ◌^◌, ℕ, length, map, slice_index};
-ghost use Rattle.constriction_inputs.specs.QuantizedCalls.{GivesWeights};
+ghost use Rattle.constriction_inputs.specs.QuantizedCalls.{GivesWeightsOfCounts};
 
 use crate::refusal::Refusal;
 use constriction_models::counts::{CountsError, weights_of_counts};
@@ -23,7 +23,8 @@ pub fn put_weights_of_counts<P: WordOf<u32>, const PRECISION: usize>(
     weights: &mut [P],
 ) -> Result<(), Refusal>
     requires { (PRECISION < P.BITS) × (PRECISION ≤ 31) }
-    ensures call { GivesWeights PRECISION counts.now (map P.number weights.old) (map P.number weights.new) result }
+    ensures call { GivesWeightsOfCounts PRECISION counts.now (map P.number weights.old)
+        (map P.number weights.new) result }
 {
     if weights.len() != counts.len() {
         return Err(Refusal::WrongLength);

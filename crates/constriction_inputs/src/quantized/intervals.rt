@@ -3,7 +3,7 @@
 ghost use Rattle.std.specs.Prelude.{◌≡◌, ◌<◌, ◌≤◌, Some, length, map};
 ghost use Rattle.std.specs.List.{AllByRecursion};
 ghost use Rattle.constriction_base.specs.Models.{pairs_of};
-ghost use Rattle.constriction_models.specs.Quantizers.{count_of, first_symbol};
+ghost use Rattle.constriction_models.specs.Quantizers.{symbol_count, first_symbol};
 ghost use Rattle.constriction_inputs.specs.Quantized.{AreIntervalsOf, tables_by};
 ghost use Rattle.constriction_inputs.specs.QuantizedCalls.{GivesIntervals};
 
@@ -14,13 +14,13 @@ use constriction_models::families::Family;
 use constriction_models::quantizer::LeakyQuantizer;
 use constriction_words::{BitArray, WordOf};
 
-/// Writes for each symbol where its interval begins into `lefts`, and how long it is into `ps`, by its model. It takes no
-/// memory.
+/// Writes for each symbol where its interval begins into `lefts`, and how long it is into `ps`, by its model. It takes
+/// no memory.
 ///
 /// # Errors
 ///
-/// In this order, each just in its case, and nothing changed: `WrongLength`, where `lefts` or `ps` are not as many as the
-/// symbols; those of the models; `ImpossibleSymbol`, where a symbol is past the range.
+/// In this order, each just in its case, and nothing changed: `WrongLength`, where `lefts` or `ps` are not as many as
+/// the symbols; those of the models; `ImpossibleSymbol`, where a symbol is past the range.
 pub fn intervals_of_quantized<P: WordOf<u32>, const PRECISION: usize>(
     families: &Families<'_>,
     symbols: &[usize],
@@ -29,7 +29,13 @@ pub fn intervals_of_quantized<P: WordOf<u32>, const PRECISION: usize>(
 ) -> Result<(), Refusal>
     requires { (1 ≤ PRECISION) × (PRECISION ≤ P.BITS) }
     ensures call { GivesIntervals P.number PRECISION
-        record { family = families.now.family; min = families.now.min; max = families.now.max; locations = families.now.locations.now; scales = families.now.scales.now } symbols.now
+        record {
+          family = families.now.family;
+          min = families.now.min;
+          max = families.now.max;
+          locations = families.now.locations.now;
+          scales = families.now.scales.now;
+        } symbols.now
         record { lefts = lefts.old; ps = ps.old } record { lefts = lefts.new; ps = ps.new } result }
 {
     if lefts.len() != symbols.len() || ps.len() != symbols.len() {
@@ -70,9 +76,11 @@ fn put_intervals<P: WordOf<u32>, const PRECISION: usize>(
     requires counted { (length locations.now ≡ length symbols.now) × (length scales.now ≡ length symbols.now) }
     requires room { (length lefts.now ≡ length symbols.now) × (length ps.now ≡ length symbols.now) }
     requires scaled { AllByRecursion (λ scale. 0 < scale) scales.now }
-    requires places { AllByRecursion (λ symbol. symbol < count_of quantizer.now) symbols.now }
+    requires places { AllByRecursion (λ symbol. symbol < symbol_count quantizer.now) symbols.now }
     ensures { AreIntervalsOf
-        (pairs_of PRECISION (λ table. table) symbols.now (tables_by PRECISION (Some family) (first_symbol quantizer.now) (count_of quantizer.now) locations.now scales.now))
+        (pairs_of PRECISION (λ table. table) symbols.now
+        (tables_by PRECISION (Some family) (first_symbol quantizer.now)
+        (symbol_count quantizer.now) locations.now scales.now))
         (map P.number lefts.new) (map P.number ps.new) }
 {
     for i in 0..symbols.len() {

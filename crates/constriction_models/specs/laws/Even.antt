@@ -6,7 +6,7 @@ use Rattle.std.proofs.lemmas.Nat.{le-div}
 use Rattle.std.proofs.lemmas.Bool.{cases_lt}
 use Rattle.std.proofs.lemmas.Bool.Decides.{nat_tests}
 use Rattle.constriction_base.specs.Tables.{Has, Impossible, IsTable}
-use Rattle.constriction_models.specs.Cuts.{IsCut, IsInterval}
+use Rattle.constriction_models.specs.Cuts.{IsCut, IsProperInterval}
 use Rattle.constriction_models.specs.Uniform.{even_start, uniform}
 use Rattle.constriction_models.specs.laws.Cutting.{cut_is_table, cut_entry, cut_impossible, cut_interval, length-cut}
 
@@ -54,7 +54,7 @@ pub uniform_impossible : (precision count s : ℕ) → count ≤ s → Impossibl
 unfolding uniform
 uniform_impossible precision count s past = cut_impossible (λ k. k) (even_start (2 ^ precision) count) count s (λ k inside is. omega (arith, is))
 
-pub uniform_interval : (precision count k : ℕ) → 2 ≤ count → count ≤ 2 ^ precision → k < count → IsInterval (even_start (2 ^ precision) count k) (even_start (2 ^ precision) count (k + 1)) (2 ^ precision)
+pub uniform_interval : (precision count k : ℕ) → 2 ≤ count → count ≤ 2 ^ precision → k < count → IsProperInterval (even_start (2 ^ precision) count k) (even_start (2 ^ precision) count (k + 1)) (2 ^ precision)
 uniform_interval precision count k some room inside = cut_interval (even_start (2 ^ precision) count) count (2 ^ precision) k (even_is_cut (2 ^ precision) count (omega arith) room) some inside
 
 -- a symbol that isn't behind the place of a quantile begins no later

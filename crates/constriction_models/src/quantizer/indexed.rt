@@ -26,14 +26,15 @@ pub struct IndexedDistribution<
 }
 
 impl<Probability: WordOf<u32>, const PRECISION: usize> LeakyQuantizer<Probability, PRECISION> {
-    ghost use Rattle.constriction_models.specs.Quantizers.{first_symbol, count_of};
+    ghost use Rattle.constriction_models.specs.Quantizers.{first_symbol, symbol_count};
 
     /// The model of a distribution, cut at half symbols, whose symbols are places: that of `min` is 0.
     pub fn quantize_indexed<D: CumulativeDistribution>(
         &self,
         distribution: D,
     ) -> IndexedDistribution<D, Probability, PRECISION>
-        ensures table { ⟦<IndexedDistribution<D, Probability, PRECISION> as EntropyModel<PRECISION>>⟧.table result ≡ indexed PRECISION (D.below distribution) (first_symbol self.now) (count_of self.now) }
+        ensures table { ⟦<IndexedDistribution<D, Probability, PRECISION> as EntropyModel<PRECISION>>⟧.table result
+            ≡ indexed PRECISION (D.below distribution) (first_symbol self.now) (symbol_count self.now) }
     {
         IndexedDistribution {
             model: LeakilyQuantizedDistribution {
@@ -55,13 +56,16 @@ impl<D: CumulativeDistribution, Probability: WordOf<u32>, const PRECISION: usize
 
     type Probability = Probability;
 
-    ghost table = { λ m. indexed PRECISION (D.below m.model.distribution) m.model.quantizer.min m.model.quantizer.count };
+    ghost table = { λ m. indexed PRECISION
+        (D.below m.model.distribution) m.model.quantizer.min m.model.quantizer.count };
 
-    ghost lawful = { λ m. indexed_is_table PRECISION (D.below m.model.distribution) m.model.quantizer.min m.model.quantizer.count (D.never_falls m.model.distribution) m.model.quantizer.some m.model.quantizer.room };
+    ghost lawful = { λ m. indexed_is_table PRECISION (D.below m.model.distribution) m.model.quantizer.min
+        m.model.quantizer.count (D.never_falls m.model.distribution) m.model.quantizer.some m.model.quantizer.room };
 
     ghost sized = { λ m. (m.model.quantizer.positive, m.model.quantizer.fits) };
 
-    ghost two_symbols = { λ m _. indexed_two PRECISION (D.below m.model.distribution) m.model.quantizer.min m.model.quantizer.count m.model.quantizer.some };
+    ghost two_symbols = { λ m _. indexed_two PRECISION
+        (D.below m.model.distribution) m.model.quantizer.min m.model.quantizer.count m.model.quantizer.some };
 }
 
 impl<D: CumulativeDistribution, Probability: WordOf<u32>, const PRECISION: usize> EncoderModel<

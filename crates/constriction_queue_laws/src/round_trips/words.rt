@@ -10,7 +10,7 @@ ghost use Rattle.constriction_coder_laws.specs.Outcomes.{HasImpossible};
 ghost use Rattle.constriction_queue.specs.Encoder.{left_to_encode, run_by};
 ghost use Rattle.constriction_queue.specs.Range.{Run, start};
 ghost use Rattle.constriction_queue_laws.specs.Outcomes.{HoldNone, NoneSealed, NotBack, NotCoded};
-ghost use Rattle.constriction_queue_laws.specs.Outcomes.{NotRead, ReadsAll, ReadsAllSealed, SealsAll};
+ghost use Rattle.constriction_queue_laws.specs.Outcomes.{NotRead, ReadsToEnd, ReadsAllSealed, SealsAll};
 ghost use Rattle.constriction_queue.specs.Symbols.{FindsAll};
 
 use crate::lists::symbols_come_back;
@@ -83,7 +83,7 @@ where
     <Words::IntoReadWords as ReadWords<Word, Queue>>::ReadError: Drop,
     requires { IsSizes Word.BITS State.BITS }
     ensures count { IfOk result (λ back. length back.0.items ≡ amt) }
-    ensures read { IfOk result (λ back. ReadsAll Word.BITS State.BITS (map Word.number (Words.words words))
+    ensures read { IfOk result (λ back. ReadsToEnd Word.BITS State.BITS (map Word.number (Words.words words))
         (items_of record { precision = PRECISION; table = M.table model.now } back.0.items) back.1) }
     ensures back { (symbols : List M.Symbol) (last : Run) →
         FindsAll Word.BITS State.BITS (map Word.number (Words.words words))

@@ -2,7 +2,7 @@
 
 ghost use Rattle.std.specs.Prelude.{◌≡◌, List, length, reverse, IfOk, IfErr, OnOk};
 ghost use Rattle.constriction_coder_laws.specs.Outcomes.{HasImpossible, HasImpossibleItem, WhereFrontend};
-ghost use Rattle.constriction_coder_laws.specs.Outcomes.{StopsAmong, StopsAt};
+ghost use Rattle.constriction_coder_laws.specs.Outcomes.{StopsAmong, StopsShort};
 ghost use Rattle.constriction_stack.specs.Ans.{AnsState, IsValid};
 ghost use Rattle.constriction_stack_laws.specs.Readings.{DecodesAllBy};
 ghost use Rattle.constriction_stack.specs.Symbols.{EncodesAll, DecodesAll};
@@ -113,7 +113,7 @@ where
         EncodesAll Word.BITS State.BITS (items_of record { precision = PRECISION; table = M.table model.now } symbols)
         before coder.old.state → length symbols ≡ amt →
         IfOk result (λ again. (again.items ≡ reverse symbols) × (coder.new.state ≡ before)) }
-    ensures err { IfErr result (λ e. StopsAt (⟦<AnsCoder<Word, State, Backend> as Decode<PRECISION>>⟧.decodes)
+    ensures err { IfErr result (λ e. StopsShort (⟦<AnsCoder<Word, State, Backend> as Decode<PRECISION>>⟧.decodes)
         (⟦<AnsCoder<Word, State, Backend> as Decode<PRECISION>>⟧.halts)
         PRECISION (M.table model.now) amt coder.old e coder.new) }
 {

@@ -32,10 +32,12 @@ pub trait EncodeReverse<const PRECISION: usize>: Encode<PRECISION> {
         S: Lent<M::Symbol> + Drop,
         I: IntoIterator<Item = (S, M)>,
         I::IntoIter: DoubleEndedIterator + Drop,
-        requires { GivesAtMost (I.into_iter_gives symbols_and_models) I.IntoIter.can_next_back I.IntoIter.remaining Self.counts_symbols (Self.symbols_left self.old) }
+        requires { GivesAtMost (I.into_iter_gives symbols_and_models) I.IntoIter.can_next_back I.IntoIter.remaining
+            Self.counts_symbols (Self.symbols_left self.old) }
         ensures steps { StepsUntilFault (EncodesPair Self.encodes Self.is_impossible_symbol PRECISION M.table S.lent)
             (I.into_iter_gives symbols_and_models) I.IntoIter.next_back_gives self.old result self.new }
-        ensures fewer_left { LowersByItems (I.into_iter_gives symbols_and_models) I.IntoIter.remaining (Self.symbols_left self.old) (Self.symbols_left self.new) }
+        ensures fewer_left { LowersByItems (I.into_iter_gives symbols_and_models) I.IntoIter.remaining
+            (Self.symbols_left self.old) (Self.symbols_left self.new) }
     {
         for (symbol, model) in symbols_and_models.into_iter().rev() {
             match self.encode_symbol(symbol.lend(), model) {
@@ -65,10 +67,13 @@ pub trait EncodeReverse<const PRECISION: usize>: Encode<PRECISION> {
         S: Lent<M::Symbol> + Drop,
         I: IntoIterator<Item = Result<(S, M), E>>,
         I::IntoIter: DoubleEndedIterator + Drop,
-        requires { GivesAtMost (I.into_iter_gives symbols_and_models) I.IntoIter.can_next_back I.IntoIter.remaining Self.counts_symbols (Self.symbols_left self.old) }
-        ensures steps { StepsUntilFault (TriesItem (EncodesPair Self.encodes Self.is_impossible_symbol PRECISION M.table S.lent))
+        requires { GivesAtMost (I.into_iter_gives symbols_and_models) I.IntoIter.can_next_back I.IntoIter.remaining
+            Self.counts_symbols (Self.symbols_left self.old) }
+        ensures steps { StepsUntilFault
+            (TriesItem (EncodesPair Self.encodes Self.is_impossible_symbol PRECISION M.table S.lent))
             (I.into_iter_gives symbols_and_models) I.IntoIter.next_back_gives self.old result self.new }
-        ensures fewer_left { LowersByItems (I.into_iter_gives symbols_and_models) I.IntoIter.remaining (Self.symbols_left self.old) (Self.symbols_left self.new) }
+        ensures fewer_left { LowersByItems (I.into_iter_gives symbols_and_models) I.IntoIter.remaining
+            (Self.symbols_left self.old) (Self.symbols_left self.new) }
     {
         for symbol_and_model in symbols_and_models.into_iter().rev() {
             let (symbol, model) = match symbol_and_model {
@@ -109,10 +114,13 @@ pub trait EncodeReverse<const PRECISION: usize>: Encode<PRECISION> {
         S: Lent<M::Symbol> + Drop,
         I: IntoIterator<Item = S>,
         I::IntoIter: DoubleEndedIterator + Drop,
-        requires { GivesAtMost (I.into_iter_gives symbols) I.IntoIter.can_next_back I.IntoIter.remaining Self.counts_symbols (Self.symbols_left self.old) }
-        ensures steps { StepsUntilFault (λ old symbol result new. EncodesSymbol Self.encodes Self.is_impossible_symbol PRECISION (M.table model) (S.lent symbol) old result new)
+        requires { GivesAtMost (I.into_iter_gives symbols) I.IntoIter.can_next_back I.IntoIter.remaining
+            Self.counts_symbols (Self.symbols_left self.old) }
+        ensures steps { StepsUntilFault (λ old symbol result new. EncodesSymbol Self.encodes Self.is_impossible_symbol
+            PRECISION (M.table model) (S.lent symbol) old result new)
             (I.into_iter_gives symbols) I.IntoIter.next_back_gives self.old result self.new }
-        ensures fewer_left { LowersByItems (I.into_iter_gives symbols) I.IntoIter.remaining (Self.symbols_left self.old) (Self.symbols_left self.new) }
+        ensures fewer_left { LowersByItems (I.into_iter_gives symbols) I.IntoIter.remaining (Self.symbols_left self.old)
+            (Self.symbols_left self.new) }
     {
         for symbol in symbols.into_iter().rev() {
             match self.encode_symbol(symbol.lend(), model) {

@@ -49,8 +49,8 @@ where
     }
 
     fn size_hint(&self) -> (usize, Option<usize>)
-        ensures lower { IsWithinCount result.0 (at_most self.now.amt) }
-        ensures upper { IfSome result.1 (UpTo (at_most self.now.amt)) }
+        ensures at_least { IsWithinCount result.0 (at_most self.now.amt) }
+        ensures at_most { IfSome result.1 (UpTo (at_most self.now.amt)) }
         ensures exact { result ≡ (self.now.amt, Some self.now.amt) }
     {
         (self.amt, Some(self.amt))

@@ -20,7 +20,7 @@ loop-done-preserved g c =
     let next = c.args.count - (l._done + 1) in
     let more : c.args.count - l._done ≡ suc next = omega (arith, c.loop-done-test.true) in
     let split = totals_split g.row.PRECISION c.args.width _ next l.start end all more refl l.invariant.totals in
-    let table = (rw c.unwrap.ensures at c.new.ensures.some) ∙ ap table_of (row_numbers number c.args.weights.now l.start end c.args.width refl) in
+    let table = (rw c.unwrap.ensures at c.new.ensures.ok) ∙ ap table_of (row_numbers number c.args.weights.now l.start end c.args.width refl) in
     record {
       rest = rest_behind l.start c.args.width _ next _ end l.invariant.rest more refl;
       totals = split.1;

@@ -31,8 +31,8 @@ overflow_mul-far c =
     let less : z <ℤ pos c.args.wide = grind (arith, ints) in
     rw same (omega (arith, product_fits c.args.wide c.args.rate (nat_abs z) c.requires.fits (natural_below z c.args.wide some less)))
 
-pub value_at-requires-clause-inside : goal.value_at-requires-clause-inside
-value_at-requires-clause-inside c =
+pub value_at-requires-clause-within : goal.value_at-requires-clause-within
+value_at-requires-clause-within c =
     let z = c.far_above-far.result in
     let same : to_z w128 (of_z w128 z) ≡ z = to_z-of_z w128 z (search rules) in
     let some : pos 0 ≤ℤ z = grind (arith, ints) in

@@ -26,8 +26,8 @@ loop-quantile-preserved g c =
       all_low c.loop-quantile.symbols.items c.push.new.self.items symbol before.3 (omega (arith, c.if-symbol-gt65535.false)) items,
     )
 
-pub returns-clause-low : goal.returns-clause-low
-returns-clause-low g c =
+pub returns-clause-fits : goal.returns-clause-fits
+returns-clause-fits g c =
     let table = g.M.EntropyModel.table c.args.model.now in
     let found = c.loop-quantile.invariant in
     let all : c.loop-quantile.quantile ≡ 2 ^ g.row.PRECISION = omega (arith, found.1, found.2, c.loop-quantile-test.false) in

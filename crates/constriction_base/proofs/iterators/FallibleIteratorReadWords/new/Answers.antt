@@ -1,7 +1,7 @@
 use Rattle.constriction_base.proofs.Runs.{gives_drained, drained_given}
 use Rattle.constriction_base.proofs.iterators.FallibleIteratorReadWords.new.Goals as goal
 
-pub returns-clause-lists : goal.returns-clause-lists
-returns-clause-lists g c results =
+pub returns-clause-reads : goal.returns-clause-reads
+returns-clause-reads g c results =
     let steps = g.Iter.Iterator.next_gives in
     rw c.fuse.ensures.source (rw c.fuse.ensures.done (gives_drained steps c.args.iter results, drained_given steps c.args.iter results))

@@ -36,5 +36,5 @@ shifted_right-requires g c = omega (arith, c.args.self.now.cut.0, c.args.self.no
 from_first : (q width k : ℕ) → k ≡ q / width → k * width ≤ q
 from_first q width k is = omega (arith, ap (λ n. n * width) is, div-mul-le_self q width)
 
-pub returns-clause-from : goal.returns-clause-from
-returns-clause-from g c = from_first _ _ _ (c.to_index.ensures ∙ c.shifted_right.ensures)
+pub returns-clause-above : goal.returns-clause-above
+returns-clause-above g c = from_first _ _ _ (c.to_index.ensures ∙ c.shifted_right.ensures)

@@ -8,7 +8,7 @@ use Rattle.constriction_base.proofs.Results.{none_made, either_way}
 use Rattle.constriction_base.proofs.weights.WeightTable.for_decoding.Goals as goal
 
 pub starts_of-requires-clause-total : goal.starts_of-requires-clause-total
-starts_of-requires-clause-total g c = omega (arith, c.in-Some.ensures.some.less, pow_mono c.requires.1)
+starts_of-requires-clause-total g c = omega (arith, c.in-Some.ensures.ok.less, pow_mono c.requires.1)
 
 -- the sums of the weights but the last are those of all the weights
 all_sums : {W : Type 0} (number : W → ℕ) (ws : List W) (sums : List ℕ) (n total limit : ℕ) → IsLastSymbol number ws n total limit → Sums number (take (n - 1) ws) sums (length (take (n - 1) ws) + 1) → Sums number ws sums n
@@ -29,13 +29,13 @@ number_sums number ws sums n total limit l s = sums_of_numbers number ws sums n 
 pub invariant_of-result-clause-rising : goal.invariant_of-result-clause-rising
 invariant_of-result-clause-rising g c =
     let number = g.Probability.BitArray.number in
-    let l = c.in-Some.ensures.some in
+    let l = c.in-Some.ensures.ok in
     sums_rise _ _ _ _ _ (number_sums number _ _ _ _ _ l c.in_ok-starts.ensures) (last_of_numbers number _ _ _ _ l)
 
 pub invariant_of-result-clause-last : goal.invariant_of-result-clause-last
 invariant_of-result-clause-last g c =
     let number = g.Probability.BitArray.number in
-    let l = c.in-Some.ensures.some in
+    let l = c.in-Some.ensures.ok in
     let sums = all_sums number _ _ _ _ _ l c.in_ok-starts.ensures in
     let place : length c.in_ok-starts.starts.items - 1 ≡ c.in-Some.known - 1 = omega (arith, sums.len, length-map c.in_ok-starts.starts.items number) in
     rw place (omega (arith, sums.each (c.in-Some.known - 1) (omega (arith, l.some)), l.last))
@@ -43,13 +43,13 @@ invariant_of-result-clause-last g c =
 pub returns-clause-ok : goal.returns-clause-ok
 returns-clause-ok g c =
     let number = g.Probability.BitArray.number in
-    let l = c.in-Some.ensures.some in
+    let l = c.in-Some.ensures.ok in
     same_table _ _ _ _ _ (number_sums number _ _ _ _ _ l c.in_ok-starts.ensures) (last_of_numbers number _ _ _ _ l)
 
 pub hints_of-requires-clause-rising : goal.hints_of-requires-clause-rising
 hints_of-requires-clause-rising g c =
     let number = g.Probability.BitArray.number in
-    let l = c.in-Some.ensures.some in
+    let l = c.in-Some.ensures.ok in
     rw c.deref.ensures.value (sums_rise _ _ _ _ _ (number_sums number _ _ _ _ _ l c.in_ok-starts.ensures) (last_of_numbers number _ _ _ _ l))
 
 -- ---- refusals, and sizes
@@ -70,19 +70,19 @@ pub returns-in_default-clause-total : goal.returns-in_default-clause-total
 returns-in_default-clause-total g c = tt
 
 pub slice_bounds-starts_of-count : goal.slice_bounds-starts_of-count
-slice_bounds-starts_of-count g c = omega (arith, c.in-Some.ensures.some.some)
+slice_bounds-starts_of-count g c = omega (arith, c.in-Some.ensures.ok.some)
 
 pub returns-in_err-starts-clause-ok : goal.returns-in_err-starts-clause-ok
 returns-in_err-starts-clause-ok g c = none_made _ _ c.from_residual.ensures.0
 
 pub returns-in_err-starts-clause-total : goal.returns-in_err-starts-clause-total
-returns-in_err-starts-clause-total g c = either_way _ c.in-Some.ensures.some.total_of
+returns-in_err-starts-clause-total g c = either_way _ c.in-Some.ensures.ok.total_of
 
 pub returns-in_err-starts-clause-memory : goal.returns-in_err-starts-clause-memory
-returns-in_err-starts-clause-memory g c = λ _. c.in-Some.ensures.some.total_of
+returns-in_err-starts-clause-memory g c = λ _. c.in-Some.ensures.ok.total_of
 
 pub shift_for-shift-requires-clause-some : goal.shift_for-shift-requires-clause-some
-shift_for-shift-requires-clause-some g c = c.in-Some.ensures.some.some
+shift_for-shift-requires-clause-some g c = c.in-Some.ensures.ok.some
 
 pub shift_for-shift-requires-clause-within : goal.shift_for-shift-requires-clause-within
 shift_for-shift-requires-clause-within g c = (c.requires.0, omega (arith, c.requires.1, g.met.Probability.BitArray.bits_law.1))
@@ -97,10 +97,10 @@ pub returns-in_err-hints-clause-ok : goal.returns-in_err-hints-clause-ok
 returns-in_err-hints-clause-ok g c = none_made _ _ c.from_residual-in_err-hints.ensures.0
 
 pub returns-in_err-hints-clause-total : goal.returns-in_err-hints-clause-total
-returns-in_err-hints-clause-total g c = either_way _ c.in-Some.ensures.some.total_of
+returns-in_err-hints-clause-total g c = either_way _ c.in-Some.ensures.ok.total_of
 
 pub returns-in_err-hints-clause-memory : goal.returns-in_err-hints-clause-memory
-returns-in_err-hints-clause-memory g c = λ _. c.in-Some.ensures.some.total_of
+returns-in_err-hints-clause-memory g c = λ _. c.in-Some.ensures.ok.total_of
 
 pub invariant_of-result-clause-positive : goal.invariant_of-result-clause-positive
 invariant_of-result-clause-positive g c = c.requires.0
@@ -112,7 +112,7 @@ pub invariant_of-result-clause-cut : goal.invariant_of-result-clause-cut
 invariant_of-result-clause-cut g c = (c.shift_for-shift.ensures.within, c.shift_for-shift.ensures.fits)
 
 pub returns-clause-total : goal.returns-clause-total
-returns-clause-total g c = c.in-Some.ensures.some.total_of
+returns-clause-total g c = c.in-Some.ensures.ok.total_of
 
 pub returns-clause-memory : goal.returns-clause-memory
-returns-clause-memory g c = λ _. c.in-Some.ensures.some.total_of
+returns-clause-memory g c = λ _. c.in-Some.ensures.ok.total_of

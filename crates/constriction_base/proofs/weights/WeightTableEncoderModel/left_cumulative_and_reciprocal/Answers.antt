@@ -8,7 +8,7 @@ use Rattle.constriction_base.proofs.weights.WeightTableEncoderModel.left_cumulat
 pub returns-clause-reciprocal : goal.returns-clause-reciprocal
 returns-clause-reciprocal g c =
     let ws = weights_between (map g.Probability.BitArray.number c.args.self.now.starts.items) (2 ^ g.row.PRECISION) in
-    of_entry ws c.args.symbol.now _ _ c.reciprocal.result c.in-Some.ensures.found c.reciprocal.ensures.some
+    of_entry ws c.args.symbol.now _ _ c.reciprocal.result c.in-Some.ensures.found c.reciprocal.ensures.ok
 
 pub returns-clause-kept : goal.returns-clause-kept
 returns-clause-kept g c =

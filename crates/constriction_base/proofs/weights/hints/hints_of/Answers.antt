@@ -74,8 +74,8 @@ loop-bucket-preserved g c =
       lower = rw c.push_reserved.ensures.items (none_above hints symbol lower);
     }
 
-pub returns-clause-hinted : goal.returns-clause-hinted
-returns-clause-hinted g c =
+pub returns-clause-ok : goal.returns-clause-ok
+returns-clause-ok g c =
     let number = g.Probability.BitArray.number in
     let starts = map number c.args.starts.now in
     let high = 2 ^ g.row.PRECISION in
@@ -113,11 +113,11 @@ shifted_left-width-requires-clause-within g c = omega (arith, c.requires.within.
 pub overflow_add-count : goal.overflow_add-count
 overflow_add-count g c = omega (arith, pow_mono c.requires.within.1)
 
-pub returns-in_err-hints-clause-len : goal.returns-in_err-hints-clause-len
-returns-in_err-hints-clause-len g c = none_made _ _ c.from_residual.ensures.0
+pub returns-in_err-hints-clause-count : goal.returns-in_err-hints-clause-count
+returns-in_err-hints-clause-count g c = none_made _ _ c.from_residual.ensures.0
 
-pub returns-in_err-hints-clause-hinted : goal.returns-in_err-hints-clause-hinted
-returns-in_err-hints-clause-hinted g c = none_made _ _ c.from_residual.ensures.0
+pub returns-in_err-hints-clause-ok : goal.returns-in_err-hints-clause-ok
+returns-in_err-hints-clause-ok g c = none_made _ _ c.from_residual.ensures.0
 
 pub symbol_from-symbol-requires-clause-within : goal.symbol_from-symbol-requires-clause-within
 symbol_from-symbol-requires-clause-within g c = omega (arith, c.loop-bucket.invariant.known, length-map c.args.starts.now g.Probability.BitArray.number)
@@ -131,8 +131,8 @@ overflow_sub-starts g c = omega (arith, c.requires.some)
 pub push_reserved-requires-2 : goal.push_reserved-requires-2
 push_reserved-requires-2 g c = omega (arith, c.loop-bucket.invariant.counted, c.loop-bucket.invariant.capacity, c.loop-bucket.auto.bucket-end)
 
-pub returns-clause-len : goal.returns-clause-len
-returns-clause-len g c =
+pub returns-clause-count : goal.returns-clause-count
+returns-clause-count g c =
     let last = length c.args.starts.now - 1 in
     rw c.push_reserved-2.ensures.items (omega (arith, c.loop-bucket.invariant.len, length-append c.loop-bucket.hints.items (last ∷ []), c.loop-bucket-test.false, c.loop-bucket.auto.bucket-end, pow_mono c.requires.within.1))
 

@@ -76,20 +76,20 @@ offset_bounds-weights-i g c = omega (arith, c.loop-i-test.true)
 pub bounds-weights-i : goal.bounds-weights-i
 bounds-weights-i g c = c.loop-i-test.true
 
-pub returns-then-known-gt0-clause-some : goal.returns-then-known-gt0-clause-some
-returns-then-known-gt0-clause-some g c = tt
+pub returns-then-known-gt0-clause-ok : goal.returns-then-known-gt0-clause-ok
+returns-then-known-gt0-clause-ok g c = tt
 
 pub minus-rest-requires : goal.minus-rest-requires
 minus-rest-requires g c = omega (arith, c.loop-i.invariant.small, c.ones-last.ensures)
 
-pub returns-then-is_below-clause-some : goal.returns-then-is_below-clause-some
-returns-then-is_below-clause-some g c = tt
+pub returns-then-is_below-clause-ok : goal.returns-then-is_below-clause-ok
+returns-then-is_below-clause-ok g c = tt
 
 pub returns-then-known-gt0-2-clause-none : goal.returns-then-known-gt0-2-clause-none
 returns-then-known-gt0-2-clause-none g c = tt
 
-pub returns-else-known-gt0-2-clause-some : goal.returns-else-known-gt0-2-clause-some
-returns-else-known-gt0-2-clause-some g c = tt
+pub returns-else-known-gt0-2-clause-ok : goal.returns-else-known-gt0-2-clause-ok
+returns-else-known-gt0-2-clause-ok g c = tt
 
 -- a weight that isn't nothing
 not_nothing : (test : Bool) (n : ℕ) → (IsTrue test ↔ (n ≡ 0)) → test ≡ false → 0 < n
@@ -120,8 +120,8 @@ returns-then-is_below-clause-none g c = λ all.
     let left = c.loop-i.invariant.before (omega (arith, c.if-known-gt0.false)) in
     omega (arith, all, some, more, left, ap number c.index-weights-i.is, sum_by-take-le number weights (c.loop-i.i + 1), c.is_below.ensures.0 c.if-is_below.true, c.minus-rest.ensures, c.minus-less.ensures, c.ones-last.ensures, c.unit-one.ensures)
 
-pub returns-then-known-gt0-2-clause-some : goal.returns-then-known-gt0-2-clause-some
-returns-then-known-gt0-2-clause-some g c =
+pub returns-then-known-gt0-2-clause-ok : goal.returns-then-known-gt0-2-clause-ok
+returns-then-known-gt0-2-clause-ok g c =
     let number = g.Probability.BitArray.number in
     let i = c.loop-i.invariant in
     let some = c.if-known-gt0-2.true in

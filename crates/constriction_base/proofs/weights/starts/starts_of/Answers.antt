@@ -23,7 +23,7 @@ loop-weight-preserved g c =
     }
 
 pub overflow_add-weights : goal.overflow_add-weights
-overflow_add-weights g c = omega (arith, c.requires.count)
+overflow_add-weights g c = omega (arith, c.requires.few)
 
 pub returns-in_err-starts : goal.returns-in_err-starts
 returns-in_err-starts g c = none_made _ _ c.from_residual.ensures.0

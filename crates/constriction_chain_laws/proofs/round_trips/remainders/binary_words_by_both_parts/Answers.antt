@@ -1,7 +1,7 @@
 use Rattle.std.proofs.Common.{◌≡◌, ◌∙◌, ◌++◌, map, ap, subst, sym}
 use Rattle.std.specs.Prelude.{reverse}
 use Rattle.constriction_chain.specs.Imports.{IsWhole}
-use Rattle.constriction_chain_laws.specs.Endings.{ComesBack}
+use Rattle.constriction_chain_laws.specs.Endings.{ComesBackOver}
 use Rattle.constriction_chain_laws.proofs.Remaining.{binary_form_back}
 use Rattle.constriction_chain_laws.proofs.NoCoder.{no_binary}
 use Rattle.constriction_chain_laws.proofs.round_trips.remainders.binary_words_by_both_parts.Goals as goal
@@ -26,7 +26,7 @@ returns-in-Ok-extend_from_slice-clause-back g c =
     let below : map number (reverse prefix) ≡ back.0.compressed = ap (λ v. map number (reverse v.items)) sealed.1 ∙ (sym c.in-Ok-into_binary.ensures.coder.remainders_are ∙ back.2.2) in
     ap (λ xs. map number xs) (c.in-Ok-extend_from_slice.ensures.items ∙ ap (λ xs. prefix ++ xs) c.as_slice.ensures.value)
     ∙ binary_form_back number c.args.words.items c.in-Ok-into_binary.rest.items prefix w was.0 sealed.2.0 back.0.compressed first last c.requires.sized.sizes.some_bits
-    (subst (λ ws. ComesBack first back.0.compressed ws last) (sym below) back.2) was.1 was.2 sealed.2.1 sealed.2.2
+    (subst (λ ws. ComesBackOver first back.0.compressed ws last) (sym below) back.2) was.1 was.2 sealed.2.1 sealed.2.2
 
 pub returns-in-Ok-extend_from_slice-clause-taken : goal.returns-in-Ok-extend_from_slice-clause-taken
 returns-in-Ok-extend_from_slice-clause-taken g c =

@@ -3,7 +3,7 @@ use Rattle.std.proofs.lemmas.List.{append-nil}
 use Rattle.constriction_base.specs.Models.{Model}
 use Rattle.constriction_chain.specs.Symbols.{IsModelAt}
 use Rattle.constriction_chain.specs.Words.{remainder_words}
-use Rattle.constriction_chain_laws.specs.Endings.{ComesBack}
+use Rattle.constriction_chain_laws.specs.Endings.{ComesBackOver}
 use Rattle.constriction_chain_laws.proofs.Remaining.{comes_back}
 use Rattle.constriction_chain_laws.proofs.round_trips.remainders.through_suffix.Goals as goal
 
@@ -17,4 +17,4 @@ returns-in-Ok-clause-back g c = λ whole.
     let put = c.in-Ok.ensures.encoded in
     let back = comes_back w g.State.BitArray.BITS P model c.in_ok-symbols.symbols.items _ [] _ c.args.coder.state taken.0 put.0 c.in-Ok.last.state c.requires at whole
     taken.1 (taken.3 ∙ sym (append-nil (remainder_words w taken.0))) put.1 c.as_slice.ensures.value put.2 in
-    subst (λ ws. ComesBack c.args.coder.state [] ws c.in-Ok.last.state) (sym taken.2) back
+    subst (λ ws. ComesBackOver c.args.coder.state [] ws c.in-Ok.last.state) (sym taken.2) back

@@ -14,5 +14,5 @@ put-requires-clause-fit g c = λ k within.
 pub returns-in-Ok : goal.returns-in-Ok
 returns-in-Ok g c = record {
   call = weights_put g.P.BitArray.number g.row.PRECISION c.args.counts.now c.args.weights.now c.put.new.weights c.in-Ok.made c.deref.result.now c.in-Ok.made.items c.deref.ensures.value c.put.ensures
-      (omega (arith, c.if-weights-counts.false)) c.in-Ok.ensures.len c.in-Ok.ensures.total c.in-Ok.ensures.weights c.in-Ok.ensures.some c.in-Ok.ensures.shares c.in-Ok.ensures.first c.in-Ok.ensures.empty c.in-Ok.ensures.many;
+      (omega (arith, c.if-weights-counts.false)) c.in-Ok.ensures.count c.in-Ok.ensures.total c.in-Ok.ensures.weights c.in-Ok.ensures.some c.in-Ok.ensures.shares c.in-Ok.ensures.largest c.in-Ok.ensures.empty c.in-Ok.ensures.too_many;
 }

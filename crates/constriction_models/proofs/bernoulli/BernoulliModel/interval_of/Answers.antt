@@ -2,8 +2,8 @@ use Rattle.std.proofs.Common.{arith}
 use Rattle.constriction_models.proofs.Words.{power_grows, power_in_word}
 use Rattle.constriction_models.proofs.bernoulli.BernoulliModel.interval_of.Goals as goal
 
-pub interval-requires-clause-low : goal.interval-requires-clause-low
-interval-requires-clause-low g c =
+pub interval-requires-clause-fits : goal.interval-requires-clause-fits
+interval-requires-clause-fits g c =
     let m = c.args.self.now in
     omega (arith, power_in_word g.row.PRECISION (omega (arith, m.fits, g.met.Probability.WordOf.width_law)), power_grows _ _ m.fits, m.some, m.less)
 

@@ -12,8 +12,8 @@ interval-requires-clause-some g c =
     let i = uniform_interval g.row.PRECISION m.count c.args.symbol.now m.some m.room c.if-symbol-self.false in
     omega (arith, i.some, c.start-left.ensures, c.start-end.ensures)
 
-pub interval-requires-clause-low : goal.interval-requires-clause-low
-interval-requires-clause-low g c =
+pub interval-requires-clause-fits : goal.interval-requires-clause-fits
+interval-requires-clause-fits g c =
     let m = c.args.self.now in
     let i = uniform_interval g.row.PRECISION m.count c.args.symbol.now m.some m.room c.if-symbol-self.false in
     omega (arith, i.some, i.inside, c.start-left.ensures, power_grows _ _ m.fits)
@@ -27,5 +27,5 @@ interval-requires-clause-long g c =
 pub returns-clause-found : goal.returns-clause-found
 returns-clause-found g c =
     let m = c.args.self.now in
-    uniform_has g.row.PRECISION m.count c.args.symbol.now _ _ c.if-symbol-self.false (omega (arith, c.interval.ensures.left, c.start-left.ensures))
-    (omega (arith, c.interval.ensures.left, c.interval.ensures.long, c.start-end.ensures))
+    uniform_has g.row.PRECISION m.count c.args.symbol.now _ _ c.if-symbol-self.false (omega (arith, c.interval.ensures.lower, c.start-left.ensures))
+    (omega (arith, c.interval.ensures.lower, c.interval.ensures.long, c.start-end.ensures))

@@ -16,8 +16,8 @@ interval-requires-clause-some g c =
     let i = interval_of g.row.PRECISION (g.D.CumulativeDistribution.below m.distribution) q.min q.count c.args.symbol.now (g.D.CumulativeDistribution.never_falls m.distribution) q.some q.room c.if-place-self.false in
     omega (arith, i.some, c.start-left.ensures, c.start-end.ensures)
 
-pub interval-requires-clause-low : goal.interval-requires-clause-low
-interval-requires-clause-low g c =
+pub interval-requires-clause-fits : goal.interval-requires-clause-fits
+interval-requires-clause-fits g c =
     let m = c.args.self.now.model in
     let q = m.quantizer in
     let i = interval_of g.row.PRECISION (g.D.CumulativeDistribution.below m.distribution) q.min q.count c.args.symbol.now (g.D.CumulativeDistribution.never_falls m.distribution) q.some q.room c.if-place-self.false in
@@ -34,5 +34,5 @@ pub returns-clause-found : goal.returns-clause-found
 returns-clause-found g c =
     let m = c.args.self.now.model in
     let q = m.quantizer in
-    indexed_has g.row.PRECISION (g.D.CumulativeDistribution.below m.distribution) q.min q.count c.args.symbol.now _ _ c.if-place-self.false (omega (arith, c.interval.ensures.left, c.start-left.ensures))
-    (omega (arith, c.interval.ensures.left, c.interval.ensures.long, c.start-end.ensures))
+    indexed_has g.row.PRECISION (g.D.CumulativeDistribution.below m.distribution) q.min q.count c.args.symbol.now _ _ c.if-place-self.false (omega (arith, c.interval.ensures.lower, c.start-left.ensures))
+    (omega (arith, c.interval.ensures.lower, c.interval.ensures.long, c.start-end.ensures))
