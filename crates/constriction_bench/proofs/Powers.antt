@@ -3,33 +3,18 @@ use Rattle.std.proofs.Common.{◌≡◌, ℕ, ◌+◌, ◌*◌, ◌/◌, ◌%◌
 use Rattle.std.proofs.Math.Nat.{mod-eq_of_lt, div-eq_of_lt, div-mul-le_self, lt-div-mul-add, mul-lt-mul_of_pos_right, pow-le-pow_right}
 use Rattle.std.proofs.lemmas.Nat.{pow-add, pow_pos}
 use Rattle.std.proofs.lemmas.Bool.{cases_lt}
-
--- a power goes up with its exponent
-pub power_grows : (low high : ℕ) → low ≤ high → 2 ^ low ≤ 2 ^ high
-power_grows low high h = pow-le-pow_right (omega arith) h
-
--- a number without high bits is below their power
-pub below_power : (k bits : ℕ) → k / 2 ^ bits ≡ 0 → k < 2 ^ bits
-below_power k bits none =
-    let high : k < k / 2 ^ bits * 2 ^ bits + 2 ^ bits = lt-div-mul-add (pow_pos bits) in
-    omega (arith, rw none at high)
-
--- a number with high bits isn't
-pub not_below_power : (k bits : ℕ) → (k / 2 ^ bits ≡ 0 → ⊥) → 2 ^ bits ≤ k
-not_below_power k bits some =
-    let p : ℕ = 2 ^ bits in
-    elim (cases_lt k p) [ inl below ↦ absurd (some (div-eq_of_lt below)) | inr past ↦ past ]
+use Rattle.constriction_base.proofs.Sizes.{pow_le}
 
 -- a number moved up fits
 pub moved_fits : (k bits shift most : ℕ) → k < 2 ^ bits → bits + shift ≤ most → k * 2 ^ shift < 2 ^ most
 moved_fits k bits shift most below within =
     let moved : k * 2 ^ shift < 2 ^ bits * 2 ^ shift = mul-lt-mul_of_pos_right below (pow_pos shift) in
     let whole : 2 ^ (bits + shift) ≡ 2 ^ bits * 2 ^ shift = pow-add 2 bits shift in
-    omega (arith, power_grows (bits + shift) most within)
+    omega (arith, pow_le (bits + shift) most within)
 
 -- a number of few bits is the same in a word that has more
 pub same_number : (k bits most : ℕ) → k < 2 ^ bits → bits ≤ most → k % 2 ^ most ≡ k
-same_number k bits most below within = mod-eq_of_lt (omega (arith, power_grows bits most within))
+same_number k bits most below within = mod-eq_of_lt (omega (arith, pow_le bits most within))
 
 -- a number lies in its part of the numbers
 pub covered : (q shift : ℕ) → (q / 2 ^ shift * 2 ^ shift ≤ q) × (q < q / 2 ^ shift * 2 ^ shift + 2 ^ shift)

@@ -13,10 +13,11 @@ use Rattle.constriction_inputs.specs.Coded.{AreFit, AsIntervals, Coded, items}
 use Rattle.constriction_inputs.specs.Intervals.{AreIntervals}
 use Rattle.constriction_inputs.specs.declared.refusal.Refusal.{Refusal}
 use Rattle.constriction_inputs.specs.declared.refusal.Refusal.TheVariants.{NoMemory, NoSpace, WrongInterval, WrongLength}
-use Rattle.constriction_coder_laws.proofs.Turned.{all-reverse}
-use Rattle.constriction_calls.proofs.AnsFrame.{counted, encodes_know, encodes_over, known_turned, stack_appended}
+use Rattle.constriction_calls.proofs.AnsFrame.{counted, encodes_know, encodes_over, stack_appended}
 use Rattle.constriction_calls.proofs.AnsRows.{intervals_known}
 use Rattle.constriction_inputs.proofs.Asking.{err_is, fit_then}
+use Rattle.constriction_base.proofs.Turns.{all-reverse}
+use Rattle.constriction_inputs.proofs.RowItems.{known_of_reversed}
 
 -- a coder whose words and their number stay
 kept_same : {Word State : Type 0} (head : State) (words new_words : List Word) (len new_len : ℕ) → new_words ≡ words → new_len ≡ len
@@ -32,7 +33,7 @@ module _ {Word State : Type 0} (number : Word → ℕ) (state : State → ℕ) (
   behind answer = AsksItems w s (items precision coded) (length old.words) (state_kept number state old) answer
 
   items_known : AreKnown (items precision coded)
-  items_known = subst (λ (ys : List (Item ℕ)). AreKnown ys) (sym is) (known_turned xs (encodes_know w s (reverse xs) _ _ all))
+  items_known = subst (λ (ys : List (Item ℕ)). AreKnown ys) (sym is) (known_of_reversed xs (encodes_know w s (reverse xs) _ _ all))
 
   whole : IsValid w s (state_kept number state old)
       → EncodesAll w s (reverse (items precision coded)) (state_kept number state old) (record { head = state top; words = map number (reverse added) ++ stack_in number old.words old.len })

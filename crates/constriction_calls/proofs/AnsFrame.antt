@@ -9,7 +9,7 @@ use Rattle.constriction_stack.specs.Ans.{AnsState, IsValid, IsPush}
 use Rattle.constriction_stack.specs.Symbols.{EncodesAll}
 use Rattle.constriction_stack.proofs.Pushing.{only_push, push_written, push_kept}
 use Rattle.constriction_inputs.specs.Buffers.{Appended, stack_in}
-use Rattle.constriction_coder_laws.proofs.Turned.{all-reverse}
+use Rattle.constriction_base.proofs.Turns.{all-reverse}
 
 -- a state, and more words below it
 abbrev pub over : AnsState → List ℕ → AnsState
@@ -78,7 +78,3 @@ counted number buffer len added within =
     let both = length-append (map number (reverse added)) (stack_in number buffer len) in
     omega (arith, above, below, both)
 
--- all are known where they are in the other order
-pub known_turned : {S : Type 0} (items : List (Item S)) → AreKnown (reverse items) → AreKnown items
-known_turned {S} items all =
-    subst (λ (xs : List (Item S)). AreKnown xs) (reverse-reverse items) (all-reverse (λ item. Knows item.model item.symbol) (reverse items) all)

@@ -10,10 +10,11 @@ use Rattle.constriction_base.proofs.Turns.{drop_turned}
 use Rattle.constriction_chain.specs.Chain.{ChainState, IsChain, IsDecode, IsEncode}
 use Rattle.constriction_chain.specs.Symbols.{PutsBackAll, TakesOffAll}
 use Rattle.constriction_chain.proofs.Below.{decodes_part}
-use Rattle.constriction_chain.proofs.Chains.{decode_from, state, state_same, words_fit}
+use Rattle.constriction_chain.proofs.Chains.{decode_from, state, state_same}
 use Rattle.constriction_chain.proofs.Walks.{quantile_over}
 use Rattle.constriction_inputs.specs.Buffers.{Appended, stack_in}
 use Rattle.constriction_calls.specs.ChainCalls.{EndsEarly, LacksRemainders, NeedsRoom, NeedsSpace, chain_in}
+use Rattle.constriction_base.proofs.WordLists.{words-append, words_fit}
 
 -- ---- decodes
 
@@ -26,11 +27,6 @@ taken_over w s items x y below all =
 
 -- ---- encodes
 
--- words that fit lie above others that do
-words_over : (w : ℕ) (xs ys : List ℕ) → AreWords w xs → AreWords w ys → AreWords w (xs ++ ys)
-words_over w [] ys fit fit' = fit'
-words_over w (x ∷ xs) ys fit fit' = (fit.0, words_over w xs ys fit.1 fit')
-
 -- an encode leaves the compressed words that lie below those that it writes
 encode_over : (w s : ℕ) (e : Step) (x y : ChainState) (below : List ℕ) → e.precision ≤ w → AreWords w below → IsEncode w s e x y
     → IsEncode w s e (state x.h x.r (x.compressed ++ below) x.remainders) (state y.h y.r (y.compressed ++ below) y.remainders)
@@ -41,7 +37,7 @@ encode_over w s e x y below within fit i =
       some = i.chain.some;
       within_word = i.chain.within_word;
       window = i.chain.window;
-      compressed_fit = words_over w y.compressed below i.chain.compressed_fit fit;
+      compressed_fit = words-append w y.compressed below i.chain.compressed_fit fit;
       remainders_fit = i.chain.remainders_fit;
     } in
     let back : IsDecode w s e new old = record {

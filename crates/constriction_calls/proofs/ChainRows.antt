@@ -4,7 +4,7 @@ use Rattle.std.specs.Prelude.{reverse}
 use Rattle.std.proofs.lemmas.List.{drop_more, length-append, length-replicate, reverse-append}
 use Rattle.constriction_base.specs.Models.{AreKnown, Item, item_of, pairs_of}
 use Rattle.constriction_base.specs.Tables.{Impossible}
-use Rattle.constriction_base.proofs.Turns.{reverse_at}
+use Rattle.constriction_base.proofs.Turns.{reverse_at, all-reverse}
 use Rattle.constriction_chain.specs.Chain.{ChainState}
 use Rattle.constriction_chain.specs.Symbols.{TakesOffAll}
 use Rattle.constriction_chain.specs.Walk.{NeedsWord}
@@ -14,7 +14,6 @@ use Rattle.constriction_inputs.specs.Intervals.{interval_items}
 use Rattle.constriction_inputs.specs.Quantized.{family_tables}
 use Rattle.constriction_inputs.specs.Weights.{row_items, weights_model}
 use Rattle.constriction_calls.proofs.ChainFrame.{AreWithin, within_of}
-use Rattle.constriction_inputs.proofs.RowItems.{all_reversed}
 
 -- ---- pairs
 
@@ -76,7 +75,7 @@ within_items w precision (AsIntervals lefts ps) h = within_intervals w precision
 within_items w precision (InFamily by symbols) h = within_pairs w precision (λ table. table) symbols (family_tables precision by) h
 
 pub within_turned : (w precision : ℕ) (coded : Coded) → precision ≤ w → AreWithin w (reverse (items precision coded))
-within_turned w precision coded h = all_reversed (λ item. item.model.precision ≤ w) (items precision coded) (within_items w precision coded h)
+within_turned w precision coded h = all-reverse (λ item. item.model.precision ≤ w) (items precision coded) (within_items w precision coded h)
 
 -- ---- items from the last to the first
 

@@ -13,6 +13,7 @@ use Rattle.constriction_chain.specs.declared.errors.BackendError.{BackendError}
 use Rattle.constriction_chain.specs.declared.errors.DecoderFrontendError.{DecoderFrontendError}
 use Rattle.constriction_chain.specs.declared.errors.EncoderFrontendError.{EncoderFrontendError}
 use Rattle.constriction_chain.specs.declared.errors.EncoderFrontendError.TheVariants.{ImpossibleSymbol, OutOfRemainders}
+use Rattle.constriction_chain.proofs.Refusals.{other}
 
 -- a success is no error
 ok_no_err : {T E : Type 0} {x : T} {e : E} → ◌≡◌ {A = Result T E} (Ok x) (Err e) → ⊥
@@ -32,10 +33,6 @@ ends_at number is_list held held' reads write_fails room makes_room prepare_fail
     ]
 
 -- ---- encodes
--- one refusal is not another
-other : {E F : Type 0} (e : EncoderFrontendError) → e ≡ ImpossibleSymbol → ◌≡◌ {A = Result (Unit {0}) (CoderError EncoderFrontendError (BackendError E F))} (Err (Frontend OutOfRemainders)) (Err (Frontend e)) → ⊥
-other OutOfRemainders is same = cc
-other ImpossibleSymbol is same = cc
 
 module _ {W C R E F : Type 0} (number : W → ℕ) (is_list : Type 0) (held : C → List W) (held' : R → List W) (reads : R → Result (Option W) F → R → Type 0)
     (prepare_fails : C → ℕ → E → Type 0) (write_fails : C → E → Type 0) (room : C → ℕ) (makes_room : Type 0) (w s : ℕ) where

@@ -17,6 +17,7 @@ use Rattle.constriction_queue.proofs.Runs.{same_run}
 use Rattle.constriction_queue.proofs.Seals.{digits_of_words, words_held_fit}
 use Rattle.constriction_queue.proofs.Carry.{carry_held, length-held}
 use Rattle.constriction_queue.proofs.Narrowing.{by_growth, moved, grown_small, grown_large}
+use Rattle.constriction_queue_laws.proofs.AnyEncoder.{number_below}
 
 -- the run behind k words more, whose number is n
 abbrev pub behind : ℕ → ℕ → ℕ → ℕ → Run → Run
@@ -154,11 +155,6 @@ sealed_behind w s rest r wide words least inside =
     ]
 
 -- ---- what an encoder holds leaves room for its interval
-pub number_below : (w : ℕ) (ws : List ℕ) → AreWords w ws → number_of (2 ^ w) ws < (2 ^ w) ^ length ws
-number_below w [] all = let one : (2 ^ w) ^ 0 ≡ 1 = pow-zero (2 ^ w) in omega (arith, one)
-number_below w (x ∷ ws) all =
-    let more : suc (number_of (2 ^ w) ws) * 2 ^ w ≤ (2 ^ w) ^ length ws * 2 ^ w = mul-le-mul_right (2 ^ w) (number_below w ws all.1) in
-    rw (pow-suc (2 ^ w) (length ws)) (omega (arith, more, all.0))
 
 pub held_inside : (w s count first lower range : ℕ) → first + 1 < 2 ^ w → lower < 2 ^ s → range < 2 ^ s
     → number_of (2 ^ w) (words_held (2 ^ w - 1) count first) * 2 ^ s + lower + range < 2 ^ s * (2 ^ w) ^ length (words_held (2 ^ w - 1) count first)

@@ -17,7 +17,8 @@ use Rattle.constriction_queue.proofs.Showing.{queue_is}
 use Rattle.constriction_queue.specs.Symbols.{NarrowsAll}
 use Rattle.constriction_calls.specs.RangeCalls.{IsEncoderKept, KeptFit, kept_words, run_kept}
 use Rattle.constriction_calls.specs.declared.range.parts.EncoderParts.{EncoderParts}
-use Rattle.constriction_calls.proofs.RangeFrame.{held_inside, narrows_above, number_below, run_behind, sealed_behind}
+use Rattle.constriction_calls.proofs.RangeFrame.{held_inside, narrows_above, run_behind, sealed_behind}
+use Rattle.constriction_queue_laws.proofs.AnyEncoder.{number_below}
 
 -- symbols that were encoded are known
 pub known_of : {S : Type 0} (w s : ℕ) (items : List (Item S)) (old new : Run) → NarrowsAll w s items old new → AreKnown items

@@ -180,10 +180,5 @@ may_end {B} w s buffer words there d place count maybe some at left within all v
       ),
 )
 
-pub map-drop : {A B : Type 0} (f : A → B) (n : ℕ) (xs : List A) → map f (drop n xs) ≡ drop n (map f xs)
-map-drop f zero xs = refl
-map-drop f (suc n) [] = refl
-map-drop f (suc n) (x ∷ xs) = map-drop f n xs
-
 pub finds_same : {S : Type 0} (w s : ℕ) (words : List ℕ) (items others : List (Item S)) (old new : Run) → items ≡ others → FindsAll w s words items old new → FindsAll w s words others old new
 finds_same {S} w s words items others old new same all = subst (λ (is : List (Item S)). FindsAll w s words is old new) same all

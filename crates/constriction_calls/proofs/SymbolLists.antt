@@ -13,6 +13,7 @@ use Rattle.constriction_symbol.proofs.ReadBack.{gives_front}
 use Rattle.constriction_symbol_laws.specs.Lists.{AreCodewords}
 use Rattle.constriction_inputs.specs.declared.refusal.Refusal.{Refusal}
 use Rattle.constriction_calls.specs.SymbolCalls.{AsStack, GiveNone, HaveCodewords, IsToldAs, ReadsNone}
+use Rattle.constriction_symbol_laws.proofs.bit_coders.Codewords.{codewords_push}
 
 -- where every symbol has a codeword, those of a list have
 pub all_have : {S : Type 0} (codeword : S → Option (List Bool)) → ((s : S) → (bits : List Bool) × (codeword s ≡ Some bits)) → (symbols : List S) → HaveCodewords codeword symbols
@@ -25,11 +26,6 @@ all_have codeword known (s ∷ symbols) =
 -- bits are the codewords of symbols, and then others
 abbrev pub ReadSoFar : {S : Type 0} → (S → Option (List Bool)) → List S → List Bool → List Bool → Type 0
 ReadSoFar codeword symbols old new = (code : List Bool) × AreCodewords codeword symbols code × (old ≡ code ++ new)
-
-codewords_push : {S : Type 0} (codeword : S → Option (List Bool)) (xs : List S) (x : S) (all last : List Bool) → AreCodewords codeword xs all → codeword x ≡ Some last → AreCodewords codeword (xs ++ x ∷ []) (all ++ last)
-codewords_push codeword [] x all last h known = (last, [], known, ap (λ bs. bs ++ last) h ∙ sym (append-nil last), refl)
-codewords_push codeword (y ∷ ys) x all last h known =
-    (h.0, h.1 ++ last, h.2, ap (λ bs. bs ++ last) h.3 ∙ append_assoc h.0 h.1 last, codewords_push codeword ys x h.1 last h.4 known)
 
 module _ {I S E : Type 0} (next : I → Option (Result Bool E) → I → Type 0) (unread : I → List Bool) (codeword : S → Option (List Bool)) (reads_on : List Bool → Type 0)
     (law : (old : I) (item : Option (Result Bool E)) (new : I) → next old item new → GivesBit (unread old) item (unread new))

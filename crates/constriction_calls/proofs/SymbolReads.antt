@@ -6,14 +6,12 @@ use Rattle.constriction_inputs.specs.Refusals.{Asks, Else, Memory}
 use Rattle.constriction_inputs.specs.declared.refusal.Refusal.{Refusal}
 use Rattle.constriction_inputs.specs.declared.refusal.Refusal.TheVariants.{ImpossibleSymbol, WrongWeights, WrongInterval, WrongLength, NoSpace, NoMemory, InvalidData, OutOfData}
 use Rattle.constriction_calls.specs.SymbolCalls.{BeginBits, Book, GiveBits, IsCut, IsWrong, MakesTree, Order, ReadsNone, TakesCodewords, codeword_in}
-
-ok_not_err : {T : Type 0} {x : T} {e : Refusal} → ◌≡◌ {A = Result T Refusal} (Ok x) (Err e) → ⊥
-ok_not_err is = cc
+use Rattle.constriction_inputs.proofs.Asking.{ok_no_err}
 
 -- a codebook was made, so the weights make a tree
 pub made_tree : {T : Type 0} (holds : Type 0) (x : T) → Asks WrongWeights holds (Else Memory) (Ok x) → holds
 made_tree holds x asks = elim asks [
-  | inl off ↦ absurd (ok_not_err off.1)
+  | inl off ↦ absurd (ok_no_err off.1)
   | inr on ↦ on.0
 ]
 

@@ -7,17 +7,13 @@ use Rattle.constriction_chain.specs.Walk.{IsQuantile}
 use Rattle.constriction_chain.specs.Chain.{ChainState, IsChain, IsChainCoder, IsSized, IsBroughtBelow, IsDecode, IsEncode, least, value_of}
 use Rattle.constriction_chain.proofs.Walks.{quantile_from}
 use Rattle.constriction_chain.proofs.Windows.{gain_from}
+use Rattle.constriction_base.proofs.WordLists.{words_fit}
 
 abbrev pub state : ℕ → ℕ → List ℕ → List ℕ → ChainState
 state h r cs rs = record { h = h; r = r; compressed = cs; remainders = rs }
 
 pub state_same : (a b : ChainState) → a.h ≡ b.h → a.r ≡ b.r → a.compressed ≡ b.compressed → a.remainders ≡ b.remainders → a ≡ b
 state_same a b e f p q = ap₂ (λ (x : ℕ × ℕ) (y : List ℕ × List ℕ). state x.0 x.1 y.0 y.1) (ap₂ (λ (h r : ℕ). (h, r)) e f) (ap₂ (λ (cs rs : List ℕ). (cs, rs)) p q)
-
--- the numbers of words fit
-pub words_fit : {A : Type 0} (w : ℕ) (number : A → ℕ) → ((x : A) → number x < 2 ^ w) → (xs : List A) → AreWords w (map number xs)
-words_fit w number law [] = tt
-words_fit w number law (x ∷ xs) = (law x, words_fit w number law xs)
 
 -- words of a type as numbers
 pub chain_of : (w s P : ℕ) {A : Type 0} (number : A → ℕ) → ((x : A) → number x < 2 ^ w) → (h r : ℕ) → 0 < h → h < 2 ^ w → IsInWindow w (least w s P) r

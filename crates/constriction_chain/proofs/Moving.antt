@@ -15,7 +15,8 @@ use Rattle.constriction_base.proofs.Exporting.{digit_alone, digit_in, word_grows
 use Rattle.constriction_base.proofs.OneAbove.{limit_more, power_more}
 use Rattle.constriction_base.proofs.Sizes.{pow_le}
 use Rattle.constriction_chain.specs.Words.{BeginsNonzero}
-use Rattle.constriction_chain.proofs.Chains.{words_fit}
+use Rattle.constriction_base.proofs.WordLists.{words_fit}
+use Rattle.constriction_base.proofs.Written.{fixed_push}
 
 -- a word is below the end of the window that words move into
 pub word_below : (w bits n : ℕ) → n < 2 ^ w → n < 2 ^ (bits + w)
@@ -68,11 +69,6 @@ digits_begin {W = W} number holds reads w r old new some law pos i list =
     ∙ ap (λ n. digits_of (2 ^ w) n ++ map number (holds.words new)) (sym i.is)))
 
 -- ---- below a leading one
-
--- one more word moves into a number
-fixed_push : (b m n v : ℕ) → v < b → fixed_digits b (suc m) (n * b + v) ≡ fixed_digits b m n ++ (v ∷ [])
-fixed_push b m n v h =
-    ap (λ x. fixed_digits b m x ++ ((n * b + v) % b ∷ [])) (div-mul-add n b v h) ∙ ap (λ x. fixed_digits b m n ++ (x ∷ [])) (mod-mul-add n b v h)
 
 pub one_alone : (w : ℕ) → IsOneAbove w 0 1
 one_alone w =

@@ -47,7 +47,7 @@ module _ {W C R S E F : Type 0} (number : W → ℕ) (compressed_holds : holding
 -- ---- encodes
 
 -- one refusal is not another
-other : {E F : Type 0} (e : EncoderFrontendError) → e ≡ ImpossibleSymbol → ◌≡◌ {A = Result (Unit {0}) (CoderError EncoderFrontendError (BackendError E F))} (Err (Frontend OutOfRemainders)) (Err (Frontend e)) → ⊥
+pub other : {E F : Type 0} (e : EncoderFrontendError) → e ≡ ImpossibleSymbol → ◌≡◌ {A = Result (Unit {0}) (CoderError EncoderFrontendError (BackendError E F))} (Err (Frontend OutOfRemainders)) (Err (Frontend e)) → ⊥
 other OutOfRemainders is same = cc
 other ImpossibleSymbol is same = cc
 

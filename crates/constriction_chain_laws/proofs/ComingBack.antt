@@ -17,16 +17,13 @@ use Rattle.constriction_chain.proofs.Chains.{state, state_same}
 use Rattle.constriction_chain.proofs.Walks.{cons_same}
 use Rattle.constriction_chain_laws.specs.Undone.{decoded_at, encode_back}
 use Rattle.constriction_coder_laws.proofs.Undoing.{all_undone}
-use Rattle.constriction_coder_laws.proofs.Turned.{all-reverse}
+use Rattle.constriction_base.proofs.WordLists.{words_behind}
+use Rattle.constriction_base.proofs.Turns.{all-reverse}
 
 -- ---- words that fit
 fit_front : (w : ℕ) (us vs : List ℕ) → AreWords w (us ++ vs) → AreWords w us
 fit_front w [] vs fit = tt
 fit_front w (u ∷ us) vs fit = (fit.0, fit_front w us vs fit.1)
-
-fit_back : (w : ℕ) (us vs : List ℕ) → AreWords w (us ++ vs) → AreWords w vs
-fit_back w [] vs fit = fit
-fit_back w (u ∷ us) vs fit = fit_back w us vs fit.1
 
 -- ---- words stand for one coder
 pub one_compressed : (w s P : ℕ) (words : List ℕ) (x y : ChainState) → 1 ≤ w → FromCompressed w s P words x → FromCompressed w s P words y → x ≡ y
@@ -107,7 +104,7 @@ module _ {S : Type 0} (w s P : ℕ) where
         let first = cons_same y.h z.h ((digits_of (2 ^ w) y.r ++ y.remainders) ++ below) (digits_of (2 ^ w) z.r ++ z.remainders) from.are in
         let rest = one_window w (least w s P) y.r z.r (y.remainders ++ below) z.remainders sized.sizes.some_bits chain.window from.chain.window
         (sym (append_assoc (digits_of (2 ^ w) y.r) y.remainders below) ∙ first.1) in
-        let fit = fit_back w y.remainders below (subst (λ (ws : List ℕ). AreWords w ws) (sym rest.1) from.chain.remainders_fit) in
+        let fit = words_behind w y.remainders below (subst (λ (ws : List ℕ). AreWords w ws) (sym rest.1) from.chain.remainders_fit) in
         let way = other_way below items x y at fit whole decoded in
         let same : z ≡ state y.h y.r [] (y.remainders ++ below) = state_same z (state y.h y.r [] (y.remainders ++ below)) (sym first.0) (sym rest.0) from.compressed (sym rest.1) in
         let put = subst (λ (o : ChainState). PutsBackAll w s (reverse items) o last) same encoded in

@@ -11,7 +11,7 @@ use Rattle.constriction_base.proofs.Exporting.{base_two}
 use Rattle.constriction_chain.specs.Chain.{ChainState, IsSized, least}
 use Rattle.constriction_chain.specs.Imports.{FromBinary, FromCompressed, FromRemainders}
 use Rattle.constriction_chain.specs.Words.{NoHeads, NoStart, TooFew}
-use Rattle.constriction_chain_laws.proofs.OneBinary.{binary_rest}
+use Rattle.constriction_base.proofs.OneAbove.{one_rest}
 
 -- ---- words that begin no coder
 
@@ -29,7 +29,7 @@ number_over b r cs two =
 
 -- a one above one word less
 one_less : (w k r : ℕ) → IsOneAbove w (suc k) r → IsOneAbove w k (r / 2 ^ w)
-one_less w k r i = (let rest = binary_rest w k r i.from i.below in record { from = rest.0; below = rest.1 })
+one_less w k r i = (let rest = one_rest w k r i.from i.below in record { from = rest.0; below = rest.1 })
 
 -- the words below a leading one make its number
 binary_after : (w m r : ℕ) → IsOneAbove w m r → number_from_digits_after (2 ^ w) 1 (fixed_digits (2 ^ w) m r) ≡ r

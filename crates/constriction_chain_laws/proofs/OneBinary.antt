@@ -9,24 +9,8 @@ use Rattle.constriction_chain.specs.Imports.{FromBinary}
 use Rattle.constriction_base.specs.Writing.{IsOneAbove}
 use Rattle.constriction_chain.proofs.Chains.{state_same}
 use Rattle.constriction_chain.proofs.Walks.{cons_same}
-
--- the powers of one word more
-power_more : (w m : ℕ) → 2 ^ (suc m * w) ≡ 2 ^ (m * w) * 2 ^ w
-power_more w m = let e : suc m * w ≡ m * w + w = omega arith in ap (λ n. 2 ^ n) e ∙ pow-add 2 (m * w) w
-
-limit_more : (w m : ℕ) → 2 ^ (suc m * w + 1) ≡ 2 ^ (m * w + 1) * 2 ^ w
-limit_more w m = let e : suc m * w + 1 ≡ (m * w + 1) + w = omega arith in ap (λ n. 2 ^ n) e ∙ pow-add 2 (m * w + 1) w
-
--- the lowest digit goes to the words behind
-fixed_next : (b m n : ℕ) (ws : List ℕ) → fixed_digits b (suc m) n ++ ws ≡ fixed_digits b m (n / b) ++ (n % b ∷ ws)
-fixed_next b m n ws = append_assoc (fixed_digits b m (n / b)) (n % b ∷ []) ws
-
--- without its lowest word a number above a one has a word less
-pub binary_rest : (w m n : ℕ) → 2 ^ (suc m * w) ≤ n → n < 2 ^ (suc m * w + 1) → (2 ^ (m * w) ≤ n / 2 ^ w) × (n / 2 ^ w < 2 ^ (m * w + 1))
-binary_rest w m n from below = (
-  (le-div_iff_mul-le (pow_pos w)).1 (omega (arith, from, power_more w m)),
-  (div-lt_iff_lt-mul (pow_pos w)).1 (omega (arith, below, limit_more w m)),
-)
+use Rattle.constriction_base.proofs.OneAbove.{power_more, limit_more, one_rest}
+use Rattle.constriction_base.proofs.Written.{fixed_next}
 
 -- the words below the leading one tell the number and the words that follow
 same_digits : (w m a c : ℕ) (us vs : List ℕ) → 2 ^ (m * w) ≤ a → a < 2 ^ (m * w + 1) → 2 ^ (m * w) ≤ c → c < 2 ^ (m * w + 1)
@@ -38,8 +22,8 @@ same_digits w zero a c us vs from below from' below' e =
     (one ∙ sym one', e)
 same_digits w (suc m) a c us vs from below from' below' e =
     let b : ℕ = 2 ^ w in
-    let rest = binary_rest w m a from below in
-    let rest' = binary_rest w m c from' below' in
+    let rest = one_rest w m a from below in
+    let rest' = one_rest w m c from' below' in
     let high = same_digits w m (a / b) (c / b) (a % b ∷ us) (c % b ∷ vs) rest.0 rest.1 rest'.0 rest'.1
     (sym (fixed_next b m a us) ∙ (e ∙ fixed_next b m c vs)) in
     let low = cons_same (a % b) (c % b) us vs high.1 in

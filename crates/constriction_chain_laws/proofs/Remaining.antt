@@ -13,7 +13,7 @@ use Rattle.constriction_chain_laws.proofs.ComingBack.{come_back}
 use Rattle.constriction_chain_laws.proofs.ListCalls.{models_at}
 use Rattle.constriction_chain_laws.proofs.OneBinary.{one_form}
 use Rattle.constriction_chain_laws.proofs.Whole.{whole_way}
-use Rattle.constriction_coder_laws.proofs.Turned.{map-reverse}
+use Rattle.constriction_base.proofs.Turns.{map-reverse}
 
 -- symbols that are put back to the coder of the suffix, over these words
 pub comes_back : {S : Type 0} (w s P : ℕ) (model : Model S) (symbols given : List S) (below words : List ℕ) (x y z last : ChainState) → IsSized w s P → IsModelAt P model → IsWhole w s P x

@@ -2,7 +2,7 @@
 use Rattle.std.specs.Prelude.{reverse}
 use Rattle.std.proofs.Common.{◌≡◌, ◌∙◌, ℕ, List, ◌++◌, map, sym, ap, ap₂}
 use Rattle.std.proofs.lemmas.List.{map-append, reverse-append, reverse-reverse}
-use Rattle.constriction_coder_laws.proofs.Turned.{map-reverse}
+use Rattle.constriction_base.proofs.Turns.{map-reverse}
 
 -- the vector of the prefix and behind it the rest, whose words stand above it when they are read
 pub whole_way : {W : Type 0} (number : W → ℕ) (words rest prefix : List W) (upper below : List ℕ)

@@ -3,7 +3,7 @@ use Rattle.std.proofs.Common.{◌≡◌, ℕ, List, [], ◌∷◌, length, refl,
 use Rattle.std.specs.Prelude.{reverse, map}
 use Rattle.std.proofs.lemmas.List.{length-reverse}
 use Rattle.constriction_base.specs.Models.{Model, IsModel, Item, item_of, items_of, models, AreModels}
-use Rattle.constriction_coder_laws.proofs.Turned.{map-reverse}
+use Rattle.constriction_base.proofs.Turns.{map-reverse}
 
 pub symbols-items_of : {S : Type 0} (model : Model S) (xs : List S) → map (λ i. i.symbol) (items_of model xs) ≡ xs
 symbols-items_of model [] = refl

@@ -5,6 +5,7 @@ use Rattle.std.proofs.lemmas.Grind.{reverse_onto}
 use Rattle.std.proofs.lemmas.List.{reverse-reverse}
 use Rattle.constriction_base.specs.Models.{Item, item_of, pairs_of, AreKnown}
 use Rattle.constriction_inputs.specs.Weights.{row_tables, row_items}
+use Rattle.constriction_base.proofs.Turns.{all-append, all-reverse}
 
 -- lists that are equal begin and go on equally
 first_same : {A : Type 0} {x y : A} {xs ys : List A} → x ∷ xs ≡ y ∷ ys → x ≡ y
@@ -27,11 +28,6 @@ rows_are_items precision width table weights (symbol ∷ symbols) (row ∷ rows)
     both_same (ap (λ (entries : List (ℕ × ℕ × ℕ)). item_of (record { precision = precision; table = entries }) symbol) (first_same is))
     (rows_are_items precision width table (drop width weights) symbols rows (rest_same is))
 
--- what holds of each element holds of each of two parts, and the other way round
-pub all_append : {X : Type 0} (P : X → Type 0) (xs ys : List X) → AllByRecursion P xs → AllByRecursion P ys → AllByRecursion P (xs ++ ys)
-all_append P [] ys first rest = rest
-all_append P (x ∷ xs) ys first rest = (first.0, all_append P xs ys first.1 rest)
-
 pub all_first : {X : Type 0} (P : X → Type 0) (xs ys : List X) → AllByRecursion P (xs ++ ys) → AllByRecursion P xs
 all_first P [] ys all = tt
 all_first P (x ∷ xs) ys all = (all.0, all_first P xs ys all.1)
@@ -40,10 +36,5 @@ pub all_rest : {X : Type 0} (P : X → Type 0) (xs ys : List X) → AllByRecursi
 all_rest P [] ys all = all
 all_rest P (x ∷ xs) ys all = all_rest P xs ys all.1
 
--- and of a list turned round
-pub all_reversed : {X : Type 0} (P : X → Type 0) (xs : List X) → AllByRecursion P xs → AllByRecursion P (reverse xs)
-all_reversed P [] all = tt
-all_reversed P (x ∷ xs) all = rw (reverse_onto xs x []) (all_append P (reverse xs) (x ∷ []) (all_reversed P xs all.1) (all.0, tt))
-
 pub known_of_reversed : {S : Type 0} (items : List (Item S)) → AreKnown (reverse items) → AreKnown items
-known_of_reversed items known = subst AreKnown (reverse-reverse items) (all_reversed _ (reverse items) known)
+known_of_reversed items known = subst AreKnown (reverse-reverse items) (all-reverse _ (reverse items) known)

@@ -4,10 +4,10 @@ use Rattle.constriction_base.specs.Steps.{Step, AreSteps, IsSizes, AreWords}
 use Rattle.constriction_base.specs.Models.{Item, AreModels}
 use Rattle.constriction_queue.specs.Range.{Run, Within, run, sealed, start}
 use Rattle.constriction_queue.proofs.ReadingRuns.{law_reads}
-use Rattle.constriction_queue.proofs.SealedRuns.{sealed_reads_followed, words-append}
+use Rattle.constriction_queue.proofs.SealedRuns.{sealed_reads_followed, words-sealed}
 use Rattle.constriction_queue.specs.Symbols.{NarrowsAll, FindsAll}
 use Rattle.constriction_queue.proofs.Entries.{entries, are_steps, run_is}
-use Rattle.constriction_queue_laws.proofs.Sealing.{sealed_words}
+use Rattle.constriction_base.proofs.WordLists.{words-append}
 
 within_before : {S : Type 0} (w s : ℕ) (item : Item S) (items : List (Item S)) (last : Run) (rest : List ℕ) → IsSizes w s → s / w ≡ 2
     → AreModels w (item ∷ items) → AreWords w rest → NarrowsAll w s (item ∷ items) (start s) last → Within w s (sealed w s last ++ rest) last
@@ -17,7 +17,7 @@ within_before w s item items last rest z two ms words h =
     let steps : AreSteps w (e ∷ es) = are_steps w s (item ∷ items) (start s) last h ms in
     let r : Run = run w s (e ∷ es) (start s) in
     subst (λ (r : Run). Within w s (sealed w s r ++ rest) r) (run_is w s (item ∷ items) (start s) last h)
-    ((law_reads w s (sealed w s r ++ rest) z (words-append w (sealed w s r) rest (sealed_words w s r) words) e es steps).0
+    ((law_reads w s (sealed w s r ++ rest) z (words-append w (sealed w s r) rest (words-sealed w s r) words) e es steps).0
     (sealed_reads_followed w s (e ∷ es) rest z two steps words))
 
 pub read_before : {S : Type 0} (w s : ℕ) (items : List (Item S)) (last : Run) (rest : List ℕ) → IsSizes w s → s / w ≡ 2

@@ -13,8 +13,10 @@ use Rattle.constriction_base.proofs.Sizes.{Facts, facts, table_divides, pow-mul}
 use Rattle.constriction_stack.proofs.Pushing.{only_push, written, kept, put_on, room, valid_pop}
 use Rattle.constriction_queue.proofs.Narrowing.{by_growth, scale_least, valid_cut, valid_run, valid_start}
 use Rattle.constriction_queue.specs.SelfDelimiting.{SelfDelimits}
-use Rattle.constriction_queue.proofs.SealedRuns.{tail, length-fixed_digits}
+use Rattle.constriction_queue.proofs.SealedRuns.{tail}
 use Rattle.constriction_queue.proofs.SelfDelimited.{length_self}
+use Rattle.constriction_base.proofs.Guards.{fixed-length}
+use Rattle.constriction_stack_laws.proofs.ComingBack.{empty_valid}
 
 -- ---- over numbers: h is the new head, a the old head's whole steps
 written_bound : (h a x y b p n c : ℕ) → h ≤ suc a * n → a * p ≤ y → y * b ≤ x → p * (c * b) ≤ x → h * b * (p * c) ≤ x * (n * (c + 1))
@@ -125,14 +127,11 @@ exported_bound w s x z =
     let all : (2 ^ w) ^ (j - 1) * (2 ^ w) ^ l ≤ m * (2 ^ w) ^ l = mul-le-mul_right ((2 ^ w) ^ l) top in
     omega (arith, more, all, pow-add (2 ^ w) (j - 1) l)
 
-valid_empty : (w s : ℕ) → IsValid w s empty
-valid_empty w s = record { state = record { fits = pow_pos s; are_words = tt }; full = inr refl }
-
 pub ans_words : (w s : ℕ) (es : List Step) (x : AnsState) → IsSizes w s → AreSteps w es → InTurn (IsPush w s) es empty x →
     2 ^ (w * (length (exported w x) - 1)) * product (share w s) es ≤ 2 ^ (s - w) * product (rounded_whole w s) es
 ans_words w s es x z hs i =
     let n : ℕ = length (exported w x) - 1 in
-    let all = pushes_bound w s es empty x z hs (valid_empty w s) i in
+    let all = pushes_bound w s es empty x z hs (empty_valid w s) i in
     let begin : potential w s empty ≡ 2 ^ (s - w) = rw (zero-max (2 ^ (s - w)), pow-zero (2 ^ w)) (omega arith) in
     let words : (2 ^ w) ^ n * product (share w s) es ≤ potential w s x * product (share w s) es = mul-le-mul_right (product (share w s) es) (exported_bound w s x z) in
     rw (mul_comm w n, ← pow-mul w n, ← begin) (le_trans words all)
@@ -190,11 +189,11 @@ length-tail w s r = elim (cases_eq ((r.low + r.range) / 2 ^ (s - w)) (seal_numbe
 -- at most two words more than moves
 pub length-sealed : (w s : ℕ) (r : Run) → length (sealed w s r) ≤ r.moves + 2
 length-sealed w s r = elim (cases_eq r.range (2 ^ s - 1)) [
-  | inl e ↦ rw (eq-eqb r.range (2 ^ s - 1) e) (omega (arith, length-fixed_digits (2 ^ w) r.moves (r.low / 2 ^ s)))
+  | inl e ↦ rw (eq-eqb r.range (2 ^ s - 1) e) (omega (arith, fixed-length (2 ^ w) r.moves (r.low / 2 ^ s)))
   | inr ne ↦
       let count : length (fixed_digits (2 ^ w) (suc r.moves) (seal_number w s r) ++ tail w s r) ≡ length (fixed_digits (2 ^ w) (suc r.moves) (seal_number w s r)) + length (tail w s r) =
       length-append (fixed_digits (2 ^ w) (suc r.moves) (seal_number w s r)) (tail w s r) in
-      rw (ne_eqb r.range (2 ^ s - 1) ne) (omega (arith, count, length-fixed_digits (2 ^ w) (suc r.moves) (seal_number w s r), length-tail w s r))
+      rw (ne_eqb r.range (2 ^ s - 1) ne) (omega (arith, count, fixed-length (2 ^ w) (suc r.moves) (seal_number w s r), length-tail w s r))
 ]
 
 -- so many words fewer than moves, or as many

@@ -5,7 +5,7 @@ use Rattle.std.proofs.lemmas.Bool.{cases_lt}
 use Rattle.constriction_base.specs.Steps.{Step, IsStep, AreSteps, IsSizes}
 use Rattle.constriction_queue.specs.Range.{Run, start, scale, cut, grown, narrow, run, IsInterval}
 use Rattle.constriction_base.proofs.Sizes.{Facts, facts, table_divides}
-use Rattle.constriction_queue.proofs.Cuts.{part_inside}
+use Rattle.constriction_queue.proofs.Runs.{part_inside}
 
 abbrev pub moved : ℕ → Run → Run
 moved w r = record { low = r.low * 2 ^ w; range = r.range * 2 ^ w; moves = suc r.moves }

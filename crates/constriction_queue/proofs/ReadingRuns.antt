@@ -3,9 +3,11 @@ use Rattle.std.proofs.Common.{◌≡◌, ℕ, ◌+◌, ◌-◌, ◌*◌, ◌/◌
 use Rattle.constriction_base.specs.Steps.{Step, IsStep, AreSteps, IsSizes, AreWords}
 use Rattle.constriction_queue.specs.Range.{Run, start, scale, cut, grown, narrow, run, IsInterval, number_read, offset, Takes, ReadAs, Within}
 use Rattle.constriction_base.proofs.Sizes.{table_fits}
-use Rattle.constriction_queue.proofs.Cuts.{part_inside, offset_is, from_quantile, to_quantile, from_quantile_below, to_quantile_below, more_from, less_from, more_below, less_below, scale_pos}
-use Rattle.constriction_queue.proofs.WordsRead.{word_below, point_more, first_point}
+use Rattle.constriction_queue.proofs.Cuts.{offset_is, from_quantile, to_quantile, from_quantile_below, to_quantile_below, more_from, less_from, more_below, less_below, scale_pos}
+use Rattle.constriction_queue.proofs.WordsRead.{point_more, first_point}
 use Rattle.constriction_queue.proofs.Narrowing.{by_growth, valid_cut, valid_start}
+use Rattle.constriction_base.proofs.WordLists.{word_below}
+use Rattle.constriction_queue.proofs.Runs.{part_inside}
 
 -- the distance that a state holds is the true one
 pub record Near (w s : ℕ) (ws : List ℕ) (r : Run) : Type 0 where

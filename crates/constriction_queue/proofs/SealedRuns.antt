@@ -11,6 +11,8 @@ use Rattle.constriction_base.proofs.Sizes.{Facts, facts, pow_le, whole_divides}
 use Rattle.constriction_queue.proofs.WordsRead.{number_below}
 use Rattle.constriction_queue.proofs.Narrowing.{by_growth, valid_cut, valid_start, valid_run}
 use Rattle.constriction_queue.proofs.ReadingRuns.{reads_run}
+use Rattle.constriction_base.proofs.WordLists.{words-append, words-fixed_digits}
+use Rattle.constriction_base.proofs.Guards.{fixed-length}
 
 number_front : (b m : ℕ) (xs ys : List ℕ) → m ≤ length xs → number_of_first b m (xs ++ ys) ≡ number_of_first b m xs
 number_front b zero xs ys h = refl
@@ -26,29 +28,17 @@ number_append b (suc j) xs ys =
 pub number_after : (b m j c : ℕ) (xs ys : List ℕ) → length xs ≡ m → number_of_first b m xs ≡ c → number_of_first b (m + j) (xs ++ ys) ≡ c * b ^ j + number_of_first b j ys
 number_after b m j c xs ys len e = rw (← len, number_append b j xs ys, len, e) refl
 
-pub length-fixed_digits : (b k n : ℕ) → length (fixed_digits b k n) ≡ k
-length-fixed_digits b zero n = refl
-length-fixed_digits b (suc k) n = rw (length-append, length-fixed_digits b k (n / b)) (omega arith)
-
 number-fixed_digits : (b k n : ℕ) → 0 < b → n < b ^ k → number_of_first b k (fixed_digits b k n) ≡ n
 number-fixed_digits b zero n hb h = let one : b ^ 0 ≡ 1 = pow-zero b in omega (arith, one)
 number-fixed_digits b (suc k) n hb h =
     let ds : List ℕ = fixed_digits b k (n / b) in
-    let len : length ds ≡ k = length-fixed_digits b k (n / b) in
+    let len : length ds ≡ k = fixed-length b k (n / b) in
     let small : n < b ^ k * b = rw (pow-suc b k) at h in
     let below : n / b < b ^ k = (div-lt_iff_lt-mul hb).1 small in
     let front : number_of_first b k (ds ++ (n % b ∷ [])) ≡ n / b = number_front b k ds (n % b ∷ []) (omega arith) ∙ number-fixed_digits b k (n / b) hb below in
     let last : get_or (ds ++ (n % b ∷ [])) k 0 ≡ n % b =
     rw len at (get_or-append_seam ds (n % b) [] 0) in
     rw (front, last) (div-add-mod' n b)
-
-pub words-append : (w : ℕ) (xs ys : List ℕ) → AreWords w xs → AreWords w ys → AreWords w (xs ++ ys)
-words-append w [] ys h g = g
-words-append w (x ∷ xs) ys h g = (h.0, words-append w xs ys h.1 g)
-
-pub words-fixed_digits : (w k n : ℕ) → AreWords w (fixed_digits (2 ^ w) k n)
-words-fixed_digits w zero n = tt
-words-fixed_digits w (suc k) n = words-append w (fixed_digits (2 ^ w) k (n / 2 ^ w)) (n % 2 ^ w ∷ []) (words-fixed_digits w k (n / 2 ^ w)) (mod-lt n (pow_pos w), tt)
 
 -- the zero word where it is wanted
 abbrev pub tail : ℕ → ℕ → Run → List ℕ
@@ -101,7 +91,7 @@ seal_point w s r rest z v =
     let top : c * q < b ^ n * q =
     rw (pow-suc b r.moves) (let m : r.low + r.range < q * b * b ^ r.moves = rw (f.whole) at v.inside in omega (arith, m, low, v.least)) in
     let small : c < b ^ n = lt_of_mul-lt-mul_right q top in
-    let len : length (fixed_digits b n c) ≡ n = length-fixed_digits b n c in
+    let len : length (fixed_digits b n c) ≡ n = fixed-length b n c in
     let front : number_of_first b n (fixed_digits b n c) ≡ c = number-fixed_digits b n c (pow_pos w) small in
     let words : r.moves + s / w ≡ suc r.moves + (s / w - 1) = omega (arith, f.two) in
     let all = number_after b n (s / w - 1) c (fixed_digits b n c) rest len front in
@@ -115,7 +105,7 @@ number_zeros b (suc j) ws h = rw (number_zeros b j ws h, h j) (omega arith)
 no_words : (i : ℕ) → get_or {A = ℕ} [] i 0 ≡ 0
 no_words i = refl
 
-zero_word : (i : ℕ) → slice_index (0 ∷ []) i ≡ 0
+pub zero_word : (i : ℕ) → slice_index (0 ∷ []) i ≡ 0
 zero_word zero = refl
 zero_word (suc i) = refl
 
@@ -155,7 +145,7 @@ sealed_within w s r rest z v h o =
           rw (none, append_assoc) (record { from = rw number_read (omega (arith, from)); below = rw number_read (omega (arith, room, small)) })
     ])
 
-words-sealed : (w s : ℕ) (r : Run) → AreWords w (sealed w s r)
+pub words-sealed : (w s : ℕ) (r : Run) → AreWords w (sealed w s r)
 words-sealed w s r = elim (cases_eq r.range (2 ^ s - 1)) [
   | inl e ↦ rw (eq-eqb r.range (2 ^ s - 1) e) (words-fixed_digits w r.moves (r.low / 2 ^ s))
   | inr ne ↦ rw (ne_eqb r.range (2 ^ s - 1) ne) (words-append w (fixed_digits (2 ^ w) (suc r.moves) (seal_number w s r)) (tail w s r) (words-fixed_digits w (suc r.moves) (seal_number w s r)) words_tail)

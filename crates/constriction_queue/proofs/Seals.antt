@@ -161,10 +161,3 @@ words_within w n some =
     let more : 1 * n ≤ w * n = mul-le-mul_right n some in
     omega (arith, more)
 
--- the test of the words by a quotient
-pub fit_by_quotient : (w n : ℕ) → 1 ≤ w → (n ≤ 18446744073709551615 / w) ↔ (w * n < 2 ^ 64)
-fit_by_quotient w n some =
-    let top : 2 ^ 64 ≡ 18446744073709551616 = refl in (
-      λ h. let within : n * w ≤ 18446744073709551615 = (le-div_iff_mul-le some).0 h in omega (arith, within, top),
-      λ h. (le-div_iff_mul-le some).1 (omega (arith, h, top)),
-    )

@@ -11,9 +11,11 @@ use Rattle.constriction_queue.specs.Range.{Run, IsInterval, ReadAs, Within, numb
 use Rattle.constriction_queue.specs.SelfDelimiting.{AreEnough, AreLeast, SelfDelimits}
 use Rattle.constriction_queue.proofs.Narrowing.{valid_run, valid_start}
 use Rattle.constriction_queue.proofs.ReadingRuns.{reads_run}
-use Rattle.constriction_queue.proofs.SealedRuns.{ceil_below, ceil_from, length-fixed_digits, less_after, number_after, number_zeros, seal_point, words-append, words-fixed_digits}
+use Rattle.constriction_queue.proofs.SealedRuns.{ceil_below, ceil_from, less_after, number_after, number_zeros, seal_point}
 use Rattle.constriction_queue.proofs.SelfSealed.{ends_by_gap}
 use Rattle.constriction_queue.proofs.WordsRead.{number_below}
+use Rattle.constriction_base.proofs.WordLists.{words-append, words-fixed_digits}
+use Rattle.constriction_base.proofs.Guards.{fixed-length}
 
 -- ---- zero words
 pub words_same : (w k x : ℕ) → x < 2 ^ w → AreWords w (replicate k x)
@@ -113,10 +115,10 @@ self_words w s r words (inr (coded, (t, least, is))) =
     rw is (words-append w (fixed_digits (2 ^ w) (suc r.moves) (seal_number w s r)) (replicate t 0) (words-fixed_digits w (suc r.moves) (seal_number w s r)) (words_same w t 0 (pow_pos w)))
 
 pub length_self : (w s : ℕ) (r : Run) (words : List ℕ) → IsSizes w s → SelfDelimits w s r words → length words ≤ r.moves + s / w
-length_self w s r words z (inl (whole, is)) = rw is (omega (arith, length-fixed_digits (2 ^ w) r.moves (r.low / 2 ^ s)))
+length_self w s r words z (inl (whole, is)) = rw is (omega (arith, fixed-length (2 ^ w) r.moves (r.low / 2 ^ s)))
 length_self w s r words z (inr (coded, (t, least, is))) =
     let ds : List ℕ = fixed_digits (2 ^ w) (suc r.moves) (seal_number w s r) in
-    rw is (omega (arith, length-append ds (replicate t 0), length-replicate {A = ℕ} t 0, length-fixed_digits (2 ^ w) (suc r.moves) (seal_number w s r), least.few))
+    rw is (omega (arith, length-append ds (replicate t 0), length-replicate {A = ℕ} t 0, fixed-length (2 ^ w) (suc r.moves) (seal_number w s r), least.few))
 
 -- ---- where a state is two words
 as_sealed : (w s : ℕ) (r : Run) (t : ℕ) → s / w ≡ 2 → 2 ^ (s - w) ≤ r.range → r.range + 1 < 2 ^ s → AreLeast w s r t

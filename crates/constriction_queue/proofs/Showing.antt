@@ -5,6 +5,8 @@ use Rattle.std.proofs.lemmas.List.{length-reverse, map-append, reverse-append, r
 use Rattle.std.specs.Int.NonZero.{non_zero_usize_get}
 use Rattle.constriction_queue.specs.declared.situation.HeldWords.{HeldWords}
 use Rattle.constriction_queue.specs.Encoder.{first_held, first_owed, owed_of, released_of, word_of}
+use Rattle.constriction_base.proofs.Turns.{map-reverse}
+use Rattle.std.proofs.Math.Seq.{drop-append_seam}
 
 -- words that are all the same, the other way round
 one_behind : (x k : ℕ) → replicate k x ++ (x ∷ []) ≡ x ∷ replicate k x
@@ -38,19 +40,13 @@ turned_owed number held top last =
     ∙ ap (λ (ws : List ℕ). (first_held number held ++ word_of number top) ++ ws) (turned_word number last)
     ∙ append_assoc (first_held number held) (word_of number top) (word_of number last)
 
-map_reversed : {A B : Type 0} (f : A → B) (xs : List A) → map f (reverse xs) ≡ reverse (map f xs)
-map_reversed f [] = refl
-map_reversed f (x ∷ xs) =
-    ap (map f) (reverse-append (x ∷ []) xs) ∙ map-append f (reverse xs) (x ∷ []) ∙ ap (λ ys. ys ++ (f x ∷ [])) (map_reversed f xs)
-    ∙ sym (reverse-append (f x ∷ []) (map f xs))
-
 -- the words that a backend lends, and behind them what is owed
 pub shown_is : {Word : Type 0} (number : Word → ℕ) (words lent : List Word) (held : Option (HeldWords Word)) (top last : Option Word) (all : List ℕ) → words ≡ reverse lent
     → reverse (owed_of number held top last ++ map number words) ≡ all
     → map number lent ++ first_owed number held top last ≡ all
 shown_is number words lent held top last all is sealed_is =
     let below : reverse (map number words) ≡ map number lent =
-    ap (λ ws. reverse (map number ws)) is ∙ ap reverse (map_reversed number lent) ∙ reverse-reverse (map number lent) in
+    ap (λ ws. reverse (map number ws)) is ∙ ap reverse (map-reverse number lent) ∙ reverse-reverse (map number lent) in
     ap (λ ws. map number lent ++ ws) (sym (turned_owed number held top last))
     ∙ ap (λ ws. ws ++ reverse (owed_of number held top last)) (sym below)
     ∙ sym (reverse-append (owed_of number held top last) (map number words)) ∙ sealed_is
@@ -72,20 +68,15 @@ pub none_shown : {X : Type 0} (number : X → ℕ) (below : List X) (seal : List
 none_shown number [] seal none is = is
 none_shown number (y ∷ ys) seal none is = absurd (omega (arith, none))
 
--- what was put in front is taken off again
-pub drop_owed : (owed words : List ℕ) → drop (length owed) (owed ++ words) ≡ words
-drop_owed [] words = refl
-drop_owed (x ∷ owed) words = drop_owed owed words
-
 -- what was written, as a queue
 pub queue_is : {Word : Type 0} (number : Word → ℕ) {queue : List Word} (stack : List Word) {all : List ℕ} → queue ≡ reverse stack → reverse (map number stack) ≡ all → map number queue ≡ all
-queue_is number stack is sealed_is = ap (map number) is ∙ map_reversed number stack ∙ sealed_is
+queue_is number stack is sealed_is = ap (map number) is ∙ map-reverse number stack ∙ sealed_is
 
 -- behind the words written stands in the sealed ones what is owed
 pub behind_written : {Word : Type 0} (number : Word → ℕ) (held : Option (HeldWords Word)) (top last : Option Word) (ws all : List ℕ)
     → reverse (owed_of number held top last ++ ws) ≡ all → first_owed number held top last ≡ drop (length ws) all
 behind_written number held top last ws all is =
     sym (turned_owed number held top last)
-    ∙ sym (drop_owed (reverse ws) (reverse (owed_of number held top last)))
+    ∙ sym (drop-append_seam (reverse ws) (reverse (owed_of number held top last)))
     ∙ ap (λ (l : List ℕ). drop (length (reverse ws)) l) (sym (reverse-append (owed_of number held top last) ws) ∙ is)
     ∙ ap (λ n. drop n all) (length-reverse ws)

@@ -5,6 +5,7 @@ use Rattle.constriction_base.specs.Steps.{IsSizes, AreWords}
 use Rattle.constriction_base.proofs.Sizes.{facts}
 use Rattle.constriction_queue.specs.Range.{Run, IsAt, number_of_first}
 use Rattle.constriction_queue.specs.States.{IsPosition}
+use Rattle.constriction_base.proofs.WordLists.{word_below}
 
 drop_nil : (n : ℕ) → ◌≡◌ {A = List ℕ} (drop n []) []
 drop_nil zero = refl
@@ -20,11 +21,6 @@ get_behind zero k ws = let same : 0 + k ≡ k = omega arith in rw same refl
 get_behind (suc n) k [] = refl
 get_behind (suc n) k (x ∷ ws) = let same : suc n + k ≡ suc (n + k) = omega arith in rw same (get_behind n k ws)
 
-word_fits : (w : ℕ) (ws : List ℕ) (k : ℕ) → AreWords w ws → get_or ws k 0 < 2 ^ w
-word_fits w [] k all = pow_pos w
-word_fits w (x ∷ ws) zero all = all.0
-word_fits w (x ∷ ws) (suc k) all = word_fits w ws k all.1
-
 -- the first words are a number of so many digits
 first_below : (w n k : ℕ) (ws : List ℕ) → AreWords w ws → number_of_first (2 ^ w) k (drop n ws) < (2 ^ w) ^ k
 first_below w n zero ws all = let one : (2 ^ w) ^ 0 ≡ 1 = pow-zero (2 ^ w) in omega (arith, one)
@@ -32,7 +28,7 @@ first_below w n (suc k) ws all =
     let before = first_below w n k ws all in
     let row : (number_of_first (2 ^ w) k (drop n ws) + 1) * 2 ^ w ≤ (2 ^ w) ^ k * 2 ^ w = mul-le-mul_right (2 ^ w) (omega (arith, before)) in
     let all_of : (2 ^ w) ^ suc k ≡ (2 ^ w) ^ k * 2 ^ w = pow-suc (2 ^ w) k in
-    let word : get_or (drop n ws) k 0 < 2 ^ w = rw (get_behind n k ws) (word_fits w ws (n + k) all) in
+    let word : get_or (drop n ws) k 0 < 2 ^ w = rw (get_behind n k ws) (word_below w ws (n + k) all) in
     omega (arith, row, all_of, word)
 
 -- and more words behind them

@@ -5,12 +5,7 @@ use Rattle.constriction_base.specs.Steps.{AreWords, IsSizes}
 use Rattle.constriction_queue.specs.Range.{number_of_first, number_read}
 use Rattle.constriction_queue.proofs.Cuts.{more_below}
 use Rattle.constriction_base.proofs.Sizes.{facts, Facts}
-
--- past the end stands zero, so each word read is below the base
-pub word_below : (w : ℕ) (ws : List ℕ) (i : ℕ) → AreWords w ws → get_or ws i 0 < 2 ^ w
-word_below w [] i h = pow_pos w
-word_below w (x ∷ ws) zero h = h.0
-word_below w (x ∷ ws) (suc i) h = word_below w ws i h.1
+use Rattle.constriction_base.proofs.WordLists.{word_below}
 
 pub number_below : (w m : ℕ) (ws : List ℕ) → AreWords w ws → number_of_first (2 ^ w) m ws < (2 ^ w) ^ m
 number_below w zero ws h = rw (pow-zero (2 ^ w)) (omega arith)

@@ -19,7 +19,7 @@ use Rattle.constriction_queue.proofs.Carry.{carry_held, length-held}
 use Rattle.constriction_queue.proofs.Seals.{words_held_fit, words_of_numbers}
 
 -- so many words are a number below the base to so many
-number_below : (w : ℕ) (ws : List ℕ) → AreWords w ws → number_of (2 ^ w) ws < (2 ^ w) ^ length ws
+pub number_below : (w : ℕ) (ws : List ℕ) → AreWords w ws → number_of (2 ^ w) ws < (2 ^ w) ^ length ws
 number_below w [] all = rw (pow-zero (2 ^ w)) (omega arith)
 number_below w (x ∷ ws) all =
     let rest : (number_of (2 ^ w) ws + 1) * 2 ^ w ≤ (2 ^ w) ^ length ws * 2 ^ w =

@@ -4,11 +4,7 @@ use Rattle.std.proofs.Math.Seq.{drop-append_seam}
 use Rattle.std.proofs.lemmas.List.{drop-map}
 use Rattle.constriction_base.specs.Steps.{AreWords}
 use Rattle.constriction_queue.proofs.Seals.{words_of_numbers}
-
--- those behind others are words
-pub words_behind : (w : ℕ) (own rest : List ℕ) → AreWords w (own ++ rest) → AreWords w rest
-words_behind w [] rest fit = fit
-words_behind w (x ∷ own) rest fit = words_behind w own rest fit.1
+use Rattle.constriction_base.proofs.WordLists.{words_behind}
 
 -- so are those behind a list's own words, from a place of words on
 pub words_from : {X : Type 0} (number : X → ℕ) (w : ℕ) (law : (x : X) → number x < 2 ^ w) (place : ℕ) (words : List X) (own rest : List ℕ)

@@ -120,6 +120,3 @@ pub none_mapped : {A B : Type 0} (f : A → B) (xs : List A) → map f xs ≡ []
 none_mapped f [] is = refl
 none_mapped f (x ∷ xs) is = absurd cc
 
--- what was written, as a queue
-pub queue_words : {W : Type 0} (number : W → ℕ) {queue : List W} (stack : List W) {all : List ℕ} → queue ≡ reverse stack → reverse (map number stack) ≡ all → map number queue ≡ all
-queue_words number stack is sealed_is = queue_is number stack is sealed_is

@@ -9,9 +9,11 @@ use Rattle.constriction_queue.specs.Range.{Run, IsInterval, Within, number_read,
 use Rattle.constriction_queue.specs.Encoder.{Encoder, HasHeads, Without, run_by, run_of}
 use Rattle.constriction_queue.proofs.Cuts.{offset_is}
 use Rattle.constriction_queue.proofs.Narrowing.{valid_start}
-use Rattle.constriction_queue.proofs.SealedRuns.{ceil_below, ceil_from, length-fixed_digits, less_after, number_zeros, seal_point, tail, words-append, words-fixed_digits}
+use Rattle.constriction_queue.proofs.SealedRuns.{ceil_below, ceil_from, less_after, number_zeros, seal_point, tail, zero_word}
 use Rattle.constriction_queue.specs.Symbols.{NarrowsAll, MayEnd}
 use Rattle.constriction_queue.proofs.Entries.{entries, are_steps, run_is, intervals}
+use Rattle.constriction_base.proofs.WordLists.{words-append, words-fixed_digits}
+use Rattle.constriction_base.proofs.Guards.{fixed-length}
 
 -- ---- the words of a seal, by cases
 sealed_none : (w s : ℕ) (r : Run) → r.range ≡ 2 ^ s - 1 → sealed w s r ≡ fixed_digits (2 ^ w) r.moves (r.low / 2 ^ s)
@@ -23,9 +25,9 @@ sealed_some w s r ne = rw (ne_eqb r.range (2 ^ s - 1) ne) refl
 -- they are no fewer than the moves
 pub sealed_long : (w s : ℕ) (r : Run) → r.moves ≤ length (sealed w s r)
 sealed_long w s r = elim (cases_eq r.range (2 ^ s - 1)) [
-  | inl e ↦ omega (arith, ap length (sealed_none w s r e), length-fixed_digits (2 ^ w) r.moves (r.low / 2 ^ s))
+  | inl e ↦ omega (arith, ap length (sealed_none w s r e), fixed-length (2 ^ w) r.moves (r.low / 2 ^ s))
   | inr ne ↦ (let ds : List ℕ = fixed_digits (2 ^ w) (suc r.moves) (seal_number w s r) in
-      omega (arith, ap length (sealed_some w s r ne), length-append ds (tail w s r), length-fixed_digits (2 ^ w) (suc r.moves) (seal_number w s r)))
+      omega (arith, ap length (sealed_some w s r ne), length-append ds (tail w s r), fixed-length (2 ^ w) (suc r.moves) (seal_number w s r)))
 ]
 
 -- the tail is a zero word, or none
@@ -33,13 +35,6 @@ tail_is : (w s : ℕ) (r : Run) (P : List ℕ → Type 0) → P (0 ∷ []) → P
 tail_is w s r P one none = elim (cases_eq ((r.low + r.range) / 2 ^ (s - w)) (seal_number w s r)) [
   | inl e ↦ rw (eq-eqb ((r.low + r.range) / 2 ^ (s - w)) (seal_number w s r) e) one
   | inr ne ↦ rw (ne_eqb ((r.low + r.range) / 2 ^ (s - w)) (seal_number w s r) ne) none
-]
-
-pub sealed_words : (w s : ℕ) (r : Run) → AreWords w (sealed w s r)
-sealed_words w s r = elim (cases_eq r.range (2 ^ s - 1)) [
-  | inl e ↦ rw (sealed_none w s r e) (words-fixed_digits w r.moves (r.low / 2 ^ s))
-  | inr ne ↦ rw (sealed_some w s r ne) (words-append w (fixed_digits (2 ^ w) (suc r.moves) (seal_number w s r)) (tail w s r) (words-fixed_digits w (suc r.moves) (seal_number w s r))
-      (tail_is w s r (λ ws. AreWords w ws) (pow_pos w, tt) tt))
 ]
 
 -- ---- the run of symbols
@@ -62,10 +57,6 @@ drop_all zero [] h = refl
 drop_all zero (x ∷ ws) h = absurd (omega arith)
 drop_all (suc n) [] h = refl
 drop_all (suc n) (x ∷ ws) h = drop_all n ws (omega arith)
-
-zero_word : (i : ℕ) → slice_index (0 ∷ []) i ≡ 0
-zero_word zero = refl
-zero_word (suc i) = refl
 
 no_word : (i : ℕ) → slice_index [] i ≡ 0
 no_word i = refl
@@ -107,8 +98,8 @@ end_of w s r z v h =
     let short : length (sealed w s r) ≤ r.moves + s / w =
     rw (sealed_some w s r (λ e. omega (arith, h, e)))
     (tail_is w s r (λ ws. length (ds ++ ws) ≤ r.moves + s / w)
-    (omega (arith, length-append ds (0 ∷ []), length-fixed_digits (2 ^ w) (suc r.moves) c, f.two))
-    (omega (arith, length-append ds [], length-fixed_digits (2 ^ w) (suc r.moves) c, f.two))) in
+    (omega (arith, length-append ds (0 ∷ []), fixed-length (2 ^ w) (suc r.moves) c, f.two))
+    (omega (arith, length-append ds [], fixed-length (2 ^ w) (suc r.moves) c, f.two))) in
     (drop_all (r.moves + s / w) (sealed w s r) short, inr (omega (arith, off, read, from, below, some)))
 
 -- the sealed words of a list of symbols have ended where it is read

@@ -9,11 +9,7 @@ use Rattle.constriction_queue.specs.States.{IsPosition}
 use Rattle.constriction_queue.proofs.Sought.{sought_is_at}
 use Rattle.constriction_queue.specs.Symbols.{NarrowsAll}
 use Rattle.constriction_queue_laws.proofs.Sealing.{sealed_long}
-
-map-drop : {A B : Type 0} (f : A → B) (n : ℕ) (xs : List A) → map f (drop n xs) ≡ drop n (map f xs)
-map-drop f zero xs = refl
-map-drop f (suc n) [] = refl
-map-drop f (suc n) (x ∷ xs) = map-drop f n xs
+use Rattle.constriction_base.proofs.Guards.{map-drop}
 
 -- over a buffer of the words it stands at that moment of reading them
 pub sought_there : {W B : Type 0} (number : W → ℕ) (w s : ℕ) (items part : List W) (words : List ℕ) (there : Run) (place lower range : ℕ) (d : Decoder B)

@@ -35,6 +35,7 @@ use Rattle.constriction_queue.specs.Symbols.{Finds, FindsAll}
 use Rattle.constriction_queue_laws.proofs.ComingBack.{one_decode}
 use Rattle.constriction_queue_laws.proofs.ListCalls.{decode_of, distance_is}
 use Rattle.constriction_queue_laws.proofs.Pairs.{both_now, pairs_given, pairs_left}
+use Rattle.constriction_coder_laws.proofs.Refused.{from_front}
 
 -- where a symbol is found, what is read is a quantile
 found_here : {S B : Type 0} (w s : ℕ) (words : List ℕ) (model : Model S) (x : S) (r next : Run) (d : Decoder B) → IsModel w model → 0 < 2 ^ s → StandsAt w s words r d
@@ -100,9 +101,6 @@ module _ {S M W B E Q : Type 0} (number : W → ℕ) (holds : holding.Ghosts B W
       never_frontend answer f is
 
 -- ---- encodes that were refused
-from_front : {A : Type 0} (i : Iter A) (xs : List (Bor A)) (j : Iter A) → Yields iter_steps i xs j → iter_rest i ≡ map (λ x. x.now) xs ++ iter_rest j
-from_front i [] j run = ap iter_rest run
-from_front {A} i (x ∷ xs) j run = run.1 ∙ ap (λ (ys : List A). x.now ∷ ys) (from_front run.0 xs j run.2)
 
 pub unknown_of : {S W B E Q : Type 0} (number : W → ℕ) (holds : holding.Ghosts B W Q) (writes : writing.Ghosts B W E) (w s : ℕ)
     (P : ℕ) (table : List (S × ℕ × ℕ)) (symbols : List S) (i : Iter S) (coded : List (Bor S)) (item : Bor S) (rest : Iter S)
@@ -149,15 +147,6 @@ module _ (invalid : Type 0) where
   while_reading impossible many none trip.InvalidData why law = law why
   while_reading impossible many none (trip.OutOfData taken) why law = why
   while_reading impossible many none trip.Refused why law = tt
-
--- answers of a call that is made last
-pub ok_weaker : {T E : Type 0} (answer : Result T E) {P Q : T → Type 0} → IfOk answer P → ((x : T) → P x → Q x) → IfOk answer Q
-ok_weaker (Ok x) h k = k x h
-ok_weaker (Err e) h k = tt
-
-pub ok_both : {T E : Type 0} (answer : Result T E) {P Q R : T → Type 0} → IfOk answer P → IfOk answer Q → ((x : T) → P x → Q x → R x) → IfOk answer R
-ok_both (Ok x) h i k = k x h i
-ok_both (Err e) h i k = tt
 
 pub err_weaker : {T E : Type 0} (answer : Result T E) {P Q : E → Type 0} → IfErr answer P → ((e : E) → P e → Q e) → IfErr answer Q
 err_weaker (Ok x) h k = tt

@@ -5,6 +5,7 @@ use Rattle.constriction_base.specs.Steps.{Step, IsStep, IsSizes}
 use Rattle.constriction_stack.specs.Ans.{AnsState, IsPush}
 use Rattle.constriction_stack.specs.Positions.{position_of, sought, Grows}
 use Rattle.constriction_stack.proofs.Pushing.{only_push}
+use Rattle.std.proofs.Math.Seq.{drop-append_seam}
 
 -- a push writes one word, the head's lowest, or none
 pub push_words : (w s : ℕ) (e : Step) (old new : AnsState) → IsSizes w s → IsStep w e → IsPush w s e old new
@@ -27,16 +28,11 @@ pub grows_more : (old mid new : AnsState) → Grows old mid → Grows mid new �
 grows_more old mid new first second =
     (second.0 ++ first.0, second.1 ∙ ap (λ ws. second.0 ++ ws) first.1 ∙ sym (append_assoc second.0 first.0 old.words))
 
--- what comes after words that are taken off
-pub drop_front : (xs ys : List ℕ) → drop (length xs) (xs ++ ys) ≡ ys
-drop_front [] ys = refl
-drop_front (x ∷ xs) ys = drop_front xs ys
-
 -- below the words that came since lie those of the position
 pub below_grown : (old new : AnsState) → Grows old new → drop (length new.words - length old.words) new.words ≡ old.words
 below_grown old new h =
     let total : length (h.0 ++ old.words) - length old.words ≡ length h.0 = omega (arith, length-append h.0 old.words) in
-    rw (h.1, total) (drop_front h.0 old.words)
+    rw (h.1, total) (drop-append_seam h.0 old.words)
 
 pub sought_back : (old new : AnsState) → Grows old new → sought (position_of old) new ≡ old
 sought_back old new h = ap (λ (ws : List ℕ). let x : AnsState = record { head = old.head; words = ws } in x) (below_grown old new h)

@@ -12,6 +12,7 @@ use Rattle.constriction_stack.specs.Binary.{binary_words}
 use Rattle.constriction_stack.specs.Sizes.{word_count, bit_count, valid_bit_count}
 use Rattle.constriction_base.proofs.OneAbove.{power_more}
 use Rattle.constriction_base.proofs.Exporting.{base_two}
+use Rattle.constriction_base.proofs.Sizes.{pow-mul}
 
 pub exported_length : (w : ℕ) (x : AnsState) → length (exported w x) ≡ word_count w x
 exported_length w x = omega (arith, length-append (digits_of (2 ^ w) x.head) x.words)
@@ -35,17 +36,12 @@ valid_bits_of_binary w m x i =
     let all : length (binary_words w m x) ≡ m + length x.words = length-append (fixed_digits (2 ^ w) m x.head) x.words ∙ ap (λ k. k + length x.words) (fixed-length (2 ^ w) m x.head) in
     omega (arith, bits, ap (λ k. w * k) all)
 
--- a head has no more bits than its words
-power_is : (w k : ℕ) → (2 ^ w) ^ k ≡ 2 ^ (k * w)
-power_is w zero = let none : 0 * w ≡ 0 = omega arith in rw none (pow-zero (2 ^ w))
-power_is w (suc k) = pow-suc (2 ^ w) k ∙ ap (λ n. n * 2 ^ w) (power_is w k) ∙ sym (power_more w k)
-
 pub bits_within : (w n : ℕ) → 1 ≤ w → bit_count n ≤ w * length (digits_of (2 ^ w) n)
 bits_within w n some =
     let base = base_two w some in
     let below = number_lt (2 ^ w) (digits_of (2 ^ w) n) (all_below_base_digits_of (2 ^ w) n base) in
     let fits : n < 2 ^ (length (digits_of (2 ^ w) n) * w) =
-    omega (arith, below, number_digits_of (2 ^ w) n base, power_is w (length (digits_of (2 ^ w) n))) in
+    omega (arith, below, number_digits_of (2 ^ w) n base, pow-mul w (length (digits_of (2 ^ w) n))) in
     omega (arith, length-digits_of-le 2 (length (digits_of (2 ^ w) n) * w) n (lit≤ tt) fits)
 
 -- the bits that tell anything are no more than those of all words

@@ -8,8 +8,8 @@ use Rattle.constriction_stack.specs.Symbols.{Encodes, Decodes, EncodesAll, Decod
 use Rattle.constriction_stack_laws.specs.Undone.{decode_back}
 use Rattle.constriction_coder_laws.proofs.Undoing.{all_undone, all_free}
 use Rattle.constriction_stack_laws.proofs.ComingBack.{decodes_only}
-use Rattle.constriction_coder_laws.proofs.Turned.{map-reverse, all-reverse}
 use Rattle.constriction_coder_laws.proofs.PairCalls.{are_pairs, same_models, their_symbols}
+use Rattle.constriction_base.proofs.Turns.{map-reverse, all-reverse}
 
 module _ {S M : Type 0} (precision : ℕ) (table : M → List (S × ℕ × ℕ)) where
   -- symbols that were encoded from the last to the first come back in order, and the state before

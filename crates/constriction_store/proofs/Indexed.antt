@@ -10,18 +10,18 @@ use Rattle.constriction_base.specs.Steps.{Step, InTurn, IsSizes, AreWords}
 use Rattle.constriction_base.proofs.InTurn.{InTurn-append}
 use Rattle.constriction_base.specs.Digits.{fixed_digits}
 use Rattle.constriction_queue.specs.Range.{Run, Takes, cut, grown, narrow, offset, seal_number, start}
-use Rattle.constriction_queue.proofs.SealedRuns.{length-fixed_digits}
 use Rattle.constriction_queue.specs.SelfDelimiting.{SelfDelimits}
 use Rattle.constriction_queue.specs.States.{IsPosition}
 use Rattle.constriction_queue.proofs.Narrowing.{grown_large, grown_small}
 use Rattle.constriction_queue.proofs.Pointing.{mod_sum}
 use Rattle.constriction_queue.specs.Symbols.{Narrows, NarrowsAll, Finds, FindsAll}
-use Rattle.constriction_coder_laws.proofs.Turned.{all-append}
 use Rattle.constriction_coder_laws.proofs.SameModel.{are_models}
 use Rattle.std.specs.List.{AllByRecursion}
 use Rattle.constriction_store.specs.Chunks.{AllKnown, chunk_in, count_of}
 use Rattle.constriction_store.specs.Stores.{ArePlaces, Entry, HoldsChunk, HoldsChunks, Indexes, IsIndex, StandsAtEntry, entry_in, run_at, total_of}
 use Rattle.constriction_store.proofs.Symbols.{moves_least, moves_most, narrows_known}
+use Rattle.constriction_base.proofs.Guards.{fixed-length}
+use Rattle.constriction_base.proofs.Turns.{all-append}
 
 -- ---- counts
 as_many : (w s : ℕ) (model : Model ℕ) (chunks : List (List ℕ)) (entries : List Entry) (old new : Run) → Indexes w s model chunks entries old new → length entries ≡ length chunks
@@ -63,10 +63,10 @@ places_within w s model (c ∷ cs) (e ∷ es) old new all =
     (omega (arith, all.0.place_is, moves_go_on w s model (c ∷ cs) (e ∷ es) old new all), places_within w s model cs es all.2.0 new all.2.2)
 
 length_least : (w s : ℕ) (r : Run) (words : List ℕ) → SelfDelimits w s r words → r.moves ≤ length words
-length_least w s r words (inl (whole, is)) = rw is (omega (arith, length-fixed_digits (2 ^ w) r.moves (r.low / 2 ^ s)))
+length_least w s r words (inl (whole, is)) = rw is (omega (arith, fixed-length (2 ^ w) r.moves (r.low / 2 ^ s)))
 length_least w s r words (inr (coded, (t, least, is))) =
     let ds : List ℕ = fixed_digits (2 ^ w) (suc r.moves) (seal_number w s r) in
-    rw is (omega (arith, length-append ds (replicate t 0), length-fixed_digits (2 ^ w) (suc r.moves) (seal_number w s r)))
+    rw is (omega (arith, length-append ds (replicate t 0), fixed-length (2 ^ w) (suc r.moves) (seal_number w s r)))
 
 pub is_index : (w s : ℕ) (model : Model ℕ) (chunks : List (List ℕ)) (entries : List Entry) (old last : Run) (words : List ℕ) → Indexes w s model chunks entries old last → SelfDelimits w s last words
     → count_of chunks ≤ 1048576 → IsIndex (length words) entries
@@ -208,7 +208,7 @@ nothing_owed w s model [] last owed words all are = subst (λ (r : Run). SelfDel
   where
     by_cases : SelfDelimits w s (start s) (reverse (owed ++ words)) → length owed ≡ 0
     by_cases (inl (whole, is)) =
-        omega (arith, length-append owed words, length-reverse (owed ++ words), ap length is, length-fixed_digits (2 ^ w) 0 (0 / 2 ^ s))
+        omega (arith, length-append owed words, length-reverse (owed ++ words), ap length is, fixed-length (2 ^ w) 0 (0 / 2 ^ s))
     by_cases (inr (coded, least)) = absurd (omega (arith, coded, pow_pos s))
 nothing_owed w s model (e ∷ es) last owed words all are = absurd all
 

@@ -1,15 +1,11 @@
 -- What a refused bit tells of a coder: its last word is full, and there was no room for all of the codeword.
-use Rattle.std.proofs.Common.{◌≡◌, ◌<◌, ◌≤◌, ◌+◌, ◌-◌, ◌*◌, ℕ, zero, suc, Bool, List, [], ◌∷◌, length, Result, Ok, Err, ap, refl, inl, inr, ◌∙◌, arith, length-append, zero-mul}
+use Rattle.std.proofs.Common.{◌≡◌, ◌<◌, ◌≤◌, ◌+◌, ◌-◌, ◌*◌, ℕ, suc, Bool, List, [], ◌∷◌, length, Result, Ok, Err, ap, inl, inr, ◌∙◌, arith, length-append, zero-mul}
 use Rattle.std.proofs.Math.Nat.{mul-le-mul_right}
 use Rattle.constriction_base.specs.Backends.{IsWrite}
 use Rattle.constriction_stream.specs.Lists.{StepsAll}
 use Rattle.constriction_symbol.specs.Bits.{BitsValue, ClosesStack, PutsOnto}
 use Rattle.constriction_symbol.specs.Codewords.{RefusedAt}
-
--- what is not above zero is zero
-not_above_zero : (n : ℕ) → (0 < n → ⊥) → n ≡ 0
-not_above_zero zero never = refl
-not_above_zero (suc n) never = absurd (never (omega arith))
+use Rattle.constriction_base.proofs.Exporting.{no_room}
 
 module _ {W B E : Type 0} (w : ℕ) (number : W → ℕ) (words : B → List W) (room : B → ℕ) (writes : B → W → Result (Unit {0}) E → B → Type 0) (write_fails : B → E → Type 0) where
   -- how many bits a coder is sure to take: those of the words for which the backend has room, and those for which the last word has
@@ -49,7 +45,7 @@ module _ {W B E : Type 0} (w : ℕ) (number : W → ℕ) (words : B → List W) 
   pub refused_lacks_room : (room_law : (b : B) (e : E) → 0 < room b → write_fails b e → ⊥) (bits : BitsValue B → List Bool) (old new : BitsValue B) (code : List Bool) (e : E) → 0 < w
       → RefusedAt bits (PutsOnto w number (IsWrite words room writes write_fails)) old code e new → bit_room old < length code
   refused_lacks_room room_law bits old new code e some at =
-      let none : room at.mid.backend ≡ 0 = not_above_zero (room at.mid.backend) (λ h. room_law at.mid.backend e h at.refused.2.2.1) in
+      let none : room at.mid.backend ≡ 0 = no_room (room at.mid.backend) (λ h. room_law at.mid.backend e h at.refused.2.2.1) in
       let no_words : room at.mid.backend * w ≡ 0 = ap (λ n. n * w) none ∙ zero-mul w in
       let full : length at.mid.last ≡ w = at.refused.0 in
       let taken = so_many_less at.front old at.mid some at.before in

@@ -13,7 +13,7 @@ use Rattle.constriction_symbol_laws.specs.Lists.{AreCodewords, AreEach, ReadsAll
 
 -- ---- lists of codewords
 -- one symbol more
-codewords_push : {A : Type 0} (code : A → Option (List Bool)) (xs : List A) (x : A) (all last : List Bool) → AreCodewords code xs all → code x ≡ Some last → AreCodewords code (xs ++ x ∷ []) (all ++ last)
+pub codewords_push : {A : Type 0} (code : A → Option (List Bool)) (xs : List A) (x : A) (all last : List Bool) → AreCodewords code xs all → code x ≡ Some last → AreCodewords code (xs ++ x ∷ []) (all ++ last)
 codewords_push code [] x all last h known = (last, [], known, ap (λ bs. bs ++ last) h ∙ sym (append-nil last), refl)
 codewords_push code (y ∷ ys) x all last h known =
     (h.0, h.1 ++ last, h.2, ap (λ bs. bs ++ last) h.3 ∙ append_assoc h.0 h.1 last, codewords_push code ys x h.1 last h.4 known)

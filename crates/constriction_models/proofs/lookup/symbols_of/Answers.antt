@@ -1,9 +1,10 @@
 use Rattle.std.proofs.Common.{ℕ, ◌≡◌, ◌^◌, ◌<◌, ◌++◌, ◌∷◌, [], arith, subst}
 use Rattle.std.proofs.lemmas.Grind.{common_steps}
 use Rattle.constriction_base.specs.Tables.{Covers}
-use Rattle.constriction_models.proofs.Words.{power_grows, same_word}
+use Rattle.constriction_models.proofs.Words.{same_word}
 use Rattle.constriction_models.proofs.Finding.{symbol_found, found_more, all_low, low_symbols}
 use Rattle.constriction_models.proofs.lookup.symbols_of.Goals as goal
+use Rattle.constriction_base.proofs.Sizes.{pow_le}
 
 pub loop-quantile-preserved : goal.loop-quantile-preserved
 loop-quantile-preserved g c =
@@ -12,7 +13,7 @@ loop-quantile-preserved g c =
     let q : ℕ = c.loop-quantile.quantile in
     let inside : q < 2 ^ g.row.PRECISION = omega (arith, before.1, c.loop-quantile-test.true) in
     let sizes = g.met.M.EntropyModel.sized c.args.model.now in
-    let fits = power_grows _ _ sizes.1 in
+    let fits = pow_le _ _ sizes.1 in
     let same : g.M.Probability.BitArray.number c.narrow.result ≡ q = same_word _ q _ c.narrow.ensures (omega (arith, inside, fits)) g.met.M.Probability.WordOf.width_law in
     let symbol : ℕ = c.quantile_function-symbol.result.0 in
     let items : c.push.new.self.items ≡ c.loop-quantile.symbols.items ++ symbol ∷ [] = grind (arith, common_steps) in

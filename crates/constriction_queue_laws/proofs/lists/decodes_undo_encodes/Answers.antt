@@ -4,9 +4,9 @@ use Rattle.constriction_base.specs.Models.{IsModel}
 use Rattle.constriction_queue.specs.Symbols.{FindsAll}
 use Rattle.constriction_queue_laws.specs.Undone.{Reading}
 use Rattle.constriction_queue_laws.proofs.ComingBack.{decodes_unique, taken_back}
-use Rattle.constriction_coder_laws.proofs.Turned.{all-reverse}
 use Rattle.std.specs.Prelude.{reverse}
 use Rattle.constriction_queue_laws.proofs.lists.decodes_undo_encodes.Goals as goal
+use Rattle.constriction_base.proofs.Turns.{all-reverse}
 
 pub returns-clause-back : goal.returns-clause-back
 returns-clause-back g c = λ w s words items old new z are ms v h within.

@@ -1,5 +1,4 @@
-use Rattle.constriction_queue.proofs.SealedRuns.{sealed_reads_alone, sealed_reads_followed}
-use Rattle.constriction_queue_laws.proofs.Sealing.{sealed_words}
+use Rattle.constriction_queue.proofs.SealedRuns.{sealed_reads_alone, sealed_reads_followed, words-sealed}
 use Rattle.constriction_queue_laws.proofs.words.sealed_words_are_read.Goals as goal
 
 pub returns-clause-alone : goal.returns-clause-alone
@@ -9,4 +8,4 @@ pub returns-clause-followed : goal.returns-clause-followed
 returns-clause-followed c = sealed_reads_followed
 
 pub returns-clause-words : goal.returns-clause-words
-returns-clause-words c = sealed_words
+returns-clause-words c = words-sealed

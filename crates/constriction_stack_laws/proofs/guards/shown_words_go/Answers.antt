@@ -4,21 +4,16 @@ use Rattle.std.proofs.lemmas.List.{length-append}
 use Rattle.constriction_base.specs.Digits.{fixed_digits}
 use Rattle.constriction_stack.specs.Ans.{AnsState}
 use Rattle.constriction_stack.specs.Guards.{without}
-use Rattle.constriction_stack.proofs.PositionsKept.{drop_front}
 use Rattle.constriction_stack_laws.proofs.guards.shown_words_go.Goals as goal
-
--- so many digits are asked for
-length-fixed_digits : (b m n : ℕ) → length (fixed_digits b m n) ≡ m
-length-fixed_digits b zero n = refl
-length-fixed_digits b (suc m) n =
-    omega (arith, length-append (fixed_digits b m (n / b)) (n % b ∷ []), length-fixed_digits b m (n / b))
+use Rattle.constriction_base.proofs.Guards.{fixed-length}
+use Rattle.std.proofs.Math.Seq.{drop-append_seam}
 
 -- where the words in front are taken off, those below are left
 below : (head count : ℕ) (front words : List ℕ) → length front ≡ count
     → ◌≡◌ {A = AnsState} (record { head = head; words = drop count (front ++ words) }) (record { head = head; words = words })
 below head count front words is =
     let state : List ℕ → AnsState = λ ws. record { head = head; words = ws } in
-    ap state (subst (λ k. drop k (front ++ words) ≡ words) is (drop_front front words))
+    ap state (subst (λ k. drop k (front ++ words) ≡ words) is (drop-append_seam front words))
 
 pub returns-clause-compressed : goal.returns-clause-compressed
 returns-clause-compressed c = λ w state shown is.
@@ -28,4 +23,4 @@ returns-clause-compressed c = λ w state shown is.
 pub returns-clause-binary : goal.returns-clause-binary
 returns-clause-binary c = λ w m state shown is.
     ap (λ (x : AnsState). without m x) is
-    ∙ below state.head m (fixed_digits (2 ^ w) m state.head) state.words (length-fixed_digits (2 ^ w) m state.head)
+    ∙ below state.head m (fixed_digits (2 ^ w) m state.head) state.words (fixed-length (2 ^ w) m state.head)

@@ -1,6 +1,6 @@
 use Rattle.std.proofs.Common.{◌≡◌, ◌∙◌, drop, map, rules}
-use Rattle.constriction_calls.proofs.RangeTaking.{map-drop}
 use Rattle.constriction_calls.proofs.range.parts.decoder_of.Goals as goal
+use Rattle.constriction_base.proofs.Guards.{map-drop}
 
 pub returns-in-Ok-from_raw_parts-clause-read : goal.returns-in-Ok-from_raw_parts-clause-read
 returns-in-Ok-from_raw_parts-clause-read g c =

@@ -2,8 +2,9 @@ use Rattle.std.proofs.Common.{◌≡◌, ◌∙◌, ◌+◌, ◌-◌, ◌≤◌,
 use Rattle.std.proofs.lemmas.List.{length-drop, take_all}
 use Rattle.constriction_queue.proofs.Seals.{words_of_numbers}
 use Rattle.constriction_calls.specs.RangeCalls.{RangeBegins}
-use Rattle.constriction_calls.proofs.RangeTaking.{drop_twice, map-drop, sought_kept}
+use Rattle.constriction_calls.proofs.RangeTaking.{drop_twice, sought_kept}
 use Rattle.constriction_calls.proofs.range.positions.seek.Goals as goal
+use Rattle.constriction_base.proofs.Guards.{map-drop}
 
 pub returns : goal.returns
 returns g c =

@@ -1,7 +1,6 @@
 use Rattle.std.proofs.Common.{◌≡◌, ◌∙◌, ◌++◌, ap, append-nil, map, reverse, sym, subst}
 use Rattle.std.proofs.lemmas.List.{reverse-reverse}
 use Rattle.constriction_coder_laws.proofs.ListsGiven.{all_from_back}
-use Rattle.constriction_coder_laws.proofs.Turned.{map-reverse}
 use Rattle.constriction_symbol.specs.Bits.{IsStackWords}
 use Rattle.constriction_symbol_laws.specs.Lists.{AreCodewords}
 use Rattle.constriction_symbol_laws.proofs.bit_coders.Codewords.{codewords_map, written_last}
@@ -9,6 +8,7 @@ use Rattle.constriction_symbol_laws.proofs.bit_coders.Trees.{same_codewords}
 use Rattle.constriction_calls.specs.SymbolCalls.{codeword_in}
 use Rattle.constriction_calls.proofs.SymbolLists.{vec_puts}
 use Rattle.constriction_calls.proofs.symbol.encoding.stack_words.Goals as goal
+use Rattle.constriction_base.proofs.Turns.{map-reverse}
 
 pub returns-in-Ok-into_compressed-clause-words : goal.returns-in-Ok-into_compressed-clause-words
 returns-in-Ok-into_compressed-clause-words g c =

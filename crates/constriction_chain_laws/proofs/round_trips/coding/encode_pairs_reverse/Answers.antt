@@ -10,9 +10,9 @@ use Rattle.constriction_chain.specs.Symbols.{PutsBackAll}
 use Rattle.constriction_chain_laws.proofs.Ending.{not_encoded}
 use Rattle.constriction_chain_laws.proofs.FromBack.{stopped_pairs}
 use Rattle.constriction_chain_laws.proofs.ListCalls.{encodes_of}
-use Rattle.constriction_coder_laws.proofs.Turned.{map-reverse}
 use Rattle.constriction_coder_laws.proofs.PairCalls.{all_pairs_from_back}
 use Rattle.constriction_chain_laws.proofs.round_trips.coding.encode_pairs_reverse.Goals as goal
+use Rattle.constriction_base.proofs.Turns.{map-reverse}
 
 pub returns-clause-encoded : goal.returns-clause-encoded
 returns-clause-encoded g c = λ known.

@@ -1,7 +1,7 @@
 use Rattle.std.proofs.Common.{arith}
 use Rattle.constriction_models.specs.laws.Even.{uniform_interval, uniform_has, uniform_impossible}
-use Rattle.constriction_models.proofs.Words.{power_grows}
 use Rattle.constriction_models.proofs.uniform.UniformModelEncoderModel.left_cumulative_and_probability.Goals as goal
+use Rattle.constriction_base.proofs.Sizes.{pow_le}
 
 pub returns-then-symbol-self-clause-impossible : goal.returns-then-symbol-self-clause-impossible
 returns-then-symbol-self-clause-impossible g c = uniform_impossible g.row.PRECISION c.args.self.now.count c.args.symbol.now c.if-symbol-self.true
@@ -16,13 +16,13 @@ pub interval-requires-clause-fits : goal.interval-requires-clause-fits
 interval-requires-clause-fits g c =
     let m = c.args.self.now in
     let i = uniform_interval g.row.PRECISION m.count c.args.symbol.now m.some m.room c.if-symbol-self.false in
-    omega (arith, i.some, i.inside, c.start-left.ensures, power_grows _ _ m.fits)
+    omega (arith, i.some, i.inside, c.start-left.ensures, pow_le _ _ m.fits)
 
 pub interval-requires-clause-long : goal.interval-requires-clause-long
 interval-requires-clause-long g c =
     let m = c.args.self.now in
     let i = uniform_interval g.row.PRECISION m.count c.args.symbol.now m.some m.room c.if-symbol-self.false in
-    omega (arith, i.not_all, c.start-left.ensures, c.start-end.ensures, power_grows _ _ m.fits)
+    omega (arith, i.not_all, c.start-left.ensures, c.start-end.ensures, pow_le _ _ m.fits)
 
 pub returns-clause-found : goal.returns-clause-found
 returns-clause-found g c =

@@ -2,8 +2,9 @@ use Rattle.std.specs.Prelude.{◌≡◌, ◌+◌, ◌*◌, ◌/◌, ◌<◌, ◌
 use Rattle.std.proofs.Common.{arith, refl}
 use Rattle.std.proofs.lemmas.Bool.{false≢true, leb-true, le-leb}
 use Rattle.constriction_queue.specs.Encoder.{encoder_of, owed_of, sealed_by}
-use Rattle.constriction_queue.proofs.Seals.{words_of_numbers, count_is, words_within, fit_by_quotient}
+use Rattle.constriction_queue.proofs.Seals.{words_of_numbers, count_is, words_within}
 use Rattle.constriction_queue.proofs.encoder.RangeEncoder.sizes_fit.Goals as goal
+use Rattle.constriction_base.proofs.Sizes.{fit_by_quotient}
 
 pub returns-in_default : goal.returns-in_default
 returns-in_default g c =

@@ -1,5 +1,5 @@
-use Rattle.constriction_queue_laws.proofs.Told.{ok_weaker}
 use Rattle.constriction_queue_laws.proofs.round_trips.lent_pairs.decode_by_models_and_drop.Goals as goal
+use Rattle.constriction_coder_laws.proofs.ListsGiven.{ok_weaker}
 
 pub returns-clause-read : goal.returns-clause-read
 returns-clause-read g c = λ known words old at. ok_weaker c.decode_pairs.result (c.decode_pairs.ensures.decoded known words old at) (λ again read. (read.0, read.1))

@@ -8,8 +8,8 @@ use Rattle.constriction_queue.specs.Encoder.{left_to_encode, run_by}
 use Rattle.constriction_queue_laws.proofs.Told.{err_weaker, passed, while_coding, while_reading}
 use Rattle.std.specs.Prelude.{⊤}
 use Rattle.std.proofs.Common.{sym, ◌∙◌}
-use Rattle.constriction_queue_laws.proofs.Told.{ok_weaker}
 use Rattle.constriction_queue_laws.proofs.round_trips.lent_pairs.pairs_from_lent_words.Goals as goal
+use Rattle.constriction_coder_laws.proofs.ListsGiven.{ok_weaker}
 
 pub returns-clause-back : goal.returns-clause-back
 returns-clause-back g c = λ new.

@@ -8,9 +8,9 @@ use Rattle.constriction_queue.specs.Encoder.{left_to_encode, run_by}
 use Rattle.constriction_queue_laws.proofs.Told.{err_weaker, passed, while_coding, while_reading}
 use Rattle.std.specs.Prelude.{⊤}
 use Rattle.constriction_queue.specs.Range.{sealed}
-use Rattle.constriction_queue_laws.proofs.Told.{ok_both}
 use Rattle.std.proofs.Common.{refl, sym, ◌∙◌}
 use Rattle.constriction_queue_laws.proofs.round_trips.lent_pairs.pairs_through_decoder.Goals as goal
+use Rattle.constriction_coder_laws.proofs.ListsGiven.{ok_both}
 
 pub returns-clause-back : goal.returns-clause-back
 returns-clause-back g c = λ new.

@@ -1,5 +1,5 @@
-use Rattle.constriction_queue_laws.proofs.Told.{ok_weaker}
 use Rattle.constriction_queue_laws.proofs.round_trips.lent_words.decode_and_drop.Goals as goal
+use Rattle.constriction_coder_laws.proofs.ListsGiven.{ok_weaker}
 
 pub returns-clause-read : goal.returns-clause-read
 returns-clause-read g c = λ known words old at. ok_weaker c.decode_list.result (c.decode_list.ensures.decoded known words old at) (λ again read. (read.0, read.1))

@@ -3,13 +3,15 @@ use Rattle.constriction_base.specs.Models.{Item, IsModel, pairs_of}
 use Rattle.constriction_queue.specs.Range.{Run, start}
 use Rattle.constriction_coder_laws.specs.Outcomes.{HasImpossibleItem}
 use Rattle.constriction_queue.specs.Encoder.{left_to_encode, run_by}
-use Rattle.constriction_queue_laws.proofs.ListCalls.{queue_words, sealed_back}
-use Rattle.constriction_queue_laws.proofs.Told.{err_weaker, ok_both, passed, while_coding, while_reading}
+use Rattle.constriction_queue_laws.proofs.ListCalls.{sealed_back}
+use Rattle.constriction_queue_laws.proofs.Told.{err_weaker, passed, while_coding, while_reading}
 use Rattle.constriction_queue.specs.Symbols.{FindsAll, MayEnd, NarrowsAll}
 use Rattle.constriction_coder_laws.proofs.PairCalls.{are_pairs}
 use Rattle.std.proofs.Common.{sym, ◌∙◌}
 use Rattle.std.specs.Prelude.{⊤}
 use Rattle.constriction_queue_laws.proofs.round_trips.pairs.pairs_through_words.Goals as goal
+use Rattle.constriction_coder_laws.proofs.ListsGiven.{ok_both}
+use Rattle.constriction_queue.proofs.Showing.{queue_is}
 
 pub returns-clause-back : goal.returns-clause-back
 returns-clause-back g c = λ new.
@@ -26,7 +28,7 @@ returns-clause-back g c = λ new.
     let sizes = c.in_ok-words.ensures.sizes in
     let models = are_pairs g.row.PRECISION table w symbols c.args.models.now lawful in
     let coded : NarrowsAll w s (items symbols) (start s) last = subst (λ r. NarrowsAll w s (items symbols) r last) new seals.1 in
-    let words = queue_words number (g.Backend.Holds-1.words c.in_ok-words.words) (g.met.Backend.BothWays.turned_law c.in_ok-words.words) seals.2 in
+    let words = queue_is number (g.Backend.Holds-1.words c.in_ok-words.words) (g.met.Backend.BothWays.turned_law c.in_ok-words.words) seals.2 in
     let found : FindsAll w s (map number (g.Backend.Holds-2.words c.in_ok-words.words)) (items symbols) (start s) last = rw words (c.symbols_come_back.ensures.decoded w s (items symbols) last sizes models coded) in
     let may : MayEnd w s (map number (g.Backend.Holds-2.words c.in_ok-words.words)) last = rw words (c.symbols_come_back.ensures.exhausted w s (items symbols) last sizes models coded) in
     let back = c.pairs_from_words.ensures in
@@ -57,7 +59,7 @@ returns-clause-err g c =
     let sizes = c.in_ok-words.ensures.sizes in
     let models = are_pairs g.row.PRECISION table w symbols c.args.models.now lawful in
     let coded : NarrowsAll w s (items symbols) (start s) last = subst (λ r. NarrowsAll w s (items symbols) r last) new seals.1 in
-    let words = queue_words number (g.Backend.Holds-1.words c.in_ok-words.words) (g.met.Backend.BothWays.turned_law c.in_ok-words.words) seals.2 in
+    let words = queue_is number (g.Backend.Holds-1.words c.in_ok-words.words) (g.met.Backend.BothWays.turned_law c.in_ok-words.words) seals.2 in
     let found : FindsAll w s (map number (g.Backend.Holds-2.words c.in_ok-words.words)) (items symbols) (start s) last = rw words (c.symbols_come_back.ensures.decoded w s (items symbols) last sizes models coded) in
     none symbols last c.requires found)))
 
@@ -65,7 +67,7 @@ pub returns-clause-read : goal.returns-clause-read
 returns-clause-read g c =
     let number = g.Word.BitArray.number in
     let seals = c.in_ok-words.ensures.words in
-    let words = queue_words number (g.Backend.Holds-1.words c.in_ok-words.words) (g.met.Backend.BothWays.turned_law c.in_ok-words.words) seals.2 in
+    let words = queue_is number (g.Backend.Holds-1.words c.in_ok-words.words) (g.met.Backend.BothWays.turned_law c.in_ok-words.words) seals.2 in
     let back = c.pairs_from_words.ensures in
     ok_both c.pairs_from_words.result back.count back.read
     (λ again count read. (count ∙ sym c.requires, (map number (g.Backend.Holds-2.words c.in_ok-words.words), (seals.0, seals.1, words), read)))
@@ -74,6 +76,6 @@ pub returns-clause-none : goal.returns-clause-none
 returns-clause-none g c =
     let number = g.Word.BitArray.number in
     let seals = c.in_ok-words.ensures.words in
-    let words = queue_words number (g.Backend.Holds-1.words c.in_ok-words.words) (g.met.Backend.BothWays.turned_law c.in_ok-words.words) seals.2 in
+    let words = queue_is number (g.Backend.Holds-1.words c.in_ok-words.words) (g.met.Backend.BothWays.turned_law c.in_ok-words.words) seals.2 in
     err_weaker c.pairs_from_words.result c.pairs_from_words.ensures.err (λ e why. while_reading _ ⊤ ⊤ _ e why
     (λ none. (map number (g.Backend.Holds-2.words c.in_ok-words.words), (seals.0, seals.1, words), λ symbols last count. none symbols last (count ∙ c.requires))))

@@ -7,11 +7,11 @@ use Rattle.std.proofs.lemmas.Result.{MatchResult-weaker}
 use Rattle.constriction_base.specs.Models.{Item, item_of}
 use Rattle.constriction_stack.specs.Ans.{EncodeCall}
 use Rattle.constriction_stack.specs.Symbols.{EncodesAll}
-use Rattle.constriction_coder_laws.proofs.Turned.{map-reverse}
 use Rattle.constriction_stack_laws.proofs.ListCalls.{encodes_of}
 use Rattle.constriction_coder_laws.proofs.PairCalls.{all_pairs_from_back}
 use Rattle.constriction_coder_laws.proofs.Refused.{reversed_pairs_impossible}
 use Rattle.constriction_stack_laws.proofs.round_trips.coding.encode_pairs_reverse.Goals as goal
+use Rattle.constriction_base.proofs.Turns.{map-reverse}
 
 pub returns-clause-coded : goal.returns-clause-coded
 returns-clause-coded g c = λ valid.

@@ -2,8 +2,8 @@ use Rattle.std.proofs.Common.{◌≡◌, ◌∙◌, ℕ, List, ◌++◌, map, sy
 use Rattle.std.specs.Prelude.{reverse}
 use Rattle.std.proofs.lemmas.List.{append-nil, reverse-reverse}
 use Rattle.constriction_stack.specs.Ans.{exported}
-use Rattle.constriction_coder_laws.proofs.Turned.{map-reverse}
 use Rattle.constriction_stack_laws.proofs.round_trips.shown.words_shown_and_given.Goals as goal
+use Rattle.constriction_base.proofs.Turns.{map-reverse}
 
 pub returns-clause-same : goal.returns-clause-same
 returns-clause-same g c =

@@ -7,10 +7,10 @@ use Rattle.constriction_base.specs.Backends.{IsWrite}
 use Rattle.constriction_symbol.specs.Bits.{PutsOnto}
 use Rattle.constriction_symbol_laws.specs.Lists.{AreCodewords}
 use Rattle.constriction_coder_laws.proofs.ListsGiven.{all_from_back}
-use Rattle.constriction_coder_laws.proofs.Turned.{map-reverse}
 use Rattle.constriction_symbol_laws.proofs.bit_coders.Codewords.{codewords_map, written_last}
 use Rattle.constriction_symbol_laws.proofs.bit_coders.Unwritten.{not_written, stands_back}
 use Rattle.constriction_symbol_laws.proofs.round_trips.coding.encode_list_reverse.Goals as goal
+use Rattle.constriction_base.proofs.Turns.{map-reverse}
 
 pub returns-clause-words : goal.returns-clause-words
 returns-clause-words g c =

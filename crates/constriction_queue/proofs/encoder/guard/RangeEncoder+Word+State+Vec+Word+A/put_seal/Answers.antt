@@ -3,8 +3,8 @@ use Rattle.std.proofs.lemmas.List.{length-map}
 use Rattle.constriction_queue.specs.Encoder.{owed_of}
 use Rattle.constriction_queue.proofs.Seals.{words_of_numbers, count_is}
 use Rattle.constriction_queue.proofs.Encoders.{is_encoder}
-use Rattle.constriction_queue.proofs.Showing.{drop_owed}
 use Rattle.constriction_queue.proofs.encoder.guard.RangeEncoder+Word+State+Vec+Word+A.put_seal.Goals as goal
+use Rattle.std.proofs.Math.Seq.{drop-append_seam}
 
 pub returns-clause-shows : goal.returns-clause-shows
 returns-clause-shows g c =
@@ -18,7 +18,7 @@ returns-clause-back g c =
     let words = reverse c.self.inside.bulk.items in
     let seal = c.sealing-seal.result in
     let owed = owed_of number seal.held seal.point seal.zero in
-    rw (← c.self.view_is, c.owed_count-count.ensures) (ap (drop (length owed)) c.in-Ok.ensures.words ∙ drop_owed owed (map number words))
+    rw (← c.self.view_is, c.owed_count-count.ensures) (ap (drop (length owed)) c.in-Ok.ensures.words ∙ drop-append_seam owed (map number words))
 
 pub returns-in-Err-clause-room : goal.returns-in-Err-clause-room
 returns-in-Err-clause-room g c =
