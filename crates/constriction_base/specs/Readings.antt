@@ -1,5 +1,5 @@
 -- Words that the reads of a backend give, as coders take them.
-use Rattle.std.specs.Prelude.{◌≡◌, ℕ, ◌<◌, ◌^◌, ⊤, List, [], ◌∷◌, ◌++◌, Option, Some, Result, Ok, Err, map}
+use Rattle.std.specs.Prelude.{◌≡◌, ℕ, ◌<◌, ◌≤◌, ◌^◌, ⊤, Bool, List, [], ◌∷◌, ◌++◌, Option, None, Some, Result, Ok, Err, MatchBool, MatchResult, map}
 use Rattle.std.specs.Int.Digits.{number_from_digits, number_from_digits_after}
 use Rattle.constriction_base.specs.Backends.{Reads}
 use Rattle.constriction_base.specs.Steps.{InTurn}
@@ -47,3 +47,13 @@ pub record StopsAt {W B E S : Type 0} (number : W → ℕ) (holds : holding.Ghos
   pub moved : MovesIn number holds reads w from old n last
   pub low : n < bound
   pub read : ReadsAs holds reads last answer new
+
+-- what becomes of a head into which words move as long as it is below the bound and one is left: it came that far, or the
+-- words ended before (the flag says which), or a read was refused
+abbrev pub Fills : {W B E S H : Type 0} → (W → ℕ) → (H → ℕ) → holding.Ghosts B W S → reading.Ghosts B W S E → ℕ → ℕ → H → B → Result (H × Bool) E → B → Type 0
+Fills number head_number holds reads w bound head old answer new =
+    MatchResult answer
+    (λ found. MatchBool found.1
+    (MovesIn number holds reads w (head_number head) old (head_number found.0) new × (bound ≤ head_number found.0))
+    (StopsAt number holds reads w bound (head_number head) old (head_number found.0) (Ok None) new))
+    (λ e. (n : ℕ) × StopsAt number holds reads w bound (head_number head) old n (Err e) new)

@@ -1,9 +1,9 @@
 //! The number that a coder holds above its words: how many words it has, and words that move between it and a backend.
 
-ghost use Rattle.std.specs.Prelude.{Err, IfErr, IfNone, IfOk, IfSome, MatchBool, MatchResult, None, Ok, drop, ℕ, ◌+◌};
-ghost use Rattle.std.specs.Prelude.{◌<◌, ◌^◌, ◌≡◌, ◌≤◌, ◌⊎◌};
+ghost use Rattle.std.specs.Prelude.{Err, IfErr, IfNone, IfOk, IfSome, MatchResult, Ok, drop, ℕ, ◌+◌, ◌<◌};
+ghost use Rattle.std.specs.Prelude.{◌^◌, ◌≡◌, ◌≤◌, ◌⊎◌};
 ghost use Rattle.constriction_base.specs.Digits.{count_of_words, fixed_digits};
-ghost use Rattle.constriction_base.specs.Readings.{MovesIn, StopsAt};
+ghost use Rattle.constriction_base.specs.Readings.{Fills};
 ghost use Rattle.constriction_base.specs.Steps.{IsSizes};
 ghost use Rattle.constriction_base.specs.Writing.{Appends, IsOneAbove, RefusesWrite, WritesAll};
 
@@ -124,16 +124,8 @@ pub fn fill<Word: WordOf<State>, State: BitArray, Backend: ReadWords<Word, Stack
     requires some_bits { 1 ≤ Word.BITS }
     requires within { bits + Word.BITS ≤ State.BITS }
     requires some { 0 < State.number head }
-    ensures moves { MatchResult result
-        (λ found. MatchBool found.1
-        (MovesIn Word.number Backend.Holds Backend.ReadWords.own Word.BITS (State.number head) bulk.old
-        (State.number found.0) bulk.new
-        × (2 ^ bits ≤ State.number found.0))
-        (StopsAt Word.number Backend.Holds Backend.ReadWords.own Word.BITS (2 ^ bits) (State.number head) bulk.old
-        (State.number found.0) (Ok None) bulk.new))
-        (λ e. (n : ℕ)
-        × StopsAt Word.number Backend.Holds Backend.ReadWords.own Word.BITS (2 ^ bits) (State.number head) bulk.old
-        n (Err e) bulk.new) }
+    ensures moves { Fills Word.number State.number Backend.Holds Backend.ReadWords.own Word.BITS (2 ^ bits) head
+        bulk.old result bulk.new }
     ensures below { State.number head < 2 ^ (bits + Word.BITS)
         → IfOk result (λ found. State.number found.0 < 2 ^ (bits + Word.BITS)) }
 {
