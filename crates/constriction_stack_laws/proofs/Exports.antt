@@ -1,5 +1,5 @@
 -- The words that a state exports.
-use Rattle.std.proofs.Common.{ℕ, zero, suc, ◌/◌, ◌%◌, ◌^◌, List, [], ◌∷◌, ◌++◌, mod-lt, pow_pos}
+use Rattle.std.proofs.Common.{ℕ, ◌^◌}
 use Rattle.std.specs.Int.Digits.{digits_of}
 use Rattle.std.proofs.lemmas.Int.Digits.{all_below_base_digits_of}
 use Rattle.constriction_base.specs.Steps.{IsSizes, AreWords}

@@ -90,8 +90,8 @@ where
     take_list(alloc, &mut decoder, amt, model)
 }
 
-/// Symbols that are put on a coder, the last one first, come back in order from [`decode_as_decoder`], and then once more
-/// from the coder itself.
+/// Symbols that are put on a coder, the last one first, come back in order from [`decode_as_decoder`], and then once
+/// more from the coder itself.
 ///
 /// # Errors
 ///
