@@ -1,15 +1,18 @@
 -- Words that stand for a chain coder, and words of heads behind a caller's.
-use Rattle.std.proofs.Common.{◌≡◌, ◌⊎◌, refl, ℕ, ◌+◌, ◌^◌, ◌<◌, ◌≤◌, List, [], ◌∷◌, ◌++◌, Result, Ok, Err, length, map, take, append-nil, Option, sym, ap, ◌∙◌, subst, arith, inl, inr}
+use Rattle.std.proofs.Common.{◌≡◌, ◌⊎◌, refl, ℕ, ◌+◌, ◌^◌, ◌<◌, ◌≤◌, List, [], ◌∷◌, ◌++◌, Result, Ok, Err, length, map, take, append-nil, sym, ap, ◌∙◌, subst, arith, inl, inr}
 use Rattle.std.specs.Prelude.{IfErr, OnErr, OnOk, reverse}
 use Rattle.std.specs.Int.Digits.{digits_of}
 use Rattle.std.proofs.Math.Seq.{take-length}
 use Rattle.std.proofs.lemmas.List.{length-append, length-map, length-reverse, length-take-le}
 use Rattle.constriction_base.specs.Digits.{fixed_digits}
+use Rattle.constriction_base.specs.Writing.{IsOneAbove}
+use Rattle.constriction_base.specs.declared.backends.reading.Holds as holding
+use Rattle.constriction_base.specs.declared.backends.reading.ReadWords as reading
 use Rattle.constriction_base.specs.declared.errors.CoderError.{CoderError}
 use Rattle.constriction_base.specs.declared.errors.CoderError.TheVariants.{Backend, Frontend}
 use Rattle.constriction_chain.specs.Chain.{ChainState, IsChain}
 use Rattle.constriction_chain.specs.Imports.{FromBinary, FromCompressed, FromRemainders, IsWhole}
-use Rattle.constriction_chain.specs.Words.{IsOneAbove, NoHeads, NoStart, TooFew, remainder_words}
+use Rattle.constriction_chain.specs.Words.{NoHeads, NoStart, TooFew, remainder_words}
 use Rattle.constriction_chain.proofs.Chains.{state, state_same}
 use Rattle.constriction_chain_laws.proofs.NoCoder as laws
 use Rattle.constriction_inputs.specs.Buffers.{Appended, stack_in}
@@ -22,21 +25,21 @@ use Rattle.constriction_calls.proofs.ChainFrame.{appended_in, length_in, rest_in
 
 -- ---- words that begin no coder
 
-module _ {W E B : Type 0} (number : W → ℕ) (held : B → List W) (is_list : Type 0) (reads : B → Result (Option W) E → B → Type 0) (w bound : ℕ) (list : is_list) (never : E → ⊥) where
-  pub no_start : (old : B) (e : CoderError B E) → 2 ≤ 2 ^ w → NoStart number held is_list reads w bound old e
-      → (r : ℕ) (cs : List ℕ) → 0 < r → bound ≤ r → map number (held old) ≡ digits_of (2 ^ w) r ++ cs → ⊥
+module _ {W B O E : Type 0} (number : W → ℕ) (holds : holding.Ghosts B W O) (reads : reading.Ghosts B W O E) (w bound : ℕ) (list : holds.is_list) (never : E → ⊥) where
+  pub no_start : (old : B) (e : CoderError B E) → 2 ≤ 2 ^ w → NoStart number holds reads w bound old e
+      → (r : ℕ) (cs : List ℕ) → 0 < r → bound ≤ r → map number (holds.words old) ≡ digits_of (2 ^ w) r ++ cs → ⊥
   no_start old (Backend e) two stop r cs pos le is = never e
-  no_start old (Frontend rest) two stop r cs pos le is = laws.no_start number held is_list reads w bound list old rest two stop r cs pos le is
+  no_start old (Frontend rest) two stop r cs pos le is = laws.no_start number holds reads w bound list old rest two stop r cs pos le is
 
-  pub too_few : (old : B) (e : CoderError B E) → TooFew number held is_list reads w bound 1 old e
-      → (m r : ℕ) (cs : List ℕ) → IsOneAbove w m r → bound ≤ r → map number (held old) ≡ fixed_digits (2 ^ w) m r ++ cs → ⊥
+  pub too_few : (old : B) (e : CoderError B E) → TooFew number holds reads w bound 1 old e
+      → (m r : ℕ) (cs : List ℕ) → IsOneAbove w m r → bound ≤ r → map number (holds.words old) ≡ fixed_digits (2 ^ w) m r ++ cs → ⊥
   too_few old (Backend e) stop m r cs i le is = never e
-  too_few old (Frontend rest) stop m r cs i le is = laws.too_few number held is_list reads w bound list old rest stop m r cs i le is
+  too_few old (Frontend rest) stop m r cs i le is = laws.too_few number holds reads w bound list old rest stop m r cs i le is
 
-  pub no_heads : (old : B) (e : CoderError B E) → 2 ≤ 2 ^ w → NoHeads number held is_list reads w bound old e
-      → (h r : ℕ) (cs : List ℕ) → 0 < h → 0 < r → bound ≤ r → map number (held old) ≡ h ∷ (digits_of (2 ^ w) r ++ cs) → ⊥
+  pub no_heads : (old : B) (e : CoderError B E) → 2 ≤ 2 ^ w → NoHeads number holds reads w bound old e
+      → (h r : ℕ) (cs : List ℕ) → 0 < h → 0 < r → bound ≤ r → map number (holds.words old) ≡ h ∷ (digits_of (2 ^ w) r ++ cs) → ⊥
   no_heads old (Backend e) two stop h r cs some pos le is = never e
-  no_heads old (Frontend rest) two stop h r cs some pos le is = laws.no_heads number held is_list reads w bound list old rest two stop h r cs some pos le is
+  no_heads old (Frontend rest) two stop h r cs some pos le is = laws.no_heads number holds reads w bound list old rest two stop h r cs some pos le is
 
 -- ---- coders of a caller's words
 

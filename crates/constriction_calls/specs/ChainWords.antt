@@ -2,7 +2,8 @@
 use Rattle.std.specs.Prelude.{◌≡◌, ℕ, ◌<◌, ◌≤◌, List, [], length, map, reverse, Result, OnErr, OnOk}
 use Rattle.constriction_chain.specs.Chain.{ChainState}
 use Rattle.constriction_chain.specs.Imports.{AreBinaryWords, FromBinary, FromCompressed, FromRemainders, compressed_words}
-use Rattle.constriction_chain.specs.Words.{IsOneAbove, remainder_words}
+use Rattle.constriction_base.specs.Writing.{IsOneAbove}
+use Rattle.constriction_chain.specs.Words.{remainder_words}
 use Rattle.constriction_inputs.specs.Buffers.{Appended, stack_in}
 use Rattle.constriction_calls.specs.ChainCalls.{AreHeads}
 use Rattle.constriction_inputs.specs.Refusals.{Asks, Else, Never, Room}

@@ -1,7 +1,6 @@
 -- The chain coder: its states, and what its steps do. w and s are the numbers of bits of a word and of a number of the
 -- remainders. All definitions speak of numbers and lists, and words are listed in the order in which they are read.
-use Rattle.std.specs.Prelude.{◌≡◌, ◌⊎◌, ℕ, ◌+◌, ◌-◌, ◌*◌, ◌^◌, ◌<◌, ◌≤◌, List, [], ◌∷◌, map}
-use Rattle.std.specs.Int.Digits.{digits_of}
+use Rattle.std.specs.Prelude.{◌≡◌, ◌⊎◌, ℕ, ◌+◌, ◌-◌, ◌*◌, ◌^◌, ◌<◌, ◌≤◌, List, map}
 use Rattle.constriction_base.specs.Steps.{Step, IsSizes, AreWords}
 use Rattle.constriction_base.specs.Windows.{IsInWindow, IsMovedOut}
 use Rattle.constriction_base.specs.declared.backends.reading.Holds as holding
@@ -63,14 +62,6 @@ pub record IsPrecisionChange (w bound : ℕ) (old new : ChainState) : Type 0 whe
   pub move : ((new.r ≡ old.r) × (new.remainders ≡ old.remainders))
       ⊎ IsMovedOut w old.r old.remainders new.r new.remainders
       ⊎ IsMovedOut w new.r new.remainders old.r old.remainders
-
--- ---- words
-
--- words that begin no coder: the first is 0, which was read; or they are too few, and all were read
-abbrev pub IsNoStart : ℕ → ℕ → List ℕ → List ℕ → Type 0
-IsNoStart w bound words rest =
-    (words ≡ 0 ∷ rest)
-    ⊎ ((x : ℕ) × (x < bound) × (words ≡ digits_of (2 ^ w) x) × (rest ≡ []))
 
 -- ---- coders
 

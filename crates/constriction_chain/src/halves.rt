@@ -108,13 +108,13 @@ pub fn give<Word: WordOf<State>, State: BitArray, C: WriteWords<Word>, R: ReadWo
     requires some { 0 < Word.number p }
     requires inverse { IfSome reciprocal (λ r. IsReciprocalOf r (Word.number p)) }
     requires total { Word.number left + Word.number p ≤ 2 ^ precision }
-    ensures ok { IfOk result (λ new. EncodeCall Word.number C.Holds C.WriteWords.own R.Holds R.ReadWords.own Word.BITS
-        State.BITS
+    ensures ok { IfOk result (λ new. EncodeCall Word.number C.Holds C.WriteWords.own R.Holds R.ReadWords.own
+        Word.BITS State.BITS
         (at_heads Word.number State.number C.Holds R.Holds heads compressed.old remainders.old)
         record { precision = precision; left = Word.number left; p = Word.number p } (Ok tt)
         (at_heads Word.number State.number C.Holds R.Holds new compressed.new remainders.new)) }
-    ensures err { IfErr result (λ e. EncodeCall Word.number C.Holds C.WriteWords.own R.Holds R.ReadWords.own Word.BITS
-        State.BITS
+    ensures err { IfErr result (λ e. EncodeCall Word.number C.Holds C.WriteWords.own R.Holds R.ReadWords.own
+        Word.BITS State.BITS
         (at_heads Word.number State.number C.Holds R.Holds heads compressed.old remainders.old)
         record { precision = precision; left = Word.number left; p = Word.number p } (Err e)
         (at_heads Word.number State.number C.Holds R.Holds heads compressed.new remainders.new)) }

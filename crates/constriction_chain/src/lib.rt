@@ -25,7 +25,7 @@
 //! - [`errors`]: why a call is refused.
 //! - `halves`: a decode in two halves, and an encode, on the heads and the backends.
 //! - `steps`: the parts of a step, each on one side.
-//! - `moves`: words that move between the number of the remainders and a backend, as many as there are.
+//! - `moves`: words that move between the heads and a backend, as many as there are.
 //!
 //! Contracts cite the definitions of `specs/Walk.antt` (quantiles, as a walk on bits), `specs/Chain.antt` (states,
 //! steps, changes of the precision), `specs/Words.antt` (words that coders are made of and written as) and

@@ -52,13 +52,11 @@ pub fn take_quantile<Word: BitArray, C: ReadWords<Word, Stack>, R: WriteWords<Wo
 ) -> Result<(Word, Word), DecoderError<C::ReadError, R::WriteError>>
     requires sized { (1 ≤ precision) × (precision ≤ Word.BITS) }
     requires some { 0 < Word.number h }
-    ensures ok { IfOk result (λ found. Taken Word.number C.Holds C.ReadWords.own R.Holds R.WriteWords.own Word.BITS
-        precision (Word.number h)
-        compressed.old remainders.old
+    ensures ok { IfOk result (λ found. Taken Word.number C.Holds C.ReadWords.own R.Holds R.WriteWords.own
+        Word.BITS precision (Word.number h) compressed.old remainders.old
         (Word.number found.0) (Word.number found.1) compressed.new remainders.new) }
-    ensures err { IfErr result (λ e. Halts Word.number C.Holds C.ReadWords.own R.Holds R.WriteWords.own Word.BITS
-        precision (Word.number h)
-        compressed.old remainders.old
+    ensures err { IfErr result (λ e. Halts Word.number C.Holds C.ReadWords.own R.Holds R.WriteWords.own
+        Word.BITS precision (Word.number h) compressed.old remainders.old
         e compressed.new remainders.new) }
     ensures others { OnErr result (R.words remainders.new ≡ R.words remainders.old) }
     ensures kept { OnErr result (C.is_list → C.words compressed.new ≡ C.words compressed.old) }

@@ -32,7 +32,7 @@ returns-in-Err-Frontend-clause-err g c =
     let s = g.State.BitArray.BITS in
     let kept = c.loop-place.invariant in
     let number = g.Word.BitArray.number in
-    let stop = ends_at number _ _ _ _ _ _ _ _ w s g.row.PRECISION _ c.loop-place.coder c.decode_symbol.new.self
+    let stop = ends_at number _ _ _ _ w s g.row.PRECISION _ c.loop-place.coder c.decode_symbol.new.self
     c.decode_symbol.result c.in-Err-Frontend.field-0-0 (λ a b r. ap (λ ys. map number ys) r.0.0) (c.in-Err-Frontend.is ∙ ap Err c.in-Err-Frontend.field-0-is) c.decode_symbol.ensures.step in
     inr (
       refl,

@@ -30,7 +30,7 @@ symbols-preserved g c =
     let item : Item ℕ = item_of model (get_or xs (left - 1) 0) in
     let long : left ≤ length items = pairs_long g.row.PRECISION table xs ms left kept.within (omega (arith, kept.within, c.requires)) in
     let is : get_or items (left - 1) item ≡ item = pair_at g.row.PRECISION table xs ms (left - 1) model.table item (omega (arith, kept.within, c.symbols-test.true)) (omega (arith, kept.within, c.symbols-test.true, c.requires)) c.at.ensures in
-    let one = puts_at g.Word.BitArray.number _ _ _ _ _ _ _ _ w s model (get_or xs (left - 1) 0) c.symbols.coder c.encode_symbol.new.self c.encode_symbol.result tt c.in-Ok.is c.encode_symbol.ensures.step in
+    let one = puts_at g.Word.BitArray.number _ _ _ _ w s model (get_or xs (left - 1) 0) c.symbols.coder c.encode_symbol.new.self c.encode_symbol.result tt c.in-Ok.is c.encode_symbol.ensures.step in
     let all = InTurn-more (λ item. PutsBack w s item.model item.symbol) (reverse (drop left items)) item c.args.coder.now.state c.symbols.coder.state c.encode_symbol.new.self.state kept.put one in
     record {
       within = omega (arith, kept.within);
@@ -49,7 +49,7 @@ returns-in-Err-Frontend-ImpossibleSymbol-clause-err g c =
     let items : List (Item ℕ) = pairs_of g.row.PRECISION table xs ms in
     let item : Item ℕ = item_of model (get_or xs (left - 1) 0) in
     let is : get_or items (left - 1) item ≡ item = pair_at g.row.PRECISION table xs ms (left - 1) model.table item (omega (arith, kept.within, c.symbols-test.true)) (omega (arith, kept.within, c.symbols-test.true, c.requires)) c.at.ensures in
-    let never = impossible_at g.Word.BitArray.number _ _ _ _ _ _ _ _ g.Word.BitArray.BITS g.State.BitArray.BITS model (get_or xs (left - 1) 0) c.symbols.coder c.encode_symbol.new.self c.encode_symbol.result
+    let never = impossible_at g.Word.BitArray.number _ _ _ _ g.Word.BitArray.BITS g.State.BitArray.BITS model (get_or xs (left - 1) 0) c.symbols.coder c.encode_symbol.new.self c.encode_symbol.result
     (e.is ∙ ap Err (e.field-0-is ∙ ap Frontend e.field-0-0-is)) c.encode_symbol.ensures.step in
     inr (inl (refl, unknown_item items (left - 1) item (omega (arith, c.symbols-test.true, pairs_long g.row.PRECISION table xs ms left kept.within (omega (arith, kept.within, c.requires)))) is never))
 
@@ -67,7 +67,7 @@ returns-in-Err-Frontend-OutOfRemainders-clause-err g c =
     let item : Item ℕ = item_of model (get_or xs (left - 1) 0) in
     let long : left ≤ length items = pairs_long g.row.PRECISION table xs ms left kept.within (omega (arith, kept.within, c.requires)) in
     let is : get_or items (left - 1) item ≡ item = pair_at g.row.PRECISION table xs ms (left - 1) model.table item (omega (arith, kept.within, c.symbols-test.true)) (omega (arith, kept.within, c.symbols-test.true, c.requires)) c.at.ensures in
-    let stop = lacks_at number _ _ _ _ _ _ _ _ g.Word.BitArray.BITS g.State.BitArray.BITS model (get_or xs (left - 1) 0) c.symbols.coder c.encode_symbol.new.self c.encode_symbol.result
+    let stop = lacks_at number _ _ _ _ g.Word.BitArray.BITS g.State.BitArray.BITS model (get_or xs (left - 1) 0) c.symbols.coder c.encode_symbol.new.self c.encode_symbol.result
     (λ a b r. ap (λ ys. map number ys) r.0.0) (e.is ∙ ap Err (e.field-0-is ∙ ap Frontend e.field-0-0-is)) c.encode_symbol.ensures.step in
     inr (inr (
       refl,

@@ -21,5 +21,5 @@ returns-in-Err g c = record {
   call = begins_none g.Word.BitArray.number g.State.BitArray.number g.Word.BitArray.BITS g.State.BitArray.BITS g.row.PRECISION InBinary c.args.words.now (record { heads = c.args.heads.now; len = c.args.len.now }) (λ from.
       let n = g.Word.BitArray.number in
       let words : map n (reverse (take c.new_at_write_end-lent.result.pos c.new_at_write_end-lent.result.buf.now)) ≡ map n (reverse c.args.words.now) = rw c.new_at_write_end-lent.ensures (all_taken n c.args.words.now) in
-      absurd (too_few {E = Infallible} n _ _ _ _ _ tt (λ never. elim never [ ]) _ _ c.in-Err.ensures.err from.1.1.0 from.0.r from.0.compressed from.1.1.1 from.1.0.chain.window.from (words ∙ from.1.1.2)));
+      absurd (too_few {E = Infallible} n _ _ _ _ tt (λ never. elim never [ ]) _ _ c.in-Err.ensures.err from.1.1.0 from.0.r from.0.compressed from.1.1.1 from.1.0.chain.window.from (words ∙ from.1.1.2)));
 }
