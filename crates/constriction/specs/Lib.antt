@@ -10,6 +10,7 @@ pub mod Reciprocals
 pub mod Steps
 pub mod Symbols
 pub mod Tables
+pub mod Writing
 pub mod chain
 pub mod model
 pub mod queue

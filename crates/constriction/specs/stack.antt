@@ -1,6 +1,7 @@
 pub mod Ans
 pub mod Binary
 pub mod Exporting
+pub mod Exports
 pub mod Guards
 pub mod Imports
 pub mod Positions

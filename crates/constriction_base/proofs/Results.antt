@@ -1,6 +1,6 @@
 -- Clauses on answers that are known to be one or the other.
 use Rattle.std.proofs.Common.{Result, Ok, Err}
-use Rattle.std.specs.Prelude.{IsErr, IfOk, MatchResult, OnOk}
+use Rattle.std.specs.Prelude.{IsErr, IfErr, IfOk, MatchResult, OnOk}
 
 -- an error has made nothing
 pub none_made : {T E : Type 0} (P : T → Type 0) (answer : Result T E) → IsErr answer → IfOk answer P
@@ -17,3 +17,8 @@ pub mapped : {T E : Type 0} (P P' : T → Type 0) (Q Q' : E → Type 0) (answer 
     → MatchResult answer P Q → MatchResult answer P' Q'
 mapped P P' Q Q' (Ok x) f g m = f x m
 mapped P P' Q Q' (Err e) f g m = g e m
+
+-- an error tells more
+pub refused : {T E : Type 0} (P : T → Type 0) (Q Q' : E → Type 0) (answer : Result T E) → ((e : E) → Q e → Q' e) → MatchResult answer P Q → IfErr answer Q'
+refused P Q Q' (Ok x) f m = tt
+refused P Q Q' (Err e) f m = f e m

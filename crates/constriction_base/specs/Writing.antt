@@ -12,6 +12,10 @@ pub record IsBegun (owed old new : List ℕ) : Type 0 where
   pub parts : owed ≡ later ++ written
   pub is : new ≡ written ++ old
 
+-- where asking for room makes none, a write was refused, of a backend whose words are such
+abbrev pub RefusesWrite : {W B E S : Type 0} → holding.Ghosts B W S → writing.Ghosts B W E → E → (List W → Type 0) → Type 0
+RefusesWrite {B = B} holds writes e such = (writes.makes_room → ⊥) × ((last : B) × writes.write_fails last e × such (holds.words last))
+
 -- a call that writes all these words, or is refused by a write behind a beginning of them
 pub record WritesAll {W B E S : Type 0} (number : W → ℕ) (holds : holding.Ghosts B W S) (writes : writing.Ghosts B W E) (owed : List ℕ) (old : B) (answer : Result (Unit {0}) E) (new : B) : Type 0 where
   -- all stand on those that were there
@@ -36,15 +40,15 @@ pub record Appends {W B E S : Type 0} (number : W → ℕ) (holds : holding.Ghos
   pub kept : writes.makes_room → OnErr answer (holds.words new ≡ holds.words old)
   -- the error is the answer to that, and none is written; or, where asking makes no room, that of a write
   pub error : IfErr answer (λ e. (writes.prepare_fails old (length owed) e × (holds.words new ≡ holds.words old))
-      ⊎ ((writes.makes_room → ⊥) × ((last : B) × writes.write_fails last e × (holds.words last ≡ holds.words new))))
+      ⊎ RefusesWrite holds writes e (λ words. words ≡ holds.words new))
 
 -- words that a call owes could not be written, and its backend is gone: there is no room for them all, and it said so where
 -- it was asked; or, where asking for room makes none, it refused a write behind a beginning of them
 abbrev pub NotWritten : {W B E S : Type 0} → (W → ℕ) → holding.Ghosts B W S → writing.Ghosts B W E → List ℕ → B → E → Type 0
-NotWritten {B = B} number holds writes owed old e =
+NotWritten number holds writes owed old e =
     (writes.room old < length owed)
     × (writes.prepare_fails old (length owed) e
-    ⊎ ((writes.makes_room → ⊥) × ((last : B) × writes.write_fails last e × IsBegun owed (map number (holds.words old)) (map number (holds.words last)))))
+    ⊎ RefusesWrite holds writes e (λ words. IsBegun owed (map number (holds.words old)) (map number words)))
 
 -- a number is a one above m words: its bit length less one is m * w
 pub record IsOneAbove (w m n : ℕ) : Type 0 where

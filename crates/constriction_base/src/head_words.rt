@@ -1,11 +1,11 @@
 //! The number that a coder holds above its words: how many words it has, and words that move between it and a backend.
 
-ghost use Rattle.std.specs.Prelude.{Err, IfNone, IfOk, IfSome, MatchBool, MatchResult, None, Ok, drop, ℕ, ◌+◌, ◌<◌};
-ghost use Rattle.std.specs.Prelude.{◌^◌, ◌≡◌, ◌≤◌};
+ghost use Rattle.std.specs.Prelude.{Err, IfErr, IfNone, IfOk, IfSome, MatchBool, MatchResult, None, Ok, drop, ℕ, ◌+◌};
+ghost use Rattle.std.specs.Prelude.{◌<◌, ◌^◌, ◌≡◌, ◌≤◌, ◌⊎◌};
 ghost use Rattle.constriction_base.specs.Digits.{count_of_words, fixed_digits};
 ghost use Rattle.constriction_base.specs.Readings.{MovesIn, StopsAt};
 ghost use Rattle.constriction_base.specs.Steps.{IsSizes};
-ghost use Rattle.constriction_base.specs.Writing.{Appends, IsOneAbove, WritesAll};
+ghost use Rattle.constriction_base.specs.Writing.{Appends, IsOneAbove, RefusesWrite, WritesAll};
 
 use crate::backends::reading::{Holds, ReadWords};
 use crate::backends::semantics::Stack;
@@ -96,6 +96,9 @@ pub fn append_words<Word: WordOf<State>, State: BitArray, Backend: WriteWords<Wo
     ensures back { MatchResult result
         (λ _. drop count (Backend.words bulk.new) ≡ Backend.words bulk.old)
         (λ refused. drop refused.0 (Backend.words bulk.new) ≡ Backend.words bulk.old) }
+    // None is written but where a write was refused.
+    ensures refused { IfErr result (λ refused. (refused.0 ≡ 0)
+        ⊎ RefusesWrite Backend.Holds Backend.WriteWords.own refused.1 (λ words. words ≡ Backend.words bulk.new)) }
 {
     if count == 0 {
         return Ok(());

@@ -66,7 +66,8 @@ pub struct WeightTable<Probability: BitArray, const PRECISION: usize> {
     ghost cut: { (shift < PRECISION) × (PRECISION - shift ≤ 63) },
     ghost buckets: { length hints.items ≡ 2 ^ (PRECISION - shift) + 1 },
     ghost hinted: { AreHints (map Probability.number starts.items) (2 ^ PRECISION) (2 ^ shift) hints.items },
-    ghost inverse: { AreReciprocals (weights_between (map Probability.number starts.items) (2 ^ PRECISION)) reciprocals.items },
+    ghost inverse:
+        { AreReciprocals (weights_between (map Probability.number starts.items) (2 ^ PRECISION)) reciprocals.items },
 }
 
 impl<Probability: BitArray, const PRECISION: usize> WeightTable<Probability, PRECISION> {

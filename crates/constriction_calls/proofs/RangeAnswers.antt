@@ -6,7 +6,7 @@ use Rattle.constriction_base.specs.Models.{AreKnown}
 use Rattle.constriction_base.specs.Steps.{IsSizes}
 use Rattle.constriction_queue.proofs.Seals.{words_within}
 use Rattle.constriction_queue.specs.Range.{Run, sealed}
-use Rattle.constriction_queue_laws.specs.Symbols.{NarrowsAll}
+use Rattle.constriction_queue.specs.Symbols.{NarrowsAll}
 use Rattle.constriction_inputs.specs.Buffers.{Appended}
 use Rattle.constriction_inputs.specs.Coded.{AreFit, AsksFit, Coded, items}
 use Rattle.constriction_calls.specs.RangeCalls.{CanEncode, IsDecoderKept, IsEncoderKept, IsSealed, IsSelfSealed, LacksRoom, LeadsBy, LeadsNowhere, RangeKept, RangePuts, RangeSeals, RangeTakes, RoomFirst, run_kept}

@@ -4,13 +4,14 @@ use Rattle.std.proofs.Common.{map, ◌≡◌, ℕ, zero, suc, ◌+◌, ◌-◌, 
 use native.Mathlib.Nat.{pow-suc, pow-zero, add-mul-div_right, add-mul-mod_self_right}
 use Rattle.std.specs.Prelude.{reverse}
 use Rattle.std.proofs.lemmas.Bool.{cases_eq}
+use Rattle.constriction_base.specs.declared.backends.reading.Holds as holding
 use Rattle.constriction_base.specs.Steps.{Step, AreWords}
 use Rattle.constriction_base.specs.Digits.{fixed_digits}
 use Rattle.constriction_queue.specs.Range.{Run, cut, grown, narrow, sealed, seal_number}
 use Rattle.constriction_queue.specs.Encoder.{Encoder, encoder_of, held_of, number_of, run_by, run_of, words_held}
 use Rattle.constriction_queue.specs.declared.situation.EncoderSituation.{EncoderSituation}
 use Rattle.constriction_base.specs.Models.{Item}
-use Rattle.constriction_queue_laws.specs.Symbols.{NarrowsAll}
+use Rattle.constriction_queue.specs.Symbols.{NarrowsAll}
 use Rattle.constriction_queue.proofs.Fits.{pow-split}
 use Rattle.constriction_queue.proofs.Runs.{same_run}
 use Rattle.constriction_queue.proofs.Seals.{digits_of_words, words_held_fit}
@@ -196,17 +197,17 @@ narrows_above w s items held kept written below lower range new_lower new_range 
     (narrows_behind w s n k items (run_of w s held lower range) (run_of w s (kept ++ written) new_lower new_range) all))
 
 -- the same by the parts of an encoder, taken out of it
-pub put_above : {Word B S : Type 0} (number : Word → ℕ) (words_in : B → List Word) (w s : ℕ) (items : List (Item S)) (old new : Encoder B)
+pub put_above : {Word B S Q : Type 0} (number : Word → ℕ) (holds : holding.Ghosts B Word Q) (w s : ℕ) (items : List (Item S)) (old new : Encoder B)
     (lower range last_lower last_range new_lower new_range : ℕ) (bulk new_bulk : B) (situation last : EncoderSituation Word) (kept : List ℕ)
-    → old ≡ encoder_of number words_in w lower range bulk situation → words_in bulk ≡ []
-    → new ≡ encoder_of number words_in w last_lower last_range new_bulk last → kept ≡ held_of number w last → new_lower ≡ last_lower → new_range ≡ last_range
+    → old ≡ encoder_of number holds w lower range bulk situation → holds.words bulk ≡ []
+    → new ≡ encoder_of number holds w last_lower last_range new_bulk last → kept ≡ held_of number w last → new_lower ≡ last_lower → new_range ≡ last_range
     → NarrowsAll w s items (run_by w s old) (run_by w s new)
-    → (below : List ℕ) → NarrowsAll w s items (run_of w s (held_of number w situation ++ below) lower range) (run_of w s (kept ++ (map number (words_in new_bulk) ++ below)) new_lower new_range)
-put_above number words_in w s items old new lower range last_lower last_range new_lower new_range bulk new_bulk situation last kept old_is none new_is kept_is lower_is range_is all below =
+    → (below : List ℕ) → NarrowsAll w s items (run_of w s (held_of number w situation ++ below) lower range) (run_of w s (kept ++ (map number (holds.words new_bulk) ++ below)) new_lower new_range)
+put_above number holds w s items old new lower range last_lower last_range new_lower new_range bulk new_bulk situation last kept old_is none new_is kept_is lower_is range_is all below =
     let held : List ℕ = held_of number w situation in
-    let alone : held ++ map number (words_in bulk) ≡ held = ap (λ xs. held ++ map number xs) none ∙ append-nil held in
+    let alone : held ++ map number (holds.words bulk) ≡ held = ap (λ xs. held ++ map number xs) none ∙ append-nil held in
     let first : run_by w s old ≡ run_of w s held lower range = ap (λ e. run_by w s e) old_is ∙ ap (λ ws. run_of w s ws lower range) alone in
-    let end : run_by w s new ≡ run_of w s (kept ++ map number (words_in new_bulk)) new_lower new_range = ap (λ e. run_by w s e) new_is ∙ rw (kept_is, lower_is, range_is) refl in
-    narrows_above w s items held kept (map number (words_in new_bulk)) below lower range new_lower new_range
-    (subst (λ (r : Run). NarrowsAll w s items r (run_of w s (kept ++ map number (words_in new_bulk)) new_lower new_range)) first
+    let end : run_by w s new ≡ run_of w s (kept ++ map number (holds.words new_bulk)) new_lower new_range = ap (λ e. run_by w s e) new_is ∙ rw (kept_is, lower_is, range_is) refl in
+    narrows_above w s items held kept (map number (holds.words new_bulk)) below lower range new_lower new_range
+    (subst (λ (r : Run). NarrowsAll w s items r (run_of w s (kept ++ map number (holds.words new_bulk)) new_lower new_range)) first
     (subst (λ (r : Run). NarrowsAll w s items (run_by w s old) r) end all))

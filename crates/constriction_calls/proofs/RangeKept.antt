@@ -14,7 +14,7 @@ use Rattle.constriction_queue.proofs.SealedRuns.{ceil_below}
 use Rattle.constriction_queue.proofs.SelfSealed.{ends_by_gap}
 use Rattle.constriction_queue.proofs.Seals.{words_of_numbers}
 use Rattle.constriction_queue.proofs.Showing.{queue_is}
-use Rattle.constriction_queue_laws.specs.Symbols.{NarrowsAll}
+use Rattle.constriction_queue.specs.Symbols.{NarrowsAll}
 use Rattle.constriction_calls.specs.RangeCalls.{IsEncoderKept, KeptFit, kept_words, run_kept}
 use Rattle.constriction_calls.specs.declared.range.parts.EncoderParts.{EncoderParts}
 use Rattle.constriction_calls.proofs.RangeFrame.{held_inside, narrows_above, number_below, run_behind, sealed_behind}

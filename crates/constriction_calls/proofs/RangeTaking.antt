@@ -4,6 +4,8 @@ use Rattle.std.proofs.Math.Seq.{drop-nil}
 use Rattle.std.specs.Int.{from_bool}
 use Rattle.std.proofs.lemmas.Bool.{cases_eq, cases_lt}
 use Rattle.std.proofs.lemmas.List.{length-drop}
+use Rattle.constriction_base.specs.declared.backends.reading.Holds as holding
+use Rattle.constriction_base.specs.declared.backends.reading.ReadWords as reading
 use Rattle.constriction_base.specs.declared.errors.CoderError.{CoderError}
 use Rattle.constriction_base.specs.Steps.{IsSizes, AreWords, Step}
 use Rattle.constriction_base.specs.Tables.{AtEntry}
@@ -12,7 +14,7 @@ use Rattle.constriction_base.proofs.Entering.{entry_is_step}
 use Rattle.constriction_base.proofs.InTurn.{InTurn-append}
 use Rattle.constriction_stream.specs.Symbols.{ByBackend}
 use Rattle.constriction_queue.specs.Range.{Run, IsAt, cut, narrow, number_of_first, offset, start}
-use Rattle.constriction_queue.specs.Decoder.{Decoder, distance, quantile_read}
+use Rattle.constriction_queue.specs.Decoder.{Decoder, distance, quantile_read, StandsAt}
 use Rattle.constriction_queue.specs.States.{IsPosition}
 use Rattle.constriction_queue.specs.Calls as calls
 use Rattle.constriction_queue.proofs.Narrowing.{by_growth}
@@ -20,7 +22,7 @@ use Rattle.constriction_queue.proofs.Sought.{sought_is_at}
 use Rattle.constriction_queue.proofs.WordsRead.{first_point}
 use Rattle.constriction_calls.specs.RangeCalls.{IsRead, StandsOver}
 use Rattle.constriction_calls.specs.declared.range.parts.DecoderParts.{DecoderParts}
-use Rattle.constriction_queue_laws.specs.Symbols.{Finds, FindsAll, MayEnd, StandsAt}
+use Rattle.constriction_queue.specs.Symbols.{Finds, FindsAll, MayEnd}
 use Rattle.constriction_queue_laws.proofs.ComingBack.{decodes_unique}
 use Rattle.constriction_queue_laws.proofs.ListCalls.{decodes_of, distance_is, ended_of, nears_of}
 
@@ -83,19 +85,19 @@ sought_kept w s words part rest there place lower range first_lower first_range 
     (at.rest_is ∙ ap (λ n. drop n part) none ∙ ap (λ ws. drop (s / w) ws) part_is)
 
 -- ---- one symbol
-module _ {S W B E : Type 0} (F : Type 0) (number : W → ℕ) (held : B → List W) (is_list : Type 0) (reads : B → Result (Option W) E → B → Type 0) (w s : ℕ) (words : List ℕ) (known : is_list) where
+module _ {S W B E Q : Type 0} (F : Type 0) (number : W → ℕ) (holds : holding.Ghosts B W Q) (reads : reading.Ghosts B W Q E) (w s : ℕ) (words : List ℕ) (known : holds.is_list) where
   pub next_found : (model : Model S) (y x : S) (rest : List (Item S)) (r last : Run) (d new : Decoder B) → IsModel w model → StandsAt w s words r d
       → FindsAll w s words (item_of model y ∷ rest) r last
-      → AtEntry model.precision model.table x (λ step. ByBackend {F = F} (calls.DecodeCall number held is_list reads w s) d step (Ok tt) new)
+      → AtEntry model.precision model.table x (λ step. ByBackend {F = F} (calls.DecodeCall number holds reads w s) d step (Ok tt) new)
       → (mid : Run) × StandsAt w s words mid new × FindsAll w s words rest mid last
   next_found model y x rest r last d new m at all given =
-      let got = decodes_of F number held is_list reads w s words known (item_of model) (x ∷ []) r d new at (new, given, refl) in
+      let got = decodes_of F number holds reads w s words known (item_of model) (x ∷ []) r d new at (new, given, refl) in
       let same = decodes_unique w s words (item_of model y ∷ []) (item_of model x ∷ []) r all.0 got.0 (m, tt) refl (all.0, all.1, refl) got.1 in
       (all.0, subst (λ (t : Run). StandsAt w s words t new) same.1 got.2, all.2)
 
   pub never_refused : (model : Model S) (y : S) (rest : List (Item S)) (r last : Run) (d new : Decoder B) (e : CoderError F E) (halted : Type 0) → (E → ⊥) → IsModel w model → StandsAt w s words r d
       → FindsAll w s words (item_of model y ∷ rest) r last → (halted → 2 ^ model.precision ≤ quantile_read s model.precision d)
-      → halted ⊎ ((x : S) × AtEntry model.precision model.table x (λ step. ByBackend {F = F} (calls.DecodeCall number held is_list reads w s) d step (Err e) new)) → ⊥
+      → halted ⊎ ((x : S) × AtEntry model.precision model.table x (λ step. ByBackend {F = F} (calls.DecodeCall number holds reads w s) d step (Err e) new)) → ⊥
   never_refused model y rest r last d new e halted never m at all high (inl h) =
       let f = all.1 in
       let within = entry_is_step w model.precision w f.0 f.1 model.table y m.lawful f.2 (m.some_bits, m.within_word) (omega arith) in
@@ -106,10 +108,10 @@ module _ {S W B E : Type 0} (F : Type 0) (number : W → ℕ) (held : B → List
 
   -- one symbol more, behind those taken
   pub one_more : (items : List (Item S)) (model : Model S) (x : S) (old mid : Run) (d new : Decoder B) → FindsAll w s words items old mid → StandsAt w s words mid d
-      → AtEntry model.precision model.table x (λ step. ByBackend {F = F} (calls.DecodeCall number held is_list reads w s) d step (Ok tt) new)
+      → AtEntry model.precision model.table x (λ step. ByBackend {F = F} (calls.DecodeCall number holds reads w s) d step (Ok tt) new)
       → (last : Run) × FindsAll w s words (items ++ item_of model x ∷ []) old last × StandsAt w s words last new
   one_more items model x old mid d new all at given =
-      let got = decodes_of F number held is_list reads w s words known (item_of model) (x ∷ []) mid d new at (new, given, refl) in
+      let got = decodes_of F number holds reads w s words known (item_of model) (x ∷ []) mid d new at (new, given, refl) in
       (got.0, InTurn-append (λ item. Finds w s words item.model item.symbol) items (item_of model x ∷ []) old mid got.0 all got.1, got.2)
 
 -- ---- lists

@@ -2,7 +2,8 @@
 use Rattle.std.specs.Prelude.{◌≡◌, ℕ, ◌+◌, ◌<◌, ◌≤◌, List, [], Result, length, map, reverse, OnErr, OnOk}
 use Rattle.constriction_base.specs.Models.{AreKnown, Item}
 use Rattle.constriction_stack.specs.Ans.{AnsState, IsValid, exported}
-use Rattle.constriction_stack.specs.Binary.{IsBinary, binary_words}
+use Rattle.constriction_base.specs.Writing.{IsOneAbove}
+use Rattle.constriction_stack.specs.Binary.{binary_words}
 use Rattle.constriction_stack.specs.Symbols.{DecodesAll, EncodesAll}
 use Rattle.constriction_inputs.specs.Buffers.{Appended, stack_in}
 use Rattle.constriction_inputs.specs.Coded.{AsksFit, Coded, items}
@@ -99,8 +100,8 @@ AreCompressed w state all = all ≡ exported w state
 
 -- those below a leading 1
 abbrev pub AreBinary : ℕ → AnsState → List ℕ → Type 0
-AreBinary w state all = (m : ℕ) × IsBinary w m state × (all ≡ binary_words w m state)
+AreBinary w state all = (m : ℕ) × IsOneAbove w m state.head × (all ≡ binary_words w m state)
 
 -- the head is a 1 above whole words
 abbrev pub HasBinary : ℕ → AnsState → Type 0
-HasBinary w state = (m : ℕ) × IsBinary w m state
+HasBinary w state = (m : ℕ) × IsOneAbove w m state.head

@@ -7,7 +7,7 @@ use Rattle.constriction_queue.specs.Encoder.{run_of, words_held}
 use Rattle.constriction_queue.specs.Range.{IsAt, Run, sealed, start}
 use Rattle.constriction_queue.specs.SelfDelimiting.{SelfDelimits}
 use Rattle.constriction_queue.specs.States.{IsPosition}
-use Rattle.constriction_queue_laws.specs.Symbols.{FindsAll, MayEnd, NarrowsAll}
+use Rattle.constriction_queue.specs.Symbols.{FindsAll, MayEnd, NarrowsAll}
 use Rattle.constriction_inputs.specs.Buffers.{Appended}
 use Rattle.constriction_inputs.specs.Coded.{AsksFit, Coded, items}
 use Rattle.constriction_inputs.specs.Refusals.{Asks, Else, Never, Room, Words}

@@ -1,7 +1,7 @@
 -- Words that lie below those that steps read and write stay there, and words are the coder of one state only.
-use Rattle.std.specs.Prelude.{◌≡◌, ◌⊎◌, ℕ, ◌+◌, ◌*◌, ◌^◌, ◌<◌, ◌≤◌, List, [], ◌∷◌, ◌++◌, length}
+use Rattle.std.specs.Prelude.{◌≡◌, ℕ, ◌+◌, ◌*◌, ◌^◌, ◌≤◌, List, [], ◌∷◌, ◌++◌, length}
 use Rattle.std.specs.Int.Digits.{digits_of, number_from_digits, number_from_digits_after}
-use Rattle.std.proofs.Common.{refl, sym, ap, ap₂, ◌∙◌, subst, arith, inl, inr, append_assoc, pow_pos, mul-le-mul_right}
+use Rattle.std.proofs.Common.{refl, sym, ap, ap₂, ◌∙◌, arith, inl, inr, append_assoc, pow_pos, mul-le-mul_right}
 use Rattle.std.proofs.lemmas.Bool.{cases_lt}
 use Rattle.std.proofs.lemmas.Int.Digits.{number_after_append, number_after_ge, number_digits_of}
 use Rattle.constriction_base.specs.Models.{Item}
@@ -10,9 +10,9 @@ use Rattle.constriction_base.specs.Windows.{IsInWindow}
 use Rattle.constriction_base.proofs.Exporting.{base_two}
 use Rattle.constriction_chain.specs.Walk.{number_of_bits, IsQuantile}
 use Rattle.constriction_chain.specs.Chain.{ChainState, IsBroughtBelow, IsDecode}
-use Rattle.constriction_chain.specs.Symbols.{TakesOff, TakesOffAll}
+use Rattle.constriction_chain.specs.Symbols.{TakesOffAll}
 use Rattle.constriction_chain.proofs.Chains.{state}
-use Rattle.constriction_chain.proofs.Walks.{cons_same, quantile_over}
+use Rattle.constriction_chain.proofs.Walks.{cons_same}
 
 -- ---- words below
 

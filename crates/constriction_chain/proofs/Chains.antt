@@ -2,6 +2,7 @@
 use Rattle.std.proofs.Common.{◌≡◌, ℕ, ◌+◌, ◌-◌, ◌*◌, ◌/◌, ◌%◌, ◌^◌, ◌<◌, ◌≤◌, List, [], ◌∷◌, map, refl, sym, ap, ap₂, ◌∙◌, arith, div-add-mod', mod-lt}
 use Rattle.constriction_base.specs.Steps.{Step, AreWords}
 use Rattle.constriction_base.specs.Windows.{IsInWindow}
+use Rattle.constriction_base.specs.declared.backends.reading.Holds as holding
 use Rattle.constriction_chain.specs.Walk.{IsQuantile}
 use Rattle.constriction_chain.specs.Chain.{ChainState, IsChain, IsChainCoder, IsSized, IsBroughtBelow, IsDecode, IsEncode, least, value_of}
 use Rattle.constriction_chain.proofs.Walks.{quantile_from}
@@ -30,11 +31,12 @@ chain_of w s P number law h r some fits window cs rs = record {
 }
 
 -- heads and backends make a coder
-pub coder_of : (w s P : ℕ) {A C R : Type 0} (number : A → ℕ) → ((x : A) → number x < 2 ^ w) → (held : C → List A) (held' : R → List A) (h r : ℕ) (compressed : C) (remainders : R)
-    → IsSized w s P → 0 < h → h < 2 ^ w → IsInWindow w (least w s P) r → IsChainCoder number held held' w s P (value_of number held held' h r compressed remainders)
-coder_of w s P number law held held' h r compressed remainders sized some fits window = record {
+pub coder_of : (w s P : ℕ) {A C R S : Type 0} (number : A → ℕ) → ((x : A) → number x < 2 ^ w) → (compressed_holds : holding.Ghosts C A S) (remainders_holds : holding.Ghosts R A S)
+    → (h r : ℕ) (compressed : C) (remainders : R) → IsSized w s P → 0 < h → h < 2 ^ w → IsInWindow w (least w s P) r
+    → IsChainCoder number compressed_holds remainders_holds w s P (value_of number compressed_holds remainders_holds h r compressed remainders)
+coder_of w s P number law compressed_holds remainders_holds h r compressed remainders sized some fits window = record {
   sized = sized;
-  chain = chain_of w s P number law h r some fits window (held compressed) (held' remainders);
+  chain = chain_of w s P number law h r some fits window (compressed_holds.words compressed) (remainders_holds.words remainders);
   compressed_are = refl;
   remainders_are = refl;
 }

@@ -1,6 +1,6 @@
 -- Worked values of the definitions, by computing: words of 8 bits and numbers of 16, where no other sizes stand. Words are
 -- listed in the order in which they are read.
-use Rattle.std.specs.Prelude.{◌≡◌, ℕ, List, [], ◌∷◌, true, false}
+use Rattle.std.specs.Prelude.{◌≡◌, [], ◌∷◌, true, false}
 use Rattle.std.proofs.Common.{refl, arith, inl, inr}
 use Rattle.constriction_base.specs.Steps.{Step}
 use Rattle.constriction_chain.specs.Walk.{IsQuantile}

@@ -1,5 +1,5 @@
 -- A decode leads from a state of a coder to one.
-use Rattle.std.proofs.Common.{◌≡◌, ℕ, suc, ◌+◌, ◌-◌, ◌*◌, ◌^◌, ◌<◌, ◌≤◌, Bool, true, List, [], ◌∷◌, ◌++◌, length, length-append, ap, ◌∙◌, subst, arith, inl, inr, pow_pos, lit<, mul-le-mul_right, mul-le-mul_left, lt_of_mul-lt-mul_right}
+use Rattle.std.proofs.Common.{◌≡◌, ℕ, suc, ◌+◌, ◌*◌, ◌^◌, ◌<◌, ◌≤◌, Bool, true, List, ◌∷◌, length, length-append, ap, ◌∙◌, subst, arith, inl, inr, lit<, mul-le-mul_right, mul-le-mul_left, lt_of_mul-lt-mul_right}
 use Rattle.std.proofs.lemmas.Bool.{cases_lt}
 use Rattle.std.proofs.Math.Nat.{pow-le-pow_right}
 use native.Mathlib.Nat.{pow-suc}

@@ -4,6 +4,7 @@ use Rattle.std.specs.Prelude.{◌≡◌, ◌⊎◌, ℕ, ◌+◌, ◌-◌, ◌*�
 use Rattle.std.specs.Int.Digits.{digits_of}
 use Rattle.constriction_base.specs.Steps.{Step, IsSizes, AreWords}
 use Rattle.constriction_base.specs.Windows.{IsInWindow, IsMovedOut}
+use Rattle.constriction_base.specs.declared.backends.reading.Holds as holding
 use Rattle.constriction_chain.specs.Walk.{IsQuantile}
 
 -- the sizes and the precision that a coder may have
@@ -23,11 +24,15 @@ pub record ChainState : Type 0 where
 abbrev pub least : ℕ → ℕ → ℕ → ℕ
 least w s P = 2 ^ (s - w - P)
 
+-- a number that may be the remainders' head, at a precision
+abbrev pub IsRemaindersHead : ℕ → ℕ → ℕ → ℕ → Type 0
+IsRemaindersHead w s P r = IsInWindow w (least w s P) r
+
 -- a state of a coder
 pub record IsChain (w s P : ℕ) (x : ChainState) : Type 0 where
   pub some : 0 < x.h
   pub within_word : x.h < 2 ^ w
-  pub window : IsInWindow w (least w s P) x.r
+  pub window : IsRemaindersHead w s P x.r
   pub compressed_fit : AreWords w x.compressed
   pub remainders_fit : AreWords w x.remainders
 
@@ -76,17 +81,28 @@ pub record ChainValue (C R : Type 0) : Type 0 where
   pub remainders : R
 
 -- the value of a coder that has these heads and holds its words on these backends
-abbrev pub value_of : {W C R : Type 0} → (W → ℕ) → (C → List W) → (R → List W) → ℕ → ℕ → C → R → ChainValue C R
-value_of number held held' h r compressed remainders = record {
-  state = record { h = h; r = r; compressed = map number (held compressed); remainders = map number (held' remainders) };
+abbrev pub value_of : {W C R S : Type 0} → (W → ℕ) → holding.Ghosts C W S → holding.Ghosts R W S → ℕ → ℕ → C → R → ChainValue C R
+value_of number compressed_holds remainders_holds h r compressed remainders = record {
+  state = record {
+    h = h;
+    r = r;
+    compressed = map number (compressed_holds.words compressed);
+    remainders = map number (remainders_holds.words remainders);
+  };
   compressed = compressed;
   remainders = remainders;
 }
 
+-- the same of a pair of heads, of a word's type and of the remainders' number's
+abbrev pub at_heads : {W V C R S : Type 0} → (W → ℕ) → (V → ℕ) → holding.Ghosts C W S → holding.Ghosts R W S → W × V → C → R → ChainValue C R
+at_heads number remainders_number compressed_holds remainders_holds heads compressed remainders =
+    value_of number compressed_holds remainders_holds (number heads.0) (remainders_number heads.1) compressed remainders
+
 -- what is true of every coder: its sizes and its precision are allowed, its heads are as they must be, and the words of its
 -- state are those of its backends
-pub record IsChainCoder {W C R : Type 0} (number : W → ℕ) (held : C → List W) (held' : R → List W) (w s P : ℕ) (coder : ChainValue C R) : Type 0 where
+pub record IsChainCoder {W C R S : Type 0} (number : W → ℕ) (compressed_holds : holding.Ghosts C W S) (remainders_holds : holding.Ghosts R W S)
+    (w s P : ℕ) (coder : ChainValue C R) : Type 0 where
   pub sized : IsSized w s P
   pub chain : IsChain w s P coder.state
-  pub compressed_are : coder.state.compressed ≡ map number (held coder.compressed)
-  pub remainders_are : coder.state.remainders ≡ map number (held' coder.remainders)
+  pub compressed_are : coder.state.compressed ≡ map number (compressed_holds.words coder.compressed)
+  pub remainders_are : coder.state.remainders ≡ map number (remainders_holds.words coder.remainders)

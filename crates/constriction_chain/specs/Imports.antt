@@ -2,8 +2,9 @@
 use Rattle.std.specs.Prelude.{◌≡◌, ℕ, ◌^◌, List, [], ◌++◌}
 use Rattle.std.specs.Int.Digits.{digits_of}
 use Rattle.constriction_base.specs.Digits.{fixed_digits}
+use Rattle.constriction_base.specs.Writing.{IsOneAbove}
 use Rattle.constriction_chain.specs.Chain.{ChainState, IsChain}
-use Rattle.constriction_chain.specs.Words.{IsOneAbove, remainder_words}
+use Rattle.constriction_chain.specs.Words.{remainder_words}
 
 -- the words that a whole coder is exported as: those of the number of the remainders, above the compressed ones
 abbrev pub compressed_words : ℕ → ChainState → List ℕ

@@ -10,7 +10,7 @@ pub mod seeking;
 pub mod symbols;
 pub mod words;
 
-ghost use Rattle.constriction_chain.specs.Chain.{ChainValue, IsChainCoder, value_of};
+ghost use Rattle.constriction_chain.specs.Chain.{ChainValue, IsChainCoder, at_heads};
 ghost use Rattle.std.specs.Prelude.{IsTrue, ◌↔◌, ◌≡◌};
 
 use crate::heads::ChainCoderHeads;
@@ -53,8 +53,8 @@ impl<
 > Model for ChainCoder<Word, State, CompressedBackend, RemaindersBackend, PRECISION> {
     ghost Value = { ChainValue CompressedBackend RemaindersBackend };
 
-    ghost view = { λ c. value_of Word.number CompressedBackend.words RemaindersBackend.words
-        (Word.number c.heads.0) (State.number c.heads.1) c.compressed c.remainders };
+    ghost view = { λ c. at_heads Word.number State.number CompressedBackend.Holds RemaindersBackend.Holds
+        c.heads c.compressed c.remainders };
 
     ghost invariant = { λ _. Unit {0} };
 }
@@ -71,7 +71,7 @@ impl<
     type State = ChainCoderHeads<Word, State, PRECISION>;
 
     ghost shows = { λ coder heads. (Word.number heads.0 ≡ coder.state.h) × (State.number heads.1 ≡ coder.state.r)
-        × IsChainCoder Word.number C.words R.words Word.BITS State.BITS PRECISION coder };
+        × IsChainCoder Word.number C.Holds R.Holds Word.BITS State.BITS PRECISION coder };
 
     /// The two heads.
     #[inline]
@@ -104,9 +104,8 @@ impl<
         remainders: R,
         heads: ChainCoderHeads<Word, State, PRECISION>,
     ) -> Self
-        ensures value { result ≡ value_of Word.number C.words R.words
-            (Word.number heads.0) (State.number heads.1) compressed remainders }
-        ensures coder { IsChainCoder Word.number C.words R.words Word.BITS State.BITS PRECISION result }
+        ensures value { result ≡ at_heads Word.number State.number C.Holds R.Holds heads compressed remainders }
+        ensures coder { IsChainCoder Word.number C.Holds R.Holds Word.BITS State.BITS PRECISION result }
     {
         let (left_over, number) = heads.parts();
         ChainCoder {
@@ -119,9 +118,8 @@ impl<
     /// The backends, which hold the words below the heads, and the heads.
     #[inline]
     pub fn into_raw_parts(self) -> (C, R, ChainCoderHeads<Word, State, PRECISION>)
-        ensures value { self ≡ value_of Word.number C.words R.words
-            (Word.number result.2.0) (State.number result.2.1) result.0 result.1 }
-        ensures coder { IsChainCoder Word.number C.words R.words Word.BITS State.BITS PRECISION self }
+        ensures value { self ≡ at_heads Word.number State.number C.Holds R.Holds result.2 result.0 result.1 }
+        ensures coder { IsChainCoder Word.number C.Holds R.Holds Word.BITS State.BITS PRECISION self }
     {
         let ChainCoder {
             compressed,

@@ -3,11 +3,10 @@
 
 ghost use Rattle.constriction_base.specs.Steps.{Step};
 ghost use Rattle.constriction_base.specs.Tables.{Covers};
-ghost use Rattle.constriction_base.specs.Windows.{IsInWindow};
-ghost use Rattle.constriction_chain.specs.Chain.{ChainValue, IsSized, least, value_of};
+ghost use Rattle.constriction_chain.specs.Chain.{IsRemaindersHead, IsSized, at_heads};
 ghost use Rattle.constriction_chain.specs.Steps.{EncodeCall, Halted, Kept, NotKept, Took};
 ghost use Rattle.constriction_words.specs.Reciprocals.{IsReciprocalOf};
-ghost use Rattle.std.specs.Prelude.{Err, IfSome, MatchResult, Ok, ◌%◌, ◌+◌, ◌/◌, ◌<◌, ◌^◌, ◌≡◌, ◌≤◌};
+ghost use Rattle.std.specs.Prelude.{Err, IfErr, IfOk, IfSome, Ok, ◌%◌, ◌*◌, ◌+◌, ◌-◌, ◌/◌, ◌<◌, ◌^◌, ◌≡◌, ◌≤◌};
 
 use crate::errors::{BackendError, DecoderError, EncoderError, EncoderFrontendError};
 use crate::heads::ChainCoderHeads;
@@ -29,14 +28,15 @@ pub fn take<
     remainders: &mut R,
     heads: ChainCoderHeads<Word, State, PRECISION>,
 ) -> Result<(Word, Word), DecoderError<C::ReadError, R::WriteError>>
-    ensures { MatchResult result
-        (λ found. Took Word.number C.is_list C.words R.words C.reads R.write_fails R.room R.makes_room Word.BITS State.BITS PRECISION
-        (value_of Word.number C.words R.words (Word.number heads.0) (State.number heads.1) compressed.old remainders.old)
+    ensures ok { IfOk result (λ found. Took Word.number C.Holds C.ReadWords.own R.Holds R.WriteWords.own
+        Word.BITS State.BITS PRECISION
+        (at_heads Word.number State.number C.Holds R.Holds heads compressed.old remainders.old)
         (Word.number found.0) (Word.number found.1)
-        (value_of Word.number C.words R.words (Word.number heads.0) (State.number heads.1) compressed.new remainders.new))
-        (λ e. Halted Word.number C.is_list C.words R.words C.reads R.prepare_fails R.room R.makes_room Word.BITS State.BITS PRECISION
-        (value_of Word.number C.words R.words (Word.number heads.0) (State.number heads.1) compressed.old remainders.old)
-        e (value_of Word.number C.words R.words (Word.number heads.0) (State.number heads.1) compressed.new remainders.new)) }
+        (at_heads Word.number State.number C.Holds R.Holds heads compressed.new remainders.new)) }
+    ensures err { IfErr result (λ e. Halted Word.number C.Holds C.ReadWords.own R.Holds R.WriteWords.own
+        Word.BITS State.BITS PRECISION
+        (at_heads Word.number State.number C.Holds R.Holds heads compressed.old remainders.old) e
+        (at_heads Word.number State.number C.Holds R.Holds heads compressed.new remainders.new)) }
 {
     let (h, _) = heads.parts();
     take_quantile(compressed, remainders, h, PRECISION as u32)
@@ -53,16 +53,15 @@ pub fn keep<Word: WordOf<State>, State: BitArray, R: WriteWords<Word>>(
     precision: u32,
 ) -> Result<State, R::WriteError>
     requires sized { IsSized Word.BITS State.BITS precision }
-    requires window { IsInWindow Word.BITS (least Word.BITS State.BITS precision) (State.number r) }
+    requires window { IsRemaindersHead Word.BITS State.BITS precision (State.number r) }
     requires covers { Covers (Word.number left) (Word.number p) (Word.number quantile) }
     requires few { Word.number p ≤ 2 ^ precision }
-    ensures { MatchResult result
-        (λ new. Kept Word.number R.words R.room Word.BITS State.BITS
-        record { precision = precision; left = Word.number left; p = Word.number p }
-        (Word.number quantile) (State.number r) remainders.old (State.number new) remainders.new)
-        (λ e. NotKept R.words R.write_fails Word.BITS State.BITS
-        record { precision = precision; left = Word.number left; p = Word.number p }
-        (Word.number quantile) (State.number r) remainders.old e remainders.new) }
+    ensures ok { IfOk result (λ new. Kept Word.number R.Holds R.WriteWords.own Word.BITS State.BITS precision
+        (State.number r * Word.number p + (Word.number quantile - Word.number left))
+        remainders.old (State.number new) remainders.new) }
+    ensures err { IfErr result (λ e. NotKept R.Holds R.WriteWords.own Word.BITS State.BITS precision
+        (State.number r * Word.number p + (Word.number quantile - Word.number left))
+        remainders.old e remainders.new) }
 {
     let t = quantile.minus(left).widen();
     match gain::<Word, State, R>(remainders, r, p.widen(), t, precision) {
@@ -105,21 +104,20 @@ pub fn give<Word: WordOf<State>, State: BitArray, C: WriteWords<Word>, R: ReadWo
 ) -> Result<(Word, State), EncoderError<C::WriteError, R::ReadError>>
     requires sized { IsSized Word.BITS State.BITS precision }
     requires head { 0 < Word.number heads.0 }
-    requires window { IsInWindow Word.BITS (least Word.BITS State.BITS precision) (State.number heads.1) }
+    requires window { IsRemaindersHead Word.BITS State.BITS precision (State.number heads.1) }
     requires some { 0 < Word.number p }
     requires inverse { IfSome reciprocal (λ r. IsReciprocalOf r (Word.number p)) }
     requires total { Word.number left + Word.number p ≤ 2 ^ precision }
-    ensures { MatchResult result
-        (λ new. EncodeCall Word.number R.is_list C.words R.words R.reads C.prepare_fails C.write_fails C.room C.makes_room
-        Word.BITS State.BITS
-        (value_of Word.number C.words R.words (Word.number heads.0) (State.number heads.1) compressed.old remainders.old)
+    ensures ok { IfOk result (λ new. EncodeCall Word.number C.Holds C.WriteWords.own R.Holds R.ReadWords.own Word.BITS
+        State.BITS
+        (at_heads Word.number State.number C.Holds R.Holds heads compressed.old remainders.old)
         record { precision = precision; left = Word.number left; p = Word.number p } (Ok tt)
-        (value_of Word.number C.words R.words (Word.number new.0) (State.number new.1) compressed.new remainders.new))
-        (λ e. EncodeCall Word.number R.is_list C.words R.words R.reads C.prepare_fails C.write_fails C.room C.makes_room
-        Word.BITS State.BITS
-        (value_of Word.number C.words R.words (Word.number heads.0) (State.number heads.1) compressed.old remainders.old)
+        (at_heads Word.number State.number C.Holds R.Holds new compressed.new remainders.new)) }
+    ensures err { IfErr result (λ e. EncodeCall Word.number C.Holds C.WriteWords.own R.Holds R.ReadWords.own Word.BITS
+        State.BITS
+        (at_heads Word.number State.number C.Holds R.Holds heads compressed.old remainders.old)
         record { precision = precision; left = Word.number left; p = Word.number p } (Err e)
-        (value_of Word.number C.words R.words (Word.number heads.0) (State.number heads.1) compressed.new remainders.new)) }
+        (at_heads Word.number State.number C.Holds R.Holds heads compressed.new remainders.new)) }
 {
     let (h, r) = heads;
     let p: State = p.widen();

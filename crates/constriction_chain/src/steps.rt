@@ -1,11 +1,11 @@
 //! The parts of a step, each on one side of the coder.
 
-ghost use Rattle.std.specs.Prelude.{◌≡◌, ◌⊎◌, ◌+◌, ◌-◌, ◌*◌, ◌/◌, ◌%◌, ◌^◌, ◌<◌, ◌≤◌, length, map, None, Ok, Err, IfOk, IfErr, OnErr, OnOk, MatchBool, MatchOption, MatchResult};
-ghost use Rattle.constriction_base.specs.Windows.{IsInWindow};
-ghost use Rattle.constriction_chain.specs.Walk.{IsQuantile, NeedsWord, OwesWord};
-ghost use Rattle.constriction_chain.specs.Chain.{IsSized, IsBroughtBelow, least};
-ghost use Rattle.constriction_chain.specs.Steps.{Taken, Halts, RegainedBy};
-ghost use Rattle.constriction_chain.specs.Words.{ReadsAs};
+ghost use Rattle.constriction_chain.specs.Chain.{IsRemaindersHead, IsSized, least};
+ghost use Rattle.constriction_chain.specs.Steps.{Given, Halts, Kept, Lacks, NotKept, Prepared, Regained, Taken};
+ghost use Rattle.constriction_chain.specs.Walk.{NeedsWord, OwesWord};
+ghost use Rattle.constriction_chain.specs.Words.{IfFound, OnNone};
+ghost use Rattle.std.specs.Prelude.{Err, IfErr, IfOk, MatchBool, None, Ok, OnErr, OnOk};
+ghost use Rattle.std.specs.Prelude.{◌%◌, ◌*◌, ◌+◌, ◌-◌, ◌/◌, ◌<◌, ◌^◌, ◌≡◌, ◌≤◌};
 
 use crate::errors::{BackendError, DecoderError, DecoderFrontendError};
 use constriction_base::backends::{Holds, ReadWords, Stack, WriteWords};
@@ -52,14 +52,17 @@ pub fn take_quantile<Word: BitArray, C: ReadWords<Word, Stack>, R: WriteWords<Wo
 ) -> Result<(Word, Word), DecoderError<C::ReadError, R::WriteError>>
     requires sized { (1 ≤ precision) × (precision ≤ Word.BITS) }
     requires some { 0 < Word.number h }
-    ensures { MatchResult result
-        (λ found. Taken Word.number C.is_list C.words C.reads R.words R.write_fails R.room R.makes_room
-        Word.BITS precision (Word.number h) compressed.old remainders.old (Word.number found.0) (Word.number found.1) compressed.new remainders.new)
-        (λ e. Halts C.words C.is_list C.reads R.prepare_fails R.room R.makes_room Word.BITS precision (Word.number h)
-        compressed.old remainders.old e compressed.new remainders.new
-        × (R.words remainders.new ≡ R.words remainders.old)
-        × (C.is_list → C.words compressed.new ≡ C.words compressed.old)
-        × (R.room remainders.old ≤ R.room remainders.new)) }
+    ensures ok { IfOk result (λ found. Taken Word.number C.Holds C.ReadWords.own R.Holds R.WriteWords.own Word.BITS
+        precision (Word.number h)
+        compressed.old remainders.old
+        (Word.number found.0) (Word.number found.1) compressed.new remainders.new) }
+    ensures err { IfErr result (λ e. Halts Word.number C.Holds C.ReadWords.own R.Holds R.WriteWords.own Word.BITS
+        precision (Word.number h)
+        compressed.old remainders.old
+        e compressed.new remainders.new) }
+    ensures others { OnErr result (R.words remainders.new ≡ R.words remainders.old) }
+    ensures kept { OnErr result (C.is_list → C.words compressed.new ≡ C.words compressed.old) }
+    ensures room { OnErr result (R.room remainders.old ≤ R.room remainders.new) }
 {
     if !needs_word(h, precision) {
         return Ok((h.low_bits(precision), h.shifted_right(precision)));
@@ -84,19 +87,13 @@ pub fn gain<Word: WordOf<State>, State: BitArray, R: WriteWords<Word>>(
     precision: u32,
 ) -> Result<State, R::WriteError>
     requires sized { IsSized Word.BITS State.BITS precision }
-    requires window { IsInWindow Word.BITS (least Word.BITS State.BITS precision) (State.number r) }
+    requires window { IsRemaindersHead Word.BITS State.BITS precision (State.number r) }
     requires inside { State.number t < State.number p }
     requires few { State.number p ≤ 2 ^ precision }
-    ensures ok { IfOk result (λ x. IsBroughtBelow Word.BITS (least Word.BITS State.BITS precision)
-        (State.number r * State.number p + State.number t) (map Word.number (R.words remainders.old))
-        (State.number x) (map Word.number (R.words remainders.new))) }
-    ensures window { IfOk result (λ x. IsInWindow Word.BITS (least Word.BITS State.BITS precision) (State.number x)) }
-    ensures err { IfErr result (λ e. R.write_fails remainders.old e
-        × (least Word.BITS State.BITS precision * 2 ^ Word.BITS ≤ State.number r * State.number p + State.number t)) }
-    ensures untouched { OnOk result (State.number r * State.number p + State.number t < least Word.BITS State.BITS precision * 2 ^ Word.BITS
-        → remainders.new ≡ remainders.old) }
-    ensures kept { OnErr result (R.words remainders.new ≡ R.words remainders.old) }
-    ensures room { OnOk result (R.room remainders.old + length (R.words remainders.old) ≤ R.room remainders.new + length (R.words remainders.new)) }
+    ensures ok { IfOk result (λ x. Kept Word.number R.Holds R.WriteWords.own Word.BITS State.BITS precision
+        (State.number r * State.number p + State.number t) remainders.old (State.number x) remainders.new) }
+    ensures err { IfErr result (λ e. NotKept R.Holds R.WriteWords.own Word.BITS State.BITS precision
+        (State.number r * State.number p + State.number t) remainders.old e remainders.new) }
 {
     let gained = r.times(p).plus(t);
     if gained.shifted_right(State::BITS - precision).is_nothing() {
@@ -126,12 +123,11 @@ pub fn prepare_for_quantile<Word: BitArray, C: WriteWords<Word>>(
     precision: u32,
 ) -> Result<(), C::WriteError>
     requires { (1 ≤ precision) × (precision ≤ Word.BITS) }
-    ensures ok { IfOk result (λ _. (C.makes_room → OwesWord Word.BITS precision (Word.number h) → 0 < C.room compressed.new)
-        × ((e : C.WriteError) → C.write_fails compressed.new e → C.write_fails compressed.old e)
-        × ((OwesWord Word.BITS precision (Word.number h) → ⊥) → compressed.new ≡ compressed.old)
-        × (C.room compressed.old ≤ C.room compressed.new)) }
-    ensures err { IfErr result (λ e. OwesWord Word.BITS precision (Word.number h) × C.prepare_fails compressed.old 1 e
-        × (C.room compressed.old ≤ C.room compressed.new)) }
+    ensures ok { OnOk result (Prepared C.WriteWords.own Word.BITS precision
+        (Word.number h) compressed.old compressed.new) }
+    ensures err { IfErr result (λ e. OwesWord Word.BITS precision (Word.number h)
+        × C.prepare_fails compressed.old 1 e) }
+    ensures room { OnErr result (C.room compressed.old ≤ C.room compressed.new) }
     ensures words { C.words compressed.new ≡ C.words compressed.old }
 {
     if owes_word(h, precision) {
@@ -152,10 +148,8 @@ pub fn give_quantile<Word: BitArray, C: WriteWords<Word>>(
     requires sized { (1 ≤ precision) × (precision ≤ Word.BITS) }
     requires some { 0 < Word.number h }
     requires below { Word.number quantile < 2 ^ precision }
-    ensures ok { IfOk result (λ x. IsQuantile Word.BITS precision (Word.number x) (map Word.number (C.words compressed.new))
-        (Word.number quantile) (Word.number h) (map Word.number (C.words compressed.old))
-        × ((OwesWord Word.BITS precision (Word.number h) → ⊥) → compressed.new ≡ compressed.old)
-        × (C.room compressed.old + length (C.words compressed.old) ≤ C.room compressed.new + length (C.words compressed.new))) }
+    ensures ok { IfOk result (λ x. Given Word.number C.Holds C.WriteWords.own Word.BITS precision (Word.number h)
+        compressed.old (Word.number quantile) (Word.number x) compressed.new) }
     ensures some { IfOk result (λ x. 0 < Word.number x) }
     ensures err { IfErr result (λ e. OwesWord Word.BITS precision (Word.number h) × C.write_fails compressed.old e) }
     ensures kept { OnErr result (C.words compressed.new ≡ C.words compressed.old) }
@@ -193,21 +187,17 @@ pub fn regain<Word: WordOf<State>, State: BitArray, R: ReadWords<Word, Stack>>(
     precision: u32,
 ) -> Result<Option<State>, R::ReadError>
     requires sized { IsSized Word.BITS State.BITS precision }
-    requires window { IsInWindow Word.BITS (least Word.BITS State.BITS precision) (State.number r) }
+    requires window { IsRemaindersHead Word.BITS State.BITS precision (State.number r) }
     requires some { 0 < State.number p }
     requires few { State.number p ≤ 2 ^ precision }
-    ensures { MatchResult result (λ found. MatchOption found
-        ((State.number r < State.number p * least Word.BITS State.BITS precision)
-        × ReadsAs R.words R.is_list R.reads remainders.old (Ok None) remainders.new
-        × (R.is_list → R.words remainders.new ≡ R.words remainders.old))
-        (λ v. RegainedBy Word.number R.reads Word.BITS (State.number p * least Word.BITS State.BITS precision)
-        (State.number r) remainders.old (State.number v) remainders.new
-        × (R.is_list → IsBroughtBelow Word.BITS (least Word.BITS State.BITS precision)
-        (State.number v) (map Word.number (R.words remainders.new)) (State.number r) (map Word.number (R.words remainders.old)))
-        × IsInWindow Word.BITS (least Word.BITS State.BITS precision) (State.number v / State.number p)))
-        (λ e. (State.number r < State.number p * least Word.BITS State.BITS precision)
-        × ReadsAs R.words R.is_list R.reads remainders.old (Err e) remainders.new
-        × (R.is_list → R.words remainders.new ≡ R.words remainders.old)) }
+    ensures some { IfFound result (λ v. Regained Word.number R.Holds R.ReadWords.own Word.BITS State.BITS precision
+        (State.number p) (State.number r) remainders.old (State.number v) remainders.new) }
+    ensures none { OnNone result (Lacks R.Holds R.ReadWords.own
+        (State.number p * least Word.BITS State.BITS precision) (State.number r) remainders.old
+        (Ok None) remainders.new) }
+    ensures err { IfErr result (λ e. Lacks R.Holds R.ReadWords.own
+        (State.number p * least Word.BITS State.BITS precision) (State.number r) remainders.old
+        (Err e) remainders.new) }
 {
     if !is_short::<Word, State>(r, p, precision) {
         return Ok(Some(r));

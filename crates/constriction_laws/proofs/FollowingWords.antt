@@ -5,8 +5,8 @@ use Rattle.constriction_base.specs.Models.{Item, AreModels}
 use Rattle.constriction_queue.specs.Range.{Run, Within, run, sealed, start}
 use Rattle.constriction_queue.proofs.ReadingRuns.{law_reads}
 use Rattle.constriction_queue.proofs.SealedRuns.{sealed_reads_followed, words-append}
-use Rattle.constriction_queue_laws.specs.Symbols.{NarrowsAll, FindsAll}
-use Rattle.constriction_queue_laws.proofs.Entries.{entries, are_steps, run_is}
+use Rattle.constriction_queue.specs.Symbols.{NarrowsAll, FindsAll}
+use Rattle.constriction_queue.proofs.Entries.{entries, are_steps, run_is}
 use Rattle.constriction_queue_laws.proofs.Sealing.{sealed_words}
 
 within_before : {S : Type 0} (w s : ℕ) (item : Item S) (items : List (Item S)) (last : Run) (rest : List ℕ) → IsSizes w s → s / w ≡ 2

@@ -7,8 +7,8 @@ use Rattle.constriction_base.specs.Models.{Item, AreModels}
 use Rattle.constriction_stack.specs.Ans.{AnsState, IsPush}
 use Rattle.constriction_stack.specs.Symbols.{EncodesAll}
 use Rattle.constriction_queue.specs.Range.{Run}
-use Rattle.constriction_queue_laws.specs.Symbols as queue
-use Rattle.constriction_queue_laws.proofs.Entries.{entries}
+use Rattle.constriction_queue.specs.Symbols as queue
+use Rattle.constriction_queue.proofs.Entries.{entries}
 use Rattle.constriction_laws.specs.Bounds.{AreEntries, product, share, rounded_whole}
 use Rattle.constriction_stack_laws.proofs.Choosing.{step_of}
 

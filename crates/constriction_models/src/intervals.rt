@@ -13,7 +13,7 @@ pub fn interval<Probability: WordOf<u32>>(
     requires some { left < end }
     requires fits { left < 2 ^ Probability.BITS }
     requires long { end - left < 2 ^ Probability.BITS }
-    ensures left { Probability.number result.0 ≡ left }
+    ensures lower { Probability.number result.0 ≡ left }
     ensures long { Probability.nonzero_number result.1 ≡ end - left }
 {
     (

@@ -4,16 +4,17 @@ use Rattle.std.proofs.lemmas.List.{length-map}
 use native.Mathlib.Nat.{add-mul-mod_self_right}
 use Rattle.std.specs.Int.NonZero.{non_zero_usize_get}
 use Rattle.constriction_base.specs.Steps.{IsSizes, AreWords}
+use Rattle.constriction_base.specs.declared.backends.reading.Holds as holding
 use Rattle.constriction_queue.specs.declared.situation.EncoderSituation.{EncoderSituation}
 use Rattle.constriction_queue.specs.declared.situation.HeldWords.{HeldWords}
 use Rattle.constriction_queue.specs.Encoder.{IsEncoder, PartsFit, encoder_of, number_of, released_of, run_of, word_of}
 use Rattle.constriction_queue.proofs.Seals.{words_held_fit}
 
 -- the encoder of parts that fit
-pub is_encoder : {Word B : Type 0} (number : Word → ℕ) (words_in : B → List Word) (w s lower range : ℕ) (bulk : B) (situation : EncoderSituation Word)
+pub is_encoder : {Word B S : Type 0} (number : Word → ℕ) (holds : holding.Ghosts B Word S) (w s lower range : ℕ) (bulk : B) (situation : EncoderSituation Word)
     → IsSizes w s → PartsFit number w s situation lower range → 2 ^ (s - w) ≤ range → lower < 2 ^ s → range < 2 ^ s
-    → IsEncoder number words_in w s (encoder_of number words_in w lower range bulk situation)
-is_encoder number words_in w s lower range bulk situation sizes fits least lower_fits range_fits =
+    → IsEncoder number holds w s (encoder_of number holds w lower range bulk situation)
+is_encoder number holds w s lower range bulk situation sizes fits least lower_fits range_fits =
     record { sizes = sizes; words_are = refl; situation = situation; held_is = refl; fits = fits; least = least; lower_fits = lower_fits; range_fits = range_fits }
 
 -- words that were held are words

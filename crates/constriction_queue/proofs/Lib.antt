@@ -19,6 +19,7 @@ pub mod Exhausted
 pub mod Cuts
 pub mod WordsRead
 pub mod Narrowing
+pub mod Entries
 pub mod ReadingRuns
 pub mod SealedRuns
 pub mod SelfDelimited

@@ -1,9 +1,13 @@
--- What is owed at once, in its parts; and what follows of a result.
-use Rattle.std.specs.Prelude.{Option, Result, Ok, Err, OnOk, OnErr, IfErr}
-use Rattle.std.proofs.Common.{◌≡◌, ℕ, ◌+◌, ◌-◌, ◌<◌, ◌≤◌, List, [], ◌∷◌, ◌++◌, length, length-append, append_assoc, replicate, sym, ap, ◌∙◌, arith, ◌⊎◌, inr}
+-- What is owed at once, in its parts.
+use Rattle.std.specs.Prelude.{Option, Result, Ok, Err}
+use Rattle.std.proofs.Common.{◌≡◌, ℕ, ◌+◌, ◌-◌, ◌<◌, ◌≤◌, List, [], ◌∷◌, ◌++◌, length, length-append, append_assoc, map, replicate, refl, sym, ap, subst, ◌∙◌, arith, inl, inr}
+use Rattle.std.proofs.lemmas.Bool.{cases_lt}
+use Rattle.constriction_base.specs.Writing.{WritesAll}
+use Rattle.constriction_base.specs.declared.backends.reading.Holds as holding
+use Rattle.constriction_base.specs.declared.backends.writing.WriteWords as writing
+use Rattle.constriction_base.proofs.Written.{begun_none}
 use Rattle.constriction_queue.specs.declared.situation.HeldWords.{HeldWords}
-use Rattle.constriction_queue.proofs.Begun.{length-words_held, more_begun}
-use Rattle.constriction_queue.specs.Writing.{IsBegun}
+use Rattle.constriction_queue.proofs.Begun.{held_more, held_part, length-words_held, more_begun, part_begun}
 use Rattle.constriction_queue.specs.Encoder.{owed_of, released_of, word_of, words_held}
 
 -- held words are some
@@ -15,12 +19,6 @@ pub length-owed : {Word : Type 0} (number : Word → ℕ) (held : Option (HeldWo
 length-owed number held top last =
     length-append (word_of number last) (word_of number top ++ released_of number held) ∙ ap (λ n. length (word_of number last) + n) (length-append (word_of number top) (released_of number held))
 
--- part after part makes all of it
-pub behind_onto : {Word : Type 0} (number : Word → ℕ) (held : Option (HeldWords Word)) (top : Option Word) (ws first second : List ℕ)
-    → first ≡ released_of number held ++ ws → second ≡ word_of number top ++ first → second ≡ (word_of number top ++ released_of number held) ++ ws
-behind_onto number held top ws first second first_is second_is =
-    second_is ∙ ap (λ (vs : List ℕ). word_of number top ++ vs) first_is ∙ sym (append_assoc (word_of number top) (released_of number held) ws)
-
 -- one more held word is one more
 pub held_one_more : (x count first : ℕ) → 0 < count → length (words_held x (count + 1) first) ≤ length (words_held x count first) + 1
 held_one_more x count first some = omega (arith, length-words_held x (count + 1) first (omega arith), length-words_held x count first some)
@@ -29,41 +27,66 @@ held_one_more x count first some = omega (arith, length-words_held x (count + 1)
 pub held_never : (x count first : ℕ) → words_held x count first ≡ [] → ⊥
 held_never x count first none = omega (arith, ap length none, words_some x count first)
 
--- ---- the last write, by its result
-pub last_ok : {T E : Type 0} (r : Result T E) (last behind old mid new : List ℕ) → mid ≡ behind ++ old → OnOk r (new ≡ last ++ mid) → OnOk r (new ≡ (last ++ behind) ++ old)
-last_ok (Ok x) last behind old mid new is holds = holds ∙ ap (λ (vs : List ℕ). last ++ vs) is ∙ sym (append_assoc last behind old)
-last_ok (Err e) last behind old mid new is holds = tt
+-- ---- words that are written one after another
+module _ {Word B E S : Type 0} (number : Word → ℕ) (holds : holding.Ghosts B Word S) (writes : writing.Ghosts B Word E) where
+  pub none_written : (b : B) → WritesAll number holds writes [] b (Ok tt) b
+  none_written b = record { words = refl; room_used = omega arith; begun = tt; short = tt; error = tt }
 
-pub last_room : {T E : Type 0} (r : Result T E) (last behind owed old mid new : ℕ) → owed ≡ last + behind → old ≤ mid + behind → OnOk r (mid ≤ new + last) → OnOk r (old ≤ new + owed)
-last_room (Ok x) last behind owed old mid new is before holds = omega (arith, is, before, holds)
-last_room (Err e) last behind owed old mid new is before holds = tt
+  -- a write
+  pub one_written : (word : Word) (old new : B) → holds.words new ≡ word ∷ holds.words old → writes.room old ≤ writes.room new + 1 → WritesAll number holds writes (number word ∷ []) old (Ok tt) new
+  one_written word old new is room = record { words = ap (map number) is; room_used = room; begun = tt; short = tt; error = tt }
 
-pub last_untouched : {T E : Type 0} (Q : Type 0) (r : Result T E) (owed : List ℕ) → 0 < length owed → OnOk r (owed ≡ [] → Q)
-last_untouched Q (Ok x) owed some = λ none. absurd (omega (arith, ap length none, some))
-last_untouched Q (Err e) owed some = tt
+  pub one_refused : ((b : B) (e : E) → 0 < writes.room b → writes.write_fails b e → ⊥) → (word : Word) (old new : B) (e : E) → holds.words new ≡ holds.words old → writes.write_fails old e
+      → WritesAll number holds writes (number word ∷ []) old (Err e) new
+  one_refused law word old new e same fails =
+      record {
+        words = tt;
+        room_used = tt;
+        begun = rw same (begun_none (number word ∷ []) (map number (holds.words old)) (omega arith));
+        short = elim (cases_lt (writes.room old) 1) [ inl less ↦ less | inr more ↦ absurd (law old e (omega (arith, more)) fails) ];
+        error = (old, fails, sym same);
+      }
 
-pub last_begun : {T E : Type 0} (r : Result T E) (last behind old mid new : List ℕ) → mid ≡ behind ++ old → OnErr r (IsBegun last mid new) → OnErr r (IsBegun (last ++ behind) old new)
-last_begun (Ok x) last behind old mid new is holds = tt
-last_begun (Err e) last behind old mid new is holds = more_begun last behind old new (rw is at holds)
+  -- a first part and the rest
+  pub then_all : (first last : List ℕ) (old mid new : B) (answer : Result (Unit {0}) E) → WritesAll number holds writes first old (Ok tt) mid → WritesAll number holds writes last mid answer new
+      → WritesAll number holds writes (last ++ first) old answer new
+  then_all first last old mid new (Ok done) i j =
+      record {
+        words = j.words ∙ ap (λ (ws : List ℕ). last ++ ws) i.words ∙ sym (append_assoc last first (map number (holds.words old)));
+        room_used = omega (arith, i.room_used, j.room_used, length-append last first);
+        begun = tt;
+        short = tt;
+        error = tt;
+      }
+  then_all first last old mid new (Err e) i j =
+      record {
+        words = tt;
+        room_used = tt;
+        begun = more_begun last first (map number (holds.words old)) (map number (holds.words new)) (rw i.words at j.begun);
+        short = omega (arith, i.room_used, j.short, length-append last first);
+        error = j.error;
+      }
 
-pub last_short : {T E : Type 0} (r : Result T E) (last behind owed old mid : ℕ) → owed ≡ last + behind → old ≤ mid + behind → OnErr r (mid < last) → OnErr r (old < owed)
-last_short (Ok x) last behind owed old mid is before short = tt
-last_short (Err e) last behind owed old mid is before short = omega (arith, is, before, short)
+  -- a first part was refused
+  pub part_refused : (first last : List ℕ) (old new : B) (e : E) → WritesAll number holds writes first old (Err e) new → WritesAll number holds writes (last ++ first) old (Err e) new
+  part_refused first last old new e i =
+      record {
+        words = tt;
+        room_used = tt;
+        begun = part_begun last first (map number (holds.words old)) (map number (holds.words new)) i.begun;
+        short = omega (arith, i.short, length-append last first);
+        error = i.error;
+      }
 
--- it isn't refused where there is room
-pub last_never : {T E : Type 0} (Q : Type 0) (r : Result T E) (last mid : ℕ) → last ≤ mid → OnErr r (mid < last) → OnErr r Q
-last_never Q (Ok x) last mid enough short = tt
-last_never Q (Err e) last mid enough short = absurd (omega (arith, enough, short))
+  -- held words, the first of which were written
+  pub held_written : (x first i : ℕ) → 1 ≤ i → (old mid new : B) → WritesAll number holds writes (words_held x i first) old (Ok tt) mid → WritesAll number holds writes (x ∷ []) mid (Ok tt) new
+      → WritesAll number holds writes (words_held x (i + 1) first) old (Ok tt) new
+  held_written x first i some old mid new before more =
+      subst (λ (ws : List ℕ). WritesAll number holds writes ws old (Ok tt) new) (held_more x i first some) (then_all (words_held x i first) (x ∷ []) old mid new (Ok tt) before more)
 
-pub last_err : {T E M : Type 0} (A B : E → Type 0) (r : Result T E) (last mid : ℕ) → (M → last ≤ mid) → OnErr r (mid < last) → IfErr r B → IfErr r (λ e. A e ⊎ ((M → ⊥) × B e))
-last_err A B (Ok x) last mid enough short fails = tt
-last_err A B (Err e) last mid enough short fails = inr (λ makes. omega (arith, enough makes, short), fails)
-
--- one held word, and another behind it
-pub one_room : {T E : Type 0} (r : Result T E) (last : List ℕ) (first old new : ℕ) → OnOk r (old ≤ new + length last + 1) → OnOk r (old ≤ new + length (last ++ first ∷ []))
-one_room (Ok x) last first old new holds = omega (arith, length-append last (first ∷ []), holds)
-one_room (Err e) last first old new holds = tt
-
-pub one_short : {T E : Type 0} (r : Result T E) (last : List ℕ) (first old : ℕ) → OnErr r (old < length last + 1) → OnErr r (old < length (last ++ first ∷ []))
-one_short (Ok x) last first old holds = tt
-one_short (Err e) last first old holds = omega (arith, length-append last (first ∷ []), holds)
+  pub held_refused : (x count first i : ℕ) → 1 ≤ i → i < count → (old mid new : B) (e : E) → WritesAll number holds writes (words_held x i first) old (Ok tt) mid → WritesAll number holds writes (x ∷ []) mid (Err e) new
+      → WritesAll number holds writes (words_held x count first) old (Err e) new
+  held_refused x count first i some less old mid new e before refused =
+      let more = ap (λ (ws : List ℕ). replicate (count - (i + 1)) x ++ ws) (held_more x i first some) ∙ held_part x count first (i + 1) (omega arith) (omega (arith, less)) in
+      subst (λ (ws : List ℕ). WritesAll number holds writes ws old (Err e) new) more
+      (part_refused (x ∷ words_held x i first) (replicate (count - (i + 1)) x) old new e (then_all (words_held x i first) (x ∷ []) old mid new (Err e) before refused))

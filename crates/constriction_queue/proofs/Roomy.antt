@@ -2,6 +2,8 @@
 use Rattle.std.proofs.Common.{◌≡◌, ℕ, ◌+◌, ◌-◌, ◌^◌, ◌≤◌, List, ◌++◌, length, length-append, ap, arith, lt-ltb, le-ltb, inl, inr}
 use Rattle.std.proofs.lemmas.Bool.{cases_lt}
 use Rattle.constriction_base.specs.Steps.{Step}
+use Rattle.constriction_base.specs.declared.backends.reading.Holds as holding
+use Rattle.constriction_base.specs.declared.backends.writing.WriteWords as writing
 use Rattle.constriction_queue.specs.Range.{Run, cut, grown, narrow}
 use Rattle.constriction_queue.specs.Encoder.{Encoder, Owes, held_of, run_by}
 use Rattle.constriction_queue.specs.Calls.{IsRefused}
@@ -23,7 +25,7 @@ owed_few number w s step old owed owes =
     omega (arith, moves, step_moves, length-append held (owed ++ old.words), length-append owed old.words, length-append old.held old.words)
 
 -- where a backend has room for so many, no step is refused, as over a cursor that is long enough
-pub room_enough : {Word B E : Type 0} (number : Word → ℕ) (words_in : B → List Word) (w s : ℕ) (room : B → ℕ) (makes_room : Type 0) (prepare_fails : B → ℕ → E → Type 0) (write_fails : B → E → Type 0) (old : Encoder B) (step : Step) (e : E) (new : Encoder B)
-    → length old.held + 1 ≤ room old.bulk → IsRefused number words_in w s room makes_room prepare_fails write_fails old step e new → ⊥
-room_enough number words_in w s room makes_room prepare_fails write_fails old step e new enough refused =
+pub room_enough : {Word B E S : Type 0} (number : Word → ℕ) (holds : holding.Ghosts B Word S) (writes : writing.Ghosts B Word E) (w s : ℕ) (old : Encoder B) (step : Step) (e : E) (new : Encoder B)
+    → length old.held + 1 ≤ writes.room old.bulk → IsRefused number holds writes w s old step e new → ⊥
+room_enough number holds writes w s old step e new enough refused =
     omega (arith, enough, refused.short, owed_few number w s step old refused.owed refused.owes)

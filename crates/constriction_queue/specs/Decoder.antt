@@ -1,7 +1,10 @@
 -- What a range decoder holds, and which quantile it reads.
-use Rattle.std.specs.Prelude.{◌≡◌, ℕ, ◌+◌, ◌-◌, ◌*◌, ◌/◌, ◌%◌, ◌<◌, ◌≤◌, ◌^◌, ◌⊎◌, Bool, true, false, IsTrue, List, [], ◌∷◌, ◌++◌, Option, Some, None, Result, Ok, Err, map, drop, length}
+use Rattle.std.specs.Prelude.{◌≡◌, ℕ, ◌+◌, ◌-◌, ◌*◌, ◌/◌, ◌%◌, ◌<◌, ◌≤◌, ◌^◌, ◌⊎◌, Bool, true, false, IsTrue, List, [], ◌∷◌, ◌++◌, Some, None, Ok, Err, map, drop, length}
 use Rattle.constriction_base.specs.Steps.{Step, IsSizes}
-use Rattle.constriction_queue.specs.Range.{Run, IsAt, number_of_first}
+use Rattle.constriction_base.specs.declared.backends.reading.Holds as holding
+use Rattle.constriction_base.specs.declared.backends.reading.ReadWords as reading
+use Rattle.constriction_queue.specs.declared.reading.Placed.{Placed}
+use Rattle.constriction_queue.specs.Range.{Run, IsAt, narrow, number_of_first}
 
 -- a decoder: its backend, the words that are left to read, its interval, and its point (the code value of range decoders:
 -- the words that were read last, as many as a state has)
@@ -13,14 +16,22 @@ pub record Decoder (B : Type 0) : Type 0 where
   pub point : ℕ
 
 -- the decoder of these parts
-abbrev pub decoder_of : {Word B : Type 0} → (Word → ℕ) → (B → List Word) → ℕ → ℕ → ℕ → B → Decoder B
-decoder_of number words_in lower range point bulk = record { bulk = bulk; words = map number (words_in bulk); lower = lower; range = range; point = point }
+abbrev pub decoder_of : {Word B S : Type 0} → (Word → ℕ) → holding.Ghosts B Word S → ℕ → ℕ → ℕ → B → Decoder B
+decoder_of number holds lower range point bulk = record { bulk = bulk; words = map number (holds.words bulk); lower = lower; range = range; point = point }
+
+-- the same, where the point lies so far above the interval's low end
+abbrev pub decoder_at : {Word B S : Type 0} → (Word → ℕ) → holding.Ghosts B Word S → ℕ → ℕ → ℕ → ℕ → B → Decoder B
+decoder_at number holds s lower range distance bulk = decoder_of number holds lower range ((distance + lower) % 2 ^ s) bulk
+
+-- and where it does so of what a step leaves
+abbrev pub placed_over : {Word State B S : Type 0} → (Word → ℕ) → (State → ℕ) → holding.Ghosts B Word S → ℕ → Placed State → B → Decoder B
+placed_over number state holds s placed bulk = decoder_at number holds s (state placed.lower) (state placed.range) (state placed.distance) bulk
 
 -- what is true of every decoder: its sizes are allowed, the words left are those of its backend, and its interval is long
 -- enough and a state, as its point is
-pub record IsDecoder {Word B : Type 0} (number : Word → ℕ) (words_in : B → List Word) (w s : ℕ) (d : Decoder B) : Type 0 where
+pub record IsDecoder {Word B S : Type 0} (number : Word → ℕ) (holds : holding.Ghosts B Word S) (w s : ℕ) (d : Decoder B) : Type 0 where
   pub sizes : IsSizes w s
-  pub words_are : d.words ≡ map number (words_in d.bulk)
+  pub words_are : d.words ≡ map number (holds.words d.bulk)
   pub least : 2 ^ (s - w) ≤ d.range
   pub lower_fits : d.lower < 2 ^ s
   pub range_fits : d.range < 2 ^ s
@@ -34,6 +45,14 @@ distance s d = (d.point + (2 ^ s - d.lower)) % 2 ^ s
 abbrev pub quantile_read : {B : Type 0} → ℕ → ℕ → Decoder B → ℕ
 quantile_read s precision d = distance s d / (d.range / 2 ^ precision)
 
+-- a decoder stands at this run of reading the words
+abbrev pub StandsAt : {B : Type 0} → ℕ → ℕ → List ℕ → Run → Decoder B → Type 0
+StandsAt w s words r d = IsAt w s words r d.lower d.range d.point d.words
+
+-- from each moment of reading words it goes to another
+abbrev pub Follows : {B : Type 0} → ℕ → ℕ → (Run → Run) → Decoder B → Decoder B → Type 0
+Follows w s next old new = (words : List ℕ) (r : Run) → StandsAt w s words r old → StandsAt w s words (next r) new
+
 -- a step's interval grows by a word, which is read
 abbrev pub OwesRead : ℕ → ℕ → Step → ℕ → Type 0
 OwesRead w s e range = range / 2 ^ e.precision * e.p < 2 ^ (s - w)
@@ -41,54 +60,58 @@ OwesRead w s e range = range / 2 ^ e.precision * e.p < 2 ^ (s - w)
 -- ---- words that are read
 
 -- one word was read, as a number; where none was left, it is 0
-abbrev pub TakesWord : {Word E B : Type 0} → (Word → ℕ) → (B → Result (Option Word) E → B → Type 0) → B → ℕ → B → Type 0
-TakesWord {Word} number reads old x new = ((word : Word) × reads old (Ok (Some word)) new × (x ≡ number word)) ⊎ (reads old (Ok None) new × (x ≡ 0))
+abbrev pub TakesWord : {Word E B S : Type 0} → (Word → ℕ) → reading.Ghosts B Word S E → B → ℕ → B → Type 0
+TakesWord {Word} number reads old x new = ((word : Word) × reads.reads old (Ok (Some word)) new × (x ≡ number word)) ⊎ (reads.reads old (Ok None) new × (x ≡ 0))
 
 -- these words were, one after another, and each read gave one
-abbrev pub TakesWords : {Word E B : Type 0} → (Word → ℕ) → (B → Result (Option Word) E → B → Type 0) → B → List ℕ → B → Type 0
+abbrev pub TakesWords : {Word E B S : Type 0} → (Word → ℕ) → reading.Ghosts B Word S E → B → List ℕ → B → Type 0
 TakesWords number reads old [] new = new ≡ old
 TakesWords {Word} {B = B} number reads old (x ∷ xs) new =
-    (word : Word) × (between : B) × reads old (Ok (Some word)) between × (x ≡ number word) × TakesWords number reads between xs new
+    (word : Word) × (between : B) × reads.reads old (Ok (Some word)) between × (x ≡ number word) × TakesWords number reads between xs new
 
 -- the next word of a point, and whether none is left: it is 0 then, and where that was known no read is made
-abbrev pub TakesNext : {Word E B : Type 0} → (Word → ℕ) → (B → Result (Option Word) E → B → Type 0) → B → Bool → ℕ → Bool → B → Type 0
-TakesNext {Word} number reads old false x false new = (word : Word) × reads old (Ok (Some word)) new × (x ≡ number word)
+abbrev pub TakesNext : {Word E B S : Type 0} → (Word → ℕ) → reading.Ghosts B Word S E → B → Bool → ℕ → Bool → B → Type 0
+TakesNext {Word} number reads old false x false new = (word : Word) × reads.reads old (Ok (Some word)) new × (x ≡ number word)
 TakesNext number reads old true x false new = ⊥
-TakesNext number reads old false x true new = reads old (Ok None) new × (x ≡ 0)
+TakesNext number reads old false x true new = reads.reads old (Ok None) new × (x ≡ 0)
 TakesNext number reads old true x true new = (new ≡ old) × (x ≡ 0)
 
 -- the point is the number of a backend's first words, as many as a state has, with zeros past their end; the others are
 -- left
-abbrev pub HasPoint : {Word B : Type 0} → (Word → ℕ) → (B → List Word) → ℕ → ℕ → B → ℕ → B → Type 0
-HasPoint number words_in w s old point new =
-    (point ≡ number_of_first (2 ^ w) (s / w) (map number (words_in old))) × (map number (words_in new) ≡ drop (s / w) (map number (words_in old)))
+abbrev pub HasPoint : {Word B S : Type 0} → (Word → ℕ) → holding.Ghosts B Word S → ℕ → ℕ → B → ℕ → B → Type 0
+HasPoint number holds w s old point new =
+    (point ≡ number_of_first (2 ^ w) (s / w) (map number (holds.words old))) × (map number (holds.words new) ≡ drop (s / w) (map number (holds.words old)))
 
 -- the same by the reads: as many words were read; or fewer, behind which one read more found none, and that was the last
-abbrev pub ReadsPoint : {Word E B : Type 0} → (Word → ℕ) → (B → Result (Option Word) E → B → Type 0) → ℕ → ℕ → B → ℕ → B → Type 0
+abbrev pub ReadsPoint : {Word E B S : Type 0} → (Word → ℕ) → reading.Ghosts B Word S E → ℕ → ℕ → B → ℕ → B → Type 0
 ReadsPoint {B = B} number reads w s old point new =
     (xs : List ℕ) × (((length xs ≡ s / w) × TakesWords number reads old xs new)
-    ⊎ ((length xs < s / w) × ((end : B) × TakesWords number reads old xs end × reads end (Ok None) new)))
+    ⊎ ((length xs < s / w) × ((end : B) × TakesWords number reads old xs end × reads.reads end (Ok None) new)))
     × (point ≡ number_of_first (2 ^ w) (s / w) xs)
 
 -- a read was refused, of the words that a point needs: fewer reads were made before, just these, and each gave a word
-abbrev pub RefusesPoint : {Word E B : Type 0} → (Word → ℕ) → (B → Result (Option Word) E → B → Type 0) → ℕ → ℕ → B → E → B → Type 0
+abbrev pub RefusesPoint : {Word E B S : Type 0} → (Word → ℕ) → reading.Ghosts B Word S E → ℕ → ℕ → B → E → B → Type 0
 RefusesPoint {B = B} number reads w s old e new =
-    (xs : List ℕ) × (length xs < s / w) × ((before : B) × TakesWords number reads old xs before × reads before (Err e) new)
+    (xs : List ℕ) × (length xs < s / w) × ((before : B) × TakesWords number reads old xs before × reads.reads before (Err e) new)
 
 -- a decoder before its first symbol, which read its point from the first backend
-abbrev pub BeginsOver : {Word E B : Type 0} → (Word → ℕ) → (B → Result (Option Word) E → B → Type 0) → ℕ → ℕ → B → Decoder B → Type 0
+abbrev pub BeginsOver : {Word E B S : Type 0} → (Word → ℕ) → reading.Ghosts B Word S E → ℕ → ℕ → B → Decoder B → Type 0
 BeginsOver number reads w s first d = (d.lower ≡ 0) × (d.range + 1 ≡ 2 ^ s) × ReadsPoint number reads w s first d.point d.bulk
 
 -- where these words come next, a moment of reading leads to another
-abbrev pub LeadsOn : ℕ → ℕ → (Run → Run) → List ℕ → ℕ → ℕ → ℕ → ℕ → ℕ → ℕ → Type 0
-LeadsOn w s next taken lower range point lower' range' point' =
-    (ws : List ℕ) (r : Run) (rest : List ℕ) → IsAt w s ws r lower range point (taken ++ rest) → IsAt w s ws (next r) lower' range' point' rest
+abbrev pub LeadsOn : {B : Type 0} → ℕ → ℕ → (Run → Run) → List ℕ → Decoder B → Decoder B → Type 0
+LeadsOn w s next taken old new =
+    (ws : List ℕ) (r : Run) (rest : List ℕ) → IsAt w s ws r old.lower old.range old.point (taken ++ rest) → IsAt w s ws (next r) new.lower new.range new.point rest
 
 -- by the reads: just one word was read, where one is owed, and none else
-abbrev pub ReadsOn : {Word E B : Type 0} → (Word → ℕ) → (B → Result (Option Word) E → B → Type 0) → ℕ → ℕ → (Run → Run) → Type 0 → B → ℕ → ℕ → ℕ → B → ℕ → ℕ → ℕ → Type 0
-ReadsOn number reads w s next owes old lower range point new lower' range' point' =
-    (owes × ((x : ℕ) × TakesWord number reads old x new × LeadsOn w s next (x ∷ []) lower range point lower' range' point'))
-    ⊎ ((owes → ⊥) × (new ≡ old) × LeadsOn w s next [] lower range point lower' range' point')
+abbrev pub ReadsOn : {Word E B S : Type 0} → (Word → ℕ) → reading.Ghosts B Word S E → ℕ → ℕ → (Run → Run) → Type 0 → Decoder B → Decoder B → Type 0
+ReadsOn number reads w s next owes old new =
+    (owes × ((x : ℕ) × TakesWord number reads old.bulk x new.bulk × LeadsOn w s next (x ∷ []) old new))
+    ⊎ ((owes → ⊥) × (new.bulk ≡ old.bulk) × LeadsOn w s next [] old new)
+
+-- the same of a step
+abbrev pub ReadsStep : {Word E B S : Type 0} → (Word → ℕ) → reading.Ghosts B Word S E → ℕ → ℕ → Step → Decoder B → Decoder B → Type 0
+ReadsStep number reads w s step old new = ReadsOn number reads w s (narrow w s step) (OwesRead w s step old.range) old new
 
 -- the words may have ended: the backend says so of its own, and the point lies where a seal puts it, or no symbol
 -- was decoded

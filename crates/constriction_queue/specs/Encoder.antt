@@ -3,9 +3,11 @@
 use Rattle.std.specs.Prelude.{◌≡◌, ℕ, ◌+◌, ◌-◌, ◌*◌, ◌<◌, ◌≤◌, ◌^◌, List, [], ◌∷◌, ◌++◌, length, map, replicate, drop, Option, None, Some, Bool, false, if◌then◌else◌}
 use Rattle.std.specs.Int.NonZero.{non_zero_usize_get}
 use Rattle.constriction_base.specs.Steps.{Step, IsSizes, AreWords}
+use Rattle.constriction_base.specs.declared.backends.reading.Holds as holding
 use Rattle.constriction_queue.specs.declared.situation.EncoderSituation.{EncoderSituation}
 use Rattle.constriction_queue.specs.declared.situation.EncoderSituation.TheVariants.{Normal, Inverted}
 use Rattle.constriction_queue.specs.declared.situation.HeldWords.{HeldWords}
+use Rattle.constriction_queue.specs.declared.step.Shifted.{Shifted}
 use Rattle.constriction_queue.specs.Range.{Run, narrow, sealed}
 
 -- the number of words as digits, the last word first
@@ -39,19 +41,23 @@ pub record Encoder (B : Type 0) : Type 0 where
   pub range : ℕ
 
 -- the encoder of these parts
-abbrev pub encoder_of : {Word B : Type 0} → (Word → ℕ) → (B → List Word) → ℕ → ℕ → ℕ → B → EncoderSituation Word → Encoder B
-encoder_of number words_in w lower range bulk situation =
-    record { bulk = bulk; words = map number (words_in bulk); held = held_of number w situation; lower = lower; range = range }
+abbrev pub encoder_of : {Word B S : Type 0} → (Word → ℕ) → holding.Ghosts B Word S → ℕ → ℕ → ℕ → B → EncoderSituation Word → Encoder B
+encoder_of number holds w lower range bulk situation =
+    record { bulk = bulk; words = map number (holds.words bulk); held = held_of number w situation; lower = lower; range = range }
+
+-- the encoder of what a step leaves
+abbrev pub shifted_over : {Word State B S : Type 0} → (Word → ℕ) → (State → ℕ) → holding.Ghosts B Word S → ℕ → Shifted Word State → B → Encoder B
+shifted_over number state holds w shifted bulk = encoder_of number holds w (state shifted.lower) (state shifted.range) bulk shifted.situation
 
 -- an encoder without symbols, behind the words of a backend
-abbrev pub begun_over : {Word B : Type 0} → (Word → ℕ) → (B → List Word) → ℕ → B → Encoder B
-begun_over number words_in s bulk = record { bulk = bulk; words = map number (words_in bulk); held = []; lower = 0; range = 2 ^ s - 1 }
+abbrev pub begun_over : {Word B S : Type 0} → (Word → ℕ) → holding.Ghosts B Word S → ℕ → B → Encoder B
+begun_over number holds s bulk = record { bulk = bulk; words = map number (holds.words bulk); held = []; lower = 0; range = 2 ^ s - 1 }
 
 -- what is true of every encoder: its sizes are allowed, the words written are those of its backend, its interval is long
 -- enough and a state, and the words that it holds back fit the interval
-pub record IsEncoder {Word B : Type 0} (number : Word → ℕ) (words_in : B → List Word) (w s : ℕ) (e : Encoder B) : Type 0 where
+pub record IsEncoder {Word B S : Type 0} (number : Word → ℕ) (holds : holding.Ghosts B Word S) (w s : ℕ) (e : Encoder B) : Type 0 where
   pub sizes : IsSizes w s
-  pub words_are : e.words ≡ map number (words_in e.bulk)
+  pub words_are : e.words ≡ map number (holds.words e.bulk)
   pub situation : EncoderSituation Word
   pub held_is : e.held ≡ held_of number w situation
   pub fits : PartsFit number w s situation e.lower e.range
@@ -62,6 +68,11 @@ pub record IsEncoder {Word B : Type 0} (number : Word → ℕ) (words_in : B →
 -- the run of words, held ones among them, and of an interval's state
 abbrev pub run_of : ℕ → ℕ → List ℕ → ℕ → ℕ → Run
 run_of w s words lower range = record { low = number_of (2 ^ w) words * 2 ^ s + lower; range = range; moves = length words }
+
+-- an interval with held words, and others with words between them, which together mean the changed run behind any words
+abbrev pub ChangesRun : {Word : Type 0} → (Word → ℕ) → ℕ → ℕ → (Run → Run) → EncoderSituation Word → ℕ → ℕ → List ℕ → EncoderSituation Word → ℕ → ℕ → Type 0
+ChangesRun number w s change situation lower range owed situation' lower' range' =
+    (words : List ℕ) → run_of w s (held_of number w situation' ++ (owed ++ words)) lower' range' ≡ change (run_of w s (held_of number w situation ++ words) lower range)
 
 -- the run of an encoder
 abbrev pub run_by : {B : Type 0} → ℕ → ℕ → Encoder B → Run

@@ -1,6 +1,9 @@
 -- Symbols of which one is a flag: up to and with the first flag they stand under one model, behind it under another.
-use Rattle.std.specs.Prelude.{◌≡◌, ℕ, ◌≤◌, ◌^◌, ◌==◌, ◌||◌, Bool, false, List, [], ◌∷◌, ◌++◌, Option, Result, Err, MatchResult, if◌then◌else◌}
+use Rattle.std.specs.Prelude.{◌≡◌, ℕ, ◌≤◌, ◌^◌, ◌==◌, ◌||◌, Bool, false, List, [], ◌∷◌, ◌++◌, Result, Err, MatchResult, if◌then◌else◌}
 use Rattle.constriction_base.specs.Models.{Model, Item, item_of, items_of}
+use Rattle.constriction_base.specs.declared.backends.reading.Holds as holding
+use Rattle.constriction_base.specs.declared.backends.reading.ReadWords as reading
+use Rattle.constriction_base.specs.declared.backends.writing.WriteWords as writing
 use Rattle.constriction_base.specs.declared.errors.CoderError.{CoderError}
 use Rattle.constriction_base.specs.declared.errors.CoderError.TheVariants as coder_error
 use Rattle.constriction_base.specs.declared.errors.DefaultEncoderFrontendError.{DefaultEncoderFrontendError}
@@ -40,20 +43,20 @@ abbrev pub HoldsNone : {B : Type 0} → ℕ → ℕ → Decoder B → Type 0
 HoldsNone s precision decoder = 2 ^ precision ≤ quantile_read s precision decoder
 
 -- a decode under a model
-abbrev pub DecodesUnder : {Word B E : Type 0} → (Word → ℕ) → (B → List Word) → Type 0 → (B → Result (Option Word) E → B → Type 0) → ℕ → ℕ
+abbrev pub DecodesUnder : {Word B E S : Type 0} → (Word → ℕ) → holding.Ghosts B Word S → reading.Ghosts B Word S E → ℕ → ℕ
     → Model ℕ → Decoder B → Result ℕ (CoderError DecoderFrontendError E) → Decoder B → Type 0
-DecodesUnder number words_in is_list reads w s model old answer new =
-    DecodesSymbol (ByBackend (DecodeCall number words_in is_list reads w s))
+DecodesUnder number holds reads w s model old answer new =
+    DecodesSymbol (ByBackend (DecodeCall number holds reads w s))
     (λ old error new. (error ≡ coder_error.Frontend frontend_error.InvalidData) × HoldsNone s model.precision old × (new ≡ old))
     model.precision model.table old answer new
 
 -- ---- encodes
 
 -- an encode of a symbol under its model
-abbrev pub EncodesItem : {S Word B E : Type 0} → (Word → ℕ) → (B → List Word) → ℕ → ℕ → (B → ℕ) → Type 0 → (B → ℕ → E → Type 0) → (B → E → Type 0)
-    → Encoder B → Item S → Result (Unit {0}) (CoderError DefaultEncoderFrontendError E) → Encoder B → Type 0
-EncodesItem number words_in w s room makes_room prepare_fails write_fails old item answer new =
-    EncodesSymbol (ByBackend (EncodeCall number words_in w s room makes_room prepare_fails write_fails)) (λ error. error ≡ ImpossibleSymbol)
+abbrev pub EncodesItem : {A Word B E S : Type 0} → (Word → ℕ) → holding.Ghosts B Word S → writing.Ghosts B Word E → ℕ → ℕ
+    → Encoder B → Item A → Result (Unit {0}) (CoderError DefaultEncoderFrontendError E) → Encoder B → Type 0
+EncodesItem number holds writes w s old item answer new =
+    EncodesSymbol (ByBackend (EncodeCall number holds writes w s)) (λ error. error ≡ ImpossibleSymbol)
     item.model.precision item.model.table item.symbol old answer new
 
 -- steps at the items in order up to the first that is refused: exactly the items before it are coded

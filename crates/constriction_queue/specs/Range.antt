@@ -12,6 +12,10 @@ pub record Run : Type 0 where
   pub range : ℕ
   pub moves : ℕ
 
+-- the step of these numbers
+abbrev pub step_of : ℕ → ℕ → ℕ → Step
+step_of precision left p = record { precision = precision; left = left; p = p }
+
 -- no step yet: all states but the last
 abbrev pub start : ℕ → Run
 start s = record { low = 0; range = 2 ^ s - 1; moves = 0 }

@@ -38,14 +38,14 @@ pub type SmallRangeDecoder<Backend> = RangeDecoder<u16, u32, Backend>;
 
 impl<Word: WordOf<State>, State: BitArray, Backend: Holds<Word, Queue>> Model
     for RangeDecoder<Word, State, Backend> {
-    ghost use Rattle.std.specs.Prelude.{◌+◌, ◌%◌, ◌^◌};
     ghost use Rattle.constriction_base.specs.Steps.{IsSizes};
     ghost use Rattle.constriction_queue.specs.States.{lower_of, range_of};
-    ghost use Rattle.constriction_queue.specs.Decoder.{Decoder, decoder_of};
+    ghost use Rattle.constriction_queue.specs.Decoder.{Decoder, decoder_at};
 
     ghost Value = { Decoder Backend };
 
-    ghost view = { λ d. decoder_of Word.number Backend.words (lower_of d.state) (range_of d.state) ((State.number d.distance + lower_of d.state) % 2 ^ State.BITS) d.bulk };
+    ghost view = { λ d. decoder_at Word.number Backend.Holds State.BITS
+        (lower_of d.state) (range_of d.state) (State.number d.distance) d.bulk };
 
     ghost invariant = { λ _. IsSizes Word.BITS State.BITS };
 }

@@ -72,9 +72,11 @@ impl<Word: WordOf<State>, State: BitArray, Backend: Holds<Word, Stack>> Model
 
     ghost Value = { Encoder Backend };
 
-    ghost view = { λ e. encoder_of Word.number Backend.words Word.BITS (lower_of e.state) (range_of e.state) e.bulk e.situation };
+    ghost view = { λ e. encoder_of Word.number Backend.Holds Word.BITS
+        (lower_of e.state) (range_of e.state) e.bulk e.situation };
 
-    ghost invariant = { λ e. IsSizes Word.BITS State.BITS × PartsFit Word.number Word.BITS State.BITS e.situation (lower_of e.state) (range_of e.state) };
+    ghost invariant = { λ e. IsSizes Word.BITS State.BITS
+        × PartsFit Word.number Word.BITS State.BITS e.situation (lower_of e.state) (range_of e.state) };
 }
 
 impl<Word: WordOf<State>, State: BitArray> RangeEncoder<Word, State, Vec<Word>> {
@@ -84,7 +86,7 @@ impl<Word: WordOf<State>, State: BitArray> RangeEncoder<Word, State, Vec<Word>> 
         requires { IsSizes Word.BITS State.BITS }
         ensures run { run_by Word.BITS State.BITS result ≡ start State.BITS }
         ensures held { result.held ≡ [] }
-        ensures coder { IsEncoder Word.number (⟦<Vec<Word> as Holds<Word, Stack>>⟧.words) Word.BITS State.BITS result }
+        ensures coder { IsEncoder Word.number ⟦<Vec<Word> as Holds<Word, Stack>>⟧ Word.BITS State.BITS result }
     {
         RangeEncoder::with_write_backend(Vec::new(alloc))
     }
@@ -95,7 +97,7 @@ impl<Word: WordOf<State>, State: BitArray, A: Allocator> RangeEncoder<Word, Stat
     pub fn clear(&mut self)
         ensures run { run_by Word.BITS State.BITS self.new ≡ start State.BITS }
         ensures held { self.new.held ≡ [] }
-        ensures coder { IsEncoder Word.number (⟦<Vec<Word, A> as Holds<Word, Stack>>⟧.words) Word.BITS State.BITS self.new }
+        ensures coder { IsEncoder Word.number ⟦<Vec<Word, A> as Holds<Word, Stack>>⟧ Word.BITS State.BITS self.new }
     {
         self.bulk.clear();
         self.state = RangeCoderState::start();
@@ -113,9 +115,9 @@ impl<Word: WordOf<State>, State: BitArray, Backend: Holds<Word, Stack>> RangeEnc
     #[inline]
     pub fn with_write_backend(bulk: Backend) -> Self
         requires { IsSizes Word.BITS State.BITS }
-        ensures parts { result ≡ begun_over Word.number Backend.words State.BITS bulk }
+        ensures parts { result ≡ begun_over Word.number Backend.Holds State.BITS bulk }
         ensures run { Backend.words bulk ≡ [] → run_by Word.BITS State.BITS result ≡ start State.BITS }
-        ensures coder { IsEncoder Word.number Backend.words Word.BITS State.BITS result }
+        ensures coder { IsEncoder Word.number Backend.Holds Word.BITS State.BITS result }
     {
         RangeEncoder {
             bulk,
@@ -128,7 +130,8 @@ impl<Word: WordOf<State>, State: BitArray, Backend: Holds<Word, Stack>> RangeEnc
     /// them isn't all ones, the interval isn't that of an encoder without symbols, and their number leaves
     /// room for a seal in a `usize`. Then [`RangeEncoder::from_raw_parts`] can be asked for.
     pub fn parts_fit(state: RangeCoderState<Word, State>, situation: EncoderSituation<Word>) -> bool
-        ensures { IsTrue result ↔ PartsFit Word.number Word.BITS State.BITS situation (lower_of state) (range_of state) }
+        ensures { IsTrue result
+            ↔ PartsFit Word.number Word.BITS State.BITS situation (lower_of state) (range_of state) }
     {
         let over = reaches_over(state.lower(), state.length());
         match situation {
@@ -154,8 +157,9 @@ impl<Word: WordOf<State>, State: BitArray, Backend: Holds<Word, Stack>> RangeEnc
     ) -> Self
         requires sizes { IsSizes Word.BITS State.BITS }
         requires fit { PartsFit Word.number Word.BITS State.BITS situation (lower_of state) (range_of state) }
-        ensures parts { result ≡ encoder_of Word.number Backend.words Word.BITS (lower_of state) (range_of state) bulk situation }
-        ensures coder { IsEncoder Word.number Backend.words Word.BITS State.BITS result }
+        ensures parts { result ≡ encoder_of Word.number Backend.Holds Word.BITS
+            (lower_of state) (range_of state) bulk situation }
+        ensures coder { IsEncoder Word.number Backend.Holds Word.BITS State.BITS result }
     {
         RangeEncoder {
             bulk,
@@ -173,9 +177,10 @@ impl<Word: WordOf<State>, State: BitArray, Backend: Holds<Word, Stack>> RangeEnc
         RangeCoderState<Word, State>,
         EncoderSituation<Word>,
     )
-        ensures parts { self ≡ encoder_of Word.number Backend.words Word.BITS (lower_of result.1) (range_of result.1) result.0 result.2 }
+        ensures parts { self ≡ encoder_of Word.number Backend.Holds Word.BITS
+            (lower_of result.1) (range_of result.1) result.0 result.2 }
         ensures fit { PartsFit Word.number Word.BITS State.BITS result.2 (lower_of result.1) (range_of result.1) }
-        ensures coder { IsEncoder Word.number Backend.words Word.BITS State.BITS self }
+        ensures coder { IsEncoder Word.number Backend.Holds Word.BITS State.BITS self }
     {
         let RangeEncoder {
             bulk,
@@ -189,7 +194,7 @@ impl<Word: WordOf<State>, State: BitArray, Backend: Holds<Word, Stack>> RangeEnc
     #[inline]
     pub fn bulk(&self) -> &Backend
         ensures bulk { result.now ≡ self.now.bulk }
-        ensures coder { IsEncoder Word.number Backend.words Word.BITS State.BITS self.now }
+        ensures coder { IsEncoder Word.number Backend.Holds Word.BITS State.BITS self.now }
     {
         &self.bulk
     }
@@ -199,7 +204,7 @@ impl<Word: WordOf<State>, State: BitArray, Backend: Holds<Word, Stack> + Clone> 
     for RangeEncoder<Word, State, Backend> {
     ghost is_clone = { λ old new. Backend.is_clone old.bulk new.bulk
         × (new.held ≡ old.held) × (new.lower ≡ old.lower) × (new.range ≡ old.range)
-        × IsEncoder Word.number Backend.words Word.BITS State.BITS new };
+        × IsEncoder Word.number Backend.Holds Word.BITS State.BITS new };
 
     ghost is_infallible = { λ encoder. Backend.is_infallible encoder.bulk };
 

@@ -21,7 +21,8 @@ ghost use Rattle.std.specs.Prelude.{◌≡◌, ◌↔◌, ◌+◌, ◌≤◌, �
 ghost use Rattle.constriction_base.specs.declared.errors.CoderError.TheVariants as coder_error;
 ghost use Rattle.constriction_queue.specs.declared.decoder.symbols.DecoderFrontendError.TheVariants as frontend_error;
 ghost use Rattle.constriction_queue.specs.Encoder.{left_to_encode};
-ghost use Rattle.constriction_queue.specs.Flagged.{DecodesUnder, EncodesItem, HoldsNone, StepsToFault, flagged, next_model};
+ghost use Rattle.constriction_queue.specs.Flagged.{DecodesUnder, EncodesItem, HoldsNone, StepsToFault};
+ghost use Rattle.constriction_queue.specs.Flagged.{flagged, next_model};
 
 use crate::decoder::RangeDecoder;
 use crate::decoder::symbols::DecoderFrontendError;
@@ -130,8 +131,9 @@ impl<
         M2: DecoderModel<P2, Symbol = usize>,
         M1::Probability: WordOf<Word>,
         M2::Probability: WordOf<Word>,
-        ensures step { DecodesUnder Word.number Backend.words Backend.is_list Backend.reads Word.BITS State.BITS
-            (next_model self.old.switched record { precision = P1; table = M1.table first } record { precision = P2; table = M2.table second })
+        ensures step { DecodesUnder Word.number Backend.Holds Backend.ReadWords.own Word.BITS State.BITS
+            (next_model self.old.switched
+            record { precision = P1; table = M1.table first } record { precision = P2; table = M2.table second })
             self.old.decoder result self.new.decoder }
         ensures variant { (result ≡ Err (coder_error.Frontend frontend_error.InvalidData))
             ↔ HoldsNone State.BITS (if self.old.switched then P2 else P1) self.old.decoder }
@@ -152,7 +154,8 @@ impl<
     }
 }
 
-/// Puts symbols behind the others: those up to and with the first flag under `first`, and those behind it under `second`.
+/// Puts symbols behind the others: those up to and with the first flag under `first`, and those behind it under
+/// `second`.
 /// There must be no more of them than the encoder's `symbols_left`.
 ///
 /// # Errors
@@ -177,10 +180,10 @@ where
     M1::Probability: WordOf<Word>,
     M2::Probability: WordOf<Word>,
     requires { length symbols.now ≤ left_to_encode encoder.old }
-    ensures steps { StepsToFault (EncodesItem Word.number Backend.words Word.BITS State.BITS
-        Backend.room Backend.makes_room Backend.prepare_fails Backend.write_fails)
+    ensures steps { StepsToFault (EncodesItem Word.number Backend.Holds Backend.WriteWords.own Word.BITS State.BITS)
         encoder.old
-        (flagged flag record { precision = P1; table = M1.table first.now } record { precision = P2; table = M2.table second.now } symbols.now)
+        (flagged flag record { precision = P1; table = M1.table first.now }
+        record { precision = P2; table = M2.table second.now } symbols.now)
         result encoder.new }
     ensures fewer_left { left_to_encode encoder.old ≤ left_to_encode encoder.new + length symbols.now }
 {

@@ -129,7 +129,7 @@ impl<Word: WordOf<State>, State: BitArray> RangeCoderState<Word, State> {
     /// How long it is, as a state.
     #[inline]
     pub(crate) fn length(&self) -> State
-        ensures number { State.number result ≡ range_of self.now }
+        ensures value { State.number result ≡ range_of self.now }
         ensures wide { 2 ^ (State.BITS - Word.BITS) ≤ State.number result }
     {
         self.range

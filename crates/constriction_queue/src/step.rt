@@ -1,10 +1,13 @@
 //! One step of an encoder, as numbers: what it writes, and what is left.
 
-ghost use Rattle.std.specs.Prelude.{◌≡◌, ◌↔◌, ◌+◌, ◌-◌, ◌*◌, ◌<◌, ◌≤◌, ◌^◌, ◌/◌, ◌++◌, ◌∷◌, [], ℕ, List, IsTrue, None, Some, Ok, Err, IfOk, IfErr, length, map, if◌then◌else◌};
+ghost use Rattle.std.specs.Prelude.{◌≡◌, ◌↔◌, ◌+◌, ◌-◌, ◌*◌, ◌<◌, ◌≤◌, ◌^◌, ◌/◌, [], IsTrue, None, Some, Ok, Err, IfOk};
+ghost use Rattle.std.specs.Prelude.{IfErr};
+ghost use Rattle.std.specs.Prelude.{length, if◌then◌else◌};
 ghost use Rattle.std.specs.Int.NonZero.{non_zero_usize_get};
-ghost use Rattle.constriction_base.specs.Steps.{Step, IsStep, IsSizes};
-ghost use Rattle.constriction_queue.specs.Range.{cut, grown};
-ghost use Rattle.constriction_queue.specs.Encoder.{encoder_of, held_of, released_of, word_of, words_held, run_of, PartsFit, HasPlace};
+ghost use Rattle.constriction_base.specs.Steps.{IsStep, IsSizes};
+ghost use Rattle.constriction_queue.specs.Range.{cut, grown, step_of};
+ghost use Rattle.constriction_queue.specs.Encoder.{encoder_of, shifted_over, held_of, released_of, word_of, words_held};
+ghost use Rattle.constriction_queue.specs.Encoder.{ChangesRun, PartsFit, HasPlace};
 ghost use Rattle.constriction_queue.specs.Calls.{EncodeCall};
 
 use crate::situation::{EncoderSituation, HeldWords, nonzero_count};
@@ -25,7 +28,8 @@ pub fn reaches_over<State: BitArray>(lower: State, range: State) -> bool
 #[inline]
 pub fn carried<Word: BitArray>(count: NonZeroUsize, first: Word, carry: bool) -> HeldWords<Word>
     requires { Word.number first + 1 < 2 ^ Word.BITS }
-    ensures { released_of Word.number (Some result) ≡ words_held (if carry then 0 else 2 ^ Word.BITS - 1) (non_zero_usize_get count) (if carry then Word.number first + 1 else Word.number first) }
+    ensures { released_of Word.number (Some result) ≡ words_held (if carry then 0 else 2 ^ Word.BITS - 1)
+        (non_zero_usize_get count) (if carry then Word.number first + 1 else Word.number first) }
 {
     if carry {
         HeldWords {
@@ -61,18 +65,21 @@ pub fn narrowed<Word: WordOf<State>, State: BitArray>(
     p: State,
     precision: u32,
 ) -> Part<Word, State>
-    requires precise { precision < State.BITS }
+    requires sized { precision < State.BITS }
     requires total { State.number left + State.number p ≤ 2 ^ precision }
     requires fit { PartsFit Word.number Word.BITS State.BITS situation (State.number lower) (State.number range) }
-    ensures fit { PartsFit Word.number Word.BITS State.BITS result.situation (State.number result.lower) (State.number result.range) }
+    ensures fit { PartsFit Word.number Word.BITS State.BITS result.situation
+        (State.number result.lower) (State.number result.range) }
     ensures place { HasPlace situation → HasPlace result.situation }
     ensures few { length (released_of Word.number result.released) + 2 < 2 ^ 64 }
-    ensures held { length (held_of Word.number Word.BITS result.situation) ≤ length (held_of Word.number Word.BITS situation) }
+    ensures held { length (held_of Word.number Word.BITS result.situation)
+        ≤ length (held_of Word.number Word.BITS situation) }
     ensures none { held_of Word.number Word.BITS situation ≡ [] → result.released ≡ None }
     ensures range { State.number result.range ≡ State.number range / 2 ^ precision * State.number p }
-    ensures run { (words : List ℕ) →
-        run_of Word.BITS State.BITS (held_of Word.number Word.BITS result.situation ++ (released_of Word.number result.released ++ words)) (State.number result.lower) (State.number result.range)
-        ≡ cut (record { precision = precision; left = State.number left; p = State.number p }) (run_of Word.BITS State.BITS (held_of Word.number Word.BITS situation ++ words) (State.number lower) (State.number range)) }
+    ensures run { ChangesRun Word.number Word.BITS State.BITS
+        (cut (step_of precision (State.number left) (State.number p)))
+        situation (State.number lower) (State.number range) (released_of Word.number result.released)
+        result.situation (State.number result.lower) (State.number result.range) }
 {
     let scale = range.shifted_right(precision);
     let part = scale.times(p);
@@ -124,11 +131,13 @@ pub fn grow<Word: WordOf<State>, State: BitArray>(
     requires fit { PartsFit Word.number Word.BITS State.BITS situation (State.number lower) (State.number range) }
     requires place { HasPlace situation }
     ensures wide { 2 ^ (State.BITS - Word.BITS) ≤ State.number result.range }
-    ensures fit { PartsFit Word.number Word.BITS State.BITS result.situation (State.number result.lower) (State.number result.range) }
-    ensures held { length (held_of Word.number Word.BITS result.situation) ≤ length (held_of Word.number Word.BITS situation) + 1 }
-    ensures run { (words : List ℕ) →
-        run_of Word.BITS State.BITS (held_of Word.number Word.BITS result.situation ++ (word_of Word.number result.top ++ words)) (State.number result.lower) (State.number result.range)
-        ≡ grown Word.BITS State.BITS (run_of Word.BITS State.BITS (held_of Word.number Word.BITS situation ++ words) (State.number lower) (State.number range)) }
+    ensures fit { PartsFit Word.number Word.BITS State.BITS result.situation
+        (State.number result.lower) (State.number result.range) }
+    ensures held { length (held_of Word.number Word.BITS result.situation)
+        ≤ length (held_of Word.number Word.BITS situation) + 1 }
+    ensures run { ChangesRun Word.number Word.BITS State.BITS (grown Word.BITS State.BITS)
+        situation (State.number lower) (State.number range) (word_of Word.number result.top)
+        result.situation (State.number result.lower) (State.number result.range) }
 {
     let below = State::BITS - Word::BITS;
     if !range.shifted_right(below).is_nothing() {
@@ -181,20 +190,21 @@ pub fn step_onto<Word: WordOf<State>, State: BitArray, Backend: WriteWords<Word>
     precision: u32,
 ) -> Result<Shifted<Word, State>, Backend::WriteError>
     requires sizes { IsSizes Word.BITS State.BITS }
-    requires step { IsStep Word.BITS record { precision = precision; left = State.number left; p = State.number p } }
+    requires step { IsStep Word.BITS (step_of precision (State.number left) (State.number p)) }
     requires wide { 2 ^ (State.BITS - Word.BITS) ≤ State.number range }
     requires fit { PartsFit Word.number Word.BITS State.BITS situation (State.number lower) (State.number range) }
     requires place { HasPlace situation }
-    ensures ok { IfOk result (λ after. EncodeCall Word.number Backend.words Word.BITS State.BITS Backend.room Backend.makes_room Backend.prepare_fails Backend.write_fails
-        (encoder_of Word.number Backend.words Word.BITS (State.number lower) (State.number range) bulk.old situation)
-        record { precision = precision; left = State.number left; p = State.number p } (Ok tt)
-        (encoder_of Word.number Backend.words Word.BITS (State.number after.lower) (State.number after.range) bulk.new after.situation)) }
+    ensures ok { IfOk result (λ after. EncodeCall Word.number Backend.Holds Backend.WriteWords.own Word.BITS State.BITS
+        (encoder_of Word.number Backend.Holds Word.BITS (State.number lower) (State.number range) bulk.old situation)
+        (step_of precision (State.number left) (State.number p)) (Ok tt)
+        (shifted_over Word.number State.number Backend.Holds Word.BITS after bulk.new)) }
     ensures wide { IfOk result (λ after. 2 ^ (State.BITS - Word.BITS) ≤ State.number after.range) }
-    ensures fit { IfOk result (λ after. PartsFit Word.number Word.BITS State.BITS after.situation (State.number after.lower) (State.number after.range)) }
-    ensures err { IfErr result (λ e. EncodeCall Word.number Backend.words Word.BITS State.BITS Backend.room Backend.makes_room Backend.prepare_fails Backend.write_fails
-        (encoder_of Word.number Backend.words Word.BITS (State.number lower) (State.number range) bulk.old situation)
-        record { precision = precision; left = State.number left; p = State.number p } (Err e)
-        (encoder_of Word.number Backend.words Word.BITS (State.number lower) (State.number range) bulk.new situation)) }
+    ensures fit { IfOk result (λ after. PartsFit Word.number Word.BITS State.BITS after.situation
+        (State.number after.lower) (State.number after.range)) }
+    ensures err { IfErr result (λ e. EncodeCall Word.number Backend.Holds Backend.WriteWords.own Word.BITS State.BITS
+        (encoder_of Word.number Backend.Holds Word.BITS (State.number lower) (State.number range) bulk.old situation)
+        (step_of precision (State.number left) (State.number p)) (Err e)
+        (encoder_of Word.number Backend.Holds Word.BITS (State.number lower) (State.number range) bulk.new situation)) }
 {
     let part = narrowed(lower, range, situation, left, p, precision);
     let after = grow(part.lower, part.range, part.situation);

@@ -1,9 +1,8 @@
 //! Words that are owed to a backend.
 
-ghost use Rattle.std.specs.Prelude.{◌≡◌, ◌+◌, ◌-◌, ◌<◌, ◌≤◌, ◌^◌, ◌++◌, ◌∷◌, ◌⊎◌, [], ℕ, List, None, Some, length, map, OnOk, OnErr, IfErr, IsOk};
-ghost use Rattle.std.specs.Int.NonZero.{non_zero_usize_get};
-ghost use Rattle.constriction_queue.specs.Encoder.{released_of, word_of, words_held, owed_of};
-ghost use Rattle.constriction_queue.specs.Writing.{IsBegun};
+ghost use Rattle.std.specs.Prelude.{◌≡◌, ◌+◌, ◌<◌, ◌≤◌, ◌^◌, ◌++◌, ◌∷◌, ◌⊎◌, [], None, Some, length, IfErr};
+ghost use Rattle.constriction_base.specs.Writing.{Appends, WritesAll};
+ghost use Rattle.constriction_queue.specs.Encoder.{released_of, word_of, owed_of};
 
 use crate::situation::HeldWords;
 use constriction_base::backends::{Holds, Stack, WriteWords};
@@ -14,11 +13,8 @@ fn write_held<Word: BitArray, Backend: WriteWords<Word>>(
     bulk: &mut Backend,
     held: HeldWords<Word>,
 ) -> Result<(), Backend::WriteError>
-    ensures ok { OnOk result (map Word.number (Backend.words bulk.new) ≡ words_held (Word.number held.others) (non_zero_usize_get held.count) (Word.number held.first) ++ map Word.number (Backend.words bulk.old)) }
-    ensures room { OnOk result (Backend.room bulk.old ≤ Backend.room bulk.new + non_zero_usize_get held.count) }
-    ensures begun { OnErr result (IsBegun (words_held (Word.number held.others) (non_zero_usize_get held.count) (Word.number held.first)) (map Word.number (Backend.words bulk.old)) (map Word.number (Backend.words bulk.new))) }
-    ensures short { OnErr result (Backend.room bulk.old < non_zero_usize_get held.count) }
-    ensures err { IfErr result (λ e. (last : Backend) × Backend.write_fails last e × (Backend.words last ≡ Backend.words bulk.new)) }
+    ensures { WritesAll Word.number Backend.Holds Backend.WriteWords.own
+        (released_of Word.number (Some held)) bulk.old result bulk.new }
 {
     match bulk.write(held.first) {
         Ok(()) => {}
@@ -38,11 +34,8 @@ fn write_released<Word: BitArray, Backend: WriteWords<Word>>(
     bulk: &mut Backend,
     held: Option<HeldWords<Word>>,
 ) -> Result<(), Backend::WriteError>
-    ensures ok { OnOk result (map Word.number (Backend.words bulk.new) ≡ released_of Word.number held ++ map Word.number (Backend.words bulk.old)) }
-    ensures room { OnOk result (Backend.room bulk.old ≤ Backend.room bulk.new + length (released_of Word.number held)) }
-    ensures begun { OnErr result (IsBegun (released_of Word.number held) (map Word.number (Backend.words bulk.old)) (map Word.number (Backend.words bulk.new))) }
-    ensures short { OnErr result (Backend.room bulk.old < length (released_of Word.number held)) }
-    ensures err { IfErr result (λ e. (last : Backend) × Backend.write_fails last e × (Backend.words last ≡ Backend.words bulk.new)) }
+    ensures { WritesAll Word.number Backend.Holds Backend.WriteWords.own
+        (released_of Word.number held) bulk.old result bulk.new }
 {
     match held {
         Some(held) => write_held(bulk, held),
@@ -56,11 +49,8 @@ fn write_word<Word: BitArray, Backend: WriteWords<Word>>(
     bulk: &mut Backend,
     word: Option<Word>,
 ) -> Result<(), Backend::WriteError>
-    ensures ok { OnOk result (map Word.number (Backend.words bulk.new) ≡ word_of Word.number word ++ map Word.number (Backend.words bulk.old)) }
-    ensures room { OnOk result (Backend.room bulk.old ≤ Backend.room bulk.new + length (word_of Word.number word)) }
-    ensures begun { OnErr result (IsBegun (word_of Word.number word) (map Word.number (Backend.words bulk.old)) (map Word.number (Backend.words bulk.new))) }
-    ensures short { OnErr result (Backend.room bulk.old < length (word_of Word.number word)) }
-    ensures err { IfErr result (λ e. (last : Backend) × Backend.write_fails last e × (Backend.words last ≡ Backend.words bulk.new)) }
+    ensures { WritesAll Word.number Backend.Holds Backend.WriteWords.own
+        (word_of Word.number word) bulk.old result bulk.new }
 {
     match word {
         Some(word) => match bulk.write(word) {
@@ -113,11 +103,8 @@ fn write_parts<Word: BitArray, Backend: WriteWords<Word>>(
     top: Option<Word>,
     last: Option<Word>,
 ) -> Result<(), Backend::WriteError>
-    ensures ok { OnOk result (map Word.number (Backend.words bulk.new) ≡ owed_of Word.number held top last ++ map Word.number (Backend.words bulk.old)) }
-    ensures room { OnOk result (Backend.room bulk.old ≤ Backend.room bulk.new + length (owed_of Word.number held top last)) }
-    ensures begun { OnErr result (IsBegun (owed_of Word.number held top last) (map Word.number (Backend.words bulk.old)) (map Word.number (Backend.words bulk.new))) }
-    ensures short { OnErr result (Backend.room bulk.old < length (owed_of Word.number held top last)) }
-    ensures err { IfErr result (λ e. (last : Backend) × Backend.write_fails last e × (Backend.words last ≡ Backend.words bulk.new)) }
+    ensures { WritesAll Word.number Backend.Holds Backend.WriteWords.own
+        (owed_of Word.number held top last) bulk.old result bulk.new }
 {
     match write_released(bulk, held) {
         Ok(()) => {}
@@ -140,14 +127,8 @@ pub fn write_owed_behind<Word: BitArray, Backend: WriteWords<Word>>(
     behind: Option<HeldWords<Word>>,
 ) -> Result<(), Backend::WriteError>
     requires { length (released_of Word.number held) + 2 + length (released_of Word.number behind) < 2 ^ 64 }
-    ensures ok { OnOk result (map Word.number (Backend.words bulk.new) ≡ (released_of Word.number behind ++ owed_of Word.number held top last) ++ map Word.number (Backend.words bulk.old)) }
-    ensures room { OnOk result (Backend.room bulk.old ≤ Backend.room bulk.new + length (released_of Word.number behind ++ owed_of Word.number held top last)) }
-    ensures untouched { OnOk result (released_of Word.number behind ++ owed_of Word.number held top last ≡ [] → bulk.new ≡ bulk.old) }
-    ensures begun { OnErr result (IsBegun (released_of Word.number behind ++ owed_of Word.number held top last) (map Word.number (Backend.words bulk.old)) (map Word.number (Backend.words bulk.new))) }
-    ensures short { OnErr result (Backend.room bulk.old < length (released_of Word.number behind ++ owed_of Word.number held top last)) }
-    ensures kept { Backend.makes_room → OnErr result (Backend.words bulk.new ≡ Backend.words bulk.old) }
-    ensures err { IfErr result (λ e. Backend.prepare_fails bulk.old (length (released_of Word.number behind ++ owed_of Word.number held top last)) e
-        ⊎ ((Backend.makes_room → ⊥) × ((last : Backend) × Backend.write_fails last e × (Backend.words last ≡ Backend.words bulk.new)))) }
+    ensures { Appends Word.number Backend.Holds Backend.WriteWords.own
+        (released_of Word.number behind ++ owed_of Word.number held top last) bulk.old result bulk.new }
 {
     let count = owed_count(&held, &top, &last) + held_count(&behind);
     if count == 0 {
@@ -173,14 +154,8 @@ pub fn write_owed<Word: BitArray, Backend: WriteWords<Word>>(
     last: Option<Word>,
 ) -> Result<(), Backend::WriteError>
     requires { length (released_of Word.number held) + 2 < 2 ^ 64 }
-    ensures ok { OnOk result (map Word.number (Backend.words bulk.new) ≡ owed_of Word.number held top last ++ map Word.number (Backend.words bulk.old)) }
-    ensures room { OnOk result (Backend.room bulk.old ≤ Backend.room bulk.new + length (owed_of Word.number held top last)) }
-    ensures untouched { OnOk result (owed_of Word.number held top last ≡ [] → bulk.new ≡ bulk.old) }
-    ensures begun { OnErr result (IsBegun (owed_of Word.number held top last) (map Word.number (Backend.words bulk.old)) (map Word.number (Backend.words bulk.new))) }
-    ensures short { OnErr result (Backend.room bulk.old < length (owed_of Word.number held top last)) }
-    ensures kept { Backend.makes_room → OnErr result (Backend.words bulk.new ≡ Backend.words bulk.old) }
-    ensures err { IfErr result (λ e. Backend.prepare_fails bulk.old (length (owed_of Word.number held top last)) e
-        ⊎ ((Backend.makes_room → ⊥) × ((last : Backend) × Backend.write_fails last e × (Backend.words last ≡ Backend.words bulk.new)))) }
+    ensures { Appends Word.number Backend.Holds Backend.WriteWords.own
+        (owed_of Word.number held top last) bulk.old result bulk.new }
 {
     write_owed_behind(bulk, held, top, last, None)
 }
@@ -192,13 +167,8 @@ fn write_two<Word: BitArray, Backend: WriteWords<Word>>(
     first: Word,
     second: Option<Word>,
 ) -> Result<(), Backend::WriteError>
-    ensures ok { OnOk result (map Word.number (Backend.words bulk.new) ≡ word_of Word.number second ++ (Word.number first ∷ map Word.number (Backend.words bulk.old))) }
-    ensures room { OnOk result (Backend.room bulk.old ≤ Backend.room bulk.new + length (word_of Word.number second) + 1) }
-    ensures begun { OnErr result (IsBegun (word_of Word.number second ++ (Word.number first ∷ [])) (map Word.number (Backend.words bulk.old)) (map Word.number (Backend.words bulk.new))) }
-    ensures short { OnErr result (Backend.room bulk.old < length (word_of Word.number second) + 1) }
-    ensures kept { Backend.makes_room → OnErr result (Backend.words bulk.new ≡ Backend.words bulk.old) }
-    ensures err { IfErr result (λ e. Backend.prepare_fails bulk.old (length (word_of Word.number second) + 1) e
-        ⊎ ((Backend.makes_room → ⊥) × ((last : Backend) × Backend.write_fails last e × (Backend.words last ≡ Backend.words bulk.new)))) }
+    ensures written { Appends Word.number Backend.Holds Backend.WriteWords.own
+        (word_of Word.number second ++ (Word.number first ∷ [])) bulk.old result bulk.new }
     ensures one { second ≡ None → IfErr result (λ e. Backend.prepare_fails bulk.old 1 e
         ⊎ ((Backend.makes_room → ⊥) × Backend.write_fails bulk.old e)) }
 {
@@ -236,13 +206,8 @@ fn write_several<Word: BitArray, Backend: WriteWords<Word>>(
     top: Option<Word>,
 ) -> Result<(), Backend::WriteError>
     requires { length (released_of Word.number (Some held)) + 2 < 2 ^ 64 }
-    ensures ok { OnOk result (map Word.number (Backend.words bulk.new) ≡ owed_of Word.number (Some held) top None ++ map Word.number (Backend.words bulk.old)) }
-    ensures room { OnOk result (Backend.room bulk.old ≤ Backend.room bulk.new + length (owed_of Word.number (Some held) top None)) }
-    ensures begun { OnErr result (IsBegun (owed_of Word.number (Some held) top None) (map Word.number (Backend.words bulk.old)) (map Word.number (Backend.words bulk.new))) }
-    ensures short { OnErr result (Backend.room bulk.old < length (owed_of Word.number (Some held) top None)) }
-    ensures kept { Backend.makes_room → OnErr result (Backend.words bulk.new ≡ Backend.words bulk.old) }
-    ensures err { IfErr result (λ e. Backend.prepare_fails bulk.old (length (owed_of Word.number (Some held) top None)) e
-        ⊎ ((Backend.makes_room → ⊥) × ((last : Backend) × Backend.write_fails last e × (Backend.words last ≡ Backend.words bulk.new)))) }
+    ensures { Appends Word.number Backend.Holds Backend.WriteWords.own
+        (owed_of Word.number (Some held) top None) bulk.old result bulk.new }
 {
     write_owed(bulk, Some(held), top, None)
 }
@@ -256,14 +221,8 @@ pub fn write_step<Word: BitArray, Backend: WriteWords<Word>>(
     top: Option<Word>,
 ) -> Result<(), Backend::WriteError>
     requires { length (released_of Word.number held) + 2 < 2 ^ 64 }
-    ensures ok { OnOk result (map Word.number (Backend.words bulk.new) ≡ owed_of Word.number held top None ++ map Word.number (Backend.words bulk.old)) }
-    ensures room { OnOk result (Backend.room bulk.old ≤ Backend.room bulk.new + length (owed_of Word.number held top None)) }
-    ensures untouched { OnOk result (owed_of Word.number held top None ≡ [] → bulk.new ≡ bulk.old) }
-    ensures begun { OnErr result (IsBegun (owed_of Word.number held top None) (map Word.number (Backend.words bulk.old)) (map Word.number (Backend.words bulk.new))) }
-    ensures short { OnErr result (Backend.room bulk.old < length (owed_of Word.number held top None)) }
-    ensures kept { Backend.makes_room → OnErr result (Backend.words bulk.new ≡ Backend.words bulk.old) }
-    ensures err { IfErr result (λ e. Backend.prepare_fails bulk.old (length (owed_of Word.number held top None)) e
-        ⊎ ((Backend.makes_room → ⊥) × ((last : Backend) × Backend.write_fails last e × (Backend.words last ≡ Backend.words bulk.new)))) }
+    ensures written { Appends Word.number Backend.Holds Backend.WriteWords.own
+        (owed_of Word.number held top None) bulk.old result bulk.new }
     ensures one { held ≡ None → IfErr result (λ e. Backend.prepare_fails bulk.old 1 e
         ⊎ ((Backend.makes_room → ⊥) × Backend.write_fails bulk.old e)) }
 {

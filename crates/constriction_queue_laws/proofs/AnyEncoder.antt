@@ -4,6 +4,7 @@ use Rattle.std.proofs.Common.{sym, ap, ◌∙◌, subst, arith, mul-le-mul_right
 use native.Mathlib.Nat.{pow-suc, pow-zero}
 use Rattle.std.specs.Int.NonZero.{non_zero_usize_get}
 use Rattle.std.proofs.lemmas.List.{map-append}
+use Rattle.constriction_base.specs.declared.backends.reading.Holds as holding
 use Rattle.constriction_base.specs.Steps.{AreWords}
 use Rattle.constriction_base.specs.Tables.{Impossible}
 use Rattle.constriction_base.specs.Models.{Model, Item, item_of, items_of}
@@ -13,7 +14,7 @@ use Rattle.constriction_queue.specs.declared.situation.EncoderSituation.{Encoder
 use Rattle.constriction_queue.specs.declared.situation.EncoderSituation.TheVariants.{Normal, Inverted}
 use Rattle.constriction_queue.specs.Encoder.{Encoder, IsEncoder, PartsFit, held_of, number_of, run_by, words_held}
 use Rattle.constriction_queue.specs.Range.{Run, IsInterval}
-use Rattle.constriction_queue_laws.specs.Symbols.{Narrows, NarrowsAll}
+use Rattle.constriction_queue.specs.Symbols.{Narrows, NarrowsAll}
 use Rattle.constriction_queue.proofs.Carry.{carry_held, length-held}
 use Rattle.constriction_queue.proofs.Seals.{words_held_fit, words_of_numbers}
 
@@ -48,13 +49,13 @@ inside_by number w s lower range (Inverted count first) ws all fits low long =
     mul-le-mul_right (2 ^ s) (omega (arith, more)) in
     omega (arith, next, low, long)
 
-pub encoder_interval : {Word B : Type 0} (number : Word → ℕ) (words_in : B → List Word) (w s : ℕ) (e : Encoder B)
-    → ((x : Word) → number x < 2 ^ w) → IsEncoder number words_in w s e → IsInterval w s (run_by w s e)
-encoder_interval number words_in w s e law is = record {
+pub encoder_interval : {Word B S : Type 0} (number : Word → ℕ) (holds : holding.Ghosts B Word S) (w s : ℕ) (e : Encoder B)
+    → ((x : Word) → number x < 2 ^ w) → IsEncoder number holds w s e → IsInterval w s (run_by w s e)
+encoder_interval number holds w s e law is = record {
   least = is.least;
   fits = is.range_fits;
   inside = rw (is.held_is, is.words_are) (inside_by number w s e.lower e.range is.situation _
-      (words_of_numbers number w law (words_in e.bulk)) is.fits is.lower_fits is.range_fits);
+      (words_of_numbers number w law (holds.words e.bulk)) is.fits is.lower_fits is.range_fits);
 }
 
 -- ---- symbols that were encoded have entries, in both of two lists

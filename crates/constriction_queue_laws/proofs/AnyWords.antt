@@ -3,8 +3,8 @@ use Rattle.std.proofs.Common.{◌≡◌, ◌↔◌, ℕ, zero, suc, ◌<◌, Lis
 use Rattle.constriction_base.specs.Models.{Model, Item, AreModels, items_of, pairs_of}
 use Rattle.constriction_queue.specs.Range.{Run, Within, start}
 use Rattle.constriction_queue_laws.specs.Outcomes.{HoldNone, LieWithin, NoneWithin}
-use Rattle.constriction_queue_laws.specs.Symbols.{NarrowsAll, FindsAll}
-use Rattle.constriction_queue_laws.proofs.Entries.{as_encodes}
+use Rattle.constriction_queue.specs.Symbols.{NarrowsAll, FindsAll}
+use Rattle.constriction_queue.proofs.Entries.{as_encodes}
 
 module _ {S : Type 0} (w s : ℕ) (words : List ℕ)
     (law : (first : Item S) (others : List (Item S)) (last : Run) → AreModels w (first ∷ others) → NarrowsAll w s (first ∷ others) (start s) last

@@ -1,6 +1,9 @@
 -- Symbols with a flag among them, as items of the range coder.
 use Rattle.std.specs.Prelude.{Result, Ok, Err}
 use Rattle.std.proofs.Common.{◌≡◌, ◌<◌, ◌^◌, ◌==◌, ◌||◌, ℕ, Bool, true, false, Option, List, [], ◌∷◌, ◌++◌, length, map, refl, sym, ap, ap₂, ◌∙◌, subst, inl, inr, arith}
+use Rattle.constriction_base.specs.declared.backends.reading.Holds as holding
+use Rattle.constriction_base.specs.declared.backends.reading.ReadWords as reading
+use Rattle.constriction_base.specs.declared.backends.writing.WriteWords as writing
 use Rattle.constriction_base.specs.Steps.{InTurn}
 use Rattle.constriction_base.specs.declared.errors.CoderError.{CoderError}
 use Rattle.constriction_base.specs.declared.errors.CoderError.TheVariants.{Backend, Frontend}
@@ -10,7 +13,7 @@ use Rattle.constriction_base.proofs.Entries.{in_range}
 use Rattle.constriction_base.proofs.InTurn.{InTurn-more}
 use Rattle.constriction_queue.specs.Encoder.{Encoder, run_by}
 use Rattle.constriction_queue.specs.Calls as calls
-use Rattle.constriction_queue.specs.Decoder.{Decoder, quantile_read}
+use Rattle.constriction_queue.specs.Decoder.{Decoder, quantile_read, StandsAt}
 use Rattle.constriction_queue.specs.Flagged.{DecodesUnder, EncodesItem, HoldsNone, StepsToFault, flagged, has_flag, next_model}
 use Rattle.constriction_queue.specs.declared.decoder.symbols.DecoderFrontendError.{DecoderFrontendError}
 use Rattle.constriction_queue.specs.Range.{Run}
@@ -20,7 +23,7 @@ use Rattle.constriction_stream.specs.Symbols.{never_frontend}
 use Rattle.constriction_coder_laws.specs.declared.errors.Stopped.TheVariants as stopped
 use Rattle.constriction_queue_laws.specs.Outcomes.{InvalidWhere}
 use Rattle.constriction_coder_laws.specs.Outcomes.{HasImpossibleItem}
-use Rattle.constriction_queue_laws.specs.Symbols.{Finds, FindsAll, NarrowsAll, StandsAt}
+use Rattle.constriction_queue.specs.Symbols.{Finds, FindsAll, NarrowsAll}
 use Rattle.constriction_queue_laws.proofs.ComingBack.{one_decode, decodes_unique}
 use Rattle.constriction_queue_laws.proofs.ListCalls.{distance_is, encode_of}
 use Rattle.constriction_coder_laws.proofs.SameModel.{are_models, models-alike, symbols-items_of}
@@ -64,27 +67,27 @@ finds_flagged w s flag first second words xs x old mid new all one =
     (InTurn-more (λ (item : Item ℕ). Finds w s words item.model item.symbol) (flagged flag first second xs) (item_of (next_model (has_flag flag xs) first second) x) old mid new all one)
 
 -- ---- encodes
-pub encodes_items : {S W B E : Type 0} (number : W → ℕ) (held : B → List W) (w s : ℕ) (room : B → ℕ) (makes_room : Type 0) (prepare_fails : B → ℕ → E → Type 0) (write_fails : B → E → Type 0)
+pub encodes_items : {S W B E Q : Type 0} (number : W → ℕ) (holds : holding.Ghosts B W Q) (writes : writing.Ghosts B W E) (w s : ℕ)
     (items : List (Item S)) (old new : Encoder B)
-    → InTurn (λ item old new. EncodesItem number held w s room makes_room prepare_fails write_fails old item (Ok tt) new) items old new
+    → InTurn (λ item old new. EncodesItem number holds writes w s old item (Ok tt) new) items old new
     → NarrowsAll w s items (run_by w s old) (run_by w s new)
-encodes_items {B = B} number held w s room makes_room prepare_fails write_fails [] old new all = ap (λ (c : Encoder B). run_by w s c) all
-encodes_items number held w s room makes_room prepare_fails write_fails (item ∷ items) old new all = (
+encodes_items {B = B} number holds writes w s [] old new all = ap (λ (c : Encoder B). run_by w s c) all
+encodes_items number holds writes w s (item ∷ items) old new all = (
   run_by w s all.0,
-  encode_of number held w s room makes_room prepare_fails write_fails _ item.model item.symbol old all.0 all.1,
-  encodes_items number held w s room makes_room prepare_fails write_fails items all.0 new all.2,
+  encode_of number holds writes w s _ item.model item.symbol old all.0 all.1,
+  encodes_items number holds writes w s items all.0 new all.2,
 )
 
 -- a refusal of the encoder itself is that of an item whose symbol its model doesn't know
-pub unknown_item : {S W B E : Type 0} (number : W → ℕ) (held : B → List W) (w s : ℕ) (room : B → ℕ) (makes_room : Type 0) (prepare_fails : B → ℕ → E → Type 0) (write_fails : B → E → Type 0)
+pub unknown_item : {S W B E Q : Type 0} (number : W → ℕ) (holds : holding.Ghosts B W Q) (writes : writing.Ghosts B W E) (w s : ℕ)
     (items : List (Item S)) (old new : Encoder B) (refusal : DefaultEncoderFrontendError)
-    → StepsToFault (EncodesItem number held w s room makes_room prepare_fails write_fails) old items (Err (Frontend refusal)) new → HasImpossibleItem items
-unknown_item number held w s room makes_room prepare_fails write_fails items old new refusal (coded, item, rest, mid, parts, before, step) = (
+    → StepsToFault (EncodesItem number holds writes w s) old items (Err (Frontend refusal)) new → HasImpossibleItem items
+unknown_item number holds writes w s items old new refusal (coded, item, rest, mid, parts, before, step) = (
   coded,
   rest,
   item,
   parts,
-  (frontend_by (calls.EncodeCall number held w s room makes_room prepare_fails write_fails) item.model.precision item.model.table item.symbol mid new refusal step).0,
+  (frontend_by (calls.EncodeCall number holds writes w s) item.model.precision item.model.table item.symbol mid new refusal step).0,
 )
 
 -- ---- decodes that were refused
@@ -131,9 +134,9 @@ found_quantile w s words model x r next d m some at (left, p, has, (takes, is)) 
     rw (distance_is w s words r d some at, at.range_is) (omega (arith, takes.below, bound.2))
 
 -- a switch that refused a decode itself read no quantile of its model
-pub only_invalid : {W B E : Type 0} (number : W → ℕ) (words_in : B → List W) (is_list : Type 0) (reads : B → Result (Option W) E → B → Type 0) (w s : ℕ) (model : Model ℕ) (none : Type 0)
-    (old new : Decoder B) (error : CoderError DecoderFrontendError E) → DecodesUnder number words_in is_list reads w s model old (Err error) new
+pub only_invalid : {W B E Q : Type 0} (number : W → ℕ) (holds : holding.Ghosts B W Q) (reads : reading.Ghosts B W Q E) (w s : ℕ) (model : Model ℕ) (none : Type 0)
+    (old new : Decoder B) (error : CoderError DecoderFrontendError E) → DecodesUnder number holds reads w s model old (Err error) new
     → (HoldsNone s model.precision old → none) → InvalidWhere none (stopped.Refused error)
-only_invalid number words_in is_list reads w s model none old new (Backend e) step law = tt
-only_invalid number words_in is_list reads w s model none old new (Frontend f) (inl halt) law = law halt.1
-only_invalid number words_in is_list reads w s model none old new (Frontend f) (inr (symbol, (left, p, has, (answer, call, is)))) law = absurd (never_frontend answer f is)
+only_invalid number holds reads w s model none old new (Backend e) step law = tt
+only_invalid number holds reads w s model none old new (Frontend f) (inl halt) law = law halt.1
+only_invalid number holds reads w s model none old new (Frontend f) (inr (symbol, (left, p, has, (answer, call, is)))) law = absurd (never_frontend answer f is)

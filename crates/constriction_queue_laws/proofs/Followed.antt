@@ -11,9 +11,9 @@ use Rattle.constriction_queue.proofs.Cuts.{offset_is}
 use Rattle.constriction_queue.proofs.Narrowing.{valid_start}
 use Rattle.constriction_queue.proofs.SealedRuns.{ceil_below, ceil_from, words-append, words-fixed_digits}
 use Rattle.constriction_queue.proofs.SelfDelimited.{fewer_outside, length_self, number_at_end, ones_behind, self_sealed, self_within, words_ones, words_same}
-use Rattle.constriction_queue_laws.specs.Symbols.{Narrows, NarrowsAll, FindsAll, MayEnd}
+use Rattle.constriction_queue.specs.Symbols.{Narrows, NarrowsAll, FindsAll, MayEnd}
 use Rattle.constriction_queue_laws.proofs.ComingBack.{encodes_unique}
-use Rattle.constriction_queue_laws.proofs.Entries.{as_encodes, intervals}
+use Rattle.constriction_queue.proofs.Entries.{as_encodes, intervals}
 use Rattle.constriction_queue_laws.proofs.Reading.{within_read}
 use Rattle.constriction_queue_laws.proofs.Sealing.{drop_all, less_than_all}
 use Rattle.constriction_coder_laws.proofs.Turned.{all-append}

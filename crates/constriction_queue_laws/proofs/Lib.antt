@@ -2,7 +2,6 @@ pub mod AnyEncoder
 pub mod AnyWords
 pub mod ComingBack
 pub mod Concatenating
-pub mod Entries
 pub mod Flagging
 pub mod Followed
 pub mod ListCalls

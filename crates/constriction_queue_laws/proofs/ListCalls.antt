@@ -1,6 +1,9 @@
 -- What list calls of a range coder do, in the words of the laws.
 use Rattle.std.proofs.Common.{◌≡◌, ℕ, ◌+◌, ◌-◌, ◌*◌, ◌<◌, ◌^◌, ◌⊎◌, Option, List, [], ◌∷◌, Result, Ok, Err, inl, inr, length, map, refl, sym, ap, ◌∙◌, subst, arith}
 use Rattle.std.specs.Prelude.{Bool, IsTrue, reverse}
+use Rattle.constriction_base.specs.declared.backends.reading.Holds as holding
+use Rattle.constriction_base.specs.declared.backends.reading.ReadWords as reading
+use Rattle.constriction_base.specs.declared.backends.writing.WriteWords as writing
 use Rattle.constriction_base.specs.declared.errors.CoderError.{CoderError}
 use Rattle.constriction_base.specs.Steps.{Step, InTurn}
 use Rattle.constriction_base.specs.Tables.{AtEntry}
@@ -9,21 +12,21 @@ use Rattle.constriction_stream.specs.Lists.{StepsAll}
 use Rattle.constriction_stream.specs.Symbols.{EncodesSymbol, ByBackend}
 use Rattle.constriction_queue.specs.Range.{Run, narrow, offset, start}
 use Rattle.constriction_queue.specs.Encoder.{Encoder, run_by}
-use Rattle.constriction_queue.specs.Decoder.{Decoder, distance, quantile_read}
+use Rattle.constriction_queue.specs.Decoder.{Decoder, distance, quantile_read, StandsAt}
 use Rattle.constriction_queue.specs.Calls as calls
 use Rattle.constriction_queue.proofs.Pointing.{takes_is, mod_sum}
 use Rattle.constriction_queue.proofs.Showing.{queue_is}
 use Rattle.constriction_queue_laws.specs.Outcomes.{ReadsToEnd}
-use Rattle.constriction_queue_laws.specs.Symbols.{Narrows, Finds, NarrowsAll, FindsAll, StandsAt, MayEnd, NearsEnd}
+use Rattle.constriction_queue.specs.Symbols.{Narrows, Finds, NarrowsAll, FindsAll, MayEnd, NearsEnd}
 use Rattle.constriction_queue_laws.proofs.ComingBack.{decodes_unique}
 use Rattle.constriction_coder_laws.proofs.SameModel.{are_models, models-alike, symbols-items_of}
 use Rattle.constriction_coder_laws.proofs.PairCalls.{are_pairs, same_models, their_symbols}
 
 -- ---- encodes
-module _ {S W B E F : Type 0} (number : W → ℕ) (held : B → List W) (w s : ℕ) (room : B → ℕ) (makes_room : Type 0) (prepare_fails : B → ℕ → E → Type 0) (write_fails : B → E → Type 0) (is_impossible : F → Type 0) where
+module _ {S W B E F Q : Type 0} (number : W → ℕ) (holds : holding.Ghosts B W Q) (writes : writing.Ghosts B W E) (w s : ℕ) (is_impossible : F → Type 0) where
   -- a step of the encoder that went well is an encode of the symbol
   pub encode_of : (model : Model S) (symbol : S) (old new : Encoder B)
-      → EncodesSymbol {F = F} (ByBackend (calls.EncodeCall number held w s room makes_room prepare_fails write_fails)) is_impossible model.precision model.table symbol old (Ok tt) new
+      → EncodesSymbol {F = F} (ByBackend (calls.EncodeCall number holds writes w s)) is_impossible model.precision model.table symbol old (Ok tt) new
       → Narrows w s model symbol (run_by w s old) (run_by w s new)
   encode_of model symbol old new (inl (left, p, has, (Ok u, e, is))) = (left, p, has, e.narrowed)
   encode_of model symbol old new (inl (left, p, has, (Err x, e, is))) = absurd cc
@@ -31,7 +34,7 @@ module _ {S W B E F : Type 0} (number : W → ℕ) (held : B → List W) (w s : 
 
   -- so is a list of them: what was given lends a symbol, or a pair, that stands for an item
   pub encodes_of : {A T : Type 0} (lent : A → T) (item : T → Item S) (xs : List A) (old new : Encoder B)
-      → StepsAll {E = CoderError F E} (λ old x answer new. EncodesSymbol (ByBackend (calls.EncodeCall number held w s room makes_room prepare_fails write_fails)) is_impossible
+      → StepsAll {E = CoderError F E} (λ old x answer new. EncodesSymbol (ByBackend (calls.EncodeCall number holds writes w s)) is_impossible
       (item (lent x)).model.precision (item (lent x)).model.table (item (lent x)).symbol old answer new) old xs new
       → NarrowsAll w s (map item (map lent xs)) (run_by w s old) (run_by w s new)
   encodes_of lent item [] old new all = ap (λ (c : Encoder B). run_by w s c) all
@@ -44,10 +47,10 @@ module _ {S W B E F : Type 0} (number : W → ℕ) (held : B → List W) (w s : 
 abbrev pub ReadTo : {S B : Type 0} → ℕ → ℕ → List ℕ → List (Item S) → Run → Decoder B → Type 0
 ReadTo w s words items old new = (last : Run) × FindsAll w s words items old last × StandsAt w s words last new
 
-module _ {S W B E : Type 0} (F : Type 0) (number : W → ℕ) (held : B → List W) (is_list : Type 0) (reads : B → Result (Option W) E → B → Type 0) (w s : ℕ) (words : List ℕ) (known : is_list) where
+module _ {S W B E Q : Type 0} (F : Type 0) (number : W → ℕ) (holds : holding.Ghosts B W Q) (reads : reading.Ghosts B W Q E) (w s : ℕ) (words : List ℕ) (known : holds.is_list) where
   -- a step of the decoder that went well is a decode of the symbol
   abbrev pub Given : Model S → S → Decoder B → Decoder B → Type 0
-  Given model symbol old new = AtEntry model.precision model.table symbol (λ step. ByBackend {F = F} (calls.DecodeCall number held is_list reads w s) old step (Ok tt) new)
+  Given model symbol old new = AtEntry model.precision model.table symbol (λ step. ByBackend {F = F} (calls.DecodeCall number holds reads w s) old step (Ok tt) new)
 
   pub decode_of : (model : Model S) (symbol : S) (r : Run) (old new : Decoder B) → StandsAt w s words r old → Given model symbol old new
       → (last : Run) × Finds w s words model symbol r last × StandsAt w s words last new

@@ -4,8 +4,8 @@ use Rattle.constriction_base.specs.Steps.{Step, IsSizes, AreWords}
 use Rattle.constriction_base.specs.Models.{Item, AreModels}
 use Rattle.constriction_queue.specs.Range.{Run, IsInterval, Within, sealed, start}
 use Rattle.constriction_queue.proofs.ReadingRuns.{law_reads}
-use Rattle.constriction_queue_laws.specs.Symbols.{NarrowsAll, FindsAll}
-use Rattle.constriction_queue_laws.proofs.Entries.{entries, are_steps, run_is, intervals, as_encodes, reads_entries}
+use Rattle.constriction_queue.specs.Symbols.{NarrowsAll, FindsAll}
+use Rattle.constriction_queue.proofs.Entries.{entries, are_steps, run_is, intervals, as_encodes, reads_entries}
 use Rattle.constriction_queue_laws.proofs.Sealing.{less_behind, sealed_within_interval}
 
 -- words that were read as some symbols lie within their run

@@ -10,8 +10,8 @@ use Rattle.constriction_queue.specs.Encoder.{Encoder, HasHeads, Without, run_by,
 use Rattle.constriction_queue.proofs.Cuts.{offset_is}
 use Rattle.constriction_queue.proofs.Narrowing.{valid_start}
 use Rattle.constriction_queue.proofs.SealedRuns.{ceil_below, ceil_from, length-fixed_digits, less_after, number_zeros, seal_point, tail, words-append, words-fixed_digits}
-use Rattle.constriction_queue_laws.specs.Symbols.{NarrowsAll, MayEnd}
-use Rattle.constriction_queue_laws.proofs.Entries.{entries, are_steps, run_is, intervals}
+use Rattle.constriction_queue.specs.Symbols.{NarrowsAll, MayEnd}
+use Rattle.constriction_queue.proofs.Entries.{entries, are_steps, run_is, intervals}
 
 -- ---- the words of a seal, by cases
 sealed_none : (w s : ℕ) (r : Run) → r.range ≡ 2 ^ s - 1 → sealed w s r ≡ fixed_digits (2 ^ w) r.moves (r.low / 2 ^ s)

@@ -3,11 +3,11 @@ use Rattle.std.proofs.Common.{◌≡◌, ℕ, zero, suc, ◌-◌, ◌/◌, ◌^�
 use Rattle.std.proofs.lemmas.Bool.{cases_lt}
 use Rattle.constriction_base.specs.Steps.{Step, IsSizes, AreWords}
 use Rattle.constriction_base.specs.Models.{Item}
-use Rattle.constriction_queue.specs.Decoder.{Decoder}
+use Rattle.constriction_queue.specs.Decoder.{Decoder, StandsAt}
 use Rattle.constriction_queue.specs.Range.{Run, cut, grown, narrow, number_of_first, sealed}
 use Rattle.constriction_queue.specs.States.{IsPosition}
 use Rattle.constriction_queue.proofs.Sought.{sought_is_at}
-use Rattle.constriction_queue_laws.specs.Symbols.{NarrowsAll, StandsAt}
+use Rattle.constriction_queue.specs.Symbols.{NarrowsAll}
 use Rattle.constriction_queue_laws.proofs.Sealing.{sealed_long}
 
 map-drop : {A B : Type 0} (f : A → B) (n : ℕ) (xs : List A) → map f (drop n xs) ≡ drop n (map f xs)

@@ -8,6 +8,9 @@ use Rattle.std.specs.Slice.Iter.{iter_rest, iter_steps}
 use Rattle.std.proofs.Common.{◌≡◌, ◌∙◌, ℕ, ◌<◌, ◌≤◌, ◌^◌, Bor, Iter, Option, Some, List, [], ◌∷◌, ◌++◌, Result, Ok, Err, inl, inr, map, append_assoc, length, drop, refl, sym, ap, subst, arith}
 use Rattle.std.specs.Prelude.{IfErr, IfOk, IsErrAnd}
 use Rattle.std.proofs.lemmas.List.{map-append}
+use Rattle.constriction_base.specs.declared.backends.reading.Holds as holding
+use Rattle.constriction_base.specs.declared.backends.reading.ReadWords as reading
+use Rattle.constriction_base.specs.declared.backends.writing.WriteWords as writing
 use Rattle.constriction_base.specs.declared.errors.CoderError.{CoderError}
 use Rattle.constriction_base.specs.declared.errors.CoderError.TheVariants.{Frontend}
 use Rattle.constriction_base.specs.declared.errors.DefaultEncoderFrontendError.{DefaultEncoderFrontendError}
@@ -22,13 +25,13 @@ use Rattle.constriction_base.specs.Models.{Model, Item, IsModel, item_of, items_
 use Rattle.constriction_base.proofs.Entries.{in_range}
 use Rattle.constriction_stream.specs.Symbols.{ByBackend, never_frontend}
 use Rattle.constriction_queue.specs.Range.{Run}
-use Rattle.constriction_queue.specs.Decoder.{Decoder, quantile_read}
+use Rattle.constriction_queue.specs.Decoder.{Decoder, quantile_read, StandsAt}
 use Rattle.constriction_queue.specs.Calls as calls
 use Rattle.constriction_queue.specs.Encoder.{Encoder}
 use Rattle.constriction_queue.specs.declared.decoder.symbols.DecoderFrontendError.{DecoderFrontendError}
 use Rattle.constriction_queue.specs.declared.decoder.symbols.DecoderFrontendError.TheVariants.{InvalidData}
 use Rattle.constriction_queue_laws.specs.Outcomes.{NotCoded, NotRead}
-use Rattle.constriction_queue_laws.specs.Symbols.{Finds, FindsAll, StandsAt}
+use Rattle.constriction_queue.specs.Symbols.{Finds, FindsAll}
 use Rattle.constriction_queue_laws.proofs.ComingBack.{one_decode}
 use Rattle.constriction_queue_laws.proofs.ListCalls.{decode_of, distance_is}
 use Rattle.constriction_queue_laws.proofs.Pairs.{both_now, pairs_given, pairs_left}
@@ -40,37 +43,37 @@ found_here w s words model x r next d m some at (left, p, has, (takes, is)) =
     let bound = in_range 0 (2 ^ model.precision) model.table x left p m.lawful.follow has in
     rw (distance_is w s words r d some at, at.range_is) (omega (arith, takes.below, bound.2))
 
-module _ {S W B E : Type 0} (F : Type 0) (number : W → ℕ) (held : B → List W) (is_list : Type 0) (reads : B → Result (Option W) E → B → Type 0) (w s : ℕ) (words : List ℕ) (known : is_list) where
+module _ {S W B E Q : Type 0} (F : Type 0) (number : W → ℕ) (holds : holding.Ghosts B W Q) (reads : reading.Ghosts B W Q E) (w s : ℕ) (words : List ℕ) (known : holds.is_list) where
   pub more_to_read : (model : Model S) → IsModel w model → 0 < 2 ^ s → (given symbols : List S) (r last : Run) (old mid : Decoder B) → length given < length symbols → StandsAt w s words r old
-      → InTurn (λ symbol old new. AtEntry model.precision model.table symbol (λ step. ByBackend {F = F} (calls.DecodeCall number held is_list reads w s) old step (Ok tt) new)) given old mid
+      → InTurn (λ symbol old new. AtEntry model.precision model.table symbol (λ step. ByBackend {F = F} (calls.DecodeCall number holds reads w s) old step (Ok tt) new)) given old mid
       → FindsAll w s words (items_of model symbols) r last → quantile_read s model.precision mid < 2 ^ model.precision
   more_to_read model m some [] [] r last old mid less at all found = absurd (omega (arith, less))
   more_to_read model m some [] (x ∷ xs) r last old mid less at all found =
       found_here w s words model x r found.0 mid m some (subst (λ (d : Decoder B). StandsAt w s words r d) (sym all) at) found.1
   more_to_read model m some (y ∷ ys) [] r last old mid less at all found = absurd (omega (arith, less))
   more_to_read model m some (y ∷ ys) (x ∷ xs) r last old mid less at all found =
-      let first = decode_of F number held is_list reads w s words known model y r old all.0 at all.1 in
+      let first = decode_of F number holds reads w s words known model y r old all.0 at all.1 in
       let same = one_decode w s words model y x r first.0 found.0 m first.1 found.1 in
       more_to_read model m some ys xs first.0 last all.0 mid (omega (arith, less)) first.2 all.2
       (subst (λ (r : Run). FindsAll w s words (items_of model xs) r last) (sym same.1) found.2)
 
 -- so a list of decodes isn't stopped by the decoder itself
-module _ {S W B E : Type 0} (number : W → ℕ) (held : B → List W) (is_list : Type 0) (reads : B → Result (Option W) E → B → Type 0) (w s : ℕ) (words : List ℕ) (known : is_list) where
+module _ {S W B E Q : Type 0} (number : W → ℕ) (holds : holding.Ghosts B W Q) (reads : reading.Ghosts B W Q E) (w s : ℕ) (words : List ℕ) (known : holds.is_list) where
   pub never_stopped : (model : Model S) → IsModel w model → 0 < 2 ^ s → (symbols : List S) (r last : Run) (amt : ℕ) (old new : Decoder B) (f : DecoderFrontendError) → amt ≡ length symbols
       → StandsAt w s words r old → FindsAll w s words (items_of model symbols) r last
-      → StopsShort {E = CoderError DecoderFrontendError E} (ByBackend {F = DecoderFrontendError} (calls.DecodeCall number held is_list reads w s))
+      → StopsShort {E = CoderError DecoderFrontendError E} (ByBackend {F = DecoderFrontendError} (calls.DecodeCall number holds reads w s))
       (λ old error new. (error ≡ Frontend InvalidData) × (2 ^ model.precision ≤ quantile_read s model.precision old) × (new ≡ old)) model.precision model.table amt old (Refused (Frontend f)) new → ⊥
   never_stopped model m some symbols r last amt old new f count at found (given, mid, less, all, inl halt) =
-      omega (arith, halt.1, more_to_read DecoderFrontendError number held is_list reads w s words known model m some given symbols r last old mid (omega (arith, less, count)) at all found)
+      omega (arith, halt.1, more_to_read DecoderFrontendError number holds reads w s words known model m some given symbols r last old mid (omega (arith, less, count)) at all found)
   never_stopped model m some symbols r last amt old new f count at found (given, mid, less, all, inr (symbol, (left, p, has, (answer, call, is)))) =
       never_frontend answer f is
 
 -- ---- the same where each symbol has a model of its own
-module _ {S M W B E : Type 0} (F : Type 0) (number : W → ℕ) (held : B → List W) (is_list : Type 0) (reads : B → Result (Option W) E → B → Type 0) (w s : ℕ) (words : List ℕ) (known : is_list)
+module _ {S M W B E Q : Type 0} (F : Type 0) (number : W → ℕ) (holds : holding.Ghosts B W Q) (reads : reading.Ghosts B W Q E) (w s : ℕ) (words : List ℕ) (known : holds.is_list)
     (precision : ℕ) (table : M → List (S × ℕ × ℕ)) (lawful : (m : M) → IsModel w (record { precision = precision; table = table m })) where
   pub more_by_models : 0 < 2 ^ s → (given symbols : List S) (models : List M) (model : M) (rest : List M) (r last : Run) (old mid : Decoder B)
       → drop (length given) models ≡ model ∷ rest → length symbols ≡ length models → StandsAt w s words r old
-      → InTurn (λ (pair : S × M) old new. AtEntry precision (table pair.1) pair.0 (λ step. ByBackend {F = F} (calls.DecodeCall number held is_list reads w s) old step (Ok tt) new)) (zip given models) old mid
+      → InTurn (λ (pair : S × M) old new. AtEntry precision (table pair.1) pair.0 (λ step. ByBackend {F = F} (calls.DecodeCall number holds reads w s) old step (Ok tt) new)) (zip given models) old mid
       → FindsAll w s words (pairs_of precision table symbols models) r last → quantile_read s precision mid < 2 ^ precision
   more_by_models some [] symbols [] model rest r last old mid next count at all found = absurd cc
   more_by_models some [] [] (m ∷ ms) model rest r last old mid next count at all found = absurd (omega (arith, count))
@@ -80,19 +83,19 @@ module _ {S M W B E : Type 0} (F : Type 0) (number : W → ℕ) (held : B → Li
   more_by_models some (y ∷ ys) [] (m ∷ ms) model rest r last old mid next count at all found = absurd (omega (arith, count))
   more_by_models some (y ∷ ys) (x ∷ xs) (m ∷ ms) model rest r last old mid next count at all found =
       let own : Model S = record { precision = precision; table = table m } in
-      let first = decode_of F number held is_list reads w s words known own y r old all.0 at all.1 in
+      let first = decode_of F number holds reads w s words known own y r old all.0 at all.1 in
       let same = one_decode w s words own y x r first.0 found.0 (lawful m) first.1 found.1 in
       more_by_models some ys xs ms model rest first.0 last all.0 mid next (omega (arith, count)) first.2 all.2
       (subst (λ (r : Run). FindsAll w s words (pairs_of precision table xs ms) r last) (sym same.1) found.2)
 
-module _ {S M W B E : Type 0} (number : W → ℕ) (held : B → List W) (is_list : Type 0) (reads : B → Result (Option W) E → B → Type 0) (w s : ℕ) (words : List ℕ) (known : is_list)
+module _ {S M W B E Q : Type 0} (number : W → ℕ) (holds : holding.Ghosts B W Q) (reads : reading.Ghosts B W Q E) (w s : ℕ) (words : List ℕ) (known : holds.is_list)
     (precision : ℕ) (table : M → List (S × ℕ × ℕ)) (lawful : (m : M) → IsModel w (record { precision = precision; table = table m })) where
   pub never_among : 0 < 2 ^ s → (symbols : List S) (models : List M) (r last : Run) (old new : Decoder B) (f : DecoderFrontendError) → length symbols ≡ length models
       → StandsAt w s words r old → FindsAll w s words (pairs_of precision table symbols models) r last
-      → StopsAmong {E = CoderError DecoderFrontendError E} (ByBackend {F = DecoderFrontendError} (calls.DecodeCall number held is_list reads w s))
+      → StopsAmong {E = CoderError DecoderFrontendError E} (ByBackend {F = DecoderFrontendError} (calls.DecodeCall number holds reads w s))
       (λ old error new. (error ≡ Frontend InvalidData) × (2 ^ precision ≤ quantile_read s precision old) × (new ≡ old)) precision table models old (Refused (Frontend f)) new → ⊥
   never_among some symbols models r last old new f count at found (given, mid, model, rest, next, all, inl halt) =
-      omega (arith, halt.1, more_by_models DecoderFrontendError number held is_list reads w s words known precision table lawful some given symbols models model rest r last old mid next count at all found)
+      omega (arith, halt.1, more_by_models DecoderFrontendError number holds reads w s words known precision table lawful some given symbols models model rest r last old mid next count at all found)
   never_among some symbols models r last old new f count at found (given, mid, model, rest, next, all, inr (symbol, (left, p, has, (answer, call, is)))) =
       never_frontend answer f is
 
@@ -101,25 +104,25 @@ from_front : {A : Type 0} (i : Iter A) (xs : List (Bor A)) (j : Iter A) → Yiel
 from_front i [] j run = ap iter_rest run
 from_front {A} i (x ∷ xs) j run = run.1 ∙ ap (λ (ys : List A). x.now ∷ ys) (from_front run.0 xs j run.2)
 
-pub unknown_of : {S W B E : Type 0} (number : W → ℕ) (held : B → List W) (w s : ℕ) (room : B → ℕ) (makes_room : Type 0) (prepare_fails : B → ℕ → E → Type 0) (write_fails : B → E → Type 0)
+pub unknown_of : {S W B E Q : Type 0} (number : W → ℕ) (holds : holding.Ghosts B W Q) (writes : writing.Ghosts B W E) (w s : ℕ)
     (P : ℕ) (table : List (S × ℕ × ℕ)) (symbols : List S) (i : Iter S) (coded : List (Bor S)) (item : Bor S) (rest : Iter S)
     (old new : Encoder B) (refusal : DefaultEncoderFrontendError) → iter_rest i ≡ symbols → YieldsThen iter_steps i coded (Some item) rest
-    → EncodesByBackend (calls.EncodeCall number held w s room makes_room prepare_fails write_fails) P table item.now old (Err (Frontend refusal)) new → HasImpossible table symbols
-unknown_of {S = S} number held w s room makes_room prepare_fails write_fails P table symbols i coded item rest old new refusal is gave step = (
+    → EncodesByBackend (calls.EncodeCall number holds writes w s) P table item.now old (Err (Frontend refusal)) new → HasImpossible table symbols
+unknown_of {S = S} number holds writes w s P table symbols i coded item rest old new refusal is gave step = (
   map (λ x. x.now) coded,
   iter_rest rest,
   item.now,
   sym is ∙ (from_front i coded gave.0 gave.1 ∙ ap (λ (ys : List S). map (λ x. x.now) coded ++ ys) gave.2),
-  (frontend_by (calls.EncodeCall number held w s room makes_room prepare_fails write_fails) P table item.now old new refusal step).0,
+  (frontend_by (calls.EncodeCall number holds writes w s) P table item.now old new refusal step).0,
 )
 
 -- a list of pairs
-pub unknown_among : {S M W B E : Type 0} (number : W → ℕ) (held : B → List W) (w s : ℕ) (room : B → ℕ) (makes_room : Type 0) (prepare_fails : B → ℕ → E → Type 0) (write_fails : B → E → Type 0)
+pub unknown_among : {S M W B E Q : Type 0} (number : W → ℕ) (holds : holding.Ghosts B W Q) (writes : writing.Ghosts B W E) (w s : ℕ)
     (P : ℕ) (table : M → List (S × ℕ × ℕ)) (symbols : List S) (models : List M) (i : Zip (Iter S) (Iter M)) (coded : List (Bor S × Bor M)) (pair : Bor S × Bor M) (rest : Zip (Iter S) (Iter M))
     (old new : Encoder B) (refusal : DefaultEncoderFrontendError) → pairs_left i ≡ zip symbols models → YieldsThen (zip_steps iter_steps iter_steps) i coded (Some pair) rest
-    → EncodesByBackend (calls.EncodeCall number held w s room makes_room prepare_fails write_fails) P (table pair.1.now) pair.0.now old (Err (Frontend refusal)) new
+    → EncodesByBackend (calls.EncodeCall number holds writes w s) P (table pair.1.now) pair.0.now old (Err (Frontend refusal)) new
     → HasImpossibleItem (pairs_of P table symbols models)
-unknown_among {S} {M} number held w s room makes_room prepare_fails write_fails P table symbols models i coded pair rest old new refusal is gave step =
+unknown_among {S} {M} number holds writes w s P table symbols models i coded pair rest old new refusal is gave step =
     let item : S × M → Item S = λ pair. item_of (record { precision = P; table = table pair.1 }) pair.0 in
     let behind : pairs_left gave.0 ≡ both_now pair ∷ pairs_left rest = pairs_given gave.0 (pair ∷ []) rest (rest, gave.2, refl) in
     let parts : zip symbols models ≡ map both_now coded ++ both_now pair ∷ pairs_left rest =
@@ -128,7 +131,7 @@ unknown_among {S} {M} number held w s room makes_room prepare_fails write_fails 
       map item (pairs_left rest),
       item (both_now pair),
       ap (λ (ps : List (S × M)). map item ps) parts ∙ map-append item (map both_now coded) (both_now pair ∷ pairs_left rest),
-      (frontend_by (calls.EncodeCall number held w s room makes_room prepare_fails write_fails) P (table pair.1.now) pair.0.now old new refusal step).0,
+      (frontend_by (calls.EncodeCall number holds writes w s) P (table pair.1.now) pair.0.now old new refusal step).0,
     )
 
 -- ---- reasons, of a call that is made behind others

@@ -3,7 +3,7 @@ use Rattle.std.specs.Prelude.{◌≡◌, ℕ, ◌<◌, ⊤, List, ◌++◌, leng
 use Rattle.constriction_base.specs.Models.{Model, Item, items_of}
 use Rattle.constriction_queue.specs.Range.{Run, start}
 use Rattle.constriction_queue.specs.SelfDelimiting.{SelfDelimits}
-use Rattle.constriction_queue_laws.specs.Symbols.{NarrowsAll, FindsAll}
+use Rattle.constriction_queue.specs.Symbols.{NarrowsAll, FindsAll}
 use Rattle.constriction_queue_laws.specs.declared.concatenated.DecodeError.{DecodeError}
 use Rattle.constriction_queue_laws.specs.declared.concatenated.DecodeError.TheVariants.{NoSuchPlace, InvalidData}
 

@@ -1,4 +1,3 @@
 pub mod Concatenated
 pub mod Outcomes
-pub mod Symbols
 pub mod Undone

@@ -4,7 +4,7 @@ use Rattle.constriction_base.specs.Models.{Item}
 use Rattle.constriction_base.specs.declared.errors.CoderError.{CoderError}
 use Rattle.constriction_base.specs.declared.errors.CoderError.TheVariants.{Frontend}
 use Rattle.constriction_queue.specs.Range.{Run, Within, sealed, start}
-use Rattle.constriction_queue.specs.Decoder.{Decoder}
+use Rattle.constriction_queue.specs.Decoder.{Decoder, StandsAt}
 use Rattle.constriction_queue.specs.States.{IsPosition}
 use Rattle.constriction_coder_laws.specs.Outcomes.{Reasons}
 use Rattle.constriction_coder_laws.specs.declared.errors.RoundTripError.{RoundTripError}
@@ -13,7 +13,7 @@ use Rattle.constriction_coder_laws.specs.declared.errors.Stopped.TheVariants as 
 use Rattle.constriction_queue_laws.specs.declared.concatenated.DecodeError.{DecodeError}
 use Rattle.constriction_queue_laws.specs.declared.concatenated.DecodeError.TheVariants.{NoSuchPlace, InvalidData}
 use Rattle.constriction_queue_laws.specs.Concatenated.{ReadsItems}
-use Rattle.constriction_queue_laws.specs.Symbols.{NarrowsAll, FindsAll, StandsAt, MayEnd, NearsEnd}
+use Rattle.constriction_queue.specs.Symbols.{NarrowsAll, FindsAll, MayEnd, NearsEnd}
 
 -- symbols weren't coded: one has no entry, or they are more than the encoder counts
 abbrev pub NotCoded : Type 0 → Type 0 → RoundTripError → Type 0

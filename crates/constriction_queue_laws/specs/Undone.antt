@@ -5,7 +5,7 @@ use Rattle.constriction_base.specs.Models.{Item, IsModel}
 use Rattle.constriction_base.proofs.Entering.{entry_is_step}
 use Rattle.constriction_queue.specs.Range.{Run, IsInterval, Within}
 use Rattle.constriction_queue.proofs.ReadingRuns.{takes_narrow}
-use Rattle.constriction_queue_laws.specs.Symbols.{Narrows, Finds}
+use Rattle.constriction_queue.specs.Symbols.{Narrows, Finds}
 
 -- words of w bits, states of s bits, and words that are read
 pub record Reading : Type 0 where

@@ -4,12 +4,13 @@ ghost use Rattle.std.specs.Prelude.{◌≡◌, ◌-◌, ◌<◌, ◌^◌, ◌++�
 ghost use Rattle.constriction_base.specs.Models.{Model, IsModel};
 ghost use Rattle.constriction_base.specs.Steps.{IsSizes, AreWords};
 ghost use Rattle.constriction_coder_laws.specs.Outcomes.{HasImpossibleItem};
+ghost use Rattle.constriction_queue.specs.Decoder.{StandsAt};
 ghost use Rattle.constriction_queue.specs.Flagged.{flagged};
 ghost use Rattle.constriction_queue.specs.Range.{Run, start};
 ghost use Rattle.constriction_queue.specs.SelfDelimiting.{SelfDelimits};
 ghost use Rattle.constriction_queue_laws.specs.Concatenated.{DelimitsItems};
 ghost use Rattle.constriction_queue_laws.specs.Outcomes.{HoldNone, InvalidWhere, NotCoded};
-ghost use Rattle.constriction_queue_laws.specs.Symbols.{FindsAll, NarrowsAll, StandsAt};
+ghost use Rattle.constriction_queue.specs.Symbols.{FindsAll, NarrowsAll};
 
 use crate::following::symbols_come_back_whatever_follows;
 use constriction_base::backends::{Queue, ReadWords};

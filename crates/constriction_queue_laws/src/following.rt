@@ -6,7 +6,7 @@ ghost use Rattle.constriction_base.specs.Models.{Item, AreModels};
 ghost use Rattle.constriction_base.specs.Steps.{Step, IsSizes, AreSteps, AreWords};
 ghost use Rattle.constriction_queue.specs.Range.{Run, ReadAs, run, seal_number, sealed, start};
 ghost use Rattle.constriction_queue.specs.SelfDelimiting.{AreLeast, SelfDelimits};
-ghost use Rattle.constriction_queue_laws.specs.Symbols.{NarrowsAll, FindsAll, MayEnd};
+ghost use Rattle.constriction_queue.specs.Symbols.{NarrowsAll, FindsAll, MayEnd};
 
 use crate::lists::decodes_undo_encodes;
 

@@ -8,7 +8,7 @@ ghost use Rattle.std.specs.Prelude.{◌≡◌, ◌↔◌, ◌∷◌, ℕ, List};
 ghost use Rattle.constriction_base.specs.Models.{Item, IsModel, models, AreModels, AreKnown};
 ghost use Rattle.constriction_base.specs.Steps.{IsSizes, AreWords};
 ghost use Rattle.constriction_queue.specs.Range.{Run, IsInterval, Within, sealed, start};
-ghost use Rattle.constriction_queue_laws.specs.Symbols.{Finds, NarrowsAll, FindsAll, MayEnd};
+ghost use Rattle.constriction_queue.specs.Symbols.{Finds, NarrowsAll, FindsAll, MayEnd};
 ghost use Rattle.constriction_queue_laws.specs.Undone.{Reading, TakesBack, read_back};
 
 use constriction_coder_laws::lists::{StepsUndo, lists_undo};

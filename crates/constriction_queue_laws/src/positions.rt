@@ -9,7 +9,7 @@ ghost use Rattle.constriction_base.specs.Steps.{IsSizes, AreWords};
 ghost use Rattle.constriction_queue.specs.Encoder.{run_by};
 ghost use Rattle.constriction_queue.specs.Range.{Run, IsAt, IsInterval, number_of_first, sealed, start};
 ghost use Rattle.constriction_queue.specs.States.{IsPosition};
-ghost use Rattle.constriction_queue_laws.specs.Symbols.{NarrowsAll, FindsAll};
+ghost use Rattle.constriction_queue.specs.Symbols.{NarrowsAll, FindsAll};
 
 use crate::lists::decodes_undo_encodes;
 use constriction_base::backends::{Holds, WriteWords};

@@ -13,6 +13,5 @@ use constriction_words::{BitArray, WordOf};
 pub fn room_is_enough<Word: WordOf<State>, State: BitArray, Backend: WriteWords<Word>>()
     ensures { (old : Encoder Backend) (step : Step) (e : Backend.WriteError) (new : Encoder Backend) →
         length old.held + 1 ≤ Backend.room old.bulk →
-        IsRefused Word.number Backend.words Word.BITS State.BITS Backend.room Backend.makes_room
-        Backend.prepare_fails Backend.write_fails old step e new → ⊥ }
+        IsRefused Word.number Backend.Holds Backend.WriteWords.own Word.BITS State.BITS old step e new → ⊥ }
 {}

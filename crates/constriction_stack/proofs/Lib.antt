@@ -1,5 +1,6 @@
 pub mod Pushing
 pub mod Importing
+pub mod Moved
 pub mod Coders
 pub mod Rows
 pub mod BinaryForms

@@ -7,9 +7,10 @@ use native.Mathlib.Nat.{pow-suc, pow-zero}
 use Rattle.constriction_base.proofs.Guards.{fixed-length}
 use Rattle.constriction_stack.specs.Ans.{AnsState, exported}
 use Rattle.constriction_base.specs.Digits.{fixed_digits}
-use Rattle.constriction_stack.specs.Binary.{IsBinary, binary_words}
+use Rattle.constriction_base.specs.Writing.{IsOneAbove}
+use Rattle.constriction_stack.specs.Binary.{binary_words}
 use Rattle.constriction_stack.specs.Sizes.{word_count, bit_count, valid_bit_count}
-use Rattle.constriction_stack.proofs.BinaryForms.{power_more}
+use Rattle.constriction_base.proofs.OneAbove.{power_more}
 use Rattle.constriction_base.proofs.Exporting.{base_two}
 
 pub exported_length : (w : ℕ) (x : AnsState) → length (exported w x) ≡ word_count w x
@@ -27,7 +28,7 @@ bit_count_is (suc bits) n below least =
     omega (arith, length-digits_of_step 2 n (omega arith) some, half)
 
 -- the leading one of a binary head isn't counted
-pub valid_bits_of_binary : (w m : ℕ) (x : AnsState) → IsBinary w m x → valid_bit_count w x ≡ w * length (binary_words w m x)
+pub valid_bits_of_binary : (w m : ℕ) (x : AnsState) → IsOneAbove w m x.head → valid_bit_count w x ≡ w * length (binary_words w m x)
 valid_bits_of_binary w m x i =
     let double : 2 ^ (m * w + 1) ≡ 2 ^ (m * w) * 2 ^ 1 = pow-add 2 (m * w) 1 in
     let bits : bit_count x.head ≡ m * w + 1 = bit_count_is (m * w + 1) x.head i.below (omega (arith, i.from, double)) in

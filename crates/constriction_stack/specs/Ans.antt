@@ -1,9 +1,12 @@
 -- The stack coder: asymmetric numeral systems, found by Jarek Duda, in the range variant that streams
 -- words, as in the Rust crate's `AnsCoder`. All definitions speak of numbers and lists; w and s are the
 -- numbers of bits of a word and of a head.
-use Rattle.std.specs.Prelude.{◌≡◌, ℕ, ◌+◌, ◌-◌, ◌*◌, ◌/◌, ◌%◌, ◌<◌, ◌≤◌, ◌^◌, ◌⊎◌, List, [], ◌∷◌, ◌++◌, Option, Some, None, Result, Ok, Err, OnOk, OnErr, IfErr, map, nat_lt, if◌then◌else◌, length}
+use Rattle.std.specs.Prelude.{◌≡◌, ℕ, ◌+◌, ◌-◌, ◌*◌, ◌/◌, ◌%◌, ◌<◌, ◌≤◌, ◌^◌, ◌⊎◌, List, [], ◌∷◌, ◌++◌, Option, Some, None, Result, Ok, Err, MatchResult, OnOk, OnErr, IfErr, map, nat_lt, if◌then◌else◌, length}
 use Rattle.std.specs.Int.Digits.{digits_of}
 use Rattle.constriction_base.specs.Steps.{Step, IsSizes, AreWords}
+use Rattle.constriction_base.specs.declared.backends.reading.Holds as holding
+use Rattle.constriction_base.specs.declared.backends.reading.ReadWords as reading
+use Rattle.constriction_base.specs.declared.backends.writing.WriteWords as writing
 
 -- what the coder holds: a number, the head, and a stack of words below it, the top one first
 -- (Duda's state x, of which all but the leading part was moved out)
@@ -73,31 +76,28 @@ filled w s head (word ∷ words) =
 abbrev pub exported : ℕ → AnsState → List ℕ
 exported w x = digits_of (2 ^ w) x.head ++ x.words
 
--- the words of a state of which the last of the head's digits to be written are missing
-pub record PartlyExported (w : ℕ) (x : AnsState) (words : List ℕ) : Type 0 where
-  pub missing : List ℕ
-  pub written : List ℕ
-  pub some_missing : 0 < length missing
-  pub digits : missing ++ written ≡ digits_of (2 ^ w) x.head
-  pub holds : words ≡ written ++ x.words
-
--- ---- coders
+-- ---- coders: a word's number is told by `number`, what a backend says of its words by `holds`, and of its writes and
+-- its reads by `writes` and `reads`
 
 -- a coder's state, and the backend that holds its words
 pub record AnsValue (B : Type 0) : Type 0 where
   pub state : AnsState
   pub backend : B
 
+-- the state of a head above the words that a backend holds
+abbrev pub state_of : {W B S : Type 0} → (W → ℕ) → holding.Ghosts B W S → ℕ → B → AnsState
+state_of number holds head backend = record { head = head; words = map number (holds.words backend) }
+
 -- the value of a coder that has this head and holds its words on this backend
-abbrev pub value_of : {W B : Type 0} → (W → ℕ) → (B → List W) → ℕ → B → AnsValue B
-value_of number words head backend = record { state = record { head = head; words = map number (words backend) }; backend = backend }
+abbrev pub value_of : {W B S : Type 0} → (W → ℕ) → holding.Ghosts B W S → ℕ → B → AnsValue B
+value_of number holds head backend = record { state = state_of number holds head backend; backend = backend }
 
 -- what is true of every coder: its sizes are allowed, its head has s bits at most, and the words below
 -- its head are those of the backend
-pub record IsCoder {W B : Type 0} (number : W → ℕ) (words : B → List W) (w s : ℕ) (coder : AnsValue B) : Type 0 where
+pub record IsCoder {W B S : Type 0} (number : W → ℕ) (holds : holding.Ghosts B W S) (w s : ℕ) (coder : AnsValue B) : Type 0 where
   pub sizes : IsSizes w s
   pub head_fits : coder.state.head < 2 ^ s
-  pub words_are : coder.state.words ≡ map number (words coder.backend)
+  pub words_are : coder.state.words ≡ map number (holds.words coder.backend)
 
 -- a push has to write a word first: the head has no room for the step
 abbrev pub OwesWord : ℕ → Step → AnsState → Type 0
@@ -120,41 +120,47 @@ RefillsBy {W} {E} {B} number reads w s head old new_head new =
     ⊎ ((head < 2 ^ (s - w)) × (new_head ≡ head) × reads old (Ok None) new)
     ⊎ ((head < 2 ^ (s - w)) × ((word : W) × (new_head ≡ head * 2 ^ w + number word) × reads old (Ok (Some word)) new))
 
--- ---- calls of a coder: what they may answer and leave, over a backend of which only its rules are known: what it
--- holds, what a read may answer, which errors a write and a `prepare` may answer, and how many writes are sure to succeed
+-- ---- calls of a coder: what they may answer and leave, over a backend of which only its rules are known
 
 -- an encode of a step
-pub record EncodeCall {W B E : Type 0} (number : W → ℕ) (held : B → List W) (w s : ℕ) (room : B → ℕ) (makes_room : Type 0) (prepare_fails : B → ℕ → E → Type 0) (write_fails : B → E → Type 0) (old : AnsValue B) (step : Step) (answer : Result (Unit {0}) E) (new : AnsValue B) : Type 0 where
+pub record EncodeCall {W B E S : Type 0} (number : W → ℕ) (holds : holding.Ghosts B W S) (writes : writing.Ghosts B W E) (w s : ℕ) (old : AnsValue B) (step : Step) (answer : Result (Unit {0}) E) (new : AnsValue B) : Type 0 where
   -- before and after it is a coder, whatever the answer
-  pub before : IsCoder number held w s old
-  pub after : IsCoder number held w s new
+  pub before : IsCoder number holds w s old
+  pub after : IsCoder number holds w s new
   -- onto a valid state it is the push
   pub pushed : OnOk answer (IsValid w s old.state → IsPush w s step old.state new.state)
   -- one word more at most
   pub words : OnOk answer (new.state.words ≡ words_after w s step old.state)
   -- no more room is used than words are written
-  pub room_used : OnOk answer (room old.backend + length old.state.words ≤ room new.backend + length new.state.words)
+  pub room_used : OnOk answer (writes.room old.backend + length old.state.words ≤ writes.room new.backend + length new.state.words)
   -- where no word is owed, the backend isn't touched
   pub owes : (OwesWord s step old.state → ⊥) → new.backend ≡ old.backend
   -- an error leaves the head and the words
   pub kept : OnErr answer (new.state ≡ old.state)
   -- and comes only where one word is owed: the backend had no room for one; or, where asking for room makes
   -- none, the write was refused
-  pub error : IfErr answer (λ e. OwesWord s step old.state × (prepare_fails old.backend 1 e ⊎ ((makes_room → ⊥) × write_fails old.backend e)))
+  pub error : IfErr answer (λ e. OwesWord s step old.state × (writes.prepare_fails old.backend 1 e ⊎ ((writes.makes_room → ⊥) × writes.write_fails old.backend e)))
 
--- a decode at a step, of a coder over a backend that knows its words (is_list) or whose reads tell them
-pub record DecodeCall {W B E : Type 0} (number : W → ℕ) (held : B → List W) (is_list : Type 0) (reads : B → Result (Option W) E → B → Type 0) (w s : ℕ) (old : AnsValue B) (step : Step) (answer : Result (Unit {0}) E) (new : AnsValue B) : Type 0 where
+-- an encode of a step onto a head and a backend: a new head, or an error that leaves the head
+abbrev pub EncodesOnto : {W B E S H : Type 0} → (W → ℕ) → holding.Ghosts B W S → writing.Ghosts B W E → ℕ → ℕ → (H → ℕ) → H → B → Step → Result H E → B → Type 0
+EncodesOnto number holds writes w s head_number head old step result new =
+    MatchResult result
+    (λ new_head. EncodeCall number holds writes w s (value_of number holds (head_number head) old) step (Ok tt) (value_of number holds (head_number new_head) new))
+    (λ e. EncodeCall number holds writes w s (value_of number holds (head_number head) old) step (Err e) (value_of number holds (head_number head) new))
+
+-- a decode at a step, of a coder over a backend that knows its words or whose reads tell them
+pub record DecodeCall {W B E S : Type 0} (number : W → ℕ) (holds : holding.Ghosts B W S) (reads : reading.Ghosts B W S E) (w s : ℕ) (old : AnsValue B) (step : Step) (answer : Result (Unit {0}) E) (new : AnsValue B) : Type 0 where
   -- before and after it is a coder, whatever the answer
-  pub before : IsCoder number held w s old
-  pub after : IsCoder number held w s new
+  pub before : IsCoder number holds w s old
+  pub after : IsCoder number holds w s new
   -- the head's quantile is one of the step's
-  pub holds : IsNext step old.state
+  pub is_next : IsNext step old.state
   -- of every state, valid or not, it is the pop
-  pub popped : OnOk answer (is_list → new.state ≡ pop w s step old.state)
+  pub popped : OnOk answer (holds.is_list → new.state ≡ pop w s step old.state)
   -- and by the reads: one at most, and none where none is owed
-  pub refilled : OnOk answer (RefillsBy number reads w s (popped_head step old.state) old.backend new.state.head new.backend)
+  pub refilled : OnOk answer (RefillsBy number reads.reads w s (popped_head step old.state) old.backend new.state.head new.backend)
   -- an error leaves the head, and the words
   pub head : OnErr answer (new.state.head ≡ old.state.head)
-  pub kept : OnErr answer (is_list → new.state ≡ old.state)
+  pub kept : OnErr answer (holds.is_list → new.state ≡ old.state)
   -- and is that of the one read that is owed
-  pub error : IfErr answer (λ e. OwesRead w s step old.state × reads old.backend (Err e) new.backend)
+  pub error : IfErr answer (λ e. OwesRead w s step old.state × reads.reads old.backend (Err e) new.backend)

@@ -1,5 +1,6 @@
 pub mod Ans
 pub mod Binary
+pub mod Exports
 pub mod Guarded
 pub mod Guards
 pub mod Imports

@@ -12,8 +12,8 @@ pub mod symbols;
 pub mod words;
 
 ghost use Rattle.constriction_base.specs.Steps.{IsSizes};
-ghost use Rattle.constriction_stack.specs.Ans.{AnsValue, IsCoder, empty, value_of};
-ghost use Rattle.std.specs.Prelude.{IsTrue, [], map, ◌↔◌, ◌≡◌};
+ghost use Rattle.constriction_stack.specs.Ans.{AnsValue, IsCoder, empty, state_of, value_of};
+ghost use Rattle.std.specs.Prelude.{IsTrue, [], ◌↔◌, ◌≡◌};
 
 use constriction_base::backends::{Holds, Stack, WriteWords};
 use constriction_words::{BitArray, WordOf};
@@ -42,7 +42,7 @@ impl<Word: WordOf<State>, State: BitArray, Backend: Holds<Word, Stack>> Model
     for AnsCoder<Word, State, Backend> {
     ghost Value = { AnsValue Backend };
 
-    ghost view = { λ c. value_of Word.number Backend.words (State.number c.state) c.bulk };
+    ghost view = { λ c. value_of Word.number Backend.Holds (State.number c.state) c.bulk };
 
     ghost invariant = { λ _. IsSizes Word.BITS State.BITS };
 }
@@ -54,7 +54,7 @@ impl<Word: WordOf<State>, State: BitArray> AnsCoder<Word, State, Vec<Word>> {
     pub fn new(alloc: Global) -> Self
         requires { IsSizes Word.BITS State.BITS }
         ensures state { result.state ≡ empty }
-        ensures coder { IsCoder Word.number (⟦<Vec<Word> as Holds<Word, Stack>>⟧.words) Word.BITS State.BITS result }
+        ensures coder { IsCoder Word.number ⟦<Vec<Word> as Holds<Word, Stack>>⟧ Word.BITS State.BITS result }
     {
         AnsCoder {
             bulk: Vec::new(alloc),
@@ -68,7 +68,7 @@ impl<Word: WordOf<State>, State: BitArray, A: Allocator> AnsCoder<Word, State, V
     /// Takes everything off: the coder is as a new one, but keeps its memory.
     pub fn clear(&mut self)
         ensures state { self.new.state ≡ empty }
-        ensures coder { IsCoder Word.number (⟦<Vec<Word, A> as Holds<Word, Stack>>⟧.words) Word.BITS State.BITS self.new }
+        ensures coder { IsCoder Word.number ⟦<Vec<Word, A> as Holds<Word, Stack>>⟧ Word.BITS State.BITS self.new }
     {
         self.bulk.clear();
         self.state = State::nothing();
@@ -101,10 +101,9 @@ impl<Word: WordOf<State>, State: BitArray, Backend: Holds<Word, Stack>> AnsCoder
     #[inline(always)]
     pub fn from_raw_parts(bulk: Backend, state: State) -> Self
         requires { IsSizes Word.BITS State.BITS }
-        ensures state { result.state
-            ≡ record { head = State.number state; words = map Word.number (Backend.words bulk) } }
+        ensures state { result.state ≡ state_of Word.number Backend.Holds (State.number state) bulk }
         ensures backend { result.backend ≡ bulk }
-        ensures coder { IsCoder Word.number Backend.words Word.BITS State.BITS result }
+        ensures coder { IsCoder Word.number Backend.Holds Word.BITS State.BITS result }
     {
         AnsCoder {
             bulk,
@@ -117,9 +116,8 @@ impl<Word: WordOf<State>, State: BitArray, Backend: Holds<Word, Stack>> AnsCoder
     #[inline]
     pub fn into_raw_parts(self) -> (Backend, State)
         ensures backend { result.0 ≡ self.backend }
-        ensures state { self.state
-            ≡ record { head = State.number result.1; words = map Word.number (Backend.words result.0) } }
-        ensures coder { IsCoder Word.number Backend.words Word.BITS State.BITS self }
+        ensures state { self.state ≡ state_of Word.number Backend.Holds (State.number result.1) result.0 }
+        ensures coder { IsCoder Word.number Backend.Holds Word.BITS State.BITS self }
     {
         let AnsCoder {
             bulk,
@@ -133,7 +131,7 @@ impl<Word: WordOf<State>, State: BitArray, Backend: Holds<Word, Stack>> AnsCoder
     #[inline]
     pub fn bulk(&self) -> &Backend
         ensures backend { result.now ≡ self.now.backend }
-        ensures coder { IsCoder Word.number Backend.words Word.BITS State.BITS self.now }
+        ensures coder { IsCoder Word.number Backend.Holds Word.BITS State.BITS self.now }
     {
         &self.bulk
     }
@@ -151,7 +149,7 @@ impl<Word: WordOf<State>, State: BitArray, Backend: WriteWords<Word>> AnsCoder<
         requires empty { Backend.words bulk ≡ [] }
         ensures state { result.state ≡ empty }
         ensures backend { result.backend ≡ bulk }
-        ensures coder { IsCoder Word.number Backend.words Word.BITS State.BITS result }
+        ensures coder { IsCoder Word.number Backend.Holds Word.BITS State.BITS result }
     {
         AnsCoder::from_raw_parts(bulk, State::nothing())
     }
@@ -160,7 +158,7 @@ impl<Word: WordOf<State>, State: BitArray, Backend: WriteWords<Word>> AnsCoder<
 impl<Word: WordOf<State>, State: BitArray, Backend: Holds<Word, Stack> + Clone> Clone
     for AnsCoder<Word, State, Backend> {
     ghost is_clone = { λ old new. Backend.is_clone old.backend new.backend × (new.state.head ≡ old.state.head)
-        × IsCoder Word.number Backend.words Word.BITS State.BITS new };
+        × IsCoder Word.number Backend.Holds Word.BITS State.BITS new };
 
     ghost is_infallible = { λ coder. Backend.is_infallible coder.backend };
 

@@ -25,7 +25,6 @@
 //! The modules:
 //! - [`coder`]: the coder, its steps, its words, and what else can be asked of it.
 //! - `steps`: what a step does to the head, as functions of numbers.
-//! - `moves`: words that move between a head and a backend, as many as there are.
 //!
 //! Contracts cite the definitions of `specs/Ans.antt`: states, pop and push, the words of a state, and
 //! what a step over a backend may return and leave. They speak of numbers and lists: a word, or a head,
@@ -33,7 +32,6 @@
 #![tactic(auto)]
 
 pub mod coder;
-mod moves;
 mod steps;
 
 pub use crate::coder::{AnsCoder, DefaultAnsCoder, SmallAnsCoder};

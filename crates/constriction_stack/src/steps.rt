@@ -1,9 +1,9 @@
 //! The steps of a coder on its head and its backend.
 
-ghost use Rattle.std.specs.Prelude.{◌≡◌, ◌+◌, ◌-◌, ◌*◌, ◌/◌, ◌%◌, ◌^◌, ◌<◌, ◌≤◌, map, IfSome, MatchResult, Ok, Err};
+ghost use Rattle.std.specs.Prelude.{◌≡◌, ◌+◌, ◌-◌, ◌*◌, ◌/◌, ◌%◌, ◌^◌, ◌<◌, ◌≤◌, map, IfSome, MatchResult, Err};
 ghost use Rattle.constriction_base.specs.Steps.{IsStep, IsSizes};
 ghost use Rattle.constriction_words.specs.Reciprocals.{IsReciprocalOf};
-ghost use Rattle.constriction_stack.specs.Ans.{RefillsBy, refilled, value_of, EncodeCall};
+ghost use Rattle.constriction_stack.specs.Ans.{EncodesOnto, RefillsBy, refilled, state_of};
 
 use constriction_base::backends::{Holds, ReadWords, Stack, WriteWords};
 use constriction_words::{BitArray, Reciprocal, WordOf};
@@ -31,10 +31,11 @@ pub fn refilled<Word: WordOf<State>, State: BitArray, Backend: ReadWords<Word, S
     requires { IsSizes Word.BITS State.BITS }
     ensures list { Backend.is_list → MatchResult result
         (λ new. refilled Word.BITS State.BITS (State.number head) (map Word.number (Backend.words bulk.old))
-        ≡ record { head = State.number new; words = map Word.number (Backend.words bulk.new) })
+        ≡ state_of Word.number Backend.Holds (State.number new) bulk.new)
         (λ _. Backend.words bulk.new ≡ Backend.words bulk.old) }
     ensures reads { MatchResult result
-        (λ new. RefillsBy Word.number Backend.reads Word.BITS State.BITS (State.number head) bulk.old (State.number new) bulk.new)
+        (λ new. RefillsBy Word.number Backend.reads Word.BITS State.BITS
+        (State.number head) bulk.old (State.number new) bulk.new)
         (λ e. (State.number head < 2 ^ (State.BITS - Word.BITS)) × Backend.reads bulk.old (Err e) bulk.new) }
 {
     if !head.shifted_right(State::BITS - Word::BITS).is_nothing() {
@@ -61,15 +62,8 @@ pub fn pushed_onto<Word: WordOf<State>, State: BitArray, Backend: WriteWords<Wor
     requires sizes { IsSizes Word.BITS State.BITS }
     requires inverse { IfSome reciprocal (λ r. IsReciprocalOf r (State.number p)) }
     requires step { IsStep Word.BITS record { precision = precision; left = State.number left; p = State.number p } }
-    ensures { MatchResult result
-        (λ new. EncodeCall Word.number Backend.words Word.BITS State.BITS Backend.room Backend.makes_room Backend.prepare_fails Backend.write_fails
-        (value_of Word.number Backend.words (State.number head) bulk.old)
-        record { precision = precision; left = State.number left; p = State.number p } (Ok tt)
-        (value_of Word.number Backend.words (State.number new) bulk.new))
-        (λ e. EncodeCall Word.number Backend.words Word.BITS State.BITS Backend.room Backend.makes_room Backend.prepare_fails Backend.write_fails
-        (value_of Word.number Backend.words (State.number head) bulk.old)
-        record { precision = precision; left = State.number left; p = State.number p } (Err e)
-        (value_of Word.number Backend.words (State.number head) bulk.new)) }
+    ensures { EncodesOnto Word.number Backend.Holds Backend.WriteWords.own Word.BITS State.BITS State.number
+        head bulk.old record { precision = precision; left = State.number left; p = State.number p } result bulk.new }
 {
     if head.shifted_right(State::BITS - precision).is_below(p) {
         return Ok(pushed(head, left, p, reciprocal, precision));
@@ -93,8 +87,8 @@ pub fn pushed_onto<Word: WordOf<State>, State: BitArray, Backend: WriteWords<Wor
 
 /// What a push makes of a head with room.
 ///
-/// By a reciprocal it is the head and `left`, and for each whole `p` in the head what a table has beside it: so only the
-/// quotient waits for the head.
+/// By a reciprocal it is the head and `left`, and for each whole `p` in the head what a table has beside it: so only
+/// the quotient waits for the head.
 #[inline]
 fn pushed<State: BitArray>(
     head: State,

@@ -1,33 +1,20 @@
 -- Imports and decodes by reads, where a function tells the words.
-use Rattle.std.proofs.Common.{◌≡◌, ℕ, ◌+◌, ◌-◌, ◌*◌, ◌^◌, ◌<◌, ◌≤◌, List, [], ◌∷◌, ◌++◌, refl, sym, ap, ◌∙◌, arith, inl, inr, pow_pos, mul-le-mul_right}
+use Rattle.std.proofs.Common.{◌≡◌, ℕ, ◌^◌, ◌<◌, List, [], ◌∷◌, ◌++◌, refl, sym, ap, ◌∙◌, arith, inl, inr}
 use Rattle.std.specs.Prelude.{Bool, true, false, Option, Some, None, Result, Ok, Err, map}
-use Rattle.std.proofs.lemmas.Bool.{cases_lt}
 use Rattle.std.proofs.lemmas.List.{map-append}
 use Rattle.std.specs.Int.Digits.{number_from_digits_after}
-use Rattle.std.proofs.lemmas.Int.Digits.{number_after_ge}
 use Rattle.constriction_base.specs.Backends.{Reads}
 use Rattle.constriction_base.specs.Iterators.{FusedRead}
 use Rattle.constriction_base.specs.Steps.{IsSizes}
 use Rattle.constriction_stack.specs.Ans.{AnsState, AnsValue, filled, refilled, RefillsBy}
 use Rattle.constriction_stack.specs.Imports.{FilledBy}
-use Rattle.constriction_stack.proofs.Importing.{filled_low, filled_full}
+use Rattle.constriction_stack.proofs.Importing.{filled_by, filled_full}
 use Rattle.constriction_coder_laws.specs.Readings.{TellsItems, words_left}
 use Rattle.constriction_stack_laws.specs.Readings.{told, DecodesBy, DecodesAllBy}
 use Rattle.constriction_base.specs.Models.{Model, Item}
 use Rattle.constriction_stack.specs.Symbols.{Decodes, DecodesAll}
 use Rattle.constriction_base.specs.Readings.{Gives}
-use Rattle.constriction_base.proofs.Sizes.{Facts, facts}
-
--- words that make a head which fits all move in
-filled_by : (w s head : ℕ) (ds rest : List ℕ) → Facts w s → number_from_digits_after (2 ^ w) head ds < 2 ^ s
-    → filled w s head (ds ++ rest) ≡ filled w s (number_from_digits_after (2 ^ w) head ds) rest
-filled_by w s head [] rest f fits = refl
-filled_by w s head (d ∷ ds) rest f fits =
-    let grown : head * 2 ^ w + d ≤ number_from_digits_after (2 ^ w) (head * 2 ^ w + d) ds = number_after_ge (2 ^ w) (head * 2 ^ w + d) ds (pow_pos w) in
-    elim (cases_lt head (2 ^ (s - w))) [
-      | inl low ↦ filled_low w s head d (ds ++ rest) low ∙ filled_by w s (head * 2 ^ w + d) ds rest f fits
-      | inr high ↦ (let full : 2 ^ (s - w) * 2 ^ w ≤ head * 2 ^ w = mul-le-mul_right (2 ^ w) high in absurd (omega (arith, full, f.whole, grown, fits)))
-    ]
+use Rattle.constriction_base.proofs.Sizes.{facts}
 
 -- the words that reads gave stand before those that are left
 given_words : {W E B : Type 0} (reads : B → Result (Option W) E → B → Type 0) (words : B → List W)

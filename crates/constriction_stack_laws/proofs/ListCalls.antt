@@ -1,8 +1,11 @@
 -- What list calls of a stack coder do, in the words of the laws.
-use Rattle.std.proofs.Common.{◌≡◌, ℕ, Option, List, [], ◌∷◌, Result, Ok, Err, inl, inr, length, map, sym, ap}
+use Rattle.std.proofs.Common.{◌≡◌, ℕ, List, [], ◌∷◌, Ok, Err, inl, inr, length, map, sym, ap}
 use Rattle.std.specs.Prelude.{reverse}
 use Rattle.constriction_base.specs.declared.errors.CoderError.{CoderError}
 use Rattle.constriction_base.specs.Steps.{InTurn}
+use Rattle.constriction_base.specs.declared.backends.reading.Holds as holding
+use Rattle.constriction_base.specs.declared.backends.reading.ReadWords as reading
+use Rattle.constriction_base.specs.declared.backends.writing.WriteWords as writing
 use Rattle.constriction_base.specs.Tables.{AtEntry}
 use Rattle.constriction_stream.specs.Lists.{StepsAll}
 use Rattle.constriction_stream.specs.Symbols.{EncodesSymbol, ByBackend}
@@ -17,10 +20,10 @@ use Rattle.constriction_stack_laws.proofs.ComingBack.{decodes_only}
 use Rattle.constriction_coder_laws.proofs.SameModel.{are_models, models_turned, symbols_turned}
 
 -- ---- encodes
-module _ {S W B E F : Type 0} (number : W → ℕ) (held : B → List W) (w s : ℕ) (room : B → ℕ) (makes_room : Type 0) (prepare_fails : B → ℕ → E → Type 0) (write_fails : B → E → Type 0) (is_impossible : F → Type 0) where
+module _ {S W B E K F : Type 0} (number : W → ℕ) (holds : holding.Ghosts B W K) (writes : writing.Ghosts B W E) (w s : ℕ) (is_impossible : F → Type 0) where
   -- a step of the coder that went well is an encode of the symbol
   pub encode_of : (model : Model S) (symbol : S) (old new : AnsValue B) → IsValid w s old.state
-      → EncodesSymbol {F = F} (ByBackend (calls.EncodeCall number held w s room makes_room prepare_fails write_fails)) is_impossible model.precision model.table symbol old (Ok tt) new
+      → EncodesSymbol {F = F} (ByBackend (calls.EncodeCall number holds writes w s)) is_impossible model.precision model.table symbol old (Ok tt) new
       → Encodes w s model symbol old.state new.state
   encode_of model symbol old new v (inl (left, p, has, (Ok u, e, is))) = (left, p, has, e.pushed v)
   encode_of model symbol old new v (inl (left, p, has, (Err x, e, is))) = absurd cc
@@ -28,7 +31,7 @@ module _ {S W B E F : Type 0} (number : W → ℕ) (held : B → List W) (w s : 
 
   -- so is a list of them: what was given lends a symbol, or a pair, that stands for an item
   pub encodes_of : {A T : Type 0} (lent : A → T) (item : T → Item S) (xs : List A) (old new : AnsValue B) → IsValid w s old.state
-      → StepsAll {E = CoderError F E} (λ old x answer new. EncodesSymbol (ByBackend (calls.EncodeCall number held w s room makes_room prepare_fails write_fails)) is_impossible
+      → StepsAll {E = CoderError F E} (λ old x answer new. EncodesSymbol (ByBackend (calls.EncodeCall number holds writes w s)) is_impossible
       (item (lent x)).model.precision (item (lent x)).model.table (item (lent x)).symbol old answer new) old xs new
       → EncodesAll w s (map item (map lent xs)) old.state new.state
   encodes_of lent item [] old new v all = ap (λ (c : AnsValue B). c.state) all
@@ -37,19 +40,19 @@ module _ {S W B E F : Type 0} (number : W → ℕ) (held : B → List W) (w s : 
       (all.0.state, first, encodes_of lent item xs all.0 new first.3.valid all.2)
 
 -- ---- decodes
-module _ {S W B E : Type 0} (F : Type 0) (number : W → ℕ) (held : B → List W) (is_list : Type 0) (reads : B → Result (Option W) E → B → Type 0) (w s : ℕ) where
+module _ {S W B E K : Type 0} (F : Type 0) (number : W → ℕ) (holds : holding.Ghosts B W K) (reads : reading.Ghosts B W K E) (w s : ℕ) where
   -- a step of the coder that went well is a decode of the symbol
   abbrev Given : Model S → S → AnsValue B → AnsValue B → Type 0
-  Given model symbol old new = AtEntry model.precision model.table symbol (λ step. ByBackend {F = F} (calls.DecodeCall number held is_list reads w s) old step (Ok tt) new)
+  Given model symbol old new = AtEntry model.precision model.table symbol (λ step. ByBackend {F = F} (calls.DecodeCall number holds reads w s) old step (Ok tt) new)
 
   pub decode_of : (model : Model S) (symbol : S) (old new : AnsValue B) → Given model symbol old new
-      → (is_list → Decodes w s model symbol old.state new.state) × DecodesBy number reads w s model symbol old new
-  decode_of model symbol old new (left, p, has, (Ok u, d, is)) = ((λ known. (left, p, has, (d.holds, d.popped known))), (left, p, has, (d.holds, d.refilled)))
+      → (holds.is_list → Decodes w s model symbol old.state new.state) × DecodesBy number reads.reads w s model symbol old new
+  decode_of model symbol old new (left, p, has, (Ok u, d, is)) = ((λ known. (left, p, has, (d.is_next, d.popped known))), (left, p, has, (d.is_next, d.refilled)))
   decode_of model symbol old new (left, p, has, (Err e, d, is)) = absurd cc
 
   -- so is a list of them, each at the item that stands for what was given
   pub decodes_of : {T : Type 0} (item : T → Item S) (xs : List T) (old new : AnsValue B) → InTurn (λ x. Given (item x).model (item x).symbol) xs old new
-      → (is_list → DecodesAll w s (map item xs) old.state new.state) × DecodesAllBy number reads w s (map item xs) old new
+      → (holds.is_list → DecodesAll w s (map item xs) old.state new.state) × DecodesAllBy number reads.reads w s (map item xs) old new
   decodes_of item [] old new all = ((λ known. ap (λ (c : AnsValue B). c.state) all), all)
   decodes_of item (x ∷ xs) old new all =
       let first = decode_of (item x).model (item x).symbol old all.0 all.1 in

@@ -6,7 +6,8 @@
 ghost use Rattle.std.specs.Prelude.{◌≡◌, ◌≤◌, ℕ, List, reverse};
 ghost use Rattle.constriction_base.specs.Steps.{IsSizes, AreWords};
 ghost use Rattle.constriction_stack.specs.Ans.{AnsState, IsValid};
-ghost use Rattle.constriction_stack.specs.Binary.{IsBinary, binary_state, binary_words};
+ghost use Rattle.constriction_base.specs.Writing.{IsOneAbove};
+ghost use Rattle.constriction_stack.specs.Binary.{binary_state, binary_words};
 ghost use Rattle.constriction_base.specs.Models.{Item, AreModels};
 ghost use Rattle.constriction_stack.specs.Symbols.{EncodesAll, DecodesAll};
 
@@ -15,7 +16,7 @@ use crate::lists::encodes_undo_decodes;
 /// Any words are imported as a valid state in binary form, whose words they are.
 pub fn binary_export_of_import()
     ensures words { (w s : ℕ) (words : List ℕ) → IsSizes w s → AreWords w words →
-        (m : ℕ) × IsBinary w m (binary_state w s words) × (binary_words w m (binary_state w s words) ≡ words) }
+        (m : ℕ) × IsOneAbove w m (binary_state w s words).head × (binary_words w m (binary_state w s words) ≡ words) }
     ensures valid { (w s : ℕ) (words : List ℕ) → IsSizes w s → AreWords w words →
         IsValid w s (binary_state w s words) }
 {}
@@ -23,7 +24,7 @@ pub fn binary_export_of_import()
 /// What is imported from the words of a valid state in binary form is that state.
 pub fn binary_import_of_export()
     ensures state { (w s m : ℕ) (state : AnsState) → IsSizes w s → IsValid w s state →
-        IsBinary w m state →
+        IsOneAbove w m state.head →
         binary_state w s (binary_words w m state) ≡ state }
     ensures words { (w s m : ℕ) (state : AnsState) → IsSizes w s → IsValid w s state →
         AreWords w (binary_words w m state) }
@@ -31,7 +32,7 @@ pub fn binary_import_of_export()
 
 /// A state has one binary form at most: its head says how many words it holds.
 pub fn one_binary_form()
-    ensures { (w m n : ℕ) (state : AnsState) → 1 ≤ w → IsBinary w m state → IsBinary w n state →
+    ensures { (w m n : ℕ) (state : AnsState) → 1 ≤ w → IsOneAbove w m state.head → IsOneAbove w n state.head →
         m ≡ n }
 {}
 
@@ -49,7 +50,7 @@ pub fn binary_words_come_back<Symbol>()
         IsSizes w s → AreWords w words → AreModels w items →
         DecodesAll w s items (binary_state w s words) state →
         EncodesAll w s (reverse items) state last →
-        (m : ℕ) × IsBinary w m last × (binary_words w m last ≡ words) }
+        (m : ℕ) × IsOneAbove w m last.head × (binary_words w m last ≡ words) }
 {
     encodes_undo_decodes::<Symbol>()
 }

@@ -7,7 +7,8 @@ ghost use Rattle.std.specs.Prelude.{◌≡◌, ℕ};
 ghost use Rattle.constriction_base.specs.Digits.{count_of_words};
 ghost use Rattle.constriction_base.specs.Steps.{IsSizes};
 ghost use Rattle.constriction_stack.specs.Ans.{AnsState, IsValid, exported, filled};
-ghost use Rattle.constriction_stack.specs.Binary.{IsBinary, binary_state, binary_words};
+ghost use Rattle.constriction_base.specs.Writing.{IsOneAbove};
+ghost use Rattle.constriction_stack.specs.Binary.{binary_state, binary_words};
 ghost use Rattle.constriction_stack.specs.Guards.{without};
 
 /// While a guard lives, its words are those of the export: what is imported from them is the state that
@@ -17,7 +18,7 @@ pub fn shown_words_are_exported()
         shown ≡ record { head = state.head; words = exported w state } →
         filled w s 0 shown.words ≡ state }
     ensures binary { (w s m : ℕ) (state shown : AnsState) → IsSizes w s → IsValid w s state →
-        IsBinary w m state →
+        IsOneAbove w m state.head →
         shown ≡ record { head = state.head; words = binary_words w m state } →
         binary_state w s shown.words ≡ state }
 {}

@@ -3,15 +3,14 @@
 //! Such a backend doesn't know its words. Where a function tells the words of each of its states, the
 //! reads take them one by one, and what is decoded by reads is what is decoded from those words.
 
-ghost use Rattle.std.specs.Prelude.{◌≡◌, ◌<◌, ◌^◌, ℕ, List, map, reverse};
+ghost use Rattle.std.specs.Prelude.{◌≡◌, ℕ, List, reverse};
 ghost use Rattle.constriction_base.specs.Iterators.{FusedRead};
 ghost use Rattle.constriction_base.specs.Steps.{IsSizes};
-ghost use Rattle.constriction_stack.specs.Ans.{AnsState, AnsValue, exported, empty};
-ghost use Rattle.constriction_stack.specs.Imports.{FilledBy};
+ghost use Rattle.constriction_stack.specs.Ans.{AnsValue, empty};
 ghost use Rattle.constriction_coder_laws.specs.Readings.{TellsWords, TellsItems, words_left};
-ghost use Rattle.constriction_stack_laws.specs.Readings.{told, DecodesBy, DecodesAllBy};
+ghost use Rattle.constriction_stack_laws.specs.Readings.{told, DecodesBy, DecodesAllBy, DecodesFrom, TellsExport};
 ghost use Rattle.constriction_base.specs.Models.{Model, Item, models, AreModels};
-ghost use Rattle.constriction_stack.specs.Symbols.{Decodes, EncodesAll, DecodesAll};
+ghost use Rattle.constriction_stack.specs.Symbols.{Decodes, DecodesAll};
 
 use crate::lists::symbols_come_back;
 use crate::words::{imports_are_words, reads_are_words};
@@ -28,8 +27,8 @@ pub fn items_are_words<Word, ReadError, Iter: Iterator<Item = Result<Word, ReadE
 /// Where a function tells the words of each state of a backend, a decode by reads is a decode from those
 /// words, and so are many.
 pub fn decodes_are_words<Symbol, Word: BitArray, Backend: ReadWords<Word, Stack>>()
-    ensures one { (words : Backend → List Word) (w s : ℕ) (model : Model Symbol) (symbol : Symbol) (old new : AnsValue Backend) →
-        TellsWords Backend.reads words →
+    ensures one { (words : Backend → List Word) (w s : ℕ) (model : Model Symbol) (symbol : Symbol)
+        (old new : AnsValue Backend) → TellsWords Backend.reads words →
         DecodesBy Word.number Backend.reads w s model symbol old new →
         Decodes w s model symbol (told Word.number words old) (told Word.number words new) }
     ensures all { (words : Backend → List Word) (w s : ℕ) (items : List (Item Symbol)) (old new : AnsValue Backend) →
@@ -46,13 +45,10 @@ pub fn decodes_are_words<Symbol, Word: BitArray, Backend: ReadWords<Word, Stack>
 /// iterator that gives them; decode with the same tables in reverse order. The symbols are the same, the
 /// last one first, no word is left, and the coder is empty.
 pub fn symbols_come_back_by_reads<Symbol, Word: BitArray, Backend: ReadWords<Word, Stack>>()
-    ensures { (words : Backend → List Word) (w s : ℕ) (items others : List (Item Symbol)) (state : AnsState) (given : Backend) (start last : AnsValue Backend) →
-        IsSizes w s → AreModels w items → TellsWords Backend.reads words →
-        EncodesAll w s items empty state → map Word.number (words given) ≡ exported w state →
-        FilledBy Word.number Backend.reads w s given start.state.head start.backend →
-        start.state.head < 2 ^ s →
-        DecodesAllBy Word.number Backend.reads w s others start last →
-        models others ≡ reverse (models items) →
+    ensures { (words : Backend → List Word) (w s : ℕ) (items others : List (Item Symbol)) (given : Backend)
+        (last : AnsValue Backend) → IsSizes w s → AreModels w items →
+        TellsExport Word.number Backend.reads words w s items given →
+        DecodesFrom Word.number Backend.reads w s given others last → models others ≡ reverse (models items) →
         (others ≡ reverse items) × (told Word.number words last ≡ empty) }
 {
     symbols_come_back::<Symbol>();

@@ -4,7 +4,8 @@ ghost use Rattle.std.specs.Prelude.{◌≡◌, ℕ, ◌+◌, ◌*◌, ◌^◌, �
 ghost use Rattle.std.specs.Int.Digits.{digits_of};
 ghost use Rattle.constriction_stack.specs.Ans.{AnsState, exported};
 ghost use Rattle.constriction_stack.specs.Sizes.{word_count, bit_count, valid_bit_count};
-ghost use Rattle.constriction_stack.specs.Binary.{IsBinary, binary_words};
+ghost use Rattle.constriction_base.specs.Writing.{IsOneAbove};
+ghost use Rattle.constriction_stack.specs.Binary.{binary_words};
 
 /// A state has as many words as it exports, and the words below its head are what is left of them
 /// where those of the head are taken off.
@@ -16,7 +17,7 @@ pub fn words_that_are_exported()
 
 /// The bits that a state in binary form tells are those of its words.
 pub fn bits_of_binary_words()
-    ensures { (w m : ℕ) (state : AnsState) → IsBinary w m state →
+    ensures { (w m : ℕ) (state : AnsState) → IsOneAbove w m state.head →
         valid_bit_count w state ≡ w * length (binary_words w m state) }
 {}
 

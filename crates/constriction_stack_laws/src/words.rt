@@ -1,11 +1,11 @@
 //! The words of the stack coder's states.
 
 ghost use Rattle.constriction_base.specs.Readings.{BeginsHigh};
-ghost use Rattle.std.specs.Prelude.{◌≡◌, ◌<◌, ◌^◌, ℕ, List, Option, Result, map};
-ghost use Rattle.constriction_base.specs.Backends.{Reads};
+ghost use Rattle.std.specs.Prelude.{◌≡◌, ◌<◌, ◌^◌, ℕ, List, map};
 ghost use Rattle.constriction_base.specs.Steps.{IsSizes, AreWords};
 ghost use Rattle.constriction_stack.specs.Ans.{AnsState, IsValid, filled, exported, refilled, RefillsBy};
 ghost use Rattle.constriction_stack.specs.Imports.{FilledBy};
+ghost use Rattle.constriction_coder_laws.specs.Readings.{TellsWords};
 
 use constriction_base::backends::{ReadWords, Stack};
 use constriction_words::BitArray;
@@ -33,17 +33,16 @@ pub fn export_of_import()
 /// refilled from those words.
 pub fn reads_are_words<Word: BitArray, Backend: ReadWords<Word, Stack>>()
     ensures { (words : Backend → List Word) (w s head new_head : ℕ) (old new : Backend) →
-        ((before after : Backend) (answer : Result (Option Word) Backend.ReadError) → Backend.reads before answer after → Reads (words before) answer (words after)) →
-        RefillsBy Word.number Backend.reads w s head old new_head new →
-        refilled w s head (map Word.number (words old)) ≡ record { head = new_head; words = map Word.number (words new) } }
+        TellsWords Backend.reads words → RefillsBy Word.number Backend.reads w s head old new_head new →
+        refilled w s head (map Word.number (words old))
+        ≡ record { head = new_head; words = map Word.number (words new) } }
 {}
 
 /// Where a function tells the words of each state of a backend, as of an iterator, what is imported by
 /// reads is the state of those words.
 pub fn imports_are_words<Word: BitArray, Backend: ReadWords<Word, Stack>>()
     ensures { (words : Backend → List Word) (w s head : ℕ) (old new : Backend) → IsSizes w s →
-        head < 2 ^ s →
-        ((before after : Backend) (answer : Result (Option Word) Backend.ReadError) → Backend.reads before answer after → Reads (words before) answer (words after)) →
+        head < 2 ^ s → TellsWords Backend.reads words →
         FilledBy Word.number Backend.reads w s old head new →
         filled w s 0 (map Word.number (words old)) ≡ record { head = head; words = map Word.number (words new) } }
 {}

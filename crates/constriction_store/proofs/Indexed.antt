@@ -15,7 +15,7 @@ use Rattle.constriction_queue.specs.SelfDelimiting.{SelfDelimits}
 use Rattle.constriction_queue.specs.States.{IsPosition}
 use Rattle.constriction_queue.proofs.Narrowing.{grown_large, grown_small}
 use Rattle.constriction_queue.proofs.Pointing.{mod_sum}
-use Rattle.constriction_queue_laws.specs.Symbols.{Narrows, NarrowsAll, Finds, FindsAll}
+use Rattle.constriction_queue.specs.Symbols.{Narrows, NarrowsAll, Finds, FindsAll}
 use Rattle.constriction_coder_laws.proofs.Turned.{all-append}
 use Rattle.constriction_coder_laws.proofs.SameModel.{are_models}
 use Rattle.std.specs.List.{AllByRecursion}

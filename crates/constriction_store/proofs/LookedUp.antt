@@ -4,9 +4,9 @@ use Rattle.std.specs.declared.vec.Vec.{Vec}
 use Rattle.std.proofs.Common.{◌≡◌, ◌↔◌, ℕ, ◌<◌, ◌≤◌, List, get_or, length, refl, sym, subst, arith, inl, inr}
 use Rattle.std.proofs.lemmas.Bool.{cases_lt}
 use Rattle.constriction_base.specs.Models.{Model, IsModel, items_of}
-use Rattle.constriction_queue.specs.Decoder.{Decoder}
+use Rattle.constriction_queue.specs.Decoder.{Decoder, StandsAt}
 use Rattle.constriction_queue.specs.Range.{Run}
-use Rattle.constriction_queue_laws.specs.Symbols.{FindsAll, StandsAt}
+use Rattle.constriction_queue.specs.Symbols.{FindsAll}
 use Rattle.constriction_store.specs.LookedUp.{CannotLookUp, ChunkFails, HoldsSome, IsChunk, LookUpFails}
 use Rattle.constriction_store.specs.Chunks.{chunk_in}
 use Rattle.constriction_store.specs.Stores.{Entry, HoldsChunk, HoldsChunks, HoldsNoChunk, entry_in, run_at}

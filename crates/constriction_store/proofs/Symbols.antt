@@ -7,13 +7,13 @@ use Rattle.constriction_base.specs.Steps.{Step, InTurn, IsStep}
 use Rattle.constriction_base.proofs.InTurn.{InTurn-symbol}
 use Rattle.constriction_queue.specs.Range.{Run, offset, narrow, cut}
 use Rattle.constriction_queue.proofs.Narrowing.{by_growth}
-use Rattle.constriction_queue.specs.Decoder.{Decoder, quantile_read}
+use Rattle.constriction_queue.specs.Decoder.{Decoder, quantile_read, StandsAt}
 use Rattle.constriction_queue.specs.declared.decoder.symbols.DecoderFrontendError.{DecoderFrontendError}
 use Rattle.constriction_queue.specs.declared.decoder.symbols.DecoderFrontendError.TheVariants.{InvalidData}
-use Rattle.constriction_queue_laws.specs.Symbols.{Narrows, NarrowsAll, Finds, FindsAll, StandsAt}
+use Rattle.constriction_queue.specs.Symbols.{Narrows, NarrowsAll, Finds, FindsAll}
 use Rattle.constriction_queue_laws.proofs.ListCalls.{distance_is}
 use Rattle.constriction_queue_laws.proofs.ComingBack.{one_decode, decodes_unique}
-use Rattle.constriction_queue_laws.proofs.Entries.{model_step}
+use Rattle.constriction_queue.proofs.Entries.{model_step}
 use Rattle.constriction_coder_laws.proofs.SameModel.{are_models, models-alike, symbols-items_of}
 use Rattle.constriction_store.specs.Chunks.{AllKnown}
 

@@ -5,7 +5,7 @@ use Rattle.constriction_base.specs.Steps.{Step, IsSizes, AreWords}
 use Rattle.constriction_queue.specs.Range.{Run, Takes, narrow, number_of_first, number_read, offset}
 use Rattle.constriction_queue.proofs.Pointing.{mod_sum}
 use Rattle.constriction_queue.proofs.Sought.{sought_is_at}
-use Rattle.constriction_queue_laws.specs.Symbols.{Finds, FindsAll}
+use Rattle.constriction_queue.specs.Symbols.{Finds, FindsAll}
 use Rattle.constriction_store.proofs.Symbols.{narrow_keeps}
 
 -- the lists agree from a place up to another

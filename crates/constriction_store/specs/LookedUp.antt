@@ -3,7 +3,7 @@ use Rattle.std.specs.Prelude.{◌≡◌, ℕ, ◌<◌, ◌≤◌, ⊤, List, Res
 use Rattle.std.specs.declared.vec.Vec.{Vec}
 use Rattle.constriction_base.specs.Models.{Model, items_of}
 use Rattle.constriction_queue.specs.Range.{Run}
-use Rattle.constriction_queue_laws.specs.Symbols.{FindsAll}
+use Rattle.constriction_queue.specs.Symbols.{FindsAll}
 use Rattle.constriction_store.specs.Stores.{Entry, HoldsNoChunk, HoldsNoSymbol, entry_in, run_at}
 use Rattle.constriction_store.specs.Built.{BuildFails}
 use Rattle.constriction_store.specs.declared.laws.ThroughStore.{ThroughStore}

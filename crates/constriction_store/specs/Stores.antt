@@ -6,7 +6,7 @@ use Rattle.constriction_queue.specs.Range.{Run, offset, start}
 use Rattle.constriction_queue.specs.SelfDelimiting.{SelfDelimits}
 use Rattle.constriction_queue.specs.States.{IsPosition, lower_of, range_of}
 use Rattle.constriction_queue.specs.declared.state.RangeCoderState.{RangeCoderState}
-use Rattle.constriction_queue_laws.specs.Symbols.{FindsAll, NarrowsAll}
+use Rattle.constriction_queue.specs.Symbols.{FindsAll, NarrowsAll}
 use Rattle.constriction_store.specs.Chunks.{chunk_in}
 
 -- ---- the index

@@ -5,7 +5,7 @@ ghost use Rattle.constriction_base.specs.Models.{items_of};
 ghost use Rattle.constriction_base.specs.Steps.{IsSizes};
 ghost use Rattle.constriction_queue.specs.Encoder.{left_to_encode, run_by};
 ghost use Rattle.constriction_queue.specs.Range.{start};
-ghost use Rattle.constriction_queue_laws.specs.Symbols.{NarrowsAll};
+ghost use Rattle.constriction_queue.specs.Symbols.{NarrowsAll};
 ghost use Rattle.constriction_store.specs.Built.{BuildFails, EncodingFails};
 ghost use Rattle.constriction_store.specs.Chunks.{count_of, lists_of};
 ghost use Rattle.constriction_store.specs.Stores.{HoldsChunks, Indexes, IsBuilt, entry_at};

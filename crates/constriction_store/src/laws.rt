@@ -4,7 +4,7 @@ ghost use Rattle.std.specs.Prelude.{◌≡◌, ◌+◌, ◌/◌, ◌<◌, ◌≤
 ghost use Rattle.constriction_base.specs.Models.{Model, IsModel, items_of};
 ghost use Rattle.constriction_base.specs.Steps.{IsSizes, AreWords};
 ghost use Rattle.constriction_queue.specs.Range.{Run};
-ghost use Rattle.constriction_queue_laws.specs.Symbols.{FindsAll};
+ghost use Rattle.constriction_queue.specs.Symbols.{FindsAll};
 ghost use Rattle.constriction_store.specs.Chunks.{chunk_in, lists_of};
 ghost use Rattle.constriction_store.specs.LookedUp.{CannotLookUp, HasNoChunks};
 ghost use Rattle.constriction_store.specs.Stores.{Entry, HoldsChunk, HoldsChunks, HoldsNoChunk, run_at};

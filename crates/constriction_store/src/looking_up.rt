@@ -3,9 +3,10 @@
 ghost use Rattle.std.specs.Prelude.{◌≡◌, ◌↔◌, ◌≤◌, ◌<◌, ℕ, List, length, map, IfOk, IfErr, Err};
 ghost use Rattle.constriction_base.specs.Steps.{IsSizes};
 ghost use Rattle.constriction_base.specs.Models.{items_of};
+ghost use Rattle.constriction_queue.specs.Decoder.{StandsAt};
 ghost use Rattle.constriction_queue.specs.Range.{Run};
 ghost use Rattle.constriction_queue.specs.States.{lower_of, range_of};
-ghost use Rattle.constriction_queue_laws.specs.Symbols.{FindsAll, StandsAt};
+ghost use Rattle.constriction_queue.specs.Symbols.{FindsAll};
 ghost use Rattle.constriction_store.specs.LookedUp.{ChunkFails, IsChunk, LookUpFails};
 ghost use Rattle.constriction_store.specs.Stores.{HoldsChunk, entry_in, run_from};
 

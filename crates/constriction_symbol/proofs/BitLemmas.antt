@@ -2,19 +2,16 @@
 use Rattle.std.proofs.Common.{◌≡◌, ◌<◌, ◌+◌, ◌*◌, ◌-◌, ◌/◌, ◌%◌, ◌^◌, ◌==◌, ℕ, zero, suc, Bool, true, false, not, [], ◌∷◌, ◌++◌, refl, sym, ap, ap₂, ◌∙◌, arith, add-one, pow_pos, ◌≢◌}
 use Rattle.std.specs.Prelude.{IsTrue, ◌↔◌}
 use Rattle.std.proofs.Math.Pow.{shr_lt}
-use Rattle.std.proofs.Math.Nat.{add_comm}
+use Rattle.std.proofs.Math.Nat.{add_comm, pow-succ'}
 use Rattle.std.proofs.lemmas.Nat.{shr_split, mod_below}
-use native.Mathlib.Nat.{pow-suc, pow-zero}
+use native.Mathlib.Nat.{pow-zero}
 use Rattle.constriction_symbol.specs.Bits.{bits_of}
-
-pub pow_next : (k : ℕ) → 2 ^ suc k ≡ 2 * 2 ^ k
-pow_next k = rw pow-suc (omega arith)
 
 -- a bit that is set, above k others
 bits_set : (k n : ℕ) → n < 2 ^ k → bits_of (suc k) (n + 2 ^ k) ≡ bits_of k n ++ true ∷ []
 bits_set zero n h = let none : n ≡ 0 = omega (arith, h, pow-zero 2) in rw none refl
 bits_set (suc k) n h =
-    let two = pow_next k in
+    let two = pow-succ' 2 k in
     let half : n / 2 < 2 ^ k = omega (arith, h, two) in
     let low : (n + 2 ^ suc k) % 2 ≡ n % 2 = omega (arith, two) in
     let high : (n + 2 ^ suc k) / 2 ≡ n / 2 + 2 ^ k = omega (arith, two) in
@@ -24,7 +21,7 @@ bits_set (suc k) n h =
 bits_clear : (k n : ℕ) → n < 2 ^ k → bits_of (suc k) n ≡ bits_of k n ++ false ∷ []
 bits_clear zero n h = let none : n ≡ 0 = omega (arith, h, pow-zero 2) in rw none refl
 bits_clear (suc k) n h =
-    let half : n / 2 < 2 ^ k = omega (arith, h, pow_next k) in
+    let half : n / 2 < 2 ^ k = omega (arith, h, pow-succ' 2 k) in
     ap (λ bs. (n % 2 == 1) ∷ bs) (bits_clear k (n / 2) half)
 
 pub set_above : (k n m : ℕ) → n < 2 ^ k → m ≡ n + 2 ^ k → bits_of (k + 1) m ≡ bits_of k n ++ true ∷ []
@@ -60,9 +57,3 @@ low_off (suc k) n m h false some high low none =
     let odd : n % 2 ≡ 1 = omega (arith, low, not_zero) in
     let one : suc k - 1 ≡ k = omega arith in
     rw one (ap₂ (λ x y. (x == 1) ∷ bits_of k y) odd (sym high))
-
-pub low_room : (left n m : ℕ) → 0 < left → n < 2 ^ left → m ≡ n / 2 ^ 1 → m < 2 ^ (left - 1)
-low_room zero n m some h is = absurd (omega arith)
-low_room (suc k) n m some h is =
-    let one : suc k - 1 ≡ k = omega arith in
-    rw one (omega (arith, h, is, pow_next k))

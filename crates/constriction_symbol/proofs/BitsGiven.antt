@@ -1,12 +1,12 @@
 -- Bits that come from an iterator, one list after the other.
 use Rattle.std.proofs.Common.{◌≡◌, ◌+◌, ◌<◌, ◌≤◌, ℕ, zero, suc, Bool, true, false, List, [], ◌∷◌, ◌++◌, Option, Result, Err, ap, subst, sym, refl, arith, replicate, add-one, ◌*◌, ◌-◌, ◌^◌, mul-le-mul, pow_pos}
+use Rattle.std.proofs.Math.Nat.{pow-succ'}
 use Rattle.constriction_symbol.specs.Codewords.{GivesBits, EndsAfter, FailsAfter, StopsWithin, ReadsSymbol}
 use Rattle.constriction_base.specs.declared.errors.CoderError.{CoderError}
 use Rattle.constriction_base.specs.declared.errors.CoderError.TheVariants.{Frontend, Backend}
 use Rattle.constriction_symbol.specs.declared.codebooks.SymbolCodeError.{SymbolCodeError}
 use Rattle.constriction_symbol.specs.declared.codebooks.SymbolCodeError.TheVariants.{OutOfCompressedData, InvalidCodeword}
 use Rattle.constriction_symbol.specs.Golomb.{number_after}
-use Rattle.constriction_symbol.proofs.BitLemmas.{pow_next}
 
 pub gives_then : {I E : Type 0} (next : I → Option (Result Bool E) → I → Type 0) (a b c : I) (xs ys : List Bool) → GivesBits next a xs b → GivesBits next b ys c → GivesBits next a (xs ++ ys) c
 gives_then next a b c [] ys e h = subst (λ from. GivesBits next from ys c) (sym e) h
@@ -20,7 +20,7 @@ twice_as_much : (n left : ℕ) → 0 < left → (n + 1) * 2 ^ left ≡ (2 * n + 
 twice_as_much n zero some = absurd (omega arith)
 twice_as_much n (suc k) some =
     let one : suc k - 1 ≡ k = omega arith in
-    rw (one, pow_next k) (grind arith)
+    rw (one, pow-succ' 2 k) (grind arith)
 
 -- there is room for a bit more
 pub room_for_bit : (n left b : ℕ) → 0 < left → (n + 1) * 2 ^ left ≤ 2 ^ b → 2 * n + 1 < 2 ^ b

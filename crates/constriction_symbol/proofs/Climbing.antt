@@ -2,7 +2,7 @@
 use Rattle.std.proofs.Common.{◌≡◌, ◌+◌, ◌<◌, ◌*◌, ◌/◌, ◌%◌, ◌==◌, ℕ, List, [], ◌∷◌, ◌++◌, length, map, take, set, arith, sym, ap, subst, ◌∙◌, inl, inr, get_or, reverse, length-take}
 use Rattle.std.proofs.lemmas.List.{get_or-map, length-map, reverse-append, take_more, map_push, take-map}
 use Rattle.constriction_symbol.specs.Huffman.{AreUnions, GoesUp, IsParents, IsUnion, climbed}
-use Rattle.constriction_symbol.specs.HuffmanParents.{climbed_step, parents_more}
+use Rattle.constriction_symbol.proofs.HuffmanParents.{climbed_step, parents_more}
 use Rattle.constriction_symbol.specs.Merging.{as_pair}
 
 -- the last bit comes first

@@ -4,10 +4,10 @@ use Rattle.std.proofs.lemmas.List.{reverse-append, map_push}
 use Rattle.std.proofs.lemmas.List.Concat.{flat_map-append}
 use native.Mathlib.Nat.{pow-zero}
 use Rattle.std.proofs.lemmas.Nat.{mod_below}
-use Rattle.std.proofs.Math.Nat.{mod-eq_of_lt, add-mul-mod_self_right}
+use Rattle.std.proofs.Math.Nat.{mod-eq_of_lt, add-mul-mod_self_right, pow-succ'}
 use Rattle.constriction_base.specs.Backends.{IsWrite}
-use Rattle.constriction_symbol.specs.Bits.{bits_of, bits_of_words, bits_above, bits_behind, AreZeros, PadsTo, PutsLast, PutsBit, IsQueueWords, IsStackWords, TopWord, HasStackWords}
-use Rattle.constriction_symbol.proofs.BitLemmas.{pow_next, set_above}
+use Rattle.constriction_symbol.specs.Bits.{bits_of, bits_of_words, bits_above, AreZeros, PadsTo, PutsLast, PutsBit, IsQueueWords, IsStackWords, TopWord, HasStackWords}
+use Rattle.constriction_symbol.proofs.BitLemmas.{set_above}
 
 pub length_bits : (k n : ℕ) → length (bits_of k n) ≡ k
 length_bits zero n = refl
@@ -20,38 +20,15 @@ words_more w number words word =
     let turned : reverse (word ∷ words) ≡ reverse words ++ word ∷ [] = reverse-append (word ∷ []) words in
     rw (turned, map_push, flat_map-append, append-nil) refl
 
--- the last word is full, and goes behind the others; a bit begins the next
-pub bit_after_full : (w : ℕ) {W : Type 0} (number : W → ℕ) (words words' : List W) (full : W) (used : ℕ) (start : List Bool) (bit : Bool) → words' ≡ full ∷ words → used ≡ w
-    → start ≡ [] ++ bit ∷ [] → bits_of_words w (map number (reverse words')) ++ start ≡ (bits_of_words w (map number (reverse words)) ++ bits_of used (number full)) ++ bit ∷ []
-bit_after_full w number words words' full used start bit more is begun =
-    rw (more, is, begun, words_more w number words full) refl
-
 -- the last word has room for the bit
 pub bit_after : (before last last' : List Bool) (bit : Bool) → last' ≡ last ++ bit ∷ [] → before ++ last' ≡ (before ++ last) ++ bit ∷ []
 bit_after before last last' bit more = rw more (sym (append_assoc before last (bit ∷ [])))
-
--- the first bit of the word that is read now comes off
-pub first_off : (w : ℕ) {W : Type 0} (number : W → ℕ) (words : List W) (last last' : List Bool) (bit : Bool) → last ≡ bit ∷ last' → bits_behind w number last words ≡ bit ∷ bits_behind w number last' words
-first_off w number words last last' bit is = rw is refl
-
--- a word comes, and then its first bit
-pub word_comes : (w : ℕ) {W : Type 0} (number : W → ℕ) (words words' : List W) (word : W) (last last' : List Bool) (bit : Bool) → last ≡ [] → words ≡ word ∷ words' → bits_of w (number word) ≡ bit ∷ last'
-    → bits_behind w number last words ≡ bit ∷ bits_behind w number last' words'
-word_comes w number words words' word last last' bit none was first = rw (none, was, first) refl
 
 -- the last bit of an unfinished word comes off
 pub bit_off : (before last last' : List Bool) (bit : Bool) → last ≡ last' ++ bit ∷ [] → reverse (before ++ last) ≡ bit ∷ reverse (before ++ last')
 bit_off before last last' bit is =
     let all : before ++ last ≡ (before ++ last') ++ bit ∷ [] = rw is (sym (append_assoc before last' (bit ∷ []))) in
     ap reverse all ∙ reverse-append (before ++ last') (bit ∷ [])
-
--- a word comes off, and then its last bit
-pub word_off : (w : ℕ) {W : Type 0} (number : W → ℕ) (words words' : List W) (word : W) (last last' : List Bool) (bit : Bool) → last ≡ [] → words ≡ word ∷ words' → bits_of w (number word) ≡ last' ++ bit ∷ []
-    → reverse (bits_of_words w (map number (reverse words)) ++ last) ≡ bit ∷ reverse (bits_of_words w (map number (reverse words')) ++ last')
-word_off w number words words' word last last' bit none was top =
-    let all : bits_of_words w (map number (reverse words)) ++ last ≡ bits_of_words w (map number (reverse words')) ++ bits_of w (number word) =
-    rw (none, append-nil, was) (words_more w number words' word) in
-    ap reverse all ∙ bit_off (bits_of_words w (map number (reverse words'))) _ last' bit top
 
 -- above the bits of a number are zeros
 pub bits_of_zero : (d : ℕ) → bits_of d 0 ≡ replicate d false
@@ -64,7 +41,7 @@ padded zero d n h =
     let here : 0 + d ≡ d = omega arith in
     rw (none, here) (bits_of_zero d)
 padded (suc k) d n h =
-    let half : n / 2 < 2 ^ k = omega (arith, h, pow_next k) in
+    let half : n / 2 < 2 ^ k = omega (arith, h, pow-succ' 2 k) in
     let here : suc k + d ≡ suc (k + d) = omega arith in
     rw here (ap (λ bs. (n % 2 == 1) ∷ bs) (padded k d (n / 2) half))
 
@@ -88,15 +65,6 @@ queue_closed w number words words' last word has small within some is = record {
   is =
       let up : bits_of w (number word) ≡ last ++ replicate (w - length last) false = filled_up w (length last) (number word) within small ∙ ap (λ bs. bs ++ replicate (w - length last) false) has in
       rw (is, words_more w number words word, up) (sym (append_assoc (bits_of_words w (map number (reverse words))) last (replicate (w - length last) false)));
-}
-
--- no bit is outside the backend
-pub queue_whole : (w : ℕ) {W : Type 0} (number : W → ℕ) (words : List W) (last : List Bool) → 0 < w → last ≡ []
-    → IsQueueWords w (bits_above w number words last) (map number (reverse words))
-queue_whole w number words last some none = record {
-  zeros = 0;
-  fewest = some;
-  is = sym (append-nil _ ∙ (ap (λ bs. bits_of_words w (map number (reverse words)) ++ bs) none ∙ append-nil _));
 }
 
 -- the word of the last bits of a stack, of which the last one is the one that ends the bits
@@ -133,7 +101,7 @@ pub top_word : (w n count len : ℕ) (low : ℕ) → 0 < n → n < 2 ^ len → 2
 top_word w n count zero low some high least within is rest = absurd (omega (arith, some, high, pow-zero 2))
 top_word w n count (suc k) low some high least within is rest =
     let one : count ≡ k = omega (arith, is) in
-    let two = pow_next k in
+    let two = pow-succ' 2 k in
     let small : n % 2 ^ k < 2 ^ k = mod_below n (2 ^ k) (pow_pos k) in
     let split : n ≡ n % 2 ^ k + 2 ^ k = top_bit_split k n (omega (arith, least, two)) (omega (arith, high, two)) in
     record {
@@ -181,7 +149,7 @@ no_bit_set : (k n : ℕ) → n < 2 ^ k → bits_of k n ≡ replicate k false →
 no_bit_set zero n h zeros = omega (arith, h, pow-zero 2)
 no_bit_set (suc k) n h zeros =
     let low : (n % 2 == 1) ≡ false = ap (λ bs. get_or bs 0 false) zeros in
-    let high : n / 2 ≡ 0 = no_bit_set k (n / 2) (omega (arith, h, pow_next k)) (ap (λ bs. drop 1 bs) zeros) in
+    let high : n / 2 ≡ 0 = no_bit_set k (n / 2) (omega (arith, h, pow-succ' 2 k)) (ap (λ bs. drop 1 bs) zeros) in
     let even : n % 2 ≡ 0 = grind (arith, low) in
     omega (arith, even, high)
 

@@ -1,16 +1,12 @@
 -- The pairs that are merged hold the tree of the merge.
-use Rattle.std.proofs.Common.{◌≡◌, ◌+◌, ◌-◌, ◌*◌, ◌<◌, ◌^◌, ℕ, zero, suc, List, [], ◌∷◌, length, map, arith, sym, ap, subst, refl, ◌∙◌}
+use Rattle.std.proofs.Common.{◌≡◌, ◌+◌, ◌-◌, ◌*◌, ◌<◌, ◌^◌, ℕ, List, [], ◌∷◌, length, map, arith, sym, ap, subst, ◌∙◌}
 use Rattle.std.proofs.lemmas.List.{length-map}
 use Rattle.std.proofs.lemmas.List.Sorted.{length_permutation}
-use Rattle.constriction_symbol.specs.Huffman.{IsTreeAt, Tree, leaves, merge, symbols_from}
-use Rattle.constriction_symbol.specs.HuffmanLaws.{tree_at_is}
-use Rattle.constriction_symbol.specs.HuffmanMerge.{merge_leaves, merge_without_repeats}
+use Rattle.constriction_symbol.specs.Huffman.{IsTreeAt, Tree, leaves, merge}
+use Rattle.constriction_symbol.proofs.HuffmanTrees.{tree_at_is}
+use Rattle.constriction_symbol.proofs.HuffmanMerge.{merge_leaves, merge_without_repeats, length_symbols}
 use Rattle.constriction_symbol.specs.Merging.{ArePairs, as_pair}
 use Rattle.constriction_symbol.specs.DecoderTree.{HoldsTree, tree_of_pairs}
-
-pub length_symbols : (from n : ℕ) → length (symbols_from from n) ≡ n
-length_symbols from zero = refl
-length_symbols from (suc n) = ap suc (length_symbols (from + 1) n)
 
 -- the leaves are as many as the weights
 pub count_leaves : (weights : List ℕ) (tree : Tree) → merge weights ≡ tree ∷ [] → length (leaves tree) ≡ length weights

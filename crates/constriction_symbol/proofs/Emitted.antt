@@ -3,7 +3,7 @@ use Rattle.std.proofs.Common.{◌≡◌, Bool, List, [], ◌∷◌, ◌++◌, Op
 use Rattle.std.specs.Fn.{Mut, Called}
 use Rattle.constriction_base.specs.declared.errors.CoderError.TheVariants.{Frontend, Backend}
 use Rattle.constriction_symbol.specs.Bits.{PutsBit}
-use Rattle.constriction_symbol.specs.Codewords.{Answer, Emits, EmitsCodeword, Writes, WritesCodeword}
+use Rattle.constriction_symbol.specs.Codewords.{Answer, Emits, EmitsCodeword, WritesEachBit, WritesCodeword}
 
 -- a call puts its bit behind the others of the stream, or leaves them with an error, as a step of the stream; and it keeps
 -- the name of the references that it has
@@ -15,7 +15,7 @@ pub record PutsBits {F C E T : Type 0} (g : Mut F (Bool × Unit {0}) (Result (Un
 module _ {F C E T : Type 0} (g : Mut F (Bool × Unit {0}) (Result (Unit {0}) E)) (stream : F → C) (bits : C → List Bool) (puts : C → Bool → Result (Unit {0}) E → C → Type 0) (name : F → T) (wants : E → Type 0) (h : PutsBits g stream bits puts name) where
   -- a call that succeeded, and then the rest of the run, in which no memory is wanted
   put_more : (f next last : F) (b : Bool) (bs : List Bool) (r : Answer E) → Called g f (b, tt) (Ok tt) next
-      → Writes bits puts (λ _. ⊥) (stream next) bs r (stream last) → Writes bits puts (λ _. ⊥) (stream f) (b ∷ bs) r (stream last)
+      → WritesEachBit bits puts (λ _. ⊥) (stream next) bs r (stream last) → WritesEachBit bits puts (λ _. ⊥) (stream f) (b ∷ bs) r (stream last)
   put_more f next last b bs (Ok u) called all =
       (all.0 ∙ (ap (λ xs. xs ++ bs) (h.grows f b (Ok tt) next called) ∙ append_assoc (bits (stream f)) (b ∷ []) bs), (stream next, h.steps f b (Ok tt) next called, all.1))
   put_more f next last b bs (Err (Frontend e)) called all = all
@@ -31,13 +31,13 @@ module _ {F C E T : Type 0} (g : Mut F (Bool × Unit {0}) (Result (Unit {0}) E))
     begun = at.begun ∙ (ap (λ xs. xs ++ at.front) (h.grows f b (Ok tt) next called) ∙ append_assoc (bits (stream f)) (b ∷ []) at.front);
   })
 
-  emitted_bits : (f : F) (bs : List Bool) (r : Answer E) (last : F) → Emits g f bs r last → Writes bits puts (λ _. ⊥) (stream f) bs r (stream last)
+  emitted_bits : (f : F) (bs : List Bool) (r : Answer E) (last : F) → Emits g f bs r last → WritesEachBit bits puts (λ _. ⊥) (stream f) bs r (stream last)
   emitted_bits f [] r last e =
       let same : stream last ≡ stream f = sym (ap stream e.1) in
-      subst (λ (x : Answer E). Writes bits puts (λ _. ⊥) (stream f) [] x (stream last)) (sym e.0) (ap bits same ∙ sym (append-nil (bits (stream f))), same)
+      subst (λ (x : Answer E). WritesEachBit bits puts (λ _. ⊥) (stream f) [] x (stream last)) (sym e.0) (ap bits same ∙ sym (append-nil (bits (stream f))), same)
   emitted_bits f (b ∷ bs) r last (inl (next, called, rest)) = put_more f next last b bs r called (emitted_bits next bs r last rest)
   emitted_bits f (b ∷ bs) r last (inr (e, called, is)) =
-      subst (λ (x : Answer E). Writes bits puts (λ _. ⊥) (stream f) (b ∷ bs) x (stream last)) (sym is)
+      subst (λ (x : Answer E). WritesEachBit bits puts (λ _. ⊥) (stream f) (b ∷ bs) x (stream last)) (sym is)
       (inl (record {
         front = [];
         bit = b;
@@ -49,7 +49,7 @@ module _ {F C E T : Type 0} (g : Mut F (Bool × Unit {0}) (Result (Unit {0}) E))
         begun = h.grows f b (Err e) last called ∙ sym (append-nil (bits (stream f)));
       }))
 
-  more_wants : (f last : F) (bs : List Bool) (r : Answer E) → Writes bits puts (λ _. ⊥) (stream f) bs r (stream last) → Writes bits puts wants (stream f) bs r (stream last)
+  more_wants : (f last : F) (bs : List Bool) (r : Answer E) → WritesEachBit bits puts (λ _. ⊥) (stream f) bs r (stream last) → WritesEachBit bits puts wants (stream f) bs r (stream last)
   more_wants f last bs (Ok u) w = w
   more_wants f last bs (Err (Frontend e)) w = w
   more_wants f last bs (Err (Backend e)) (inl w) = inl w
@@ -65,7 +65,7 @@ module _ {F C E T : Type 0} (g : Mut F (Bool × Unit {0}) (Result (Unit {0}) E))
   emitted_codeword f None r last e = (e.0, ap stream (sym e.1))
   emitted_codeword f (Some bs) r last (inl e) = more_wants f last bs r (emitted_bits f bs r last e)
   emitted_codeword f (Some bs) r last (inr (e, w, is, same)) =
-      subst (λ (x : Answer E). Writes bits puts wants (stream f) bs x (stream last)) (sym is) (inr (w, ap stream (sym same)))
+      subst (λ (x : Answer E). WritesEachBit bits puts wants (stream f) bs x (stream last)) (sym is) (inr (w, ap stream (sym same)))
 
   codeword_keeps : (f : F) (code : Option (List Bool)) (r : Answer E) (last : F) → EmitsCodeword g wants f code r last → name last ≡ name f
   codeword_keeps f None r last e = ap name (sym e.1)

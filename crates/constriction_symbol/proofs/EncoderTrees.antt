@@ -2,8 +2,8 @@
 use Rattle.std.proofs.Common.{◌≡◌, ◌+◌, ◌*◌, ◌/◌, ℕ, List, [], ◌∷◌, length, map, arith, sym, ap, subst, ◌∙◌}
 use Rattle.std.proofs.lemmas.List.{length-map}
 use Rattle.constriction_symbol.specs.Huffman.{AreUnions, GoesUp, IsParents, merge}
-use Rattle.constriction_symbol.specs.HuffmanMerge.{huffman_path}
-use Rattle.constriction_symbol.specs.HuffmanParents.{huffman_climbed, huffman_none, tree_in_is}
+use Rattle.constriction_symbol.proofs.HuffmanMerge.{huffman_path}
+use Rattle.constriction_symbol.proofs.HuffmanParents.{huffman_climbed, huffman_none, tree_in_is}
 use Rattle.constriction_symbol.specs.Merging.{ArePairs, as_pair}
 use Rattle.constriction_symbol.specs.EncoderTree.{ClimbsTree, tree_of_parents}
 use Rattle.constriction_symbol.proofs.DecoderTrees.{count_leaves}

@@ -5,9 +5,9 @@ use Rattle.std.specs.Bool.{beq, one_answer}
 use Rattle.std.specs.Cmp.{booleans_Decides}
 use Rattle.std.specs.Cmp.Lexicographic.{pointwise, pointwise_decides}
 use Rattle.std.proofs.lemmas.List.{reverse-reverse}
+use Rattle.std.proofs.Math.Nat.{pow-succ'}
 use native.Mathlib.Nat.{pow-zero}
 use Rattle.constriction_symbol.specs.Bits.{bits_of}
-use Rattle.constriction_symbol.proofs.BitLemmas.{pow_next}
 
 -- the number of bits, the lowest first
 abbrev value : List Bool → ℕ
@@ -23,7 +23,7 @@ value_bits : (k n : ℕ) → n < 2 ^ k → value (bits_of k n) ≡ n
 value_bits zero zero below = refl
 value_bits zero (suc n) below = absurd (omega (arith, below, pow-zero 2))
 value_bits (suc k) n below =
-    let half : n / 2 < 2 ^ k = omega (arith, below, pow_next k) in
+    let half : n / 2 < 2 ^ k = omega (arith, below, pow-succ' 2 k) in
     omega (arith, low_digit (n % 2) (omega arith), value_bits k (n / 2) half)
 
 -- so many bits of numbers that have no more are those of one number

@@ -4,6 +4,8 @@ use Rattle.std.proofs.Math.Pow.{pow_mono}
 use Rattle.std.proofs.lemmas.Bool.{cases_eq}
 use Rattle.std.proofs.lemmas.List.{get_or_append_left, get_or_push, length-drop, length-reverse, length-take-le, length_push, reverse-append, reverse-reverse, take-append-drop, take-append-le}
 use Rattle.std.proofs.lemmas.Nat.{shr-shr}
+use Rattle.std.proofs.Math.Nat.{pow-succ'}
+use Rattle.constriction_base.proofs.Heads.{shr_below_top}
 use native.Mathlib.Nat.{pow-zero}
 use mir.Val.{bool_byte}
 use Rattle.constriction_symbol.specs.Bits.{bits_of}
@@ -13,10 +15,8 @@ use Rattle.constriction_symbol.specs.EncoderTree.{HasBelowOne}
 use Rattle.constriction_symbol.specs.Huffman.{IsTreeAt, path, subtree}
 use Rattle.constriction_symbol.specs.Merging.{as_pair}
 use Rattle.constriction_symbol.specs.declared.huffman.first_bits.Place.{Place}
-use Rattle.constriction_symbol.proofs.BitLemmas.{pow_next}
 use Rattle.constriction_symbol.proofs.Coding.{length_bits}
 use Rattle.constriction_symbol.proofs.Marked.{none_below_one, one_more_below}
-use Rattle.constriction_symbol.proofs.TopLemmas.{above_room}
 use Rattle.constriction_symbol.proofs.Walking.{arrived, child_at, last_bits}
 
 -- a bit more behind a symbol: its place stays
@@ -66,7 +66,7 @@ bits_below (suc k) number some fits =
     elim (cases_eq (number / 2) 0) [
       | inl none ↦ let one : 1 ≡ number = omega (arith, some, none) in ([], omega arith, subst (λ n. HasBelowOne [] n) one none_below_one)
       | inr more ↦
-          let above = bits_below k (number / 2) (omega (arith, more)) (omega (arith, fits, pow_next k)) in
+          let above = bits_below k (number / 2) (omega (arith, more)) (omega (arith, fits, pow-succ' 2 k)) in
           let whole : 2 * (number / 2) + number % 2 ≡ number = omega arith in
           (above.0 ++ (number % 2 == 1) ∷ [], omega (arith, above.1, length_push above.0 (number % 2 == 1)), subst (λ n. HasBelowOne (above.0 ++ (number % 2 == 1) ∷ []) n) whole (one_more_below above.0 (number / 2) (number % 2) (omega arith) above.2))
     ]
@@ -76,8 +76,8 @@ less_of : (count low number : ℕ) (bits : List Bool) → low < 2 ^ count → nu
     → (above : List Bool) × HasBelowOne above (number / 2) × (bits ≡ above ++ (number % 2 == 1) ∷ [])
 less_of zero low number bits small is reads some = absurd (omega (arith, small, is, some, pow-zero 2))
 less_of (suc c) low number bits small is reads some =
-    let last : low % 2 ≡ number % 2 = omega (arith, is, pow_next c) in
-    let half : HasBelowOne (reverse (bits_of c (low / 2))) (number / 2) = record { count = c; low = low / 2; small = omega (arith, small, pow_next c); is = omega (arith, is, pow_next c); reads = refl } in
+    let last : low % 2 ≡ number % 2 = omega (arith, is, pow-succ' 2 c) in
+    let half : HasBelowOne (reverse (bits_of c (low / 2))) (number / 2) = record { count = c; low = low / 2; small = omega (arith, small, pow-succ' 2 c); is = omega (arith, is, pow-succ' 2 c); reads = refl } in
     (reverse (bits_of c (low / 2)), half, reads ∙ (reverse-append ((low % 2 == 1) ∷ []) (bits_of c (low / 2)) ∙ ap (λ b. reverse (bits_of c (low / 2)) ++ (b == 1) ∷ []) last))
 
 -- one number more, by the place of its half
@@ -101,7 +101,7 @@ place_more nodes places place number next some before below i bits within is =
 -- only no bits are below the highest one of 1, and 0 has none
 below_first : (number count low : ℕ) (bits : List Bool) → low < 2 ^ count → number ≡ low + 2 ^ count → bits ≡ reverse (bits_of count low) → number < 2 → bits ≡ []
 below_first number zero low bits small is reads few = reads
-below_first number (suc c) low bits small is reads few = absurd (omega (arith, is, few, pow_next c, pow_some c))
+below_first number (suc c) low bits small is reads few = absurd (omega (arith, is, few, pow-succ' 2 c, pow_some c))
   where
     pow_some : (c : ℕ) → 0 < 2 ^ c
     pow_some c = let up : 2 ^ 0 ≤ 2 ^ c = pow_mono {i = 0} {j = c} (omega arith) in omega (arith, up, pow-zero 2)
@@ -146,7 +146,7 @@ first_of_top w count taken n within few =
 pub top_small : (w count n : ℕ) → count ≤ w → n < 2 ^ w → n / 2 ^ (w - count) < 2 ^ count
 top_small w count n within fits =
     let same : w - (w - count) ≡ count = omega (arith, within) in
-    subst (λ e. n / 2 ^ (w - count) < 2 ^ e) same (above_room w (w - count) n (omega arith) fits)
+    subst (λ e. n / 2 ^ (w - count) < 2 ^ e) same (shr_below_top w (w - count) n (omega arith) fits)
 
 -- the bit that is set above so few others
 pub set_bit : (count most : ℕ) → count ≤ most → most ≤ 9 → (2 ^ count ≤ 512) × (1 * 2 ^ count % 18446744073709551616 ≡ 2 ^ count)
@@ -157,7 +157,7 @@ set_bit count most few nine =
 pub number_low : (size most count first : ℕ) → size ≡ 2 ^ (most + 1) → count ≤ most → first < 2 ^ count → first + 2 ^ count < size
 number_low size most count first is few small =
     let up : 2 ^ suc count ≤ 2 ^ (most + 1) = pow_mono {i = suc count} {j = most + 1} (omega (arith, few)) in
-    omega (arith, is, small, up, pow_next count)
+    omega (arith, is, small, up, pow-succ' 2 count)
 
 pub table_size : (most : ℕ) → 0 < most → most ≤ 9 → (2 ≤ 2 ^ (most + 1)) × (2 ^ (most + 1) ≤ 1024)
 table_size most some few = (pow_mono {i = 1} {j = most + 1} (omega (arith, some)), pow_mono {i = most + 1} {j = 10} (omega (arith, few)))

@@ -8,16 +8,21 @@ use Rattle.constriction_base.specs.declared.errors.DefaultEncoderFrontendError.{
 use Rattle.std.specs.Int.Digits.{digits_of}
 use Rattle.std.proofs.lemmas.Int.Digits.{digits_of_step}
 use Rattle.std.proofs.lemmas.List.{reverse-append, map_push, length-reverse, length-replicate, reverse-reverse}
-use Rattle.std.proofs.Math.Nat.{div-div-eq-div-mul, div-one, mul_comm}
+use Rattle.std.proofs.Math.Nat.{div-div-eq-div-mul, div-one, mul_comm, pow-succ'}
 use Rattle.std.proofs.Math.Pow.{pow_mono}
 use native.Mathlib.Nat.{pow-suc, pow-zero}
 use Rattle.std.proofs.lemmas.Nat.{pow-add, shr_below, le-div}
 use Rattle.constriction_symbol.specs.Bits.{bits_of}
 use Rattle.constriction_symbol.specs.Golomb.{binary, golomb, number_after}
 use Rattle.constriction_symbol.specs.GolombLaws.{binary_after}
-use Rattle.constriction_symbol.proofs.BitLemmas.{pow_next, set_above}
+use Rattle.constriction_symbol.proofs.BitLemmas.{set_above}
 use Rattle.constriction_symbol.proofs.Coding.{length_bits, bits_of_zero, filled_up}
 use Rattle.constriction_symbol.specs.Codewords.{Answer, Emits}
+
+-- zeros are the number 0
+pub number_zeros : (k : ℕ) → number_after 0 (replicate k false) ≡ 0
+number_zeros zero = refl
+number_zeros (suc k) = number_zeros k
 
 pub zeros_next : (n i : ℕ) → i < n → replicate (n - i) false ≡ false ∷ replicate (n - (i + 1)) false
 zeros_next n i h = let e : n - i ≡ suc (n - (i + 1)) = omega arith in ap (λ k. replicate k false) e
@@ -77,8 +82,8 @@ binary_bits zero m low high =
     let one : m ≡ 1 = omega (arith, low, high) in
     rw one refl
 binary_bits (suc k) m low high =
-    let two = pow_next k in
-    let more : 2 ^ (suc k + 1) ≡ 2 * 2 ^ (k + 1) = rw (add-one, add-one) (pow_next (suc k)) in
+    let two = pow-succ' 2 k in
+    let more : 2 ^ (suc k + 1) ≡ 2 * 2 ^ (k + 1) = rw (add-one, add-one) (pow-succ' 2 (suc k)) in
     let half = binary_bits k (m / 2) (omega (arith, low, two)) (omega (arith, high, more)) in
     let digits : binary m ≡ binary (m / 2) ++ (m % 2 == 1) ∷ [] =
     let step : digits_of 2 m ≡ digits_of 2 (m / 2) ++ m % 2 ∷ [] = digits_of_step 2 m (omega arith) (omega (arith, low, two, pow_pos k)) in
@@ -95,7 +100,7 @@ pub length_holds : (r m : ℕ) → 0 < m → m < 2 ^ r → 2 ^ r ≤ 2 * m + 1 �
 length_holds zero m some high low = absurd (omega (arith, some, high, pow-zero 2))
 length_holds (suc k) m some high low =
     let one : suc k - 1 ≡ k = omega arith in
-    (omega arith, rw one (omega (arith, low, pow_next k)), omega arith)
+    (omega arith, rw one (omega (arith, low, pow-succ' 2 k)), omega arith)
 
 -- the codeword before a number of so many bits
 pub golomb_before : (r m : ℕ) → 0 < m → m < 2 ^ r → 2 ^ r ≤ 2 * m + 1 → golomb (m - 1) ≡ replicate (r - 1) false ++ reverse (bits_of r m)
@@ -119,7 +124,7 @@ pub golomb_greatest : (b n : ℕ) → n + 1 ≡ 2 ^ b → golomb n ≡ replicate
 golomb_greatest b n is =
     let after : n + 1 ≡ 0 + 2 ^ b = omega (arith, is) in
     let low : 2 ^ b ≤ n + 1 = omega (arith, is) in
-    let up : 2 ^ (b + 1) ≡ 2 * 2 ^ b = rw add-one (pow_next b) in
+    let up : 2 ^ (b + 1) ≡ 2 * 2 ^ b = rw add-one (pow-succ' 2 b) in
     let high : n + 1 < 2 ^ (b + 1) = omega (arith, is, up, pow_pos b) in
     let bits : binary (n + 1) ≡ true ∷ replicate b false =
     binary_bits b (n + 1) low high ∙ (ap reverse (set_above b 0 (n + 1) (pow_pos b) after ∙ ap (λ bs. bs ++ true ∷ []) (bits_of_zero b)) ∙ (reverse-append (replicate b false) (true ∷ []) ∙ ap (λ bs. true ∷ bs) (reverse_zeros b))) in
@@ -170,7 +175,7 @@ golomb_read n count bs len is =
 pub fits_below : (n k b : ℕ) → n ≡ 1 → k < b → (n + 1) * 2 ^ k ≤ 2 ^ b
 fits_below n k b one less =
     let up : 2 ^ (k + 1) ≤ 2 ^ b = pow_mono (omega (arith, less)) in
-    let two : 2 ^ (k + 1) ≡ 2 * 2 ^ k = rw add-one (pow_next k) in
+    let two : 2 ^ (k + 1) ≡ 2 * 2 ^ k = rw add-one (pow-succ' 2 k) in
     rw one (omega (arith, up, two))
 
 pub some_after : (n : ℕ) (bs : List Bool) → 0 < n → 0 < number_after n bs
@@ -186,12 +191,6 @@ golomb_read_greatest n b count bs is all len none =
     let tail : bs ≡ replicate b false = none ∙ ap (λ k. replicate k false) (len ∙ all) in
     golomb_greatest b n is ∙ rw (tail, all) (sym (append_assoc (replicate b false) (true ∷ []) (replicate b false)))
 
--- so many bits below another power
-pub length_within : (count len n : ℕ) → n < 2 ^ count → 2 ^ len ≤ 2 * n + 1 → len ≤ count
-length_within count len n small low =
-    let no : count < len → ⊥ = λ more. let up : 2 ^ suc count ≤ 2 ^ len = pow_mono more in omega (arith, up, small, low, pow_next count) in
-    omega (arith, no)
-
 -- a number that begins with as many zeros as its codeword has: the zeros, a one and as many bits again
 pub golomb_begins : (count len n : ℕ) → n < 2 ^ len → 2 ^ len ≤ 2 * n + 1 → len ≤ count → 2 * (count - len) + 1 < count
     → (n / 2 ^ (count - (2 * (count - len) + 1)) < 2 ^ (count - len + 1)) × (2 ^ (count - len + 1) ≤ 2 * (n / 2 ^ (count - (2 * (count - len) + 1))) + 1) × (0 < n / 2 ^ (count - (2 * (count - len) + 1)))
@@ -201,10 +200,10 @@ golomb_begins count len n small low within fewer =
     let whole : zeros + 1 + left ≡ len = omega (arith, within, fewer) in
     let below : n / 2 ^ left < 2 ^ (zeros + 1) = shr_below n (zeros + 1) left (subst (λ e. n < 2 ^ e) (sym whole) small) in
     let split : 2 ^ len ≡ 2 * (2 ^ zeros * 2 ^ left) =
-    ap (λ e. 2 ^ e) (sym whole ∙ omega arith) ∙ (pow_next (zeros + left) ∙ ap (λ x. 2 * x) (pow-add 2 zeros left)) in
+    ap (λ e. 2 ^ e) (sym whole ∙ omega arith) ∙ (pow-succ' 2 (zeros + left) ∙ ap (λ x. 2 * x) (pow-add 2 zeros left)) in
     let least : 2 ^ zeros * 2 ^ left ≤ n = omega (arith, split, low) in
     let above : 2 ^ zeros ≤ n / 2 ^ left = le-div (2 ^ zeros) n (2 ^ left) (pow_pos left) least in
-    let two : 2 ^ (zeros + 1) ≡ 2 * 2 ^ zeros = rw add-one (pow_next zeros) in
+    let two : 2 ^ (zeros + 1) ≡ 2 * 2 ^ zeros = rw add-one (pow-succ' 2 zeros) in
     (below, omega (arith, two, above), omega (arith, above, pow_pos zeros))
 
 -- a codeword within a word

@@ -10,8 +10,8 @@ use Rattle.std.proofs.lemmas.List.Sums.{sum_by-cons}
 use Rattle.std.proofs.lemmas.List.Sorted.{sum_by-IsPermutation, sum_by_popped, sum_by_pushed, length_permutation}
 use Rattle.constriction_symbol.specs.Huffman.{Tree, Weighed, comes_before, put_in, leaves_from, united, merged, children, IsTreeAt, IsNeither, IsRoot, IsUnion, AreUnions, keys_from, IsPairLe, IsMerged}
 use Rattle.constriction_symbol.specs.Huffman.Tree.{Leaf}
-use Rattle.constriction_symbol.specs.HuffmanLaws.{tree_at_more}
-use Rattle.constriction_symbol.specs.HuffmanMerge.{sum_put, length_put, length_leaves}
+use Rattle.constriction_symbol.proofs.HuffmanTrees.{tree_at_more}
+use Rattle.constriction_symbol.proofs.HuffmanMerge.{sum_put, length_put, length_leaves}
 
 -- what a queue holds of a tree
 abbrev pub key : Weighed → ℕ × ℕ

@@ -1,7 +1,7 @@
 -- How many bits there are.
 use Rattle.std.proofs.Common.{◌≡◌, ◌<◌, ◌≤◌, ◌+◌, ◌-◌, ◌*◌, ◌/◌, ℕ, zero, suc, Bool, List, [], ◌∷◌, length, map, reverse, refl, sym, ap, ◌∙◌, arith, length-append, ◌==◌, true}
 use Rattle.std.specs.Prelude.{◌↔◌}
-use Rattle.std.proofs.lemmas.List.{length-map, length-reverse}
+use Rattle.std.proofs.lemmas.List.{length-map, length-reverse, nil_from_length}
 use Rattle.std.proofs.Math.Nat.{le-div_iff_mul-le}
 use Rattle.constriction_symbol.specs.Bits.{bits_of, bits_of_words, bits_above}
 use Rattle.constriction_symbol.proofs.Coding.{length_bits}
@@ -37,11 +37,7 @@ none_above w number words last some none =
 pub empty_parts : (w : ℕ) {W : Type 0} (number : W → ℕ) (words : List W) (last : List Bool) → 0 < w → bits_above w number words last ≡ [] → ((length words == 0) ≡ true) × (last ≡ [])
 empty_parts w number words last some none =
     let both = none_above w number words last some none in
-    (rw both.0 refl, no_items last both.1)
-  where
-    no_items : (xs : List Bool) → length xs ≡ 0 → xs ≡ []
-    no_items [] is = refl
-    no_items (x ∷ xs) is = absurd (omega (arith, is))
+    (rw both.0 refl, nil_from_length last both.1)
 
 pub empty_above : (w : ℕ) {W : Type 0} (number : W → ℕ) (words : List W) (last : List Bool) → (length words == 0) ≡ true → last ≡ [] → bits_above w number words last ≡ []
 empty_above w number [] last is none = rw none refl

@@ -11,6 +11,9 @@ pub mod BitsGiven
 pub mod ReadBack
 pub mod Words
 pub mod Equal
+pub mod HuffmanTrees
+pub mod HuffmanMerge
+pub mod HuffmanParents
 pub mod HuffmanRows
 pub mod Merged
 pub mod HuffmanMerging

@@ -4,13 +4,13 @@ use Rattle.std.proofs.Math.Pow.{pow_mono}
 use Rattle.std.proofs.lemmas.Bool.{cases_eq}
 use Rattle.std.proofs.lemmas.List.{get_or-set_other, get_or-set_same, reverse-append}
 use Rattle.std.proofs.lemmas.Nat.{mod_low}
+use Rattle.std.proofs.Math.Nat.{pow-succ'}
 use native.Mathlib.Nat.{pow-zero}
 use Rattle.constriction_symbol.specs.Bits.{bits_of}
 use Rattle.constriction_symbol.specs.Codewords.{IsLowBits}
 use Rattle.constriction_symbol.specs.EncoderTree.{ClimbsTree, HasBelowOne, HasCodewords, OneBitMore}
 use Rattle.constriction_symbol.specs.Huffman.{GoesUp, Tree, climbed, path}
-use Rattle.constriction_symbol.specs.HuffmanParents.{climbed_root, climbed_step}
-use Rattle.constriction_symbol.proofs.BitLemmas.{pow_next}
+use Rattle.constriction_symbol.proofs.HuffmanParents.{climbed_root, climbed_step}
 
 pub none_below_one : HasBelowOne [] 1
 none_below_one = record { count = 0; low = 0; small = omega arith; is = refl; reads = refl }
@@ -19,8 +19,8 @@ pub one_more_below : (bits : List Bool) (number bit : ℕ) → bit < 2 → HasBe
 one_more_below bits number bit some below = record {
   count = suc below.count;
   low = 2 * below.low + bit;
-  small = omega (arith, some, below.small, pow_next below.count);
-  is = omega (arith, below.is, pow_next below.count);
+  small = omega (arith, some, below.small, pow-succ' 2 below.count);
+  is = omega (arith, below.is, pow-succ' 2 below.count);
   reads = ap (λ bs. bs ++ (bit == 1) ∷ []) below.reads ∙ sym turned;
 }
   where
@@ -38,7 +38,7 @@ same_count : (number low count long : ℕ) → low < 2 ^ count → number ≡ lo
 same_count number low count long small is fits least =
     let not_less : long ≤ count → ⊥ = λ less. let up : 2 ^ long ≤ 2 ^ count = pow_mono less in omega (arith, up, is, fits) in
     let not_more : suc (suc count) ≤ long → ⊥ = λ more. let up : 2 ^ suc (suc count) ≤ 2 ^ long = pow_mono more in
-    omega (arith, up, pow_next (suc count), pow_next count, is, small, least) in
+    omega (arith, up, pow-succ' 2 (suc count), pow-succ' 2 count, is, small, least) in
     omega (arith, not_less, not_more)
 
 -- a number of 2 or more has a bit

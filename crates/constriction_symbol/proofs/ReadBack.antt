@@ -1,5 +1,7 @@
 -- What is read of bits that begin with a codeword.
 use Rattle.std.proofs.Common.{◌≡◌, ◌⊎◌, Bool, List, [], ◌∷◌, ◌++◌, Option, Some, None, Result, Ok, Err, ap, sym, inl, inr, refl, ◌∙◌, append-nil}
+use Rattle.std.proofs.lemmas.Option.{same_Some}
+use Rattle.std.proofs.lemmas.List.{append_cancel_left}
 use Rattle.constriction_base.specs.declared.errors.CoderError.{CoderError}
 use Rattle.constriction_base.specs.declared.errors.CoderError.TheVariants.{Frontend, Backend}
 use Rattle.constriction_symbol.specs.Bits.{GivesBit}
@@ -29,13 +31,6 @@ comparable (x ∷ xs) (y ∷ ys) ms ns is =
     longer (inl (tail, e)) head = inl (tail, cc)
     longer (inr (tail, e)) head = inr (tail, cc)
 
-same_rest : (xs ms ns : List Bool) → xs ++ ms ≡ xs ++ ns → ms ≡ ns
-same_rest [] ms ns is = is
-same_rest (x ∷ xs) ms ns is = let rest : xs ++ ms ≡ xs ++ ns = cc in same_rest xs ms ns rest
-
-some_same : {X : Type 0} (x y : X) → Some x ≡ Some y → x ≡ y
-some_same x y is = cc
-
 module _ {I S V E : Type 0} (next : I → Option (Result Bool E) → I → Type 0) (unread : I → List Bool) (codeword : S → Option (List Bool)) (same : S → S → Type 0) (reads_on : List Bool → Type 0) (is_invalid : List Bool → V → Type 0)
     (law : (old : I) (item : Option (Result Bool E)) (new : I) → next old item new → GivesBit (unread old) item (unread new))
     (prefix_law : (s t : S) (bits tail : List Bool) → codeword s ≡ Some bits → codeword t ≡ Some (bits ++ tail) → same s t)
@@ -48,9 +43,9 @@ module _ {I S V E : Type 0} (next : I → Option (Result Bool E) → I → Type 
     where
       told : ((tail : List Bool) × (ys ≡ xs ++ tail)) ⊎ ((tail : List Bool) × (xs ≡ ys ++ tail)) → xs ≡ ys
       told (inl (tail, e)) =
-          some_same xs ys (sym first ∙ (same_law s t (prefix_law s t xs tail first (second ∙ ap (λ bs. Some bs) e)) ∙ second))
+          same_Some xs ys (sym first ∙ (same_law s t (prefix_law s t xs tail first (second ∙ ap (λ bs. Some bs) e)) ∙ second))
       told (inr (tail, e)) =
-          some_same xs ys (sym first ∙ (sym (same_law t s (prefix_law t s ys tail second (first ∙ ap (λ bs. Some bs) e))) ∙ second))
+          same_Some xs ys (sym first ∙ (sym (same_law t s (prefix_law t s ys tail second (first ∙ ap (λ bs. Some bs) e))) ∙ second))
 
   same_symbol : (s t : S) (xs ys : List Bool) → codeword s ≡ Some xs → codeword t ≡ Some ys → xs ≡ ys → same s t
   same_symbol s t xs ys first second is = prefix_law s t xs [] first (second ∙ ap (λ bs. Some bs) (sym is ∙ sym (append-nil xs)))
@@ -61,7 +56,7 @@ module _ {I S V E : Type 0} (next : I → Option (Result Bool E) → I → Type 
   symbol_back s code rest old new (Ok t) known is (bits, found, given) =
       let here = gives_front next unread law old bits new given in
       let one = one_codeword t s bits code (unread new) rest found known (sym here ∙ is) in
-      (same_symbol t s bits code found known one, same_rest code (unread new) rest (ap (λ bs. bs ++ unread new) (sym one) ∙ (sym here ∙ is)))
+      (same_symbol t s bits code found known one, append_cancel_left code (unread new) rest (ap (λ bs. bs ++ unread new) (sym one) ∙ (sym here ∙ is)))
   symbol_back s code rest old new (Err (Frontend OutOfCompressedData)) known is (bits, on, (last, given, none)) =
       let here = gives_front next unread law old bits last given in
       let end = law last None new none in

@@ -1,5 +1,5 @@
 -- What a refused bit tells of a coder: its last word is full, and there was no room for all of the codeword.
-use Rattle.std.proofs.Common.{◌≡◌, ◌<◌, ◌≤◌, ◌+◌, ◌-◌, ◌*◌, ℕ, zero, suc, Bool, List, [], ◌∷◌, ◌++◌, length, Result, Ok, Err, ap, sym, refl, inl, inr, ◌∙◌, arith, length-append, zero-mul}
+use Rattle.std.proofs.Common.{◌≡◌, ◌<◌, ◌≤◌, ◌+◌, ◌-◌, ◌*◌, ℕ, zero, suc, Bool, List, [], ◌∷◌, length, Result, Ok, Err, ap, refl, inl, inr, ◌∙◌, arith, length-append, zero-mul}
 use Rattle.std.proofs.Math.Nat.{mul-le-mul_right}
 use Rattle.constriction_base.specs.Backends.{IsWrite}
 use Rattle.constriction_stream.specs.Lists.{StepsAll}

@@ -2,10 +2,12 @@
 use Rattle.std.proofs.Common.{rules, nat_eq, take, ap₂, refl, add-one, ◌==◌, ◌≡◌, ◌<◌, ◌≤◌, ◌+◌, ◌*◌, ◌-◌, ◌/◌, ◌%◌, ◌^◌, ℕ, zero, suc, Bool, true, false, not, [], ◌∷◌, ◌++◌, sym, ap, subst, ◌∙◌, arith, pow_pos, if◌then◌else◌}
 use Rattle.std.specs.Prelude.{IsTrue, ◌↔◌}
 use Rattle.std.proofs.lemmas.Nat.{pow-add, shr-shr, shl-shr, shr_below, shl_below, field_of, mul-add-lt, mod_below}
+use Rattle.std.proofs.Math.Nat.{pow-succ'}
+use Rattle.constriction_base.proofs.Heads.{shr_below_top}
 use native.Mathlib.Nat.{add-mul-div_right, mul_assoc, pow-zero}
 use lib.Pow.{mod-mod-pow}
 use Rattle.constriction_symbol.specs.Bits.{bits_of}
-use Rattle.constriction_symbol.proofs.BitLemmas.{pow_next, set_above, clear_above, top_off}
+use Rattle.constriction_symbol.proofs.BitLemmas.{set_above, clear_above, top_off}
 
 -- a bit above k bits, which stand above s + 1 others and then above s
 top_more : (k s n m : ℕ) (bit : Bool) → n < 2 ^ (k + (s + 1)) → m ≡ n / 2 ^ 1 + (if bit then 2 ^ (k + s) else 0) → bits_of (k + 1) (m / 2 ^ s) ≡ bits_of k (n / 2 ^ (s + 1)) ++ bit ∷ []
@@ -61,12 +63,6 @@ half_room b n m some fits is =
     let whole : b - 1 + 1 ≡ b = omega (arith, some) in
     subst (λ x. x < 2 ^ (b - 1)) (sym is) (shr_below n (b - 1) 1 (subst (λ e. n < 2 ^ e) (sym whole) fits))
 
--- bits above others, as a number
-pub above_room : (b r n : ℕ) → r ≤ b → n < 2 ^ b → n / 2 ^ r < 2 ^ (b - r)
-above_room b r n within fits =
-    let whole : b - r + r ≡ b = omega (arith, within) in
-    shr_below n (b - r) r (subst (λ e. n < 2 ^ e) (sym whole) fits)
-
 -- there is no room exactly where there are as many bits as the word has
 pub full_room : (b r : ℕ) → r ≤ b → 8 ≤ b → (IsTrue (nat_eq r 0) → b - r ≡ b) × (b - r ≡ b → IsTrue (nat_eq r 0))
 full_room b zero within wide = (λ is. omega arith, λ is. search rules)
@@ -90,7 +86,7 @@ bits_joined zero c n v small =
     let here : 0 + c ≡ c = omega arith in
     rw (none, here) refl
 bits_joined (suc k) c n v small =
-    let two = pow_next k in
+    let two = pow-succ' 2 k in
     let half : n / 2 < 2 ^ k = omega (arith, small, two) in
     let split : v * 2 ^ suc k ≡ 2 * (v * 2 ^ k) = ap (λ x. v * x) two ∙ swapped in
     let low : (n + v * 2 ^ suc k) % 2 ≡ n % 2 = omega (arith, split) in
@@ -129,7 +125,7 @@ all_at_top b r c n v m within fits small is =
     let rest : n / 2 ^ c / 2 ^ (r - c) ≡ n / 2 ^ r = shr-shr n c (r - c) ∙ ap (λ e. n / 2 ^ e) back in
     let up : m / 2 ^ (r - c) ≡ n / 2 ^ r + v * 2 ^ (b - r) =
     ap (λ x. x / 2 ^ (r - c)) split ∙ (add-mul-div_right (n / 2 ^ c) (v * 2 ^ (b - r)) (pow_pos (r - c)) ∙ ap (λ x. x + v * 2 ^ (b - r)) rest) in
-    ap₂ (λ k x. bits_of k x) count up ∙ bits_joined (b - r) c (n / 2 ^ r) v (above_room b r n within small)
+    ap₂ (λ k x. bits_of k x) count up ∙ bits_joined (b - r) c (n / 2 ^ r) v (shr_below_top b r n within small)
 
 -- c bits less
 pub some_less : (b r c n m : ℕ) → r + c ≤ b → m ≡ n % 2 ^ (b - c) * 2 ^ c → bits_of (b - (r + c)) (m / 2 ^ (r + c)) ≡ take (b - r - c) (bits_of (b - r) (n / 2 ^ r))
@@ -148,7 +144,7 @@ some_less b r c n m within is =
 pub sum_room : (b c n v : ℕ) → c ≤ b → n < 2 ^ b → v < 2 ^ c → n / 2 ^ c + v * 2 ^ (b - c) < 2 ^ b
 sum_room b c n v within fits small =
     let whole : b - c + c ≡ b = omega (arith, within) in
-    let low : n / 2 ^ c < 2 ^ (b - c) = above_room b c n within fits in
+    let low : n / 2 ^ c < 2 ^ (b - c) = shr_below_top b c n within fits in
     let all : v * 2 ^ (b - c) + n / 2 ^ c < 2 ^ (b - c) * 2 ^ c = mul-add-lt v (2 ^ (b - c)) (n / 2 ^ c) (2 ^ c) small low in
     let power : 2 ^ (b - c) * 2 ^ c ≡ 2 ^ b = sym (pow-add 2 (b - c) c) ∙ ap (λ e. 2 ^ e) whole in
     omega (arith, all, power)

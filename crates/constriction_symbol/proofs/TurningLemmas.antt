@@ -3,27 +3,27 @@ use Rattle.std.proofs.Common.{◌≡◌, ◌<◌, ◌≤◌, ◌+◌, ◌*◌, �
 use Rattle.std.specs.Prelude.{IsTrue, ◌↔◌}
 use Rattle.std.proofs.lemmas.Nat.{shr-shr, shl-shr, shr_le, shr_split, mod_below}
 use Rattle.std.proofs.lemmas.List.{reverse-append, reverse-reverse, length-reverse, length-replicate, take-append-drop}
+use Rattle.std.proofs.Math.Nat.{pow-succ'}
 use native.Mathlib.Nat.{pow-zero}
 use Rattle.constriction_symbol.specs.Bits.{AreZeros, bits_above, bits_of, bits_of_words}
 use Rattle.constriction_symbol.specs.Golomb.{number_after}
-use Rattle.constriction_symbol.specs.GolombLaws.{number_push, number_above, number_zeros}
-use Rattle.constriction_symbol.proofs.BitLemmas.{pow_next}
+use Rattle.constriction_symbol.specs.GolombLaws.{number_push, number_above}
 use Rattle.constriction_symbol.proofs.Coding.{length_bits, filled_up, words_more}
-use Rattle.constriction_symbol.proofs.GolombLemmas.{top_bit, reverse_zeros}
+use Rattle.constriction_symbol.proofs.GolombLemmas.{top_bit, reverse_zeros, number_zeros}
 use Rattle.constriction_symbol.proofs.TopLemmas.{bits_below, bits_joined, bits_left}
 
 -- a number of so many bits
 number_small : (xs : List Bool) → number_after 0 xs < 2 ^ length xs
 number_small [] = omega (arith, pow-zero 2)
-number_small (true ∷ xs) = omega (arith, number_above (2 * 0 + 1) xs, number_small xs, pow_next (length xs))
-number_small (false ∷ xs) = omega (arith, number_small xs, pow_next (length xs))
+number_small (true ∷ xs) = omega (arith, number_above (2 * 0 + 1) xs, number_small xs, pow-succ' 2 (length xs))
+number_small (false ∷ xs) = omega (arith, number_small xs, pow-succ' 2 (length xs))
 
 -- there is room for a bit more
 pub turned_room : (k b n t : ℕ) → k < b → t ≡ number_after 0 (bits_of k n) → 2 * t + 1 < 2 ^ b
 turned_room k b n t less is =
     let small : t < 2 ^ k = rw is (subst (λ j. number_after 0 (bits_of k n) < 2 ^ j) (length_bits k n) (number_small (bits_of k n))) in
     let up : 2 ^ suc k ≤ 2 ^ b = pow_mono (omega (arith, less)) in
-    omega (arith, small, up, pow_next k)
+    omega (arith, small, up, pow-succ' 2 k)
 
 -- one bit more of the word
 pub turned_more : (k n t m h s : ℕ) (none : Bool) → t ≡ number_after 0 (bits_of k n) → m ≡ n / 2 ^ k → h ≡ m % 2 ^ 1 → IsTrue none ↔ (h ≡ 0) → s ≡ number_after t (not none ∷ []) → s ≡ number_after 0 (bits_of (k + 1) n)
@@ -74,8 +74,8 @@ down_room (suc k) zero n s wide some fits is = absurd (omega (arith, some))
 down_room (suc k) (suc j) n s wide some fits is =
     let half : n / 2 ^ 1 / 2 ^ j ≡ n / 2 ^ suc j = shr-shr n 1 j ∙ ap (λ e. n / 2 ^ e) (omega arith) in
     let below : n / 2 ^ 1 / 2 ^ j ≤ n / 2 ^ 1 = shr_le (n / 2 ^ 1) j in
-    let small : n / 2 < 2 ^ k = omega (arith, fits, pow_next k) in
-    omega (arith, is, half, below, small, pow_next k)
+    let small : n / 2 < 2 ^ k = omega (arith, fits, pow-succ' 2 k) in
+    omega (arith, is, half, below, small, pow-succ' 2 k)
 
 -- one bit more of a number
 pub down_step : (left n s m h t : ℕ) (none : Bool) → 0 < left → s ≡ n / 2 ^ left → m ≡ n / 2 ^ (left - 1) → h ≡ m % 2 ^ 1 → IsTrue none ↔ (h ≡ 0) → t ≡ number_after s (not none ∷ []) → t ≡ n / 2 ^ (left - 1)

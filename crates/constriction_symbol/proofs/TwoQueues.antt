@@ -5,7 +5,11 @@ use Rattle.std.proofs.lemmas.Bool.{cases_eq}
 use Rattle.std.proofs.lemmas.List.Elements.{All-nil, All-cons, All-head, All-tail, All-append, All-push, All-weaker}
 use Rattle.std.proofs.lemmas.List.Sorted.{All-permutation, IsPermutation-middle, IsPermutation-sym, IsPermutation-to_front}
 use Rattle.constriction_symbol.specs.Huffman.{IsPairLe, keys_from}
-use Rattle.constriction_symbol.specs.Queues.{AreQueues, AreRising, IsInTurn}
+use Rattle.constriction_symbol.specs.Queues.{AreQueues, AreRising}
+
+-- it weighs so much at least, and a union twice that at most; its index is below the next one
+abbrev pub IsInTurn : ℕ → ℕ → ℕ → ℕ × ℕ → Type 0
+IsInTurn n next least p = (least ≤ p.0) × (p.1 < next) × ((p.1 < n) ⊎ (p.0 ≤ 2 * least))
 
 le_le : (p q r : ℕ × ℕ) → IsPairLe p q → IsPairLe q r → IsPairLe p r
 le_le p q r (inl less) (inl more) = inl (omega (arith, less, more))

@@ -5,7 +5,7 @@ use Rattle.std.proofs.lemmas.Nat.{shr-shr}
 use Rattle.constriction_symbol.specs.Bits.{bits_of}
 use Rattle.constriction_symbol.proofs.Coding.{length_bits}
 use Rattle.constriction_symbol.specs.Huffman.{IsTreeAt, Tree, children, path, subtree}
-use Rattle.constriction_symbol.specs.HuffmanLaws.{node_at, leaf_at, subtree_is_path}
+use Rattle.constriction_symbol.proofs.HuffmanTrees.{node_at, leaf_at, subtree_is_path}
 use Rattle.constriction_symbol.specs.Merging.{as_pair}
 use Rattle.constriction_symbol.specs.DecoderTree.{HoldsTree}
 use mir.Val.{bool_byte}

@@ -1,5 +1,5 @@
 -- Bits of words, and what a coder of bits holds.
-use Rattle.std.specs.Prelude.{◌≡◌, ℕ, zero, suc, ◌/◌, ◌%◌, ◌<◌, ◌≤◌, ◌+◌, Bool, true, false, List, [], ◌∷◌, ◌++◌, ◌==◌, ◌⊎◌, flat_map, map, replicate, reverse, length, Result, Ok, Err, Option, Some, None}
+use Rattle.std.specs.Prelude.{◌≡◌, ℕ, zero, suc, ◌/◌, ◌%◌, ◌^◌, ◌<◌, ◌≤◌, ◌+◌, ◌-◌, Bool, true, false, List, [], ◌∷◌, ◌++◌, ◌==◌, ◌⊎◌, flat_map, map, replicate, reverse, length, Result, Ok, Err, Option, Some, None}
 
 -- the n lowest bits of a number, the lowest first
 abbrev pub bits_of : ℕ → ℕ → List Bool
@@ -48,12 +48,15 @@ abbrev pub bits_behind : {W : Type 0} → ℕ → (W → ℕ) → List Bool → 
 bits_behind w number last words = last ++ bits_of_words w (map number words)
 
 -- a word of just these bits is written: `write` is what a write of the backend answers and leaves
-abbrev pub WritesBits : {W B E : Type 0} → ℕ → (W → ℕ) → (B → W → Result (Unit {0}) E → B → Type 0) → List Bool → B → Result (Unit {0}) E → B → Type 0
-WritesBits {W} w number write bits backend r backend' = (word : W) × (bits_of w (number word) ≡ bits) × write backend word r backend'
+abbrev pub WritesBits : {W B E : Type 0} → ℕ → (W → ℕ) → (B → W → Result (Unit {0}) E → B → Type 0) → List Bool → B
+    → Result (Unit {0}) E → B → Type 0
+WritesBits {W} w number write bits backend r backend' =
+    (word : W) × (bits_of w (number word) ≡ bits) × write backend word r backend'
 
 -- a bit is put behind those of the last word; where that is full, it is written first and the bit begins the
 -- next; or that write is refused, and the last word stays
-abbrev pub PutsLast : {W B E : Type 0} → ℕ → (W → ℕ) → (B → W → Result (Unit {0}) E → B → Type 0) → List Bool → B → Bool → Result (Unit {0}) E → List Bool → B → Type 0
+abbrev pub PutsLast : {W B E : Type 0} → ℕ → (W → ℕ) → (B → W → Result (Unit {0}) E → B → Type 0) → List Bool → B → Bool
+    → Result (Unit {0}) E → List Bool → B → Type 0
 PutsLast w number write last backend bit (Ok _) last' backend' =
     ((length last < w) × (last' ≡ last ++ bit ∷ []) × (backend' ≡ backend))
     ⊎ ((length last ≡ w) × (last' ≡ bit ∷ []) × WritesBits w number write last backend (Ok tt) backend')
@@ -61,7 +64,8 @@ PutsLast w number write last backend bit (Err e) last' backend' =
     (length last ≡ w) × (last' ≡ last) × WritesBits w number write last backend (Err e) backend'
 
 -- a bit is put onto all that a coder holds: its last word and its backend
-abbrev pub PutsOnto : {W B E : Type 0} → ℕ → (W → ℕ) → (B → W → Result (Unit {0}) E → B → Type 0) → BitsValue B → Bool → Result (Unit {0}) E → BitsValue B → Type 0
+abbrev pub PutsOnto : {W B E : Type 0} → ℕ → (W → ℕ) → (B → W → Result (Unit {0}) E → B → Type 0) → BitsValue B → Bool
+    → Result (Unit {0}) E → BitsValue B → Type 0
 PutsOnto w number write old bit r new = PutsLast w number write old.last old.backend bit r new.last new.backend
 
 -- a bit is put behind the others, or all are as before
@@ -71,30 +75,38 @@ PutsBit old bit (Err _) new = new ≡ old
 
 -- the last bit of the unfinished word is taken; where it has none, a word is read, of which the last bit is
 -- taken; where no word is left, or the read is refused, nothing changes but what the read changed
-abbrev pub TakesLast : {W B E : Type 0} → ℕ → (W → ℕ) → (B → Result (Option W) E → B → Type 0) → List Bool → B → Option (Result Bool E) → List Bool → B → Type 0
+abbrev pub TakesLast : {W B E : Type 0} → ℕ → (W → ℕ) → (B → Result (Option W) E → B → Type 0) → List Bool → B
+    → Option (Result Bool E) → List Bool → B → Type 0
 TakesLast {W} w number reads last backend (Some (Ok bit)) last' backend' =
     ((last ≡ last' ++ bit ∷ []) × (backend' ≡ backend))
     ⊎ ((word : W) × (last ≡ []) × reads backend (Ok (Some word)) backend' × (bits_of w (number word) ≡ last' ++ bit ∷ []))
-TakesLast w number reads last backend None last' backend' = (last ≡ []) × (last' ≡ []) × reads backend (Ok None) backend'
-TakesLast w number reads last backend (Some (Err e)) last' backend' = (last ≡ []) × (last' ≡ []) × reads backend (Err e) backend'
+TakesLast w number reads last backend None last' backend' =
+    (last ≡ []) × (last' ≡ []) × reads backend (Ok None) backend'
+TakesLast w number reads last backend (Some (Err e)) last' backend' =
+    (last ≡ []) × (last' ≡ []) × reads backend (Err e) backend'
 
 -- the first bit of the word that is read now is taken; where none is left of it, the next word is read
-abbrev pub TakesFirst : {W B E : Type 0} → ℕ → (W → ℕ) → (B → Result (Option W) E → B → Type 0) → List Bool → B → Option (Result Bool E) → List Bool → B → Type 0
+abbrev pub TakesFirst : {W B E : Type 0} → ℕ → (W → ℕ) → (B → Result (Option W) E → B → Type 0) → List Bool → B
+    → Option (Result Bool E) → List Bool → B → Type 0
 TakesFirst {W} w number reads last backend (Some (Ok bit)) last' backend' =
     ((last ≡ bit ∷ last') × (backend' ≡ backend))
     ⊎ ((word : W) × (last ≡ []) × reads backend (Ok (Some word)) backend' × (bits_of w (number word) ≡ bit ∷ last'))
-TakesFirst w number reads last backend None last' backend' = (last ≡ []) × (last' ≡ []) × reads backend (Ok None) backend'
-TakesFirst w number reads last backend (Some (Err e)) last' backend' = (last ≡ []) × (last' ≡ []) × reads backend (Err e) backend'
+TakesFirst w number reads last backend None last' backend' =
+    (last ≡ []) × (last' ≡ []) × reads backend (Ok None) backend'
+TakesFirst w number reads last backend (Some (Err e)) last' backend' =
+    (last ≡ []) × (last' ≡ []) × reads backend (Err e) backend'
 
--- bits are put behind those of the last word, which has room for all; or the first of them fill it, it is written, and the
--- others, one at least, begin the next; or that write is refused, and the first of them stay
-abbrev pub PutsBits : {W B E : Type 0} → ℕ → (W → ℕ) → (B → W → Result (Unit {0}) E → B → Type 0) → List Bool → B → List Bool → Result (Unit {0}) E → List Bool → B → Type 0
+-- bits are put behind those of the last word, which has room for all; or the first of them fill it, it is written, and
+-- the others, one at least, begin the next; or that write is refused, and the first of them stay
+abbrev pub PutsBits : {W B E : Type 0} → ℕ → (W → ℕ) → (B → W → Result (Unit {0}) E → B → Type 0) → List Bool → B
+    → List Bool → Result (Unit {0}) E → List Bool → B → Type 0
 PutsBits w number write last backend bits (Ok _) last' backend' =
     ((length last + length bits ≤ w) × (last' ≡ last ++ bits) × (backend' ≡ backend))
     ⊎ ((front : List Bool) × (bit : Bool) × (back : List Bool) × (bits ≡ front ++ bit ∷ back) × (length (last ++ front) ≡ w) × (length back < w)
     × (last' ≡ bit ∷ back) × WritesBits w number write (last ++ front) backend (Ok tt) backend')
 PutsBits w number write last backend bits (Err e) last' backend' =
-    (front : List Bool) × (bit : Bool) × (back : List Bool) × (bits ≡ front ++ bit ∷ back) × (length (last ++ front) ≡ w)
+    (front : List Bool) × (bit : Bool) × (back : List Bool) × (bits ≡ front ++ bit ∷ back)
+    × (length (last ++ front) ≡ w)
     × (last' ≡ last ++ front) × WritesBits w number write (last ++ front) backend (Err e) backend'
 
 -- the next of the bits is given, or there is none; an error leaves them
@@ -104,13 +116,15 @@ GivesBit old None new = (old ≡ []) × (new ≡ [])
 GivesBit old (Some (Err _)) new = new ≡ old
 
 -- a bit comes off a stack of bits
-abbrev pub PopsBit : {W B E : Type 0} → ℕ → (W → ℕ) → Type 0 → (B → Result (Option W) E → B → Type 0) → BitsValue B → Option (Result Bool E) → BitsValue B → Type 0
+abbrev pub PopsBit : {W B E : Type 0} → ℕ → (W → ℕ) → Type 0 → (B → Result (Option W) E → B → Type 0) → BitsValue B
+    → Option (Result Bool E) → BitsValue B → Type 0
 PopsBit w number is_list reads old item new =
     TakesLast w number reads old.last old.backend item new.last new.backend
     × (is_list → GivesBit (reverse old.bits) item (reverse new.bits))
 
 -- a bit comes from a queue of bits
-abbrev pub TakesBit : {W B E : Type 0} → ℕ → (W → ℕ) → Type 0 → (B → Result (Option W) E → B → Type 0) → BitsValue B → Option (Result Bool E) → BitsValue B → Type 0
+abbrev pub TakesBit : {W B E : Type 0} → ℕ → (W → ℕ) → Type 0 → (B → Result (Option W) E → B → Type 0) → BitsValue B
+    → Option (Result Bool E) → BitsValue B → Type 0
 TakesBit w number is_list reads old item new =
     TakesFirst w number reads old.last old.backend item new.last new.backend
     × (is_list → GivesBit old.bits item new.bits)
@@ -124,19 +138,39 @@ abbrev pub PadsTo : ℕ → List Bool → List Bool → Type 0
 PadsTo w bits padded = (zeros : ℕ) × (zeros < w) × (padded ≡ bits ++ replicate zeros false)
 
 -- a word is written that begins with these bits, and then has zeros
-abbrev pub WritesPadded : {W B E : Type 0} → ℕ → (W → ℕ) → (B → W → Result (Unit {0}) E → B → Type 0) → List Bool → B → Result (Unit {0}) E → B → Type 0
-WritesPadded {W} w number write bits backend r backend' = (word : W) × PadsTo w bits (bits_of w (number word)) × write backend word r backend'
+abbrev pub WritesPadded : {W B E : Type 0} → ℕ → (W → ℕ) → (B → W → Result (Unit {0}) E → B → Type 0) → List Bool → B
+    → Result (Unit {0}) E → B → Type 0
+WritesPadded {W} w number write bits backend r backend' =
+    (word : W) × PadsTo w bits (bits_of w (number word)) × write backend word r backend'
 
--- a stack of bits is ended: a bit that is set is put behind the others, and what is then the last word is written; the first
--- refused write answers its error
-abbrev pub ClosesStack : {W B E : Type 0} → ℕ → (W → ℕ) → (B → W → Result (Unit {0}) E → B → Type 0) → List Bool → B → Result B E → Type 0
+-- a stack of bits is ended: a bit that is set is put behind the others, and what is then the last word is written; the
+-- first refused write answers its error
+abbrev pub ClosesStack : {W B E : Type 0} → ℕ → (W → ℕ) → (B → W → Result (Unit {0}) E → B → Type 0) → List Bool → B
+    → Result B E → Type 0
 ClosesStack {B = B} w number write last backend (Ok all) =
-    (top : List Bool) × (between : B) × PutsLast w number write last backend true (Ok tt) top between × WritesPadded w number write top between (Ok tt) all
+    (top : List Bool) × (between : B) × PutsLast w number write last backend true (Ok tt) top between
+    × WritesPadded w number write top between (Ok tt) all
 ClosesStack {B = B} w number write last backend (Err e) =
     ((left : B) × PutsLast w number write last backend true (Err e) last left)
     ⊎ ((top : List Bool) × (between left : B) × PutsLast w number write last backend true (Ok tt) top between × WritesPadded w number write top between (Err e) left)
 
 -- a queue of bits is ended: its last word is written, if it has bits; a refused write answers its error
-abbrev pub ClosesQueue : {W B E : Type 0} → ℕ → (W → ℕ) → (B → W → Result (Unit {0}) E → B → Type 0) → List Bool → B → Result B E → Type 0
-ClosesQueue w number write last backend (Ok all) = ((last ≡ []) × (all ≡ backend)) ⊎ ((last ≡ [] → ⊥) × WritesPadded w number write last backend (Ok tt) all)
-ClosesQueue {B = B} w number write last backend (Err e) = (last ≡ [] → ⊥) × (left : B) × WritesPadded w number write last backend (Err e) left
+abbrev pub ClosesQueue : {W B E : Type 0} → ℕ → (W → ℕ) → (B → W → Result (Unit {0}) E → B → Type 0) → List Bool → B
+    → Result B E → Type 0
+ClosesQueue w number write last backend (Ok all) =
+    ((last ≡ []) × (all ≡ backend)) ⊎ ((last ≡ [] → ⊥) × WritesPadded w number write last backend (Ok tt) all)
+ClosesQueue {B = B} w number write last backend (Err e) =
+    (last ≡ [] → ⊥) × (left : B) × WritesPadded w number write last backend (Err e) left
+
+-- a decoder's backend comes from the words that end a queue of bits; where no bit lies outside the coder's backend, it
+-- comes from that one
+abbrev pub ReadsClosed : {W B E D : Type 0} → ℕ → (W → ℕ) → (B → List W) → (B → W → Result (Unit {0}) E → B → Type 0)
+    → (B → D → Type 0) → BitsValue B → D → Type 0
+ReadsClosed {B = B} w number words write becomes coder decoder =
+    (all : B) × IsQueueWords w coder.bits (map number (reverse (words all)))
+    × ClosesQueue w number write coder.last coder.backend (Ok all)
+    × (coder.last ≡ [] → all ≡ coder.backend) × becomes all decoder
+
+-- so many of the w bits of a number, from the highest down
+abbrev pub top_bits : ℕ → ℕ → ℕ → List Bool
+top_bits w count x = reverse (bits_of count (x / 2 ^ (w - count)))

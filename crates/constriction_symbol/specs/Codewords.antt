@@ -1,7 +1,7 @@
 -- Codewords: what a codebook emits, what a stream of bits then holds, and what a codebook reads.
-use Rattle.std.specs.Prelude.{◌≡◌, ℕ, ◌<◌, ◌-◌, ◌/◌, ◌^◌, reverse, Bool, List, [], ◌∷◌, ◌++◌, ◌⊎◌, Option, Some, None, Result, Ok, Err, map, ⊤}
+use Rattle.std.specs.Prelude.{◌≡◌, ℕ, ◌<◌, ◌^◌, reverse, Bool, List, [], ◌∷◌, ◌++◌, ◌⊎◌, Option, Some, None, Result, Ok, Err, map, ⊤}
 use Rattle.std.specs.Iterator.{Yields}
-use Rattle.constriction_symbol.specs.Bits.{bits_of}
+use Rattle.constriction_symbol.specs.Bits.{bits_of, top_bits}
 use Rattle.std.specs.Fn.{Mut, Called}
 use Rattle.constriction_base.specs.declared.errors.CoderError.{CoderError}
 use Rattle.constriction_base.specs.declared.errors.CoderError.TheVariants.{Frontend, Backend}
@@ -16,18 +16,33 @@ abbrev pub Answer : Type 0 → Type 0
 Answer E = Result (Unit {0}) (CoderError DefaultEncoderFrontendError E)
 
 -- f is called at each bit in order, up to and with the first call that is refused; f is then `last`
-abbrev pub Emits : {F E : Type 0} → Mut F (Bool × Unit {0}) (Result (Unit {0}) E) → F → List Bool → Answer E → F → Type 0
+abbrev pub Emits : {F E : Type 0} → Mut F (Bool × Unit {0}) (Result (Unit {0}) E)
+    → F → List Bool → Answer E → F → Type 0
 Emits g f [] r last = (r ≡ Ok tt) × (f ≡ last)
 Emits {F} {E} g f (b ∷ bs) r last =
-    ((next : F) × Called g f (b, tt) (Ok tt) next × Emits g next bs r last) ⊎ ((e : E) × Called g f (b, tt) (Err e) last × (r ≡ Err (Backend e)))
+    ((next : F) × Called g f (b, tt) (Ok tt) next × Emits g next bs r last)
+    ⊎ ((e : E) × Called g f (b, tt) (Err e) last × (r ≡ Err (Backend e)))
+
+-- there is want of memory, of which the error is made
+abbrev pub LacksMemory : {A E : Type 0} → Type 0 → (A → E → Type 0) → E → Type 0
+LacksMemory {A} wants gives e = wants × ((a : A) × gives a e)
+
+-- there is want of memory for the codeword of a symbol: in the form that is chosen of prefix and suffix form
+abbrev pub LacksMemoryFor : {A K S E : Type 0} → (Type 0 → Type 0 → Type 0) → (K → S → Type 0) → (K → S → Type 0)
+    → (A → E → Type 0) → K → S → E → Type 0
+LacksMemoryFor chosen prefix suffix gives codebook symbol =
+    LacksMemory (chosen (prefix codebook symbol) (suffix codebook symbol)) gives
 
 -- the bits of a codeword are emitted; or none is, where the symbol has no codeword, or memory was wanted
-abbrev pub EmitsCodeword : {F E : Type 0} → Mut F (Bool × Unit {0}) (Result (Unit {0}) E) → (E → Type 0) → F → Option (List Bool) → Answer E → F → Type 0
+abbrev pub EmitsCodeword : {F E : Type 0} → Mut F (Bool × Unit {0}) (Result (Unit {0}) E) → (E → Type 0) → F
+    → Option (List Bool) → Answer E → F → Type 0
 EmitsCodeword g wants f None r last = (r ≡ Err (Frontend ImpossibleSymbol)) × (f ≡ last)
-EmitsCodeword {F} {E} g wants f (Some bits) r last = Emits g f bits r last ⊎ ((e : E) × wants e × (r ≡ Err (Backend e)) × (f ≡ last))
+EmitsCodeword {F} {E} g wants f (Some bits) r last =
+    Emits g f bits r last ⊎ ((e : E) × wants e × (r ≡ Err (Backend e)) × (f ≡ last))
 
 -- a codeword of which one bit was refused: those before it were put one by one, and it and those behind it weren't
-pub record RefusedAt {C E : Type 0} (bits : C → List Bool) (puts : C → Bool → Result (Unit {0}) E → C → Type 0) (old : C) (code : List Bool) (e : E) (new : C) : Type 0 where
+pub record RefusedAt {C E : Type 0} (bits : C → List Bool) (puts : C → Bool → Result (Unit {0}) E → C → Type 0)
+    (old : C) (code : List Bool) (e : E) (new : C) : Type 0 where
   -- the bits before the refused one, that one, and those behind it
   pub front : List Bool
   pub bit : Bool
@@ -41,17 +56,20 @@ pub record RefusedAt {C E : Type 0} (bits : C → List Bool) (puts : C → Bool 
   -- the new stream has just the bits before it more
   pub begun : bits new ≡ bits old ++ front
 
--- a stream of bits has a codeword more, as if its bits were put one by one; or it has those before a bit that was refused;
--- or it is as before, where memory was wanted
-abbrev pub Writes : {C E : Type 0} → (C → List Bool) → (C → Bool → Result (Unit {0}) E → C → Type 0) → (E → Type 0) → C → List Bool → Answer E → C → Type 0
-Writes bits puts wants old code (Ok _) new = (bits new ≡ bits old ++ code) × StepsAll puts old code new
-Writes bits puts wants old code (Err (Frontend _)) new = ⊥
-Writes bits puts wants old code (Err (Backend e)) new = RefusedAt bits puts old code e new ⊎ (wants e × (new ≡ old))
+-- a stream of bits has a codeword more, as if its bits were put one by one; or it has those before a bit that was
+-- refused; or it is as before, where memory was wanted
+abbrev pub WritesEachBit : {C E : Type 0} → (C → List Bool) → (C → Bool → Result (Unit {0}) E → C → Type 0)
+    → (E → Type 0) → C → List Bool → Answer E → C → Type 0
+WritesEachBit bits puts wants old code (Ok _) new = (bits new ≡ bits old ++ code) × StepsAll puts old code new
+WritesEachBit bits puts wants old code (Err (Frontend _)) new = ⊥
+WritesEachBit bits puts wants old code (Err (Backend e)) new =
+    RefusedAt bits puts old code e new ⊎ (wants e × (new ≡ old))
 
 -- the same of a symbol, which may have no codeword: then nothing changes
-abbrev pub WritesCodeword : {C E : Type 0} → (C → List Bool) → (C → Bool → Result (Unit {0}) E → C → Type 0) → (E → Type 0) → C → Option (List Bool) → Answer E → C → Type 0
+abbrev pub WritesCodeword : {C E : Type 0} → (C → List Bool) → (C → Bool → Result (Unit {0}) E → C → Type 0)
+    → (E → Type 0) → C → Option (List Bool) → Answer E → C → Type 0
 WritesCodeword bits puts wants old None r new = (r ≡ Err (Frontend ImpossibleSymbol)) × (new ≡ old)
-WritesCodeword bits puts wants old (Some code) r new = Writes bits puts wants old code r new
+WritesCodeword bits puts wants old (Some code) r new = WritesEachBit bits puts wants old code r new
 
 -- the form of a codeword, where there is one
 abbrev pub formed : (List Bool → List Bool) → Option (List Bool) → Option (List Bool)
@@ -59,11 +77,14 @@ formed form None = None
 formed form (Some bits) = Some (form bits)
 
 -- the same of a symbol that is lent and its codebook; and of a symbol that is lent
-abbrev pub WritesPair : {C L K S E : Type 0} → (C → List Bool) → (C → Bool → Result (Unit {0}) E → C → Type 0) → (K → S → E → Type 0) → (K → S → Option (List Bool)) → (List Bool → List Bool) → (L → S) → C → L × K → Answer E → C → Type 0
+abbrev pub WritesPair : {C L K S E : Type 0} → (C → List Bool) → (C → Bool → Result (Unit {0}) E → C → Type 0)
+    → (K → S → E → Type 0) → (K → S → Option (List Bool)) → (List Bool → List Bool) → (L → S)
+    → C → L × K → Answer E → C → Type 0
 WritesPair bits puts wants codeword form lent old pair r new =
     WritesCodeword bits puts (wants pair.1 (lent pair.0)) old (formed form (codeword pair.1 (lent pair.0))) r new
 
-abbrev pub WritesSymbol : {C L S E : Type 0} → (C → List Bool) → (C → Bool → Result (Unit {0}) E → C → Type 0) → (S → E → Type 0) → (S → Option (List Bool)) → (List Bool → List Bool) → (L → S) → C → L → Answer E → C → Type 0
+abbrev pub WritesSymbol : {C L S E : Type 0} → (C → List Bool) → (C → Bool → Result (Unit {0}) E → C → Type 0)
+    → (S → E → Type 0) → (S → Option (List Bool)) → (List Bool → List Bool) → (L → S) → C → L → Answer E → C → Type 0
 WritesSymbol bits puts wants codeword form lent old item r new =
     WritesCodeword bits puts (wants (lent item)) old (formed form (codeword (lent item))) r new
 
@@ -78,11 +99,12 @@ pub record IsLowBits (w : ℕ) (codeword : Option (List Bool)) (number count : �
 pub record BeginsTopBits (w all number : ℕ) (codeword : Option (List Bool)) (count : ℕ) : Type 0 where
   pub some : 0 < count
   pub part : count < all
-  pub is : codeword ≡ Some (reverse (bits_of count (number / 2 ^ (w - count))))
+  pub is : codeword ≡ Some (top_bits w count number)
 
 -- none of the codewords begins the bits
 abbrev pub NoneBegins : {S : Type 0} → (S → Option (List Bool)) → List Bool → Type 0
-NoneBegins {S} codeword bits = (symbol : S) (code tail : List Bool) → codeword symbol ≡ Some code → bits ≡ code ++ tail → ⊥
+NoneBegins {S} codeword bits =
+    (symbol : S) (code tail : List Bool) → codeword symbol ≡ Some code → bits ≡ code ++ tail → ⊥
 
 -- none of the codewords begins the bits, whatever follows them
 abbrev pub NoneFits : {S : Type 0} → (S → Option (List Bool)) → List Bool → Type 0
@@ -104,23 +126,31 @@ abbrev pub FailsAfter : {I E : Type 0} → (I → Option (Result Bool E) → I �
 FailsAfter {I} next old bits e new = (last : I) × GivesBits next old bits last × next last (Some (Err e)) new
 
 -- the bits end, or their source answers an error, after bits of which this holds
-abbrev pub StopsWithin : {I V E : Type 0} → (I → Option (Result Bool E) → I → Type 0) → (List Bool → Type 0) → I → CoderError (SymbolCodeError V) E → I → Type 0
-StopsWithin next reads_on old (Frontend OutOfCompressedData) new = (bits : List Bool) × reads_on bits × EndsAfter next old bits new
+abbrev pub StopsWithin : {I V E : Type 0} → (I → Option (Result Bool E) → I → Type 0) → (List Bool → Type 0) → I
+    → CoderError (SymbolCodeError V) E → I → Type 0
+StopsWithin next reads_on old (Frontend OutOfCompressedData) new =
+    (bits : List Bool) × reads_on bits × EndsAfter next old bits new
 StopsWithin next reads_on old (Frontend (InvalidCodeword e)) new = ⊥
 StopsWithin next reads_on old (Backend e) new = (bits : List Bool) × reads_on bits × FailsAfter next old bits e new
 
 -- the bits of a codeword are read, and its symbol is the answer; or the bits end, or their source answers an error,
 -- where reading would go on; or the bits that were read are those of no codeword
-abbrev pub ReadsSymbol : {I S V E : Type 0} → (I → Option (Result Bool E) → I → Type 0) → (S → Option (List Bool)) → (List Bool → Type 0) → (List Bool → V → Type 0)
+abbrev pub ReadsSymbol : {I S V E : Type 0} → (I → Option (Result Bool E) → I → Type 0) → (S → Option (List Bool))
+    → (List Bool → Type 0) → (List Bool → V → Type 0)
     → I → Result S (CoderError (SymbolCodeError V) E) → I → Type 0
-ReadsSymbol next codeword reads_on is_invalid old (Ok symbol) new = (bits : List Bool) × (codeword symbol ≡ Some bits) × GivesBits next old bits new
-ReadsSymbol next codeword reads_on is_invalid old (Err (Frontend OutOfCompressedData)) new = (bits : List Bool) × reads_on bits × EndsAfter next old bits new
-ReadsSymbol next codeword reads_on is_invalid old (Err (Frontend (InvalidCodeword e))) new = (bits : List Bool) × is_invalid bits e × GivesBits next old bits new
-ReadsSymbol next codeword reads_on is_invalid old (Err (Backend e)) new = (bits : List Bool) × reads_on bits × FailsAfter next old bits e new
+ReadsSymbol next codeword reads_on is_invalid old (Ok symbol) new =
+    (bits : List Bool) × (codeword symbol ≡ Some bits) × GivesBits next old bits new
+ReadsSymbol next codeword reads_on is_invalid old (Err (Frontend OutOfCompressedData)) new =
+    (bits : List Bool) × reads_on bits × EndsAfter next old bits new
+ReadsSymbol next codeword reads_on is_invalid old (Err (Frontend (InvalidCodeword e))) new =
+    (bits : List Bool) × is_invalid bits e × GivesBits next old bits new
+ReadsSymbol next codeword reads_on is_invalid old (Err (Backend e)) new =
+    (bits : List Bool) × reads_on bits × FailsAfter next old bits e new
 
 -- after bits that begin with the codeword of a symbol: that symbol, or one of the same meaning, and just its codeword
 -- was read; or their source answered an error. No refusal of the codebook comes
-abbrev pub ComesBack : {S V E : Type 0} → (S → S → Type 0) → S → List Bool → Result S (CoderError (SymbolCodeError V) E) → List Bool → Type 0
+abbrev pub ComesBack : {S V E : Type 0} → (S → S → Type 0) → S → List Bool → Result S (CoderError (SymbolCodeError V) E)
+    → List Bool → Type 0
 ComesBack same symbol rest (Ok t) unread = same t symbol × (unread ≡ rest)
 ComesBack same symbol rest (Err (Frontend _)) unread = ⊥
 ComesBack same symbol rest (Err (Backend _)) unread = ⊤

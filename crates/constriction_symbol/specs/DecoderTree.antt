@@ -7,7 +7,8 @@ use Rattle.constriction_symbol.specs.declared.huffman.first_bits.Place.{Place}
 
 -- the tree whose nodes have these children, the root last
 abbrev pub tree_of_pairs : List (List ℕ) → Tree
-tree_of_pairs nodes = tree_at (length nodes + length nodes) (length nodes + 1) (map as_pair nodes) (length nodes + length nodes)
+tree_of_pairs nodes =
+    tree_at (length nodes + length nodes) (length nodes + 1) (map as_pair nodes) (length nodes + length nodes)
 
 -- the nodes are those of this tree, which has each symbol once
 pub record HoldsTree (nodes : List (List ℕ)) (tree : Tree) : Type 0 where

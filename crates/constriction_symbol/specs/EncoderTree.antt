@@ -30,4 +30,5 @@ OneBitMore above bit number = (number ≡ 0) ⊎ ((0 < above) × (number ≡ 2 *
 -- for each node the climb from it as a number, or 0
 pub record HasCodewords (nodes numbers : List ℕ) : Type 0 where
   pub len : length numbers ≡ length nodes
-  pub each : (index : ℕ) → index < length nodes → (get_or numbers index 0 ≡ 0) ⊎ HasBelowOne (climbed (length nodes) nodes index) (get_or numbers index 0)
+  pub each : (index : ℕ) → index < length nodes
+      → (get_or numbers index 0 ≡ 0) ⊎ HasBelowOne (climbed (length nodes) nodes index) (get_or numbers index 0)

@@ -3,13 +3,12 @@
 use Rattle.std.proofs.Common.{◌≡◌, ◌+◌, ◌-◌, ◌*◌, ◌/◌, ◌%◌, ◌<◌, ◌≤◌, ◌^◌, ◌==◌, ℕ, zero, suc, Bool, true, false, List, [], ◌∷◌, ◌++◌, Some, ap, sym, inl, inr, refl, ◌∙◌, arith, replicate, length, map, length-append, append_assoc, append-nil, if◌then◌else◌}
 use Rattle.std.specs.Int.Digits.{digits_of}
 use Rattle.std.proofs.lemmas.Int.Digits.{digits_of_step}
-use Rattle.std.proofs.lemmas.List.{map_push}
+use Rattle.std.proofs.lemmas.List.{map_push, nil_from_length}
 use Rattle.std.proofs.Math.Pow.{pow-lt}
-use native.Mathlib.Nat.{pow-zero, pow-suc}
+use Rattle.std.proofs.lemmas.Option.{same_Some}
+use Rattle.std.proofs.Math.Nat.{pow-succ'}
+use native.Mathlib.Nat.{pow-zero}
 use Rattle.constriction_symbol.specs.Golomb.{binary, golomb, number_after, zeros_one, WantsBit, IsInvalid}
-
-pow_next : (k : ℕ) → 2 ^ suc k ≡ 2 * 2 ^ k
-pow_next k = rw pow-suc (omega arith)
 
 pub number_push : (n : ℕ) (xs : List Bool) (b : Bool) → number_after n (xs ++ b ∷ []) ≡ number_after (number_after n xs) (b ∷ [])
 number_push n [] b = refl
@@ -60,15 +59,10 @@ after_one (suc fuel) m within some = halved m (m / 2) refl some (λ half. after_
 pub number_above : (n : ℕ) (bits : List Bool) → number_after n bits ≡ n * 2 ^ length bits + number_after 0 bits
 number_above n [] = omega (arith, pow-zero 2)
 number_above n (b ∷ bs) =
-    let two = pow_next (length bs) in
+    let two = pow-succ' 2 (length bs) in
     let here = number_above (2 * n + (if b then 1 else 0)) bs in
     let alone = number_above (2 * 0 + (if b then 1 else 0)) bs in
     rw two (omega (arith, here, alone))
-
--- zeros are the number 0
-pub number_zeros : (k : ℕ) → number_after 0 (replicate k false) ≡ 0
-number_zeros zero = refl
-number_zeros (suc k) = number_zeros k
 
 -- a codeword: as many zeros, a one, and as many bits again
 pub golomb_shape : (n : ℕ) → (tail : List Bool) × (golomb n ≡ zeros_one (length tail) tail) × (number_after 1 tail ≡ n + 1)
@@ -131,13 +125,9 @@ golomb_prefix_free m n tail is =
     let shape = golomb_shape n in
     let front = begun m [] shape.0 tail (length shape.0) (sym shape.1 ∙ is) in
     let none : length tail ≡ 0 = omega (arith, front.1, ap length front.3, length-append front.0 tail) in
-    let empty : tail ≡ [] = no_items tail none in
+    let empty : tail ≡ [] = nil_from_length tail none in
     let same : shape.0 ≡ front.0 = front.3 ∙ (ap (λ bs. front.0 ++ bs) empty ∙ append-nil front.0) in
     omega (arith, front.2, shape.2, ap (λ bs. number_after 1 bs) same)
-  where
-    no_items : (xs : List Bool) → length xs ≡ 0 → xs ≡ []
-    no_items [] e = refl
-    no_items (x ∷ xs) e = absurd (omega (arith, e))
 
 -- where one more bit is wanted no codeword is complete
 pub wanted_more : (b n : ℕ) (bits tail : List Bool) → WantsBit b bits → bits ≡ golomb n ++ tail → ⊥
@@ -177,18 +167,15 @@ invalid_bits b n bits rest tail fits (inr (more, len, some, zeros)) is =
     let none : number_after 0 more ≡ 0 = omega (arith, value, above, fits) in
     some ((no_bits 0 more none).1 ∙ ap (λ k. replicate k false) len)
 
-some_same : {X : Type 0} (x y : X) → Some x ≡ Some y → x ≡ y
-some_same x y is = cc
-
 pub known_prefix_free : (m n : ℕ) (bits tail : List Bool) → Some (golomb m) ≡ Some bits → Some (golomb n) ≡ Some (bits ++ tail) → m ≡ n
 known_prefix_free m n bits tail first second =
-    golomb_prefix_free m n tail (some_same _ _ second ∙ ap (λ bs. bs ++ tail) (sym (some_same _ _ first)))
+    golomb_prefix_free m n tail (same_Some _ _ second ∙ ap (λ bs. bs ++ tail) (sym (same_Some _ _ first)))
 
 pub known_on : (b n : ℕ) (bits code tail : List Bool) → WantsBit b bits → Some (golomb n) ≡ Some code → bits ≡ code ++ tail → ⊥
-known_on b n bits code tail on known is = wanted_more b n bits tail on (is ∙ ap (λ bs. bs ++ tail) (sym (some_same _ _ known)))
+known_on b n bits code tail on known is = wanted_more b n bits tail on (is ∙ ap (λ bs. bs ++ tail) (sym (same_Some _ _ known)))
 
 pub known_invalid : (b n : ℕ) (bits rest code tail : List Bool) → n < 2 ^ b → IsInvalid b bits → Some (golomb n) ≡ Some code → bits ++ rest ≡ code ++ tail → ⊥
-known_invalid b n bits rest code tail fits invalid known is = invalid_bits b n bits rest tail fits invalid (is ∙ ap (λ bs. bs ++ tail) (sym (some_same _ _ known)))
+known_invalid b n bits rest code tail fits invalid known is = invalid_bits b n bits rest tail fits invalid (is ∙ ap (λ bs. bs ++ tail) (sym (same_Some _ _ known)))
 
 pub same_codeword : (m n : ℕ) → m ≡ n → Some (golomb m) ≡ Some (golomb n)
 same_codeword m n is = ap (λ k. Some (golomb k)) is

@@ -24,7 +24,8 @@ put_in x (y ∷ ys) = if comes_before x y then x ∷ y ∷ ys else y ∷ put_in 
 -- a symbol for each weight, from an index on
 abbrev pub leaves_from : ℕ → List ℕ → List Weighed
 leaves_from index [] = []
-leaves_from index (weight ∷ weights) = put_in (record { weight = weight; index = index; tree = Leaf index }) (leaves_from (index + 1) weights)
+leaves_from index (weight ∷ weights) =
+    put_in (record { weight = weight; index = index; tree = Leaf index }) (leaves_from (index + 1) weights)
 
 -- the union of two trees
 abbrev pub united : Weighed → Weighed → ℕ → Weighed
@@ -105,7 +106,8 @@ book_of tree = record { symbols = length (leaves tree); codeword = path tree }
 
 -- the codewords under the tree of these weights, a weight for each symbol
 abbrev pub IsHuffman : List ℕ → Book → Type 0
-IsHuffman weights book = (book.symbols ≡ length weights) × ((symbol : ℕ) → book.codeword symbol ≡ huffman weights symbol)
+IsHuffman weights book =
+    (book.symbols ≡ length weights) × ((symbol : ℕ) → book.codeword symbol ≡ huffman weights symbol)
 
 -- the lesser child of the node at an index and the other one, where the unions stand from n on in the order of merging
 abbrev pub children : ℕ → List (ℕ × ℕ) → ℕ → ℕ × ℕ
@@ -115,7 +117,8 @@ children n pairs index = get_or pairs (index - n) (0, 0)
 abbrev pub IsTreeAt : ℕ → List (ℕ × ℕ) → ℕ → Tree → Type 0
 IsTreeAt n pairs index (Leaf s) = (index ≡ s) × (index < n)
 IsTreeAt n pairs index (Node lesser other) =
-    (n ≤ index) × (index < n + length pairs) × ((children n pairs index).0 < index) × ((children n pairs index).1 < index)
+    (n ≤ index) × (index < n + length pairs) × ((children n pairs index).0 < index)
+    × ((children n pairs index).1 < index)
     × IsTreeAt n pairs (children n pairs index).0 lesser × IsTreeAt n pairs (children n pairs index).1 other
 
 -- the tree at an index, down to so many levels
@@ -165,11 +168,14 @@ pub record IsMerged (weights : List ℕ) (pairs : List (ℕ × ℕ)) (tree : Tre
 -- and one more at the other child; the root's is 0
 abbrev pub climbed : ℕ → List ℕ → ℕ → List Bool
 climbed zero nodes index = []
-climbed (suc fuel) nodes index = if get_or nodes index 0 == 0 then [] else climbed fuel nodes (get_or nodes index 0 / 2) ++ (get_or nodes index 0 % 2 == 1) ∷ []
+climbed (suc fuel) nodes index =
+    if get_or nodes index 0 == 0 then []
+    else climbed fuel nodes (get_or nodes index 0 / 2) ++ (get_or nodes index 0 % 2 == 1) ∷ []
 
 -- each entry is 0, or its half is an index that is greater than its own, and below a bound
 abbrev pub GoesUp : ℕ → List ℕ → Type 0
-GoesUp bound nodes = (index : ℕ) → (get_or nodes index 0 ≡ 0) ⊎ ((index < get_or nodes index 0 / 2) × (get_or nodes index 0 / 2 < bound))
+GoesUp bound nodes =
+    (index : ℕ) → (get_or nodes index 0 ≡ 0) ⊎ ((index < get_or nodes index 0 / 2) × (get_or nodes index 0 / 2 < bound))
 
 -- the entries of the children name their unions, by which an index grows, and those of the roots are 0
 pub record IsParents (n : ℕ) (pairs : List (ℕ × ℕ)) (nodes : List ℕ) : Type 0 where

@@ -7,8 +7,6 @@ pub mod Guards
 pub mod Guarded
 pub mod Merging
 pub mod HuffmanLaws
-pub mod HuffmanMerge
-pub mod HuffmanParents
 pub mod TreeCode
 pub mod DecoderTree
 pub mod EncoderTree

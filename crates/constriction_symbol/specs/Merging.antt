@@ -1,5 +1,5 @@
 -- Merging a set of weights: which weights are taken, and which pairs are merged.
-use Rattle.std.specs.Prelude.{◌≡◌, ℕ, ◌<◌, ◌≤◌, ◌^◌, ◌⊎◌, List, [], get_or, length, map, sum_by, Option, Some, Result, Ok, Err}
+use Rattle.std.specs.Prelude.{◌≡◌, ℕ, ◌<◌, ◌≤◌, ◌^◌, ◌⊎◌, List, [], ◌++◌, get_or, length, map, sum_by, Option, Some, Result, Ok, Err}
 use Rattle.std.specs.Iterator.{Drains, YieldsThen}
 use Rattle.constriction_symbol.specs.Huffman.{IsHuffman, IsMerged, Tree, book_of}
 use Rattle.constriction_symbol.specs.declared.huffman.error.HuffmanError.{HuffmanError}
@@ -11,15 +11,18 @@ as_weight weight = Ok weight
 
 -- an iterator of Results of weights gives these, and ends
 abbrev pub GivesWeights : {I P E : Type 0} → (I → Type 0) → (I → Option (Result P E) → I → Type 0) → List P → Type 0
-GivesWeights {I} {E = E} gives next weights = (iterator : I) × gives iterator × Drains next iterator (map (as_weight {E = E}) weights)
+GivesWeights {I} {E = E} gives next weights =
+    (iterator : I) × gives iterator × Drains next iterator (map (as_weight {E = E}) weights)
 
 -- it gives some weights, and then this item
 abbrev pub GivesThen : {I P E : Type 0} → (I → Type 0) → (I → Option (Result P E) → I → Type 0) → Result P E → Type 0
 GivesThen {I} {P} {E} gives next item =
-    (iterator : I) × gives iterator × (weights : List P) × (rest : I) × YieldsThen next iterator (map (as_weight {E = E}) weights) (Some item) rest
+    (iterator : I) × gives iterator × (weights : List P) × (rest : I)
+    × YieldsThen next iterator (map (as_weight {E = E}) weights) (Some item) rest
 
 -- why not all its items are taken: one is an error; or there is no memory for one more weight
-abbrev pub StopsGiving : {I P E : Type 0} → (I → Type 0) → (I → Option (Result P E) → I → Type 0) → HuffmanError E → Type 0
+abbrev pub StopsGiving : {I P E : Type 0} → (I → Type 0) → (I → Option (Result P E) → I → Type 0)
+    → HuffmanError E → Type 0
 StopsGiving gives next (Iterator e) = GivesThen gives next (Err e)
 StopsGiving {P = P} gives next Memory = (weight : P) × GivesThen gives next (Ok weight)
 StopsGiving gives next Empty = ⊥
@@ -28,11 +31,14 @@ StopsGiving gives next WeightOverflow = ⊥
 
 -- an iterator of what lends weights gives what lends these, and ends
 abbrev pub LendsWeights : {I P L : Type 0} → (I → Type 0) → (I → Option L → I → Type 0) → (L → P) → List P → Type 0
-LendsWeights {I} {L = L} gives next lent weights = (iterator : I) × gives iterator × (items : List L) × Drains next iterator items × (weights ≡ map lent items)
+LendsWeights {I} {L = L} gives next lent weights =
+    (iterator : I) × gives iterator × (items : List L) × Drains next iterator items × (weights ≡ map lent items)
 
 -- it gives some, and then one more
 abbrev pub StopsLending : {I L : Type 0} → (I → Type 0) → (I → Option L → I → Type 0) → Type 0
-StopsLending {I} {L} gives next = (iterator : I) × gives iterator × (items : List L) × (item : L) × (rest : I) × YieldsThen next iterator items (Some item) rest
+StopsLending {I} {L} gives next =
+    (iterator : I) × gives iterator × (items : List L) × (item : L) × (rest : I)
+    × YieldsThen next iterator items (Some item) rest
 
 -- weights of so many bits of which a tree can be made: there are some, at most so many, and their sum has so many bits
 pub record FitTree {P : Type 0} (number : P → ℕ) (bits most : ℕ) (weights : List P) : Type 0 where
@@ -44,22 +50,42 @@ pub record FitTree {P : Type 0} (number : P → ℕ) (bits most : ℕ) (weights 
 abbrev pub MakeNoTree : {P E : Type 0} → (P → ℕ) → ℕ → ℕ → List P → HuffmanError E → Type 0
 MakeNoTree number bits most weights Empty = weights ≡ []
 MakeNoTree number bits most weights TooManySymbols = (0 < length weights) × (most < length weights)
-MakeNoTree number bits most weights WeightOverflow = (0 < length weights) × (length weights ≤ most) × (2 ^ bits ≤ sum_by number weights)
+MakeNoTree number bits most weights WeightOverflow =
+    (0 < length weights) × (length weights ≤ most) × (2 ^ bits ≤ sum_by number weights)
 MakeNoTree number bits most weights (Iterator e) = ⊥
 MakeNoTree number bits most weights Memory = FitTree number bits most weights
 
 -- why the weights that come from an iterator of Results make no tree
-abbrev pub RefusesGiven : {I P E : Type 0} → (I → Type 0) → (I → Option (Result P E) → I → Type 0) → (P → ℕ) → ℕ → ℕ → HuffmanError E → Type 0
-RefusesGiven {P = P} gives next number bits most e = StopsGiving gives next e ⊎ ((weights : List P) × GivesWeights gives next weights × MakeNoTree number bits most weights e)
+abbrev pub RefusesGiven : {I P E : Type 0} → (I → Type 0) → (I → Option (Result P E) → I → Type 0) → (P → ℕ) → ℕ → ℕ
+    → HuffmanError E → Type 0
+RefusesGiven {P = P} gives next number bits most e =
+    StopsGiving gives next e
+    ⊎ ((weights : List P) × GivesWeights gives next weights × MakeNoTree number bits most weights e)
 
 -- what these weights make, where they make a tree: the Huffman tree of their numbers
 abbrev pub MakesTree : {P : Type 0} → (P → ℕ) → ℕ → ℕ → List P → Tree → Type 0
-MakesTree number bits most weights tree = FitTree number bits most weights × IsHuffman (map number weights) (book_of tree)
+MakesTree number bits most weights tree =
+    FitTree number bits most weights × IsHuffman (map number weights) (book_of tree)
 
--- why the weights that come from an iterator of what lends them make no tree; there may be no memory for one more weight
-abbrev pub RefusesLent : {I P L E : Type 0} → (I → Type 0) → (I → Option L → I → Type 0) → (L → P) → (P → ℕ) → ℕ → ℕ → HuffmanError E → Type 0
+-- what the weights make that come from an iterator of Results
+abbrev pub MakesGiven : {I P E : Type 0} → (I → Type 0) → (I → Option (Result P E) → I → Type 0)
+    → (P → ℕ) → ℕ → ℕ → Tree → Type 0
+MakesGiven {P = P} gives next number bits most tree =
+    (weights : List P) × GivesWeights gives next weights × MakesTree number bits most weights tree
+
+-- and those that come from an iterator of what lends them
+abbrev pub MakesLent : {I P L : Type 0} → (I → Type 0) → (I → Option L → I → Type 0) → (L → P)
+    → (P → ℕ) → ℕ → ℕ → Tree → Type 0
+MakesLent {P = P} gives next lent number bits most tree =
+    (weights : List P) × LendsWeights gives next lent weights × MakesTree number bits most weights tree
+
+-- why the weights that come from an iterator of what lends them make no tree; there may be no memory for one more
+-- weight
+abbrev pub RefusesLent : {I P L E : Type 0} → (I → Type 0) → (I → Option L → I → Type 0) → (L → P) → (P → ℕ) → ℕ → ℕ
+    → HuffmanError E → Type 0
 RefusesLent {P = P} gives next lent number bits most e =
-    ((e ≡ Memory) × StopsLending gives next) ⊎ ((weights : List P) × LendsWeights gives next lent weights × MakeNoTree number bits most weights e)
+    ((e ≡ Memory) × StopsLending gives next)
+    ⊎ ((weights : List P) × LendsWeights gives next lent weights × MakeNoTree number bits most weights e)
 
 -- the two indices of a pair
 abbrev pub as_pair : List ℕ → ℕ × ℕ
@@ -75,3 +101,7 @@ key_of number item = (number item.weight, item.index)
 
 abbrev pub keys_of : {P Z : Type 0} → (P → ℕ) → List (Weighed P Z) → List (ℕ × ℕ)
 keys_of number items = map (key_of number) items
+
+-- those of two queues
+abbrev pub all_keys : {P Z : Type 0} → (P → ℕ) → List (Weighed P Z) → List (Weighed P Z) → List (ℕ × ℕ)
+all_keys number leaves unions = keys_of number leaves ++ keys_of number unions

@@ -1,5 +1,6 @@
--- Two queues of trees that are merged, as weights and indices: leaves in order, and unions in the order in which they were made.
-use Rattle.std.specs.Prelude.{ℕ, ◌*◌, ◌<◌, ◌≤◌, ◌⊎◌, List, [], ◌∷◌, All, ⊤}
+-- Two queues of trees that are merged, as weights and indices: leaves in order, and unions in the order in which they
+-- were made.
+use Rattle.std.specs.Prelude.{ℕ, ◌<◌, ◌≤◌, List, [], ◌∷◌, All, ⊤}
 use Rattle.constriction_symbol.specs.Huffman.{IsPairLe}
 
 -- each is at most those that follow, by weight and then by index
@@ -13,7 +14,3 @@ pub record AreQueues (n : ℕ) (leaves unions : List (ℕ × ℕ)) : Type 0 wher
   pub unions_rise : AreRising unions
   pub leaves_below : All (λ p. p.1 < n) leaves
   pub unions_above : All (λ p. n ≤ p.1) unions
-
--- it weighs so much at least, and a union twice that at most; its index is below the next one
-abbrev pub IsInTurn : ℕ → ℕ → ℕ → ℕ × ℕ → Type 0
-IsInTurn n next least p = (least ≤ p.0) × (p.1 < next) × ((p.1 < n) ⊎ (p.0 ≤ 2 * least))

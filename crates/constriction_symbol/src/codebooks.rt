@@ -2,7 +2,8 @@
 
 ghost use Rattle.constriction_base.specs.declared.errors.CoderError.TheVariants as coder;
 ghost use Rattle.constriction_symbol.specs.Bits.{bits_of};
-ghost use Rattle.constriction_symbol.specs.Codewords.{BeginsTopBits, EmitsCodeword, IsLowBits, NoneBegins, NoneFits, ReadsSymbol, formed};
+ghost use Rattle.constriction_symbol.specs.Codewords.{BeginsTopBits, EmitsCodeword, IsLowBits, NoneBegins, NoneFits};
+ghost use Rattle.constriction_symbol.specs.Codewords.{LacksMemory, LacksMemoryFor, ReadsSymbol, formed};
 ghost use Rattle.std.specs.Iterator.{IsFinite};
 ghost use Rattle.std.specs.Prelude.{Bool, IfSome, List, OnOk, Option, Some, reverse, ◌++◌, ◌<◌, ◌^◌, ◌≡◌, ◌≤◌};
 
@@ -32,7 +33,8 @@ pub trait Codebook: Drop {
     ghost same_law: { (c : Self) (s t : Self.Symbol) → is_same c s t → codeword c s ≡ codeword c t };
 
     // No symbol's codeword begins another's.
-    ghost prefix_law: { (c : Self) (s t : Self.Symbol) (bits tail : List Bool) → codeword c s ≡ Some bits → codeword c t ≡ Some (bits ++ tail) → is_same c s t };
+    ghost prefix_law: { (c : Self) (s t : Self.Symbol) (bits tail : List Bool) →
+        codeword c s ≡ Some bits → codeword c t ≡ Some (bits ++ tail) → is_same c s t };
 }
 
 /// The codewords of symbols can be emitted, bit by bit, to a function that takes bits.
@@ -57,7 +59,7 @@ pub trait EncoderCodebook: Codebook {
         emit: &mut F,
     ) -> Result<(), DefaultEncoderError<E>>
         requires { F.IsAlwaysCallable emit.old }
-        ensures { EmitsCodeword F.FnMut (λ e. prefix_wants self.now symbol.now × ((a : _) × E.From.from_gives a e))
+        ensures { EmitsCodeword F.FnMut (LacksMemory (prefix_wants self.now symbol.now) E.From.from_gives)
             emit.old (Self.codeword self.now symbol.now) result emit.new };
 
     /// Emits the codeword of the symbol from the last bit to the first, its suffix form.
@@ -70,7 +72,7 @@ pub trait EncoderCodebook: Codebook {
         emit: &mut F,
     ) -> Result<(), DefaultEncoderError<E>>
         requires { F.IsAlwaysCallable emit.old }
-        ensures { EmitsCodeword F.FnMut (λ e. suffix_wants self.now symbol.now × ((a : _) × E.From.from_gives a e))
+        ensures { EmitsCodeword F.FnMut (LacksMemory (suffix_wants self.now symbol.now) E.From.from_gives)
             emit.old (formed reverse (Self.codeword self.now symbol.now)) result emit.new };
 
     /// The codeword of the symbol as the lowest bits of a word, the first one highest, and how many they are, where the
@@ -78,7 +80,8 @@ pub trait EncoderCodebook: Codebook {
     /// otherwise, says nothing of the symbol.
     #[inline]
     fn codeword_at_once<Word: BitArray>(&self, symbol: &Self::Symbol) -> Option<(Word, u32)>
-        ensures { IfSome result (λ found. IsLowBits Word.BITS (Self.codeword self.now symbol.now) (Word.number found.0) found.1) }
+        ensures { IfSome result (λ found.
+            IsLowBits Word.BITS (Self.codeword self.now symbol.now) (Word.number found.0) found.1) }
     {
         None
     }
@@ -111,7 +114,7 @@ pub trait BitOrder: Semantics {
     ) -> Result<(), DefaultEncoderError<E>>
         requires { F.IsAlwaysCallable emit.old }
         ensures { EmitsCodeword F.FnMut
-            (λ e. chosen (C.prefix_wants codebook.now symbol.now) (C.suffix_wants codebook.now symbol.now) × ((a : _) × E.From.from_gives a e))
+            (LacksMemoryFor chosen C.prefix_wants C.suffix_wants E.From.from_gives codebook.now symbol.now)
             emit.old (formed form (C.codeword codebook.now symbol.now)) result emit.new };
 }
 
@@ -218,7 +221,8 @@ pub trait DecoderCodebook: Codebook {
     #[inline]
     fn symbol_at_once<Word: BitArray>(&self, bits: Word, count: u32) -> Option<(Self::Symbol, u32)>
         requires { count ≤ Word.BITS }
-        ensures { IfSome result (λ found. BeginsTopBits Word.BITS count (Word.number bits) (Self.codeword self.now found.0) found.1) }
+        ensures { IfSome result (λ found.
+            BeginsTopBits Word.BITS count (Word.number bits) (Self.codeword self.now found.0) found.1) }
     {
         None
     }
@@ -227,7 +231,8 @@ pub trait DecoderCodebook: Codebook {
     ghost on_law: { (c : Self) (bits : List Bool) → reads_on c bits → NoneBegins (Self.codeword c) bits };
 
     // No codeword begins with invalid bits, nor is one complete in them.
-    ghost invalid_law: { (c : Self) (bits : List Bool) (e : Self.InvalidCodeword) → is_invalid c bits e → NoneFits (Self.codeword c) bits };
+    ghost invalid_law: { (c : Self) (bits : List Bool) (e : Self.InvalidCodeword) →
+        is_invalid c bits e → NoneFits (Self.codeword c) bits };
 }
 
 impl<C: Codebook> Codebook for &C {

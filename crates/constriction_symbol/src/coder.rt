@@ -14,7 +14,7 @@ pub mod words;
 ghost use Rattle.constriction_base.specs.Backends.{IsWrite};
 ghost use Rattle.constriction_base.specs.Iterators.{item_of_answer};
 ghost use Rattle.constriction_symbol.specs.Bits.{BitsValue, PopsBit, PutsBit, PutsLast, bits_above};
-ghost use Rattle.std.specs.Prelude.{IfErr, IfOk, IsOk, IsTrue, List, OnErr, OnOk, Result, [], length, reverse, vec_capacity, ℕ, ◌*◌, ◌+◌, ◌<◌, ◌↔◌, ◌≡◌, ◌≤◌};
+ghost use Rattle.std.specs.Prelude.{IfOk, IsOk, IsTrue, [], length, vec_capacity, ◌*◌, ◌<◌, ◌↔◌, ◌≡◌, ◌≤◌};
 
 use crate::steps::{put_last, take_last};
 use crate::top_bits::TopBits;

@@ -1,6 +1,6 @@
 //! Bits of words, and zeros, handed to an emitter.
 
-ghost use Rattle.std.specs.Prelude.{◌≡◌, ◌+◌, ◌<◌, ◌≤◌, ◌^◌, ◌∷◌, ◌++◌, true, false, List, [], replicate, reverse};
+ghost use Rattle.std.specs.Prelude.{◌≤◌, ◌∷◌, ◌++◌, true, false, [], replicate, reverse};
 ghost use Rattle.constriction_symbol.specs.Bits.{bits_of};
 ghost use Rattle.constriction_symbol.specs.Codewords.{Emits};
 
@@ -14,7 +14,7 @@ pub fn emit_zeros<E, F: FnMut(bool) -> Result<(), E>>(
 ) -> Result<(), DefaultEncoderError<E>>
     requires { F.IsAlwaysCallable emit.old }
     ensures still { F.IsAlwaysCallable emit.new }
-    ensures run { Emits F.FnMut emit.old (replicate count false) result emit.new }
+    ensures emits { Emits F.FnMut emit.old (replicate count false) result emit.new }
 {
     for _index in 0..count {
         match emit(false) {
@@ -34,7 +34,7 @@ pub fn emit_down<Word: BitArray, E, F: FnMut(bool) -> Result<(), E>>(
     requires callable { F.IsAlwaysCallable emit.old }
     requires within { count ≤ Word.BITS }
     ensures still { F.IsAlwaysCallable emit.new }
-    ensures run { Emits F.FnMut emit.old (reverse (bits_of count (Word.number word))) result emit.new }
+    ensures emits { Emits F.FnMut emit.old (reverse (bits_of count (Word.number word))) result emit.new }
 {
     let mut left = count;
     'bits: while left > 0 {
@@ -55,7 +55,7 @@ pub fn emit_up<Word: BitArray, E, F: FnMut(bool) -> Result<(), E>>(
 ) -> Result<(), DefaultEncoderError<E>>
     requires { F.IsAlwaysCallable emit.old }
     ensures still { F.IsAlwaysCallable emit.new }
-    ensures run { Emits F.FnMut emit.old (bits_of count (Word.number word)) result emit.new }
+    ensures emits { Emits F.FnMut emit.old (bits_of count (Word.number word)) result emit.new }
 {
     let mut rest = word;
     for _index in 0..count {
@@ -75,7 +75,7 @@ pub fn emit_lone<E, F: FnMut(bool) -> Result<(), E>>(
 ) -> Result<(), DefaultEncoderError<E>>
     requires { F.IsAlwaysCallable emit.old }
     ensures still { F.IsAlwaysCallable emit.new }
-    ensures run { Emits F.FnMut emit.old (replicate count false ++ true ∷ replicate count false) result emit.new }
+    ensures emits { Emits F.FnMut emit.old (replicate count false ++ true ∷ replicate count false) result emit.new }
 {
     match emit_zeros(count, emit) {
         Ok(()) => {}
@@ -95,7 +95,7 @@ pub fn emit_bit<E, F: FnMut(bool) -> Result<(), E>>(
 ) -> Result<(), DefaultEncoderError<E>>
     requires { F.IsAlwaysCallable emit.old }
     ensures still { F.IsAlwaysCallable emit.new }
-    ensures run { Emits F.FnMut emit.old (bit ∷ []) result emit.new }
+    ensures emits { Emits F.FnMut emit.old (bit ∷ []) result emit.new }
 {
     match emit(bit) {
         Ok(()) => Ok(()),

@@ -1,10 +1,9 @@
 //! Exp-Golomb codewords of numbers.
 
-ghost use Rattle.constriction_symbol.specs.Bits.{bits_of};
 ghost use Rattle.constriction_symbol.specs.Codewords.{Emits};
 ghost use Rattle.constriction_symbol.specs.Golomb.{IsInvalid, WantsBit, golomb};
 ghost use Rattle.constriction_symbol.specs.GolombLaws.{known_invalid, known_on, known_prefix_free, same_codeword};
-ghost use Rattle.std.specs.Prelude.{Some, false, replicate, reverse, ◌+◌, ◌++◌, ◌-◌, ◌<◌, ◌^◌, ◌≡◌, ◌≤◌};
+ghost use Rattle.std.specs.Prelude.{Some, reverse, ◌-◌, ◌<◌, ◌≡◌};
 
 use crate::codebooks::{Codebook, DecoderCodebook, EncoderCodebook, SymbolCodeError};
 use crate::emitting::{emit_down, emit_lone, emit_up, emit_zeros};
@@ -50,7 +49,8 @@ impl<N: BitArray> Codebook for ExpGolomb<N> {
 
     ghost same_law = { λ c m n same. same_codeword (N.number m) (N.number n) same };
 
-    ghost prefix_law = { λ c m n bits tail first second. known_prefix_free (N.number m) (N.number n) bits tail first second };
+    ghost prefix_law = { λ c m n bits tail first second.
+        known_prefix_free (N.number m) (N.number n) bits tail first second };
 }
 
 /// Emits the codeword of a number below the greatest, of which this is the one after it.
@@ -158,7 +158,8 @@ impl<N: BitArray> DecoderCodebook for ExpGolomb<N> {
 
     ghost on_law = { λ c bits on n code tail. known_on N.BITS (N.number n) bits code tail on };
 
-    ghost invalid_law = { λ c bits e invalid rest n code tail. known_invalid N.BITS (N.number n) bits rest code tail (N.number_law n) invalid };
+    ghost invalid_law = { λ c bits e invalid rest n code tail.
+        known_invalid N.BITS (N.number n) bits rest code tail (N.number_law n) invalid };
 
     /// Takes the bits of a codeword, and returns its number. With `B` for the bits of `N`:
     ///

@@ -1,5 +1,5 @@
-//! Huffman trees: codebooks that cost as little as any prefix-free one for given weights, where a codeword costs its length times
-//! its symbol's weight. `constriction_laws` proves that (`symbol::huffman::least_cost`).
+//! Huffman trees: codebooks that cost as little as any prefix-free one for given weights, where a codeword costs its
+//! length times its symbol's weight. `constriction_laws` proves that (`symbol::huffman::least_cost`).
 
 mod codewords;
 mod collecting;

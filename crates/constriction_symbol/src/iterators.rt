@@ -38,7 +38,8 @@ where
     ghost can_next = { λ old. I.can_next old.codebooks };
 
     ghost next_gives = { λ old result new. (new.bit_stream.ghost_name ≡ old.bit_stream.ghost_name)
-        × AnswersNext (λ stream codebook answer after. ReadsSymbol Stream.gives (C.codeword codebook) (C.reads_on codebook) (C.is_invalid codebook) stream answer after)
+        × AnswersNext (λ stream codebook answer after. ReadsSymbol Stream.gives
+        (C.codeword codebook) (C.reads_on codebook) (C.is_invalid codebook) stream answer after)
         I.next_gives old.codebooks old.bit_stream.now result new.codebooks new.bit_stream.now };
 
     ghost remaining = { λ old. I.remaining old.codebooks };
@@ -83,7 +84,8 @@ impl<'a, C> Iterator for RepeatCodebook<'a, C> {
     type Item = &'a C;
 
     ghost next_gives = { λ old result new. (new.codebook.now ≡ old.codebook.now)
-        × MatchOption result ((old.amt ≡ 0) × (new.amt ≡ 0)) (λ codebook. (codebook.now ≡ old.codebook.now) × (old.amt ≡ new.amt + 1)) };
+        × MatchOption result ((old.amt ≡ 0) × (new.amt ≡ 0))
+        (λ codebook. (codebook.now ≡ old.codebook.now) × (old.amt ≡ new.amt + 1)) };
 
     ghost remaining = { λ old. at_most old.amt };
 
@@ -97,8 +99,8 @@ impl<'a, C> Iterator for RepeatCodebook<'a, C> {
     }
 
     fn size_hint(&self) -> (usize, Option<usize>)
-        ensures lower { IsWithinCount result.0 (at_most self.now.amt) }
-        ensures upper { IfSome result.1 (UpTo (at_most self.now.amt)) }
+        ensures at_least { IsWithinCount result.0 (at_most self.now.amt) }
+        ensures at_most { IfSome result.1 (UpTo (at_most self.now.amt)) }
         ensures exact { result ≡ (self.now.amt, Some self.now.amt) }
     {
         (self.amt, Some(self.amt))

@@ -22,11 +22,12 @@
 //! - [`reversed`]: codewords that are given from the last bit to the first, turned round.
 //! - [`iterators`]: the iterators of symbols.
 //! - [`exp_golomb`]: the Exp-Golomb codebook of numbers.
-//! - [`huffman`]: Huffman trees, which cost as little as any prefix-free codebook for given weights, for encoding and for decoding.
+//! - [`huffman`]: Huffman trees, which cost as little as any prefix-free codebook for given weights, for encoding and
+//!   for decoding.
 //!
-//! Contracts cite the definitions of `specs/Bits.antt` (bits of words), `specs/Codewords.antt` (what is emitted, written
-//! and read), `specs/Golomb.antt` (the grammar), `specs/Huffman.antt` (the tree that merging weights gives, and its
-//! codewords) and `specs/Merging.antt` (which weights make a tree, and which refusal comes when).
+//! Contracts cite the definitions of `specs/Bits.antt` (bits of words), `specs/Codewords.antt` (what is emitted,
+//! written and read), `specs/Golomb.antt` (the grammar), `specs/Huffman.antt` (the tree that merging weights gives, and
+//! its codewords) and `specs/Merging.antt` (which weights make a tree, and which refusal comes when).
 #![tactic(auto)]
 
 pub mod codebooks;

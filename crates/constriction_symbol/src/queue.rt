@@ -49,8 +49,8 @@ impl<Word: BitArray, B: ReadWords<Word, Queue>> QueueDecoder<Word, B> {
         }
     }
 
-    /// Takes the first bit, or returns `None` where there is none, which changes nothing. Only where no bit of a word that
-    /// was read is left it reads the next word.
+    /// Takes the first bit, or returns `None` where there is none, which changes nothing. Only where no bit of a word
+    /// that was read is left it reads the next word.
     ///
     /// # Errors
     /// Where the backend refuses that read. The bits of a backend that knows its words are as before.
@@ -61,8 +61,8 @@ impl<Word: BitArray, B: ReadWords<Word, Queue>> QueueDecoder<Word, B> {
         take_first(&mut self.backend, &mut self.last)
     }
 
-    /// Whether the bits that are left of the word that was read last are zeros, as those behind the last codeword, and the
-    /// backend may be exhausted.
+    /// Whether the bits that are left of the word that was read last are zeros, as those behind the last codeword, and
+    /// the backend may be exhausted.
     pub fn maybe_exhausted(&self) -> bool
         ensures { IsTrue result ↔ (AreZeros self.now.last × IsTrue (B.seems_exhausted self.now.backend)) }
     {
@@ -115,7 +115,8 @@ impl<Word: BitArray, B: Holds<Word, Queue> + PartialEq> PartialEq for QueueDecod
 
     ghost eq = { eq_of_both (on (λ c. c.last) (pointwise beq)) (on (λ c. c.backend) B.eq) };
 
-    ghost laws = { and_per (on_per (λ c. c.last) (lists_per (partial_equiv_from_equiv bool_eq_equiv))) (on_per (λ c. c.backend) B.laws) };
+    ghost laws = { and_per (on_per (λ c. c.last) (lists_per (partial_equiv_from_equiv bool_eq_equiv)))
+        (on_per (λ c. c.backend) B.laws) };
 
     /// Whether all parts are equal.
     fn eq(&self, other: &Self) -> bool {
@@ -127,5 +128,6 @@ impl<Word: BitArray, B: Holds<Word, Queue> + Eq> Eq for QueueDecoder<Word, B> {
     ghost use Rattle.std.specs.Cmp.{and_equiv, bool_eq_equiv, on_equiv};
     ghost use Rattle.std.specs.Cmp.Lexicographic.{lists_equiv};
 
-    ghost laws = { and_equiv (on_equiv (λ c. c.last) (lists_equiv bool_eq_equiv)) (on_equiv (λ c. c.backend) B.Eq.laws) };
+    ghost laws = { and_equiv (on_equiv (λ c. c.last) (lists_equiv bool_eq_equiv))
+        (on_equiv (λ c. c.backend) B.Eq.laws) };
 }

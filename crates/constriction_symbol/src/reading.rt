@@ -16,8 +16,8 @@ use std::marker::PhantomData;
 
 /// A stream of bits that are read one after another, and symbols by their codewords.
 ///
-/// An implementation chooses freely which bits it lists, what a read may return and leave, and whether it knows its bits;
-/// the clauses and the law tie these to the calls.
+/// An implementation chooses freely which bits it lists, what a read may return and leave, and whether it knows its
+/// bits; the clauses and the law tie these to the calls.
 pub trait ReadBitStream<S: Semantics> {
     type ReadError;
 
@@ -48,7 +48,8 @@ pub trait ReadBitStream<S: Semantics> {
         &mut self,
         codebook: C,
     ) -> Result<C::Symbol, CoderError<SymbolCodeError<C::InvalidCodeword>, Self::ReadError>>
-        ensures { ReadsSymbol gives (C.codeword codebook) (C.reads_on codebook) (C.is_invalid codebook) self.old result self.new };
+        ensures { ReadsSymbol gives (C.codeword codebook) (C.reads_on codebook) (C.is_invalid codebook)
+            self.old result self.new };
 
     /// Reads a symbol by each of the codebooks, as the iterator is asked for it. It doesn't end at an error.
     final fn decode_symbols<I>(&mut self, codebooks: I) -> DecodeSymbols<'_, Self, I::IntoIter, S>
@@ -78,7 +79,7 @@ pub trait ReadBitStream<S: Semantics> {
         ensures same_reference { result.bit_stream.ghost_name ≡ self.entry.ghost_name }
         ensures stream { result.bit_stream.now ≡ self.old }
         ensures codebook { result.codebooks.codebook.now ≡ codebook.now }
-        ensures amt { result.codebooks.amt ≡ amt }
+        ensures count { result.codebooks.amt ≡ amt }
     {
         DecodeSymbols {
             bit_stream: self,
@@ -88,7 +89,8 @@ pub trait ReadBitStream<S: Semantics> {
     }
 
     // What a read gives is the next of the bits.
-    ghost list_law: { is_list → (old : Self) (item : Option (Result Bool Self.ReadError)) (new : Self) → gives old item new → GivesBit (unread old) item (unread new) };
+    ghost list_law: { is_list → (old : Self) (item : Option (Result Bool Self.ReadError)) (new : Self) →
+        gives old item new → GivesBit (unread old) item (unread new) };
 }
 
 impl<Word: BitArray, B: ReadWords<Word, Stack> + Drop> ReadBitStream<Stack>

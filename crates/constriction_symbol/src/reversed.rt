@@ -4,7 +4,7 @@
 //! its root, emits the prefix form by [`reversed_codeword`].
 
 ghost use Rattle.constriction_symbol.specs.Bits.{PutsBit};
-ghost use Rattle.constriction_symbol.specs.Codewords.{Emits, EmitsCodeword, formed};
+ghost use Rattle.constriction_symbol.specs.Codewords.{Emits, EmitsCodeword, LacksMemory, formed};
 ghost use Rattle.constriction_symbol.specs.Reversed.{IsLongerThan, StacksCodeword};
 ghost use Rattle.std.specs.Prelude.{IfErr, MatchOption, OnErr, [], length, reverse, ◌*◌, ◌+◌, ◌++◌, ◌∷◌, ◌≡◌, ◌≤◌};
 
@@ -31,7 +31,8 @@ pub trait SuffixCodebook: Codebook {
         emit: &mut F,
     ) -> Result<(), DefaultEncoderError<E>>
         requires { F.IsAlwaysCallable emit.old }
-        ensures { EmitsCodeword F.FnMut (λ _. ⊥) emit.old (formed reverse (Self.codeword self.now symbol.now)) result emit.new };
+        ensures { EmitsCodeword F.FnMut (λ _. ⊥)
+            emit.old (formed reverse (Self.codeword self.now symbol.now)) result emit.new };
 }
 
 /// Puts a bit onto a stack.
@@ -107,9 +108,9 @@ fn emit_taken<E, F: FnMut(bool) -> Result<(), E>>(
 ///
 /// # Errors
 /// - `Frontend(ImpossibleSymbol)` exactly where the symbol has no codeword. Nothing was emitted.
-/// - `Backend(error)` where `emit` returns this error: a beginning of the codeword was emitted. Or where the codeword has
-///   more than `2 * usize::BITS` bits, and memory for them is not found: nothing was emitted. A codeword of up to so many
-///   takes no memory.
+/// - `Backend(error)` where `emit` returns this error: a beginning of the codeword was emitted. Or where the codeword
+///   has more than `2 * usize::BITS` bits, and memory for them is not found: nothing was emitted. A codeword of up to
+///   so many takes no memory.
 ///
 /// ```
 /// impl EncoderCodebook for Tree {
@@ -129,7 +130,8 @@ pub fn reversed_codeword<C: SuffixCodebook, E: From<AllocError>, F: FnMut(bool) 
     emit: &mut F,
 ) -> Result<(), DefaultEncoderError<E>>
     requires { F.IsAlwaysCallable emit.old }
-    ensures { EmitsCodeword F.FnMut (λ e. IsLongerThan (2 * 64) (C.codeword codebook.now symbol.now) × ((a : _) × E.From.from_gives a e))
+    ensures { EmitsCodeword F.FnMut
+        (LacksMemory (IsLongerThan (2 * 64) (C.codeword codebook.now symbol.now)) E.From.from_gives)
         emit.old (C.codeword codebook.now symbol.now) result emit.new }
 {
     let mut stack = SmallBitStack::new(alloc);

@@ -2,7 +2,8 @@
 
 ghost use Rattle.constriction_base.specs.Backends.{IsWrite};
 ghost use Rattle.constriction_base.specs.Iterators.{item_of_answer};
-ghost use Rattle.constriction_symbol.specs.Bits.{GivesBit, PutsBits, PutsLast, TakesFirst, TakesLast, bits_above, bits_behind, bits_of};
+ghost use Rattle.constriction_symbol.specs.Bits.{GivesBit, PutsBits, PutsLast, TakesFirst, TakesLast};
+ghost use Rattle.constriction_symbol.specs.Bits.{bits_above, bits_behind, bits_of};
 ghost use Rattle.std.specs.Prelude.{length, reverse, ◌+◌, ◌<◌, ◌^◌};
 
 use crate::top_bits::TopBits;
@@ -33,8 +34,8 @@ pub fn put_last<Word: BitArray, B: WriteWords<Word>>(
     Ok(())
 }
 
-/// Puts the lowest bits of a word behind those of the last word, the lowest first. Where there is no room for all, the last
-/// word is filled and written, and the others begin the next.
+/// Puts the lowest bits of a word behind those of the last word, the lowest first. Where there is no room for all, the
+/// last word is filled and written, and the others begin the next.
 #[inline]
 pub fn put_bits<Word: BitArray, B: WriteWords<Word>>(
     backend: &mut B,
@@ -86,7 +87,8 @@ pub fn take_last<Word: BitArray, B: ReadWords<Word, Stack>>(
     backend: &mut B,
     last: &mut TopBits<Word>,
 ) -> Result<Option<bool>, B::ReadError>
-    ensures takes { TakesLast Word.BITS Word.number B.reads last.old backend.old (item_of_answer result) last.new backend.new }
+    ensures takes { TakesLast Word.BITS Word.number B.reads
+        last.old backend.old (item_of_answer result) last.new backend.new }
     ensures bits { B.is_list → GivesBit (reverse (bits_above Word.BITS Word.number (B.words backend.old) last.old))
         (item_of_answer result) (reverse (bits_above Word.BITS Word.number (B.words backend.new) last.new)) }
 {
@@ -109,7 +111,8 @@ pub fn take_first<Word: BitArray, B: ReadWords<Word, Queue>>(
     backend: &mut B,
     last: &mut WordBits<Word>,
 ) -> Result<Option<bool>, B::ReadError>
-    ensures takes { TakesFirst Word.BITS Word.number B.reads last.old backend.old (item_of_answer result) last.new backend.new }
+    ensures takes { TakesFirst Word.BITS Word.number B.reads
+        last.old backend.old (item_of_answer result) last.new backend.new }
     ensures bits { B.is_list → GivesBit (bits_behind Word.BITS Word.number last.old (B.words backend.old))
         (item_of_answer result) (bits_behind Word.BITS Word.number last.new (B.words backend.new)) }
 {

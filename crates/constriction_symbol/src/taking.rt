@@ -3,7 +3,8 @@
 ghost use Rattle.constriction_symbol.specs.Codewords.{GivesBits, StopsWithin};
 ghost use Rattle.constriction_symbol.specs.Golomb.{number_after};
 ghost use Rattle.std.specs.Iterator.{IsFinite};
-ghost use Rattle.std.specs.Prelude.{Bool, IfErr, IfOk, List, MatchOption, OnOk, [], false, length, replicate, true, ℕ, ◌*◌, ◌+◌, ◌++◌, ◌<◌, ◌^◌, ◌∷◌, ◌≡◌, ◌≤◌};
+ghost use Rattle.std.specs.Prelude.{Bool, IfErr, IfOk, List, MatchOption, OnOk, [], false, length, replicate, true};
+ghost use Rattle.std.specs.Prelude.{ℕ, ◌*◌, ◌+◌, ◌++◌, ◌<◌, ◌^◌, ◌∷◌, ◌≡◌, ◌≤◌};
 
 use crate::codebooks::SymbolCodeError;
 use crate::turning::doubled;
@@ -45,8 +46,8 @@ pub fn count_zeros<V, E, I: Iterator<Item = Result<bool, E>>>(
     ensures zeros { IfOk result (λ found. MatchOption found
         (GivesBits I.next_gives source.old (replicate (most + 1) false) source.new)
         (λ count. (count ≤ most) × GivesBits I.next_gives source.old (replicate count false ++ true ∷ []) source.new)) }
-    ensures stops { IfErr result (λ e. StopsWithin I.next_gives (λ bits. (count : ℕ) × (count ≤ most) × (bits ≡ replicate count false))
-        source.old e source.new) }
+    ensures stops { IfErr result (λ e. StopsWithin I.next_gives
+        (λ bits. (count : ℕ) × (count ≤ most) × (bits ≡ replicate count false)) source.old e source.new) }
 {
     let mut count = 0u32;
     'zeros: while count <= most {

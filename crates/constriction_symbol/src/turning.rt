@@ -1,7 +1,7 @@
 //! Words with their bits in the other order, and the same numbers as words of other types.
 //!
-//! A generic word has no operation for either, so both go bit by bit. Compiled code has neither a loop nor a branch: the
-//! steps of a word become a few masks and shifts, or a move, where no loop is longer than some twenty steps. So a
+//! A generic word has no operation for either, so both go bit by bit. Compiled code has neither a loop nor a branch:
+//! the steps of a word become a few masks and shifts, or a move, where no loop is longer than some twenty steps. So a
 //! word is gone through in quarters.
 
 ghost use Rattle.constriction_symbol.specs.Bits.{bits_of};

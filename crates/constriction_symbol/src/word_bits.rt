@@ -1,15 +1,15 @@
 //! Bits of a word that are taken off from the lowest up.
 
-ghost use Rattle.constriction_symbol.specs.Bits.{AreZeros, bits_of};
-ghost use Rattle.std.specs.Prelude.{IsTrue, List, [], drop, length, reverse, ◌-◌, ◌/◌, ◌<◌, ◌≤◌, ◌∷◌, ◌^◌, ◌↔◌, ◌≡◌};
+ghost use Rattle.constriction_symbol.specs.Bits.{AreZeros, bits_of, top_bits};
+ghost use Rattle.std.specs.Prelude.{IsTrue, List, [], drop, length, reverse, ◌<◌, ◌≤◌, ◌∷◌, ◌^◌, ◌↔◌, ◌≡◌};
 
 use crate::top_bits::TopBits;
 use crate::turning::turned;
 use constriction_words::BitArray;
 use std::marker::Model;
 
-/// A list of bits, as many as a word has at most, which are taken off from the first on. The word is held turned round, so
-/// the first one is the highest.
+/// A list of bits, as many as a word has at most, which are taken off from the first on. The word is held turned round,
+/// so the first one is the highest.
 ///
 /// Contracts see the list.
 #[derive(Debug, Drop)]
@@ -86,7 +86,7 @@ impl<Word: BitArray> WordBits<Word> {
     /// The word at whose top the bits stand, the first one highest. What is below them means nothing.
     #[inline]
     pub fn turned_top(&self) -> Word
-        ensures bits { reverse (bits_of (length self.now) (Word.number result / 2 ^ (Word.BITS - length self.now))) ≡ self.now }
+        ensures bits { top_bits Word.BITS (length self.now) (Word.number result) ≡ self.now }
         ensures within { length self.now ≤ Word.BITS }
     {
         self.turned.top_word()

@@ -3,9 +3,10 @@
 ghost use Rattle.constriction_base.specs.Backends.{IsWrite};
 ghost use Rattle.constriction_symbol.specs.Bits.{PutsBit, PutsOnto};
 ghost use Rattle.constriction_stream.specs.Lists.{StepsUntilFault};
-ghost use Rattle.constriction_symbol.specs.Codewords.{WritesCodeword, WritesPair, WritesSymbol, formed};
+ghost use Rattle.constriction_symbol.specs.Codewords.{LacksMemoryFor, WritesCodeword, WritesPair, WritesSymbol, formed};
+ghost use Rattle.constriction_symbol.specs.Reversed.{StacksPair, StacksSymbol};
 ghost use Rattle.std.specs.Iterator.{IsFiniteIterable};
-ghost use Rattle.std.specs.Prelude.{Bool, List, Result, reverse};
+ghost use Rattle.std.specs.Prelude.{Bool, List, Result};
 
 use crate::codebooks::{BitOrder, Codebook, EncoderCodebook};
 use crate::coder::{StackCoder, SymbolCoder};
@@ -16,11 +17,11 @@ use constriction_stream::encoding::Lent;
 use constriction_words::BitArray;
 use std::alloc::AllocError;
 
-/// A stream of bits that grows: bits can be put behind the others, and so the codewords of symbols, in prefix form where
-/// it is read as a queue and in suffix form where it is read as a stack.
+/// A stream of bits that grows: bits can be put behind the others, and so the codewords of symbols, in prefix form
+/// where it is read as a queue and in suffix form where it is read as a stack.
 ///
-/// An implementation chooses freely which bits it holds, and what a write of a bit may answer and leave; the clauses tie both
-/// to the calls. A codeword is written as if each of its bits was.
+/// An implementation chooses freely which bits it holds, and what a write of a bit may answer and leave; the clauses
+/// tie both to the calls. A codeword is written as if each of its bits was.
 pub trait WriteBitStream<S: BitOrder> {
     type WriteError: From<AllocError>;
 
@@ -42,8 +43,9 @@ pub trait WriteBitStream<S: BitOrder> {
     ///
     /// # Errors
     /// - `Frontend(ImpossibleSymbol)` exactly where the symbol has no codeword. Nothing changed.
-    /// - `Backend(error)` where the write of a bit is refused: the bits of the codeword before it were written, and it and
-    ///   those behind it weren't. Or where the codebook wants memory for the codeword and finds none: nothing changed.
+    /// - `Backend(error)` where the write of a bit is refused: the bits of the codeword before it were written, and
+    ///   it and those behind it weren't. Or where the codebook wants memory for the codeword and finds none: nothing
+    ///   changed.
     fn encode_symbol<C: EncoderCodebook>(
         &mut self,
         symbol: &C::Symbol,
@@ -52,7 +54,7 @@ pub trait WriteBitStream<S: BitOrder> {
     where
         Self: Sized,
         ensures { WritesCodeword bits puts
-            (λ e. S.chosen (C.prefix_wants codebook symbol.now) (C.suffix_wants codebook symbol.now) × ((a : _) × Self.WriteError.from_gives a e))
+            (LacksMemoryFor S.chosen C.prefix_wants C.suffix_wants Self.WriteError.from_gives codebook symbol.now)
             self.old (formed S.form (C.codeword codebook symbol.now)) result self.new }
     {
         let mut push = |bit: bool| -> Result<(), Self::WriteError> { self.write_bit(bit) };
@@ -80,8 +82,7 @@ pub trait WriteBitStream<S: BitOrder> {
         I::IntoIter: Drop,
         requires { IsFiniteIterable I.into_iter_gives I.IntoIter.can_next I.IntoIter.remaining symbols_and_codebooks }
         ensures { StepsUntilFault (WritesPair bits puts
-            (λ codebook symbol e. S.chosen (C.prefix_wants codebook symbol) (C.suffix_wants codebook symbol) × ((a : _) × Self.WriteError.from_gives a e))
-            C.codeword S.form L.lent)
+            (LacksMemoryFor S.chosen C.prefix_wants C.suffix_wants Self.WriteError.from_gives) C.codeword S.form L.lent)
             (I.into_iter_gives symbols_and_codebooks) I.IntoIter.next_gives self.old result self.new }
     {
         for (symbol, codebook) in symbols_and_codebooks {
@@ -110,7 +111,7 @@ pub trait WriteBitStream<S: BitOrder> {
         I::IntoIter: Drop,
         requires { IsFiniteIterable I.into_iter_gives I.IntoIter.can_next I.IntoIter.remaining symbols }
         ensures { StepsUntilFault (WritesSymbol bits puts
-            (λ symbol e. S.chosen (C.prefix_wants codebook.now symbol) (C.suffix_wants codebook.now symbol) × ((a : _) × Self.WriteError.from_gives a e))
+            (LacksMemoryFor S.chosen C.prefix_wants C.suffix_wants Self.WriteError.from_gives codebook.now)
             (C.codeword codebook.now) S.form L.lent)
             (I.into_iter_gives symbols) I.IntoIter.next_gives self.old result self.new }
     {
@@ -167,7 +168,7 @@ fn write_emitted<S: BitOrder, W: BitSink, C: EncoderCodebook>(
     codebook: C,
 ) -> Result<(), DefaultEncoderError<W::Refusal>>
     ensures { WritesCodeword W.bits W.puts
-        (λ e. S.chosen (C.prefix_wants codebook symbol.now) (C.suffix_wants codebook symbol.now) × ((a : _) × W.Refusal.from_gives a e))
+        (LacksMemoryFor S.chosen C.prefix_wants C.suffix_wants W.Refusal.from_gives codebook symbol.now)
         stream.old (formed S.form (C.codeword codebook symbol.now)) result stream.new }
 {
     let mut push = |bit: bool| -> Result<(), W::Refusal> { stream.put_bit(bit) };
@@ -227,10 +228,10 @@ where
         L: Lent<C::Symbol> + Drop,
         I: IntoIterator<Item = (L, C)>,
         I::IntoIter: DoubleEndedIterator + Drop,
-        requires { IsFiniteIterable I.into_iter_gives I.IntoIter.can_next_back I.IntoIter.remaining symbols_and_codebooks }
-        ensures { StepsUntilFault (WritesPair (⟦<StackCoder<Word, B> as WriteBitStream<Stack>>⟧.bits) (⟦<StackCoder<Word, B> as WriteBitStream<Stack>>⟧.puts)
-            (λ codebook symbol e. C.suffix_wants codebook symbol × ((a : _) × B.WriteError.from_gives a e))
-            C.codeword (λ bits. reverse bits) L.lent)
+        requires { IsFiniteIterable
+            I.into_iter_gives I.IntoIter.can_next_back I.IntoIter.remaining symbols_and_codebooks }
+        ensures { StepsUntilFault (StacksPair Word.BITS Word.number (IsWrite B.words B.room B.writes B.write_fails)
+            C.suffix_wants B.WriteError.from_gives C.codeword L.lent)
             (I.into_iter_gives symbols_and_codebooks) I.IntoIter.next_back_gives self.old result self.new }
     {
         for (symbol, codebook) in symbols_and_codebooks.into_iter().rev() {
@@ -242,8 +243,8 @@ where
         Ok(())
     }
 
-    /// Writes the codewords of symbols from the last to the first, all by one codebook, up to the first that is refused.
-    /// The coder then gives the symbols in the order of the list.
+    /// Writes the codewords of symbols from the last to the first, all by one codebook, up to the first that is
+    /// refused. The coder then gives the symbols in the order of the list.
     ///
     /// # Errors
     /// Those of [`StackCoder::encode_symbols_reverse`].
@@ -258,9 +259,8 @@ where
         I: IntoIterator<Item = L>,
         I::IntoIter: DoubleEndedIterator + Drop,
         requires { IsFiniteIterable I.into_iter_gives I.IntoIter.can_next_back I.IntoIter.remaining symbols }
-        ensures { StepsUntilFault (WritesSymbol (⟦<StackCoder<Word, B> as WriteBitStream<Stack>>⟧.bits) (⟦<StackCoder<Word, B> as WriteBitStream<Stack>>⟧.puts)
-            (λ symbol e. C.suffix_wants codebook.now symbol × ((a : _) × B.WriteError.from_gives a e))
-            (C.codeword codebook.now) (λ bits. reverse bits) L.lent)
+        ensures { StepsUntilFault (StacksSymbol Word.BITS Word.number (IsWrite B.words B.room B.writes B.write_fails)
+            (C.suffix_wants codebook.now) B.WriteError.from_gives (C.codeword codebook.now) L.lent)
             (I.into_iter_gives symbols) I.IntoIter.next_back_gives self.old result self.new }
     {
         for symbol in symbols.into_iter().rev() {

@@ -1,5 +1,5 @@
 -- Why codewords have no cost, from where a sum ends.
-use Rattle.std.proofs.Common.{◌≡◌, ◌<◌, ◌≤◌, ◌+◌, ◌*◌, ◌∙◌, ℕ, Bool, Option, None, Some, List, [], ◌∷◌, ◌++◌, drop, get_or, length, take, ap, subst, sym}
+use Rattle.std.proofs.Common.{◌≡◌, ◌<◌, ◌+◌, ◌*◌, ◌∙◌, ℕ, Bool, Option, Some, List, ◌∷◌, ◌++◌, drop, get_or, length, take, ap, subst, sym}
 use Rattle.std.proofs.lemmas.List.{drop_more, take-append-drop}
 use Rattle.constriction_symbol_laws.specs.Cost.{Costs}
 use Rattle.constriction_symbol_laws.specs.Refusals.{HasNoCost, HaveNoCost}

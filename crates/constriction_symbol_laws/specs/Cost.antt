@@ -1,5 +1,6 @@
 -- What codewords cost under some weights, and which codewords are lawful.
-use Rattle.std.specs.Prelude.{◌≡◌, ℕ, ◌+◌, ◌*◌, ◌<◌, Bool, List, [], ◌∷◌, ◌++◌, length, get_or, Option, Some, AllPairs}
+use Rattle.std.specs.Prelude.{◌≡◌, ℕ, ◌+◌, ◌*◌, ◌<◌, Bool, List, [], ◌∷◌, ◌++◌, length, map, get_or, Option, Some, AllPairs}
+use Rattle.constriction_symbol.specs.Huffman.{symbols_from}
 use Rattle.constriction_symbol_laws.specs.Lists.{AreEach}
 
 -- the sum of weight times length, of a codeword for each symbol
@@ -10,7 +11,9 @@ cost (weight ∷ weights) (bits ∷ codewords) = weight * length bits + cost wei
 
 -- no codeword of the list begins another one
 abbrev pub AreLawful : List (List Bool) → Type 0
-AreLawful codewords = (s t : ℕ) (tail : List Bool) → s < length codewords → t < length codewords → get_or codewords t [] ≡ get_or codewords s [] ++ tail → s ≡ t
+AreLawful codewords =
+    (s t : ℕ) (tail : List Bool) → s < length codewords → t < length codewords
+    → get_or codewords t [] ≡ get_or codewords s [] ++ tail → s ≡ t
 
 -- the codewords that a codebook has for the symbols from 0 on
 abbrev pub AreCodewordsOf : (ℕ → Option (List Bool)) → List (List Bool) → Type 0
@@ -27,4 +30,10 @@ AreApart same symbols = AllPairs (λ s t. (same s t → ⊥) × (same t s → �
 -- a symbol for each weight, each of which has a codeword, and what these codewords cost
 abbrev pub Costs : {S : Type 0} → (S → Option (List Bool)) → List S → List ℕ → ℕ → Type 0
 Costs codeword symbols weights total =
-    (codewords : List (List Bool)) × (length codewords ≡ length weights) × HaveCodewords codeword symbols codewords × (total ≡ cost weights codewords)
+    (codewords : List (List Bool)) × (length codewords ≡ length weights) × HaveCodewords codeword symbols codewords
+    × (total ≡ cost weights codewords)
+
+-- what the codewords of the symbols from 0 on cost, one for each weight
+abbrev pub CostsFromZero : {P : Type 0} → (P → ℕ) → (ℕ → Option (List Bool)) → List P → ℕ → Type 0
+CostsFromZero number codeword weights total =
+    Costs codeword (symbols_from 0 (length weights)) (map number weights) total

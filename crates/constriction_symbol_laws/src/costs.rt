@@ -1,14 +1,14 @@
-//! Huffman trees beside other codebooks: what the codewords of symbols cost under weights, one for each, the sum of weight times length.
+//! Huffman trees beside other codebooks: what the codewords of symbols cost under weights, one for each, the sum of
+//! weight times length.
 //!
-//! [`least_cost`](crate::huffman::least_cost) compares definitions. Here the trees are those that the makers make, and the
-//! codewords those that codebooks emit.
+//! [`least_cost`](crate::huffman::least_cost) compares definitions. Here the trees are those that the makers make, and
+//! the codewords those that codebooks emit.
 
-ghost use Rattle.constriction_symbol_laws.specs.Cost.{AreApart, Costs};
-ghost use Rattle.constriction_symbol_laws.specs.Refusals.{HasNoCost, HaveNoCost, NotBeside};
+ghost use Rattle.constriction_symbol_laws.specs.Cost.{AreApart, Costs, CostsFromZero};
+ghost use Rattle.constriction_symbol_laws.specs.Refusals.{HasNoCost, HaveNoCost, HaveNoTree, NotBeside};
 ghost use Rattle.constriction_symbol.specs.Huffman.{huffman, symbols_from};
-ghost use Rattle.constriction_symbol.specs.Merging.{MakeNoTree, MakesTree};
-ghost use Rattle.constriction_symbol.specs.declared.huffman.error.HuffmanError.TheVariants as huffman_error;
-ghost use Rattle.std.specs.Prelude.{Bool, IfErr, IfOk, List, Some, length, map, ◌-◌, ◌^◌, ◌⊎◌, ◌≡◌, ◌≤◌, ℕ};
+ghost use Rattle.constriction_symbol.specs.Merging.{MakesTree};
+ghost use Rattle.std.specs.Prelude.{Bool, IfErr, IfOk, List, Some, length, map, ◌-◌, ◌^◌, ◌≡◌, ◌≤◌, ℕ};
 
 use crate::errors::{BesideError, CostError};
 use constriction_base::errors::CoderError;
@@ -20,9 +20,9 @@ use constriction_words::BitArray;
 use std::alloc::{AllocError, Global};
 use std::convert::Infallible;
 
-/// The encoder's tree of some weights: `EncoderHuffmanTree::from_probabilities`. Its codewords of the symbols `0`, `1`, .., one for
-/// each weight, cost at most what those of any other codebook cost, whatever the symbols of that one are, where it has codewords
-/// for as many, of which no two mean the same.
+/// The encoder's tree of some weights: `EncoderHuffmanTree::from_probabilities`. Its codewords of the symbols `0`, `1`,
+/// .., one for each weight, cost at most what those of any other codebook cost, whatever the symbols of that one are,
+/// where it has codewords for as many, of which no two mean the same.
 ///
 /// # Errors
 /// Those of [`EncoderHuffmanTree::from_probabilities`].
@@ -36,11 +36,12 @@ pub fn tree_of_least_cost<P: BitArray, C: Codebook>(
 ) -> Result<EncoderHuffmanTree, HuffmanError<Infallible>>
     ensures ok { IfOk result (λ tree. MakesTree P.number P.BITS (2 ^ 62 - 1) weights.now tree) }
     ensures known { IfOk result (λ tree. (cost : ℕ) ×
-        Costs (⟦<EncoderHuffmanTree as Codebook>⟧.codeword tree) (symbols_from 0 (length weights.now)) (map P.number weights.now) cost) }
+        CostsFromZero P.number (⟦<EncoderHuffmanTree as Codebook>⟧.codeword tree) weights.now cost) }
     ensures least { IfOk result (λ tree. (other : C) (symbols : List C.Symbol) (cost others : ℕ) →
-        Costs (⟦<EncoderHuffmanTree as Codebook>⟧.codeword tree) (symbols_from 0 (length weights.now)) (map P.number weights.now) cost →
-        AreApart (C.is_same other) symbols → Costs (C.codeword other) symbols (map P.number weights.now) others → cost ≤ others) }
-    ensures err { IfErr result (λ e. (e ≡ huffman_error.Memory) ⊎ MakeNoTree P.number P.BITS (2 ^ 62 - 1) weights.now e) }
+        CostsFromZero P.number (⟦<EncoderHuffmanTree as Codebook>⟧.codeword tree) weights.now cost →
+        AreApart (C.is_same other) symbols →
+        Costs (C.codeword other) symbols (map P.number weights.now) others → cost ≤ others) }
+    ensures err { IfErr result (λ e. HaveNoTree P.number P.BITS (2 ^ 62 - 1) weights.now e) }
 {
     EncoderHuffmanTree::from_probabilities(alloc, weights)
 }
@@ -51,7 +52,8 @@ fn length_of<C: EncoderCodebook>(
     codebook: &C,
     symbol: &C::Symbol,
 ) -> Result<usize, CostError>
-    ensures length { IfOk result (λ count. (bits : List Bool) × (C.codeword codebook.now symbol.now ≡ Some bits) × (count ≡ length bits)) }
+    ensures length { IfOk result (λ count. (bits : List Bool)
+        × (C.codeword codebook.now symbol.now ≡ Some bits) × (count ≡ length bits)) }
     ensures err { IfErr result (HasNoCost (C.codeword codebook.now symbol.now)) }
 {
     let mut queue: QueueEncoder<u32> = QueueEncoder::new(alloc);
@@ -113,8 +115,8 @@ fn symbols_below(alloc: Global, count: usize) -> Result<Vec<usize>, AllocError>
     Ok(symbols)
 }
 
-/// What the codewords of the encoder's tree of these weights cost, and what those of the symbols cost by the other codebook, as
-/// they are written. Where no two of the symbols mean the same, the first cost is at most the second.
+/// What the codewords of the encoder's tree of these weights cost, and what those of the symbols cost by the other
+/// codebook, as they are written. Where no two of the symbols mean the same, the first cost is at most the second.
 ///
 /// # Errors
 ///
@@ -129,10 +131,12 @@ pub fn costs_beside<C: EncoderCodebook>(
     other: &C,
     symbols: &[C::Symbol],
 ) -> Result<(u128, u128), BesideError>
-    ensures tree { IfOk result (λ costs. Costs (huffman weights.now) (symbols_from 0 (length weights.now)) weights.now costs.0) }
+    ensures tree { IfOk result (λ costs.
+        Costs (huffman weights.now) (symbols_from 0 (length weights.now)) weights.now costs.0) }
     ensures other { IfOk result (λ costs. Costs (C.codeword other.now) symbols.now weights.now costs.1) }
     ensures least { AreApart (C.is_same other.now) symbols.now → IfOk result (λ costs. costs.0 ≤ costs.1) }
-    ensures err { IfErr result (NotBeside (⟦<u64 as BitArray>⟧.number) (huffman weights.now) (C.codeword other.now) symbols.now weights.now) }
+    ensures err { IfErr result (NotBeside (⟦<u64 as BitArray>⟧.number)
+        (huffman weights.now) (C.codeword other.now) symbols.now weights.now) }
 {
     let tree = match tree_of_least_cost::<u64, C>(alloc, weights) {
         Ok(tree) => tree,

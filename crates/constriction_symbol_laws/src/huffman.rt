@@ -22,8 +22,8 @@ pub fn huffman_knows_its_symbols()
     ensures impossible { (weights : List ℕ) (s : ℕ) → length weights ≤ s → huffman weights s ≡ None }
 {}
 
-/// No lawful codewords, one for each symbol, cost less than those of the Huffman tree of the same weights; nor do those of
-/// a lawful codebook. `tree` says so of what the makers of both trees ensure.
+/// No lawful codewords, one for each symbol, cost less than those of the Huffman tree of the same weights; nor do
+/// those of a lawful codebook. `tree` says so of what the makers of both trees ensure.
 pub fn least_cost()
     ensures codewords { (weights : List ℕ) (codewords others : List (List Bool)) →
         length codewords ≡ length weights → AreCodewordsOf (huffman weights) codewords →
@@ -44,5 +44,6 @@ pub fn least_cost()
 /// The Huffman tree of some weights has lawful codewords, one for each of them.
 pub fn huffman_has_codewords()
     ensures { (weights : List ℕ) →
-        (codewords : List (List Bool)) × (length codewords ≡ length weights) × AreCodewordsOf (huffman weights) codewords × AreLawful codewords }
+        (codewords : List (List Bool)) × (length codewords ≡ length weights)
+        × AreCodewordsOf (huffman weights) codewords × AreLawful codewords }
 {}

@@ -4,7 +4,8 @@
 //!   each.
 //! - [`words`]: words of a stack of bits are those of no other bits, and bits have one list of words.
 //! - [`codewords`]: the suffix form of a codeword is the reverse of its prefix form.
-//! - [`huffman`]: merging gives one tree, whose codewords begin no other, and cost at most what those of any other codebook do.
+//! - [`huffman`]: merging gives one tree, whose codewords begin no other, and cost at most what those of any other
+//!   codebook do.
 //! - [`costs`]: trees that are made and codewords that are written cost at most what those of any other codebook do.
 //! - [`errors`]: why symbols do not come back by two trees, and why codewords have no cost.
 //! - [`golomb`]: no Exp-Golomb codeword begins another, and how they end in suffix form.

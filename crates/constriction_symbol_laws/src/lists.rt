@@ -1,6 +1,7 @@
 //! Lists of symbols that are read from their codewords.
 
-ghost use Rattle.constriction_symbol_laws.specs.Lists.{AreCodewords, AreEach, IsSamePair, ReadsAll, ReadsPairs};
+ghost use Rattle.constriction_symbol_laws.specs.Lists.{AreCodewords, AreCodewordsBy, AreEach, AreSameBy};
+ghost use Rattle.constriction_symbol_laws.specs.Lists.{ReadsAll, ReadsPairs};
 ghost use Rattle.constriction_base.specs.declared.errors.CoderError.TheVariants.{Frontend};
 ghost use Rattle.constriction_coder_laws.specs.declared.errors.Stopped.TheVariants.{Refused};
 ghost use Rattle.constriction_symbol.specs.declared.codebooks.SymbolCodeError.{SymbolCodeError};
@@ -27,15 +28,18 @@ pub fn mixed_symbols_come_back<S: Semantics, R: ReadBitStream<S>, C: DecoderCode
     requires { R.is_list }
     ensures { (codebooks : List C) (symbols again : List C.Symbol) (code rest : List Bool) (old new : R) →
         length symbols ≡ length codebooks → length again ≡ length codebooks →
-        AreCodewords (λ pair. C.codeword pair.1 pair.0) (zip symbols codebooks) code → R.unread old ≡ code ++ rest →
+        AreCodewordsBy C.codeword codebooks symbols code → R.unread old ≡ code ++ rest →
         ReadsPairs R.gives C.codeword C.reads_on C.is_invalid (zip again codebooks) old new →
-        AreEach (IsSamePair C.is_same) (zip again codebooks) (zip symbols codebooks) × (R.unread new ≡ rest) }
+        AreSameBy C.is_same codebooks again symbols × (R.unread new ≡ rest) }
 {}
 
-/// Bits of which a read of so many symbols was refused by the codebook don't begin with the codewords of so many symbols.
+/// Bits of which a read of so many symbols was refused by the codebook don't begin with the codewords of so many
+/// symbols.
 pub fn refused_where_none_begin<S: Semantics, R: ReadBitStream<S>, C: DecoderCodebook>()
     requires { R.is_list }
-    ensures { (codebook : C) (amt : ℕ) (bits tail : List Bool) (old new : R) (e : SymbolCodeError C.InvalidCodeword) → R.unread old ≡ bits ++ tail →
-        StopsReading R.gives (C.codeword codebook) (C.reads_on codebook) (C.is_invalid codebook) amt old (Refused (Frontend e)) new →
+    ensures { (codebook : C) (amt : ℕ) (bits tail : List Bool) (old new : R) (e : SymbolCodeError C.InvalidCodeword) →
+        R.unread old ≡ bits ++ tail →
+        StopsReading R.gives (C.codeword codebook) (C.reads_on codebook) (C.is_invalid codebook)
+        amt old (Refused (Frontend e)) new →
         BeginsWithNone (C.codeword codebook) amt bits }
 {}

@@ -7,7 +7,8 @@ ghost use Rattle.std.specs.Prelude.{Bool, List, ◌≡◌, ℕ};
 /// The words of a stack of bits are those of no other bits: what is imported from the words of an export holds the bits
 /// that were exported.
 pub fn one_stack_of_words()
-    ensures { (w : ℕ) (words : List ℕ) (bits others : List Bool) → HasStackWords w bits words → HasStackWords w others words → bits ≡ others }
+    ensures { (w : ℕ) (words : List ℕ) (bits others : List Bool) →
+        HasStackWords w bits words → HasStackWords w others words → bits ≡ others }
 {}
 
 /// A stack of bits has one list of words: what a guard lends is what the export then gives.

@@ -1,2 +1,2 @@
 -- What coding symbols, each under its model, does to a run of a range coder, and which symbols are read from words.
-pub use Rattle.constriction_queue_laws.specs.Symbols.{Narrows, Finds, NarrowsAll, FindsAll, NearsEnd, MayEnd, StandsAt}
+pub use Rattle.constriction_queue.specs.Symbols.{Narrows, Finds, NarrowsAll, FindsAll, NearsEnd, MayEnd}

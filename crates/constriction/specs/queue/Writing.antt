@@ -1,2 +1,2 @@
 -- Words that were begun to be written.
-pub use Rattle.constriction_queue.specs.Writing.{IsBegun}
+pub use Rattle.constriction_base.specs.Writing.{IsBegun, NotWritten}

@@ -1,2 +1,2 @@
 -- The binary forms of a stack coder's states.
-pub use Rattle.constriction_stack.specs.Binary.{binary_state, IsBinary, binary_words, PartlyBinary, MovesIn, FilledFrom, RefusedFrom, BinaryFilledBy, BinaryRefused}
+pub use Rattle.constriction_stack.specs.Binary.{binary_state, binary_words, BinaryMovesIn, BinaryFilledBy, BinaryRefused}

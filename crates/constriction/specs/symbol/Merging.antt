@@ -1,2 +1,2 @@
 -- Which weights make a Huffman tree, and why others make none.
-pub use Rattle.constriction_symbol.specs.Merging.{GivesWeights, StopsGiving, LendsWeights, StopsLending, FitTree, MakeNoTree, RefusesGiven, MakesTree, RefusesLent}
+pub use Rattle.constriction_symbol.specs.Merging.{GivesWeights, StopsGiving, LendsWeights, StopsLending, FitTree, MakeNoTree, RefusesGiven, MakesTree, MakesGiven, MakesLent, RefusesLent}

@@ -1,2 +1,2 @@
 -- Codewords that are turned round.
-pub use Rattle.constriction_symbol.specs.Reversed.{IsLongerThan, StacksCodeword}
+pub use Rattle.constriction_symbol.specs.Reversed.{IsLongerThan, StacksCodeword, StacksPair, StacksSymbol}

@@ -17,7 +17,8 @@ impl<Word: BitArray, Buf: Words<Word> + Drop> Holds<Word, Stack> for Cursor<Word
 impl<Word: BitArray, Buf: Words<Word> + Drop> ReadWords<Word, Stack> for Cursor<Word, Buf> {
     type ReadError = Infallible;
 
-    ghost reads = { λ old r new. Reads (reverse (take old.pos (Buf.lent old.buf))) r (reverse (take new.pos (Buf.lent new.buf)))
+    ghost reads =
+        { λ old r new. Reads (reverse (take old.pos (Buf.lent old.buf))) r (reverse (take new.pos (Buf.lent new.buf)))
         × (new.buf ≡ old.buf) };
 
     ghost seems_exhausted = { λ c. c.pos == 0 };

@@ -3,8 +3,9 @@
 ghost use Rattle.std.specs.Prelude.{◌≡◌, ◌≤◌, ℕ, List, length, map, IfErr, IfOk};
 ghost use Rattle.constriction_base.specs.Models.{pairs_of};
 ghost use Rattle.constriction_base.specs.Steps.{IsSizes};
+ghost use Rattle.constriction_queue.specs.Decoder.{StandsAt};
 ghost use Rattle.constriction_queue.specs.Range.{Run};
-ghost use Rattle.constriction_queue_laws.specs.Symbols.{FindsAll, StandsAt};
+ghost use Rattle.constriction_queue.specs.Symbols.{FindsAll};
 ghost use Rattle.constriction_calls.specs.RangeCalls.{RangeTakes};
 ghost use Rattle.constriction_inputs.specs.Refusals.{Words};
 

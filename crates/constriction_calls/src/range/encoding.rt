@@ -4,7 +4,7 @@ ghost use Rattle.std.specs.Prelude.{◌≡◌, ◌≤◌, List, length, map, IfS
 ghost use Rattle.constriction_base.specs.Models.{pairs_of};
 ghost use Rattle.constriction_base.specs.Steps.{IsSizes};
 ghost use Rattle.constriction_queue.specs.Encoder.{left_to_encode, run_by};
-ghost use Rattle.constriction_queue_laws.specs.Symbols.{NarrowsAll};
+ghost use Rattle.constriction_queue.specs.Symbols.{NarrowsAll};
 ghost use Rattle.constriction_inputs.specs.Coded.{AreFit, AsIntervals, items};
 ghost use Rattle.constriction_calls.specs.RangeCalls.{IsEncoderKept, RangePuts, kept_in, run_kept};
 

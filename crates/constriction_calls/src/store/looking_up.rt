@@ -2,7 +2,7 @@
 
 ghost use Rattle.std.specs.Prelude.{◌≤◌, length, map};
 ghost use Rattle.constriction_base.specs.Steps.{IsSizes};
-ghost use Rattle.constriction_queue_laws.specs.Symbols.{StandsAt};
+ghost use Rattle.constriction_queue.specs.Decoder.{StandsAt};
 ghost use Rattle.constriction_queue.specs.States.{lower_of, range_of};
 ghost use Rattle.constriction_store.specs.Stores.{run_from};
 ghost use Rattle.constriction_calls.specs.StoreCalls.{StoreGives};

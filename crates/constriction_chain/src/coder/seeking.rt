@@ -1,6 +1,6 @@
 //! Positions of a coder: where each backend stands, and the heads.
 
-ghost use Rattle.constriction_chain.specs.Chain.{IsChainCoder, value_of};
+ghost use Rattle.constriction_chain.specs.Chain.{at_heads, value_of};
 ghost use Rattle.constriction_chain.specs.Positions.{neither};
 ghost use Rattle.std.specs.Prelude.{◌≡◌, ◌⊎◌};
 
@@ -77,10 +77,9 @@ impl<
 
     ghost sought = { λ old position new. C.sought old.compressed position.0.compressed new.compressed
         × R.sought old.remainders position.0.remainders new.remainders
-        × (new ≡ value_of Word.number C.words R.words (Word.number position.1.0) (State.number position.1.1)
-        new.compressed new.remainders) };
+        × (new ≡ at_heads Word.number State.number C.Holds R.Holds position.1 new.compressed new.remainders) };
 
-    ghost stays = { λ old position new. (new ≡ value_of Word.number C.words R.words old.state.h old.state.r
+    ghost stays = { λ old position new. (new ≡ value_of Word.number C.Holds R.Holds old.state.h old.state.r
         new.compressed new.remainders)
         × ((C.stays old.compressed position.0.compressed new.compressed × (new.remainders ≡ old.remainders))
         ⊎ (C.sought old.compressed position.0.compressed new.compressed

@@ -2,7 +2,8 @@
 //! their order by the trait `Encode`, and from the last to the first by `EncodeReverse`.
 
 ghost use Rattle.constriction_base.specs.Steps.{Step};
-ghost use Rattle.constriction_chain.specs.Steps.{DecodeCall, EncodeCall, Halted, IsEndOfData, IsLackOfRoom, never_encoded, never_lack};
+ghost use Rattle.constriction_chain.specs.Steps.{DecodeCall, EncodeCall, Halted, IsEndOfData, IsLackOfRoom};
+ghost use Rattle.constriction_chain.specs.Steps.{never_encoded, never_lack};
 ghost use Rattle.constriction_chain.specs.declared.errors.EncoderFrontendError.TheVariants.{ImpossibleSymbol};
 ghost use Rattle.constriction_stream.specs.Symbols.{EncodesSymbol, GoesOn, HasRoom};
 ghost use Rattle.std.specs.Bool.{OnFalse};
@@ -32,10 +33,9 @@ impl<
 
     type BackendError = BackendError<C::ReadError, R::WriteError>;
 
-    ghost decodes = { DecodeCall Word.number C.is_list C.words R.words C.reads R.write_fails R.room R.makes_room
-        Word.BITS State.BITS };
+    ghost decodes = { DecodeCall Word.number C.Holds C.ReadWords.own R.Holds R.WriteWords.own Word.BITS State.BITS };
 
-    ghost halts = { Halted Word.number C.is_list C.words R.words C.reads R.prepare_fails R.room R.makes_room
+    ghost halts = { Halted Word.number C.Holds C.ReadWords.own R.Holds R.WriteWords.own
         Word.BITS State.BITS PRECISION };
 
     ghost has_data = { λ coder. C.is_list → C.words coder.compressed ≡ [] → ⊥ };
@@ -88,10 +88,10 @@ impl<
     #[inline]
     fn maybe_exhausted(&self) -> bool
         ensures value { result ≡ C.seems_exhausted self.now.compressed || R.seems_full self.now.remainders }
-        ensures data { OnFalse result (⟦<ChainCoder<Word, State, C, R, PRECISION> as Decode<PRECISION>>⟧.has_data self.now) }
-        ensures goes_on { OnFalse result (GoesOn (⟦<ChainCoder<Word, State, C, R, PRECISION> as Decode<PRECISION>>⟧.decodes)
-            (⟦<ChainCoder<Word, State, C, R, PRECISION> as Decode<PRECISION>>⟧.halts)
-            (⟦<ChainCoder<Word, State, C, R, PRECISION> as Decode<PRECISION>>⟧.is_end_of_data) self.now) }
+        ensures data { OnFalse result (⟦<Self as Decode<PRECISION>>⟧.has_data self.now) }
+        ensures goes_on { OnFalse result (GoesOn (⟦<Self as Decode<PRECISION>>⟧.decodes)
+            (⟦<Self as Decode<PRECISION>>⟧.halts)
+            (⟦<Self as Decode<PRECISION>>⟧.is_end_of_data) self.now) }
     {
         self.compressed.maybe_exhausted() || self.remainders.maybe_full()
     }
@@ -108,8 +108,7 @@ impl<
 
     type BackendError = BackendError<C::WriteError, R::ReadError>;
 
-    ghost encodes = { EncodeCall Word.number R.is_list C.words R.words R.reads C.prepare_fails C.write_fails C.room C.makes_room
-        Word.BITS State.BITS };
+    ghost encodes = { EncodeCall Word.number C.Holds C.WriteWords.own R.Holds R.ReadWords.own Word.BITS State.BITS };
 
     ghost is_impossible_symbol = { λ error. error ≡ ImpossibleSymbol };
 
@@ -121,9 +120,11 @@ impl<
 
     ghost tells_room = { λ _. ⊤ };
 
-    ghost never_impossible = { λ old step e new impossible step_gives. never_encoded e impossible step_gives };
+    ghost never_impossible = { λ old step e new impossible step_gives.
+        never_encoded Word.number C.Holds C.WriteWords.own R.Holds R.ReadWords.own e impossible step_gives };
 
-    ghost never_full = { λ e impossible lack. never_lack C.WriteError R.ReadError C.is_lack_of_room e impossible lack };
+    ghost never_full = { λ e impossible lack.
+        never_lack C.WriteError R.ReadError C.is_lack_of_room e impossible lack };
 
     /// There is no limit.
     #[inline]
@@ -184,9 +185,9 @@ impl<
     #[inline]
     fn maybe_full(&self) -> bool
         ensures value { result ≡ R.seems_exhausted self.now.remainders || C.seems_full self.now.compressed }
-        ensures room { OnFalse result (⟦<ChainCoder<Word, State, C, R, PRECISION> as Encode<PRECISION>>⟧.tells_room self.now
-            → HasRoom (⟦<ChainCoder<Word, State, C, R, PRECISION> as Encode<PRECISION>>⟧.encodes)
-            (⟦<ChainCoder<Word, State, C, R, PRECISION> as Encode<PRECISION>>⟧.is_lack_of_room) self.now) }
+        ensures room { OnFalse result (⟦<Self as Encode<PRECISION>>⟧.tells_room self.now
+            → HasRoom (⟦<Self as Encode<PRECISION>>⟧.encodes)
+            (IsLackOfRoom C.is_lack_of_room) self.now) }
     {
         self.remainders.maybe_exhausted() || self.compressed.maybe_full()
     }

@@ -6,7 +6,7 @@ ghost use Rattle.constriction_base.specs.Steps.{IsSizes, AreWords};
 ghost use Rattle.constriction_queue.specs.Range.{Run, sealed, start};
 ghost use Rattle.constriction_coder_laws.specs.Outcomes.{HasImpossible};
 ghost use Rattle.constriction_queue_laws.specs.Outcomes.{NotCoded, SealsAll};
-ghost use Rattle.constriction_queue_laws.specs.Symbols.{NarrowsAll, FindsAll};
+ghost use Rattle.constriction_queue.specs.Symbols.{NarrowsAll, FindsAll};
 
 use constriction_base::backends::Holds;
 use constriction_base::cursor::Cursor;

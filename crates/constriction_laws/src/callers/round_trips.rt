@@ -5,7 +5,8 @@ ghost use Rattle.constriction_base.specs.Steps.{AreWords};
 ghost use Rattle.constriction_base.specs.Tables.{Impossible};
 ghost use Rattle.constriction_coder_laws.specs.Outcomes.{UnlessImpossible};
 ghost use Rattle.constriction_stack.specs.Ans.{AnsState};
-ghost use Rattle.constriction_stack.specs.Binary.{IsBinary, binary_state, binary_words};
+ghost use Rattle.constriction_base.specs.Writing.{IsOneAbove};
+ghost use Rattle.constriction_stack.specs.Binary.{binary_state, binary_words};
 ghost use Rattle.constriction_stack.specs.Sizes.{valid_bit_count};
 ghost use Rattle.constriction_base.specs.Models.{Item, AreModels};
 ghost use Rattle.constriction_stack.specs.Symbols.{EncodesAll, DecodesAll};
@@ -116,7 +117,7 @@ pub fn any_bytes()
         AreModels 8 items →
         DecodesAll 8 16 items (binary_state 8 16 bytes) state →
         EncodesAll 8 16 (reverse items) state last →
-        (m : ℕ) × IsBinary 8 m last × (binary_words 8 m last ≡ bytes) }
+        (m : ℕ) × IsOneAbove 8 m last.head × (binary_words 8 m last ≡ bytes) }
 {
     binary_words_come_back::<usize>()
 }

@@ -25,17 +25,20 @@ where
 
     // The backend can't go there, or a read was refused there.
     ghost seek_fails = { λ decoder position. Backend.seek_fails decoder.bulk position.0
-        ⊎ ((moved rest : Backend) × (e : Backend.ReadError) × Backend.sought decoder.bulk position.0 moved × RefusesPoint Word.number Backend.reads Word.BITS State.BITS moved e rest) };
+        ⊎ ((moved rest : Backend) × (e : Backend.ReadError) × Backend.sought decoder.bulk position.0 moved
+        × RefusesPoint Word.number Backend.ReadWords.own Word.BITS State.BITS moved e rest) };
 
     ghost sought = { λ old position new. (new.lower ≡ lower_of position.1) × (new.range ≡ range_of position.1)
         × ((moved : Backend) × Backend.sought old.bulk position.0 moved
-        × (Backend.is_list → HasPoint Word.number Backend.words Word.BITS State.BITS moved new.point new.bulk)
-        × ReadsPoint Word.number Backend.reads Word.BITS State.BITS moved new.point new.bulk)
-        × IsDecoder Word.number Backend.words Word.BITS State.BITS new };
+        × (Backend.is_list → HasPoint Word.number Backend.Holds Word.BITS State.BITS moved new.point new.bulk)
+        × ReadsPoint Word.number Backend.ReadWords.own Word.BITS State.BITS moved new.point new.bulk)
+        × IsDecoder Word.number Backend.Holds Word.BITS State.BITS new };
 
-    ghost stays = { λ old position new. (new.lower ≡ old.lower) × (new.range ≡ old.range) × (new.point ≡ old.point)
+    ghost stays = { λ old position new.
+        (new.lower ≡ old.lower) × (new.range ≡ old.range) × (new.point ≡ old.point)
         × (Backend.stays old.bulk position.0 new.bulk
-        ⊎ ((moved : Backend) × (e : Backend.ReadError) × Backend.sought old.bulk position.0 moved × RefusesPoint Word.number Backend.reads Word.BITS State.BITS moved e new.bulk)) };
+        ⊎ ((moved : Backend) × (e : Backend.ReadError) × Backend.sought old.bulk position.0 moved
+        × RefusesPoint Word.number Backend.ReadWords.own Word.BITS State.BITS moved e new.bulk)) };
 
     /// Goes to a position that an encoder recorded: the interval that was recorded, over the words that the
     /// backend holds at its position, of which it reads as many as a state has.

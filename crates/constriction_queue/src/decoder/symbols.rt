@@ -36,7 +36,7 @@ impl<Word: WordOf<State>, State: BitArray, Backend: Holds<Word, Queue>> Code
     type State = RangeCoderState<Word, State>;
 
     ghost shows = { λ decoder state. (lower_of state ≡ decoder.lower) × (range_of state ≡ decoder.range)
-        × IsDecoder Word.number Backend.words Word.BITS State.BITS decoder };
+        × IsDecoder Word.number Backend.Holds Word.BITS State.BITS decoder };
 
     /// The interval.
     #[inline]
@@ -55,7 +55,8 @@ impl<
 
     type BackendError = Backend::ReadError;
 
-    ghost decodes = { ByBackend (DecodeCall Word.number Backend.words Backend.is_list Backend.reads Word.BITS State.BITS) };
+    ghost decodes = { ByBackend (DecodeCall Word.number Backend.Holds Backend.ReadWords.own
+        Word.BITS State.BITS) };
 
     ghost halts = { λ old error new. (error ≡ coder_error.Frontend frontend_error.InvalidData)
         × (2 ^ PRECISION ≤ quantile_read State.BITS PRECISION old) × (new ≡ old) };

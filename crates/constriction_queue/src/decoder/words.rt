@@ -2,9 +2,10 @@
 
 ghost use Rattle.std.specs.Prelude.{◌≡◌, ◌↔◌, ◌+◌, ◌-◌, ◌%◌, ◌<◌, ◌^◌, map, IfOk, IfErr, IsOk, IsTrue};
 ghost use Rattle.constriction_base.specs.Steps.{IsSizes};
-ghost use Rattle.constriction_queue.specs.Range.{IsAt, start};
+ghost use Rattle.constriction_queue.specs.Range.{start};
 ghost use Rattle.constriction_queue.specs.States.{lower_of, range_of};
-ghost use Rattle.constriction_queue.specs.Decoder.{BeginsOver, IsDecoder, MayBeExhausted, RefusesPoint, decoder_of, distance};
+ghost use Rattle.constriction_queue.specs.Decoder.{BeginsOver, IsDecoder, MayBeExhausted, RefusesPoint, StandsAt};
+ghost use Rattle.constriction_queue.specs.Decoder.{decoder_of, distance};
 
 use crate::decoder::RangeDecoder;
 use crate::reading::{ends_here, read_point};
@@ -28,10 +29,12 @@ impl<Word: WordOf<State>, State: BitArray, Backend: ReadWords<Word, Queue>> Rang
     where
         Backend: Drop,
         requires { IsSizes Word.BITS State.BITS }
-        ensures ok { Backend.is_list → IfOk result (λ d. IsAt Word.BITS State.BITS (map Word.number (Backend.words bulk)) (start State.BITS) d.lower d.range d.point d.words) }
-        ensures reads { IfOk result (λ d. BeginsOver Word.number Backend.reads Word.BITS State.BITS bulk d) }
-        ensures err { IfErr result (λ e. (rest : Backend) × RefusesPoint Word.number Backend.reads Word.BITS State.BITS bulk e rest) }
-        ensures coder { IfOk result (λ d. IsDecoder Word.number Backend.words Word.BITS State.BITS d) }
+        ensures ok { Backend.is_list → IfOk result (λ d.
+            StandsAt Word.BITS State.BITS (map Word.number (Backend.words bulk)) (start State.BITS) d) }
+        ensures reads { IfOk result (λ d. BeginsOver Word.number Backend.ReadWords.own Word.BITS State.BITS bulk d) }
+        ensures err { IfErr result (λ e. (rest : Backend)
+            × RefusesPoint Word.number Backend.ReadWords.own Word.BITS State.BITS bulk e rest) }
+        ensures coder { IfOk result (λ d. IsDecoder Word.number Backend.Holds Word.BITS State.BITS d) }
     {
         match read_point::<Word, State, Backend>(&mut bulk) {
             Ok(point) => Ok(RangeDecoder {
@@ -59,10 +62,13 @@ impl<Word: WordOf<State>, State: BitArray, Backend: ReadWords<Word, Queue>> Rang
     where
         Backend: Drop,
         requires { IsSizes Word.BITS State.BITS }
-        ensures ok { Backend.is_list → IfOk result (λ d. IsAt Word.BITS State.BITS (map Word.number (Buf.words compressed)) (start State.BITS) d.lower d.range d.point d.words) }
-        ensures place { IfOk result (λ d. (first : Backend) × Buf.becomes compressed first × BeginsOver Word.number Backend.reads Word.BITS State.BITS first d) }
-        ensures err { IfErr result (λ e. (first rest : Backend) × Buf.becomes compressed first × RefusesPoint Word.number Backend.reads Word.BITS State.BITS first e rest) }
-        ensures coder { IfOk result (λ d. IsDecoder Word.number Backend.words Word.BITS State.BITS d) }
+        ensures ok { Backend.is_list → IfOk result (λ d.
+            StandsAt Word.BITS State.BITS (map Word.number (Buf.words compressed)) (start State.BITS) d) }
+        ensures place { IfOk result (λ d. (first : Backend) × Buf.becomes compressed first
+            × BeginsOver Word.number Backend.ReadWords.own Word.BITS State.BITS first d) }
+        ensures err { IfErr result (λ e. (first rest : Backend) × Buf.becomes compressed first
+            × RefusesPoint Word.number Backend.ReadWords.own Word.BITS State.BITS first e rest) }
+        ensures coder { IfOk result (λ d. IsDecoder Word.number Backend.Holds Word.BITS State.BITS d) }
     {
         Self::with_backend(compressed.into_read_words())
     }
@@ -78,10 +84,13 @@ impl<Word: WordOf<State>, State: BitArray, Backend: ReadWords<Word, Queue>> Rang
     where
         Backend: Drop,
         requires { IsSizes Word.BITS State.BITS }
-        ensures ok { Backend.is_list → IfOk result (λ d. IsAt Word.BITS State.BITS (map Word.number (Buf.words compressed.now)) (start State.BITS) d.lower d.range d.point d.words) }
-        ensures place { IfOk result (λ d. (first : Backend) × Buf.becomes compressed.now first × BeginsOver Word.number Backend.reads Word.BITS State.BITS first d) }
-        ensures err { IfErr result (λ e. (first rest : Backend) × Buf.becomes compressed.now first × RefusesPoint Word.number Backend.reads Word.BITS State.BITS first e rest) }
-        ensures coder { IfOk result (λ d. IsDecoder Word.number Backend.words Word.BITS State.BITS d) }
+        ensures ok { Backend.is_list → IfOk result (λ d.
+            StandsAt Word.BITS State.BITS (map Word.number (Buf.words compressed.now)) (start State.BITS) d) }
+        ensures place { IfOk result (λ d. (first : Backend) × Buf.becomes compressed.now first
+            × BeginsOver Word.number Backend.ReadWords.own Word.BITS State.BITS first d) }
+        ensures err { IfErr result (λ e. (first rest : Backend) × Buf.becomes compressed.now first
+            × RefusesPoint Word.number Backend.ReadWords.own Word.BITS State.BITS first e rest) }
+        ensures coder { IfOk result (λ d. IsDecoder Word.number Backend.Holds Word.BITS State.BITS d) }
     {
         Self::with_backend(compressed.as_read_words())
     }
@@ -112,10 +121,12 @@ impl<Word: WordOf<State>, State: BitArray, Backend: Holds<Word, Queue>> RangeDec
         point: State,
     ) -> Result<Self, Backend>
         requires { IsSizes Word.BITS State.BITS }
-        ensures variant { IsOk result ↔ (distance State.BITS (decoder_of Word.number Backend.words (lower_of state) (range_of state) (State.number point) bulk) < range_of state) }
-        ensures parts { IfOk result (λ d. d ≡ decoder_of Word.number Backend.words (lower_of state) (range_of state) (State.number point) bulk) }
+        ensures variant { IsOk result ↔ (distance State.BITS (decoder_of Word.number Backend.Holds
+            (lower_of state) (range_of state) (State.number point) bulk) < range_of state) }
+        ensures parts { IfOk result (λ d.
+            d ≡ decoder_of Word.number Backend.Holds (lower_of state) (range_of state) (State.number point) bulk) }
         ensures err { IfErr result (λ rest. rest ≡ bulk) }
-        ensures coder { IfOk result (λ d. IsDecoder Word.number Backend.words Word.BITS State.BITS d) }
+        ensures coder { IfOk result (λ d. IsDecoder Word.number Backend.Holds Word.BITS State.BITS d) }
     {
         let distance = point.wrapping_minus(state.lower());
         if !distance.is_below(state.length()) {
@@ -131,8 +142,9 @@ impl<Word: WordOf<State>, State: BitArray, Backend: Holds<Word, Queue>> RangeDec
     /// The backend with the words that are left, the interval, and the point.
     #[inline]
     pub fn into_raw_parts(self) -> (Backend, RangeCoderState<Word, State>, State)
-        ensures parts { self ≡ decoder_of Word.number Backend.words (lower_of result.1) (range_of result.1) (State.number result.2) result.0 }
-        ensures coder { IsDecoder Word.number Backend.words Word.BITS State.BITS self }
+        ensures parts { self ≡ decoder_of Word.number Backend.Holds
+            (lower_of result.1) (range_of result.1) (State.number result.2) result.0 }
+        ensures coder { IsDecoder Word.number Backend.Holds Word.BITS State.BITS self }
     {
         let RangeDecoder {
             bulk,
@@ -146,7 +158,7 @@ impl<Word: WordOf<State>, State: BitArray, Backend: Holds<Word, Queue>> RangeDec
     #[inline]
     pub fn bulk(&self) -> &Backend
         ensures bulk { result.now ≡ self.now.bulk }
-        ensures coder { IsDecoder Word.number Backend.words Word.BITS State.BITS self.now }
+        ensures coder { IsDecoder Word.number Backend.Holds Word.BITS State.BITS self.now }
     {
         &self.bulk
     }
@@ -156,7 +168,7 @@ impl<Word: WordOf<State>, State: BitArray, Backend: Holds<Word, Queue> + Clone> 
     for RangeDecoder<Word, State, Backend> {
     ghost is_clone = { λ old new. Backend.is_clone old.bulk new.bulk
         × (new.lower ≡ old.lower) × (new.range ≡ old.range) × (new.point ≡ old.point)
-        × IsDecoder Word.number Backend.words Word.BITS State.BITS new };
+        × IsDecoder Word.number Backend.Holds Word.BITS State.BITS new };
 
     ghost is_infallible = { λ decoder. Backend.is_infallible decoder.bulk };
 

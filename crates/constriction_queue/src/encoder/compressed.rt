@@ -27,10 +27,11 @@ impl<Word: WordOf<State>, State: BitArray, Backend: WriteWords<Word>> RangeEncod
     pub fn into_compressed(self) -> Result<Backend, Backend::WriteError>
     where
         Backend: Drop,
-        ensures ok { IfOk result (λ all. reverse (map Word.number (Backend.words all)) ≡ sealed_by Word.BITS State.BITS self) }
-        ensures err { IfErr result (λ e. SealRefused Word.number Backend.words Word.BITS State.BITS
-            Backend.room Backend.makes_room Backend.prepare_fails Backend.write_fails self e) }
-        ensures coder { IsEncoder Word.number Backend.words Word.BITS State.BITS self }
+        ensures ok { IfOk result (λ all.
+            reverse (map Word.number (Backend.words all)) ≡ sealed_by Word.BITS State.BITS self) }
+        ensures err { IfErr result (λ e.
+            SealRefused Word.number Backend.Holds Backend.WriteWords.own Word.BITS State.BITS self e) }
+        ensures coder { IsEncoder Word.number Backend.Holds Word.BITS State.BITS self }
     {
         let RangeEncoder {
             mut bulk,
@@ -72,10 +73,11 @@ impl<Word: WordOf<State>, State: BitArray, Backend: WriteWords<Word>> RangeEncod
     pub fn into_self_delimited(self) -> Result<Backend, Backend::WriteError>
     where
         Backend: Drop,
-        ensures ok { IfOk result (λ all. SelfDelimits Word.BITS State.BITS (run_by Word.BITS State.BITS self) (reverse (map Word.number (Backend.words all)))) }
-        ensures err { IfErr result (λ e. SelfDelimitingRefused Word.number Backend.words Word.BITS State.BITS
-            Backend.room Backend.makes_room Backend.prepare_fails Backend.write_fails self e) }
-        ensures coder { IsEncoder Word.number Backend.words Word.BITS State.BITS self }
+        ensures ok { IfOk result (λ all. SelfDelimits Word.BITS State.BITS (run_by Word.BITS State.BITS self)
+            (reverse (map Word.number (Backend.words all)))) }
+        ensures err { IfErr result (λ e. SelfDelimitingRefused Word.number Backend.Holds Backend.WriteWords.own
+            Word.BITS State.BITS self e) }
+        ensures coder { IsEncoder Word.number Backend.Holds Word.BITS State.BITS self }
     {
         let RangeEncoder {
             mut bulk,

@@ -1,11 +1,10 @@
 //! A decoder of what an encoder holds.
 
-ghost use Rattle.std.specs.Prelude.{◌≡◌, map, reverse, IfOk, IfErr, MatchResult};
-ghost use Rattle.constriction_base.specs.declared.errors.ReadWriteError.TheVariants as read_write;
-ghost use Rattle.constriction_queue.specs.Range.{IsAt, start};
+ghost use Rattle.std.specs.Prelude.{IfOk, IfErr, MatchResult};
+ghost use Rattle.constriction_queue.specs.Range.{start};
 ghost use Rattle.constriction_queue.specs.Encoder.{sealed_by};
-ghost use Rattle.constriction_queue.specs.Decoder.{BeginsOver, IsDecoder};
-ghost use Rattle.constriction_queue.specs.Calls.{SealRefused, NoDecoder, NotBegun};
+ghost use Rattle.constriction_queue.specs.Decoder.{IsDecoder, StandsAt};
+ghost use Rattle.constriction_queue.specs.Calls.{BeginsSealed, DecodesSealed, NoDecoder, queue_reads};
 
 use crate::decoder::RangeDecoder;
 use crate::encoder::RangeEncoder;
@@ -37,13 +36,15 @@ impl<
         >,
     >
         ensures ok { ⟦<Backend::IntoReadWords as Holds<Word, Queue>>⟧.is_list → IfOk result (λ decoder.
-            IsAt Word.BITS State.BITS (sealed_by Word.BITS State.BITS self) (start State.BITS) decoder.lower decoder.range decoder.point decoder.words) }
-        ensures place { IfOk result (λ decoder. (all : Backend) × (reverse (map Word.number (⟦<Backend as Holds<Word, Stack>>⟧.words all)) ≡ sealed_by Word.BITS State.BITS self)
-            × (first : _) × Backend.becomes all first × BeginsOver Word.number (⟦<Backend::IntoReadWords as ReadWords<Word, Queue>>⟧.reads) Word.BITS State.BITS first decoder) }
-        ensures coder { IfOk result (λ decoder. IsDecoder Word.number (⟦<Backend::IntoReadWords as Holds<Word, Queue>>⟧.words) Word.BITS State.BITS decoder) }
-        ensures err { IfErr result (NoDecoder
-            (SealRefused Word.number (⟦<Backend as Holds<Word, Stack>>⟧.words) Word.BITS State.BITS Backend.room Backend.makes_room Backend.prepare_fails Backend.write_fails self)
-            (NotBegun Word.number (⟦<Backend as Holds<Word, Stack>>⟧.words) Backend.becomes (⟦<Backend::IntoReadWords as ReadWords<Word, Queue>>⟧.reads) Word.BITS State.BITS self)) }
+            StandsAt Word.BITS State.BITS (sealed_by Word.BITS State.BITS self) (start State.BITS) decoder) }
+        ensures place { IfOk result (λ decoder.
+            BeginsSealed Word.number ⟦<Backend as Holds<Word, Stack>>⟧ Backend.becomes
+            (queue_reads ⟦<Backend::IntoReadWords as ReadWords<Word, Queue>>⟧) Word.BITS State.BITS self decoder) }
+        ensures coder { IfOk result (λ decoder.
+            IsDecoder Word.number ⟦<Backend::IntoReadWords as Holds<Word, Queue>>⟧ Word.BITS State.BITS decoder) }
+        ensures err { IfErr result (NoDecoder Word.number ⟦<Backend as Holds<Word, Stack>>⟧ Backend.WriteWords.own
+            Backend.becomes (queue_reads ⟦<Backend::IntoReadWords as ReadWords<Word, Queue>>⟧)
+            Word.BITS State.BITS self) }
     {
         let all = match self.into_compressed() {
             Ok(all) => all,
@@ -71,15 +72,14 @@ impl<
         Backend::WriteError,
     >;
 
-    ghost becomes = { λ encoder decoder.
-        IsDecoder Word.number (⟦<Backend::IntoReadWords as Holds<Word, Queue>>⟧.words) Word.BITS State.BITS decoder
-        × (⟦<Backend::IntoReadWords as Holds<Word, Queue>>⟧.is_list → IsAt Word.BITS State.BITS (sealed_by Word.BITS State.BITS encoder) (start State.BITS) decoder.lower decoder.range decoder.point decoder.words)
-        × ((all : Backend) × (reverse (map Word.number (⟦<Backend as Holds<Word, Stack>>⟧.words all)) ≡ sealed_by Word.BITS State.BITS encoder)
-        × (first : _) × Backend.becomes all first × BeginsOver Word.number (⟦<Backend::IntoReadWords as ReadWords<Word, Queue>>⟧.reads) Word.BITS State.BITS first decoder) };
+    ghost becomes = { λ encoder decoder. DecodesSealed Word.number ⟦<Backend as Holds<Word, Stack>>⟧ Backend.becomes
+        ⟦<Backend::IntoReadWords as Holds<Word, Queue>>⟧
+        (queue_reads ⟦<Backend::IntoReadWords as ReadWords<Word, Queue>>⟧)
+        Word.BITS State.BITS encoder decoder };
 
-    ghost fails = { λ encoder error. NoDecoder
-        (SealRefused Word.number (⟦<Backend as Holds<Word, Stack>>⟧.words) Word.BITS State.BITS Backend.room Backend.makes_room Backend.prepare_fails Backend.write_fails encoder)
-        (NotBegun Word.number (⟦<Backend as Holds<Word, Stack>>⟧.words) Backend.becomes (⟦<Backend::IntoReadWords as ReadWords<Word, Queue>>⟧.reads) Word.BITS State.BITS encoder) error };
+    ghost fails = { λ encoder error. NoDecoder Word.number ⟦<Backend as Holds<Word, Stack>>⟧ Backend.WriteWords.own
+        Backend.becomes (queue_reads ⟦<Backend::IntoReadWords as ReadWords<Word, Queue>>⟧)
+        Word.BITS State.BITS encoder error };
 
     /// A decoder of the sealed words.
     fn into_decoder(
@@ -111,12 +111,12 @@ impl<
     >;
 
     ghost try_from_gives = { λ encoder result. MatchResult result
-        (λ decoder. IsDecoder Word.number (⟦<Backend::IntoReadWords as Holds<Word, Queue>>⟧.words) Word.BITS State.BITS decoder
-        × (⟦<Backend::IntoReadWords as Holds<Word, Queue>>⟧.is_list → IsAt Word.BITS State.BITS (sealed_by Word.BITS State.BITS encoder) (start State.BITS) decoder.lower decoder.range decoder.point decoder.words)
-        × ((all : Backend) × (reverse (map Word.number (⟦<Backend as Holds<Word, Stack>>⟧.words all)) ≡ sealed_by Word.BITS State.BITS encoder)
-        × (first : _) × Backend.becomes all first × BeginsOver Word.number (⟦<Backend::IntoReadWords as ReadWords<Word, Queue>>⟧.reads) Word.BITS State.BITS first decoder))
-        (NoDecoder (SealRefused Word.number (⟦<Backend as Holds<Word, Stack>>⟧.words) Word.BITS State.BITS Backend.room Backend.makes_room Backend.prepare_fails Backend.write_fails encoder)
-        (NotBegun Word.number (⟦<Backend as Holds<Word, Stack>>⟧.words) Backend.becomes (⟦<Backend::IntoReadWords as ReadWords<Word, Queue>>⟧.reads) Word.BITS State.BITS encoder)) };
+        (λ decoder. DecodesSealed Word.number ⟦<Backend as Holds<Word, Stack>>⟧ Backend.becomes
+        ⟦<Backend::IntoReadWords as Holds<Word, Queue>>⟧
+        (queue_reads ⟦<Backend::IntoReadWords as ReadWords<Word, Queue>>⟧)
+        Word.BITS State.BITS encoder decoder)
+        (NoDecoder Word.number ⟦<Backend as Holds<Word, Stack>>⟧ Backend.WriteWords.own Backend.becomes
+        (queue_reads ⟦<Backend::IntoReadWords as ReadWords<Word, Queue>>⟧) Word.BITS State.BITS encoder) };
 
     fn try_from(
         encoder: RangeEncoder<Word, State, Backend>,

@@ -29,7 +29,8 @@ impl<'a, Word: WordOf<State>, State: BitArray, A: Allocator> EncoderGuard<'a, Wo
     pub fn words(&self) -> &[Word]
         ensures words { result.now ≡ lent_by self.now }
         ensures shows { map Word.number result.now ≡ reverse (lender self.now).now.words }
-        ensures coder { IsEncoder Word.number (⟦<Vec<Word, A> as Holds<Word, Stack>>⟧.words) Word.BITS State.BITS (lender self.now).now }
+        ensures coder { IsEncoder Word.number ⟦<Vec<Word, A> as Holds<Word, Stack>>⟧
+            Word.BITS State.BITS (lender self.now).now }
     {
         let inner: &RangeEncoder<Word, State, Vec<Word, A>> = &*self.inner;
         inner.bulk.as_slice()
@@ -42,7 +43,7 @@ impl<Word: WordOf<State>, State: BitArray, A: Allocator> Drop for EncoderGuard<'
     /// Takes the words off that were written.
     fn drop(self)
         ensures heads { HasHeads (lender self.entry).now (lent_back self.exit).now }
-        ensures restored { (lent_back self.exit).now.words ≡ drop (written self.entry) (lender self.entry).now.words }
+        ensures back { (lent_back self.exit).now.words ≡ drop (written self.entry) (lender self.entry).now.words }
     {
         let EncoderGuard { inner, count } = self;
         take_back::<Word, Vec<Word, A>>(&mut inner.bulk, count);
@@ -65,7 +66,7 @@ impl<Word: WordOf<State>, State: BitArray, A: Allocator> RangeEncoder<Word, Stat
         ensures back { IfOk result (λ count. drop count self.new.words ≡ self.old.words) }
         ensures heads { HasHeads self.old self.new }
         ensures kept { OnErr result (self.new.words ≡ self.old.words) }
-        ensures coder { IsEncoder Word.number (⟦<Vec<Word, A> as Holds<Word, Stack>>⟧.words) Word.BITS State.BITS self.new }
+        ensures coder { IsEncoder Word.number ⟦<Vec<Word, A> as Holds<Word, Stack>>⟧ Word.BITS State.BITS self.new }
         ensures room { OnErr result (⟦<Vec<Word, A> as WriteWords<Word>>⟧.room self.old.bulk + length self.old.words
             < length (sealed_by Word.BITS State.BITS self.old)) }
     {
@@ -104,7 +105,8 @@ impl<Word: WordOf<State>, State: BitArray, A: Allocator> RangeEncoder<Word, Stat
         ensures heads { IfOk result (λ g. HasHeads self.old (lender g).now) }
         ensures room { OnErr result (⟦<Vec<Word, A> as WriteWords<Word>>⟧.room self.old.bulk + length self.old.words
             < length (sealed_by Word.BITS State.BITS self.old)) }
-        ensures* kept { sem 𝓛 (RestsIfErr (the_row Word.row State.row (vec_row Word.row A.row A.Allocator) Word.NonZero.row State.NonZero.row Word.BitArray State.BitArray ⟦<Vec<Word, A> as Holds<Word, Stack>>⟧)
+        ensures* kept { sem 𝓛 (RestsIfErr (the_row Word.row State.row (vec_row Word.row A.row A.Allocator)
+            Word.NonZero.row State.NonZero.row Word.BitArray State.BitArray ⟦<Vec<Word, A> as Holds<Word, Stack>>⟧)
             self.entry (λ g. (lender g).ghost_name) result
             (λ after. HasHeads self.old after × (after.words ≡ self.old.words))) }
     {

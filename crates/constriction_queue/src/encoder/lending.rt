@@ -31,7 +31,7 @@ impl<Word: WordOf<State>, State: BitArray, A: Allocator> RangeEncoder<Word, Stat
             × FnOnceReturnsAt F.FnOnce f lent answer) }
         ensures heads { HasHeads self.old self.new }
         ensures words { self.new.words ≡ self.old.words }
-        ensures coder { IsEncoder Word.number (⟦<Vec<Word, A> as Holds<Word, Stack>>⟧.words)
+        ensures coder { IsEncoder Word.number ⟦<Vec<Word, A> as Holds<Word, Stack>>⟧
             Word.BITS State.BITS self.new }
         ensures room { OnErr result (⟦<Vec<Word, A> as WriteWords<Word>>⟧.room self.old.bulk + length self.old.words
             < length (sealed_by Word.BITS State.BITS self.old)) }

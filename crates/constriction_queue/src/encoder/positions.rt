@@ -19,8 +19,9 @@ impl<Word: WordOf<State>, State: BitArray, Backend: Holds<Word, Stack> + PosSeek
 impl<Word: WordOf<State>, State: BitArray, Backend: CountsWords<Word>> Pos
     for RangeEncoder<Word, State, Backend> {
     ghost stands_at = { λ encoder position.
-        IsPosition State.BITS (run_by Word.BITS State.BITS encoder) position.0 (lower_of position.1) (range_of position.1)
-        × IsEncoder Word.number Backend.words Word.BITS State.BITS encoder };
+        IsPosition State.BITS (run_by Word.BITS State.BITS encoder)
+        position.0 (lower_of position.1) (range_of position.1)
+        × IsEncoder Word.number Backend.Holds Word.BITS State.BITS encoder };
 
     ghost can_tell = { λ encoder. (run_by Word.BITS State.BITS encoder).moves < 2 ^ 64 };
 

@@ -27,7 +27,7 @@ impl<Word: WordOf<State>, State: BitArray, Backend: Holds<Word, Stack>> Code
     type State = RangeCoderState<Word, State>;
 
     ghost shows = { λ encoder state. (lower_of state ≡ encoder.lower) × (range_of state ≡ encoder.range)
-        × IsEncoder Word.number Backend.words Word.BITS State.BITS encoder };
+        × IsEncoder Word.number Backend.Holds Word.BITS State.BITS encoder };
 
     /// The interval.
     #[inline]
@@ -46,8 +46,7 @@ impl<
 
     type BackendError = Backend::WriteError;
 
-    ghost encodes = { ByBackend (EncodeCall Word.number Backend.words Word.BITS State.BITS
-        Backend.room Backend.makes_room Backend.prepare_fails Backend.write_fails) };
+    ghost encodes = { ByBackend (EncodeCall Word.number Backend.Holds Backend.WriteWords.own Word.BITS State.BITS) };
 
     ghost is_impossible_symbol = { λ error. error ≡ ImpossibleSymbol };
 

@@ -2,8 +2,8 @@
 
 ghost use Rattle.std.specs.Prelude.{◌≡◌, ◌+◌, ◌<◌, drop, length, reverse, IfOk, OnErr};
 ghost use Rattle.constriction_queue.specs.Encoder.{HasHeads, sealed_by};
-ghost use Rattle.constriction_queue.specs.Decoder.{IsDecoder};
-ghost use Rattle.constriction_queue.specs.Range.{IsAt, start};
+ghost use Rattle.constriction_queue.specs.Decoder.{StandsAt};
+ghost use Rattle.constriction_queue.specs.Range.{start};
 
 use crate::decoder::RangeDecoder;
 use crate::encoder::RangeEncoder;
@@ -84,8 +84,10 @@ impl<Word: WordOf<State>, State: BitArray, A: Allocator> RangeEncoder<Word, Stat
         AllocError,
     >
         ensures same_reference { IfOk result (λ d. (lender d.bulk.buf).ghost_name ≡ self.entry.ghost_name) }
-        ensures ok { IfOk result (λ d. IsAt Word.BITS State.BITS (sealed_by Word.BITS State.BITS self.old) (start State.BITS) d.lower d.range d.point d.words) }
-        ensures shows { IfOk result (λ d. reverse (lender d.bulk.buf).now.words ≡ sealed_by Word.BITS State.BITS self.old) }
+        ensures ok { IfOk result (λ d.
+            StandsAt Word.BITS State.BITS (sealed_by Word.BITS State.BITS self.old) (start State.BITS) d) }
+        ensures shows { IfOk result (λ d.
+            reverse (lender d.bulk.buf).now.words ≡ sealed_by Word.BITS State.BITS self.old) }
         ensures back { IfOk result (λ d. drop (written d.bulk.buf) (lender d.bulk.buf).now.words ≡ self.old.words) }
         ensures heads { IfOk result (λ d. HasHeads self.old (lender d.bulk.buf).now) }
         ensures room { OnErr result (⟦<Vec<Word, A> as WriteWords<Word>>⟧.room self.old.bulk + length self.old.words

@@ -3,11 +3,11 @@
 ghost use Rattle.std.specs.Prelude.{◌≡◌, ◌↔◌, ◌+◌, ◌<◌, ◌≤◌, ℕ, List, length, IfOk, IfErr, IsTrue};
 ghost use Rattle.constriction_base.specs.Models.{items_of, pairs_of};
 ghost use Rattle.constriction_coder_laws.specs.Outcomes.{HasImpossible, HasImpossibleItem};
-ghost use Rattle.constriction_queue.specs.Decoder.{MayBeExhausted};
+ghost use Rattle.constriction_queue.specs.Decoder.{MayBeExhausted, StandsAt};
 ghost use Rattle.constriction_queue.specs.Encoder.{left_to_encode, run_by};
 ghost use Rattle.constriction_queue.specs.Range.{Run};
 ghost use Rattle.constriction_queue_laws.specs.Outcomes.{GivesNone, NotCoded, NotRead};
-ghost use Rattle.constriction_queue_laws.specs.Symbols.{NarrowsAll, FindsAll, StandsAt, MayEnd};
+ghost use Rattle.constriction_queue.specs.Symbols.{NarrowsAll, FindsAll, MayEnd};
 
 use constriction_base::backends::{BoundedReadWords, Holds, Queue, ReadWords, WriteWords};
 use constriction_base::errors::CoderError;

@@ -4,12 +4,13 @@
 ghost use Rattle.std.specs.Prelude.{◌≡◌, ◌<◌, ℕ, List, length, IfOk, IfErr};
 ghost use Rattle.constriction_base.specs.Models.{items_of};
 ghost use Rattle.constriction_coder_laws.specs.Outcomes.{HasImpossible};
+ghost use Rattle.constriction_queue.specs.Decoder.{StandsAt};
 ghost use Rattle.constriction_queue.specs.Encoder.{left_to_encode, run_by, sealed_by, HasHeads};
 ghost use Rattle.constriction_queue.specs.Range.{Run, start};
 ghost use Rattle.constriction_queue_laws.specs.Concatenated.{ReadsList};
 ghost use Rattle.constriction_queue_laws.specs.Outcomes.{GivesNone, HoldNone, NoneLent, NoneSealed};
 ghost use Rattle.constriction_queue_laws.specs.Outcomes.{NotBack, NotRead, ReadsSealed};
-ghost use Rattle.constriction_queue_laws.specs.Symbols.{NarrowsAll, FindsAll, StandsAt};
+ghost use Rattle.constriction_queue.specs.Symbols.{NarrowsAll, FindsAll};
 
 use crate::lists::symbols_come_back;
 use crate::round_trips::coding::{decode_list, encode_list};

@@ -11,7 +11,7 @@ ghost use Rattle.constriction_queue.specs.Encoder.{left_to_encode, run_by};
 ghost use Rattle.constriction_queue.specs.Range.{Run};
 ghost use Rattle.constriction_queue.specs.States.{IsPosition, lower_of, range_of};
 ghost use Rattle.constriction_queue_laws.specs.Outcomes.{NoneAt, NotCoded, RecordsPlace};
-ghost use Rattle.constriction_queue_laws.specs.Symbols.{FindsAll};
+ghost use Rattle.constriction_queue.specs.Symbols.{FindsAll};
 
 use crate::concatenated::DecodeError;
 use crate::positions::{run_of_any_encoder, symbols_after_a_position};

@@ -11,7 +11,7 @@ ghost use Rattle.constriction_queue.specs.Encoder.{left_to_encode, run_by};
 ghost use Rattle.constriction_queue.specs.Range.{Run, start};
 ghost use Rattle.constriction_queue_laws.specs.Outcomes.{HoldNone, NoneSealed, NotBack, NotCoded};
 ghost use Rattle.constriction_queue_laws.specs.Outcomes.{NotRead, ReadsToEnd, ReadsAllSealed, SealsAll};
-ghost use Rattle.constriction_queue_laws.specs.Symbols.{FindsAll};
+ghost use Rattle.constriction_queue.specs.Symbols.{FindsAll};
 
 use crate::lists::symbols_come_back;
 use crate::round_trips::coding::{decode_list, encode_list, has_ended};

@@ -4,7 +4,7 @@
 ghost use Rattle.constriction_base.specs.Readings.{BeginsHigh};
 ghost use Rattle.constriction_base.specs.Iterators.{FusedRead};
 ghost use Rattle.constriction_base.specs.Steps.{IsSizes};
-ghost use Rattle.constriction_stack.specs.Ans.{IsCoder, filled};
+ghost use Rattle.constriction_stack.specs.Ans.{IsCoder, filled, state_of};
 ghost use Rattle.constriction_stack.specs.Binary.{BinaryFilledBy, BinaryRefused, binary_state};
 ghost use Rattle.constriction_stack.specs.Imports.{FilledBy, ImportRefused};
 ghost use Rattle.std.specs.Iterator.Adapters.{fuse_done, fuse_source};
@@ -36,7 +36,7 @@ impl<
     type Error = Infallible;
 
     ghost becomes = { λ coder decoder. (decoder.state ≡ coder.state) × Backend.becomes coder.backend decoder.backend
-        × IsCoder Word.number (⟦<Backend::IntoReadWords as Holds<Word, Stack>>⟧.words) Word.BITS State.BITS decoder };
+        × IsCoder Word.number ⟦<Backend::IntoReadWords as Holds<Word, Stack>>⟧ Word.BITS State.BITS decoder };
 
     ghost fails = { λ _ _. ⊥ };
 
@@ -57,7 +57,7 @@ impl<
 
     ghost reads = { λ coder decoder. (decoder.state ≡ coder.state)
         × (decoder.backend.buf.now ≡ coder.backend.items) × (decoder.backend.pos ≡ length coder.backend.items)
-        × IsCoder Word.number (⟦<Cursor<Word, &'a [Word]> as Holds<Word, Stack>>⟧.words) Word.BITS State.BITS decoder };
+        × IsCoder Word.number ⟦<Cursor<Word, &'a [Word]> as Holds<Word, Stack>>⟧ Word.BITS State.BITS decoder };
 
     /// The same state over the coder's words, which are borrowed.
     fn as_decoder(&'a self) -> AnsCoder<Word, State, Cursor<Word, &'a [Word]>> {
@@ -77,7 +77,8 @@ impl<Word: WordOf<State>, State: BitArray, Backend: IntoReadWords<Word, Stack>> 
     pub fn into_decoder(self) -> AnsCoder<Word, State, Backend::IntoReadWords>
         ensures state { result.state ≡ self.state }
         ensures place { Backend.becomes self.backend result.backend }
-        ensures coder { IsCoder Word.number (⟦<Backend::IntoReadWords as Holds<Word, Stack>>⟧.words) Word.BITS State.BITS result }
+        ensures coder { IsCoder Word.number ⟦<Backend::IntoReadWords as Holds<Word, Stack>>⟧
+            Word.BITS State.BITS result }
     {
         let (bulk, head) = self.into_raw_parts();
         AnsCoder::from_raw_parts(bulk.into_read_words(), head)
@@ -102,7 +103,7 @@ impl<Word: WordOf<State>, State: BitArray, Backend: Holds<Word, Stack>> AnsCoder
         Backend: AsReadWords<'a, Word, Stack>,
         ensures state { result.state ≡ self.now.state }
         ensures place { Backend.becomes self.now.backend result.backend }
-        ensures coder { IsCoder Word.number (⟦<Backend::AsReadWords as Holds<Word, Stack>>⟧.words) Word.BITS State.BITS result }
+        ensures coder { IsCoder Word.number ⟦<Backend::AsReadWords as Holds<Word, Stack>>⟧ Word.BITS State.BITS result }
     {
         AnsCoder::from_raw_parts(self.bulk.as_read_words(), self.state)
     }
@@ -127,7 +128,8 @@ impl<'a, Word: WordOf<State> + 'a, State: BitArray> AnsCoder<
             new.state ≡ filled Word.BITS State.BITS 0 (map Word.number (reverse compressed.now))) }
         ensures variant { IsOk result ↔ BeginsHigh (map Word.number (reverse compressed.now)) }
         ensures buffer { IfOk result (λ new. new.backend.buf.now ≡ compressed.now) }
-        ensures coder { IfOk result (λ new. IsCoder Word.number (⟦<Cursor<Word, &'a [Word]> as Holds<Word, Stack>>⟧.words) Word.BITS State.BITS new) }
+        ensures coder { IfOk result (IsCoder Word.number ⟦<Cursor<Word, &'a [Word]> as Holds<Word, Stack>>⟧
+            Word.BITS State.BITS) }
     {
         match Self::from_compressed(Cursor::new_at_write_end(compressed)) {
             Ok(decoder) => Ok(decoder),
@@ -141,7 +143,8 @@ impl<'a, Word: WordOf<State> + 'a, State: BitArray> AnsCoder<
         ensures state { result.state
             ≡ binary_state Word.BITS State.BITS (map Word.number (reverse binary.now)) }
         ensures buffer { result.backend.buf.now ≡ binary.now }
-        ensures coder { IsCoder Word.number (⟦<Cursor<Word, &'a [Word]> as Holds<Word, Stack>>⟧.words) Word.BITS State.BITS result }
+        ensures coder { IsCoder Word.number ⟦<Cursor<Word, &'a [Word]> as Holds<Word, Stack>>⟧
+            Word.BITS State.BITS result }
     {
         match Self::from_binary(Cursor::new_at_write_end(binary)) {
             Ok(coder) => coder,
@@ -174,7 +177,8 @@ impl<Word: WordOf<State>, State: BitArray, Buf: Words<Word> + Drop> AnsCoder<
             new.state ≡ filled Word.BITS State.BITS 0 (map Word.number (Buf.lent compressed))) }
         ensures variant { IsOk result ↔ BeginsHigh (map Word.number (Buf.lent compressed)) }
         ensures buffer { IfOk result (λ new. new.backend.0.buf ≡ compressed) }
-        ensures coder { IfOk result (λ new. IsCoder Word.number (⟦<Reverse<Cursor<Word, Buf>> as Holds<Word, Stack>>⟧.words) Word.BITS State.BITS new) }
+        ensures coder { IfOk result (IsCoder Word.number ⟦<Reverse<Cursor<Word, Buf>> as Holds<Word, Stack>>⟧
+            Word.BITS State.BITS) }
         ensures err { IfErr result (λ rest. rest ≡ compressed) }
     {
         match Self::from_compressed(Reverse(Cursor::new_at_write_beginning(compressed))) {
@@ -193,7 +197,8 @@ impl<Word: WordOf<State>, State: BitArray, Buf: Words<Word> + Drop> AnsCoder<
         ensures state { result.state
             ≡ binary_state Word.BITS State.BITS (map Word.number (Buf.lent binary)) }
         ensures buffer { result.backend.0.buf ≡ binary }
-        ensures coder { IsCoder Word.number (⟦<Reverse<Cursor<Word, Buf>> as Holds<Word, Stack>>⟧.words) Word.BITS State.BITS result }
+        ensures coder { IsCoder Word.number ⟦<Reverse<Cursor<Word, Buf>> as Holds<Word, Stack>>⟧
+            Word.BITS State.BITS result }
     {
         match Self::from_binary(Reverse(Cursor::new_at_write_beginning(binary))) {
             Ok(coder) => coder,
@@ -222,7 +227,8 @@ impl<
         ensures reads { IfOk result (λ new.
             FilledBy Word.number (FusedRead Iter.next_gives) Word.BITS State.BITS (compressed, false)
             new.state.head new.backend) }
-        ensures coder { IfOk result (λ new. IsCoder Word.number (⟦<FallibleIteratorReadWords<Iter> as Holds<Word, Stack>>⟧.words) Word.BITS State.BITS new) }
+        ensures coder { IfOk result (IsCoder Word.number ⟦<FallibleIteratorReadWords<Iter> as Holds<Word, Stack>>⟧
+            Word.BITS State.BITS) }
         ensures err { IfErr result (λ rest.
             ImportRefused Word.number (FusedRead Iter.next_gives) Word.BITS State.BITS (compressed, false)
             (fuse_source rest, fuse_done rest)) }
@@ -246,7 +252,8 @@ impl<
         ensures reads { IfOk result (λ new.
             BinaryFilledBy Word.number (FusedRead Iter.next_gives) Word.BITS State.BITS (binary, false)
             new.state.head new.backend) }
-        ensures coder { IfOk result (λ new. IsCoder Word.number (⟦<FallibleIteratorReadWords<Iter> as Holds<Word, Stack>>⟧.words) Word.BITS State.BITS new) }
+        ensures coder { IfOk result (IsCoder Word.number ⟦<FallibleIteratorReadWords<Iter> as Holds<Word, Stack>>⟧
+            Word.BITS State.BITS) }
         ensures err { IfErr result (λ e.
             BinaryRefused Word.number (FusedRead Iter.next_gives) Word.BITS State.BITS (binary, false) e) }
     {
@@ -265,7 +272,8 @@ impl<Word: WordOf<State>, State: BitArray, Backend: IntoReversed<Word>> AnsCoder
     pub fn into_reversed(self) -> AnsCoder<Word, State, Backend::IntoReversed>
         ensures state { result.state ≡ self.state }
         ensures turned { Backend.turns self.backend result.backend }
-        ensures coder { IsCoder Word.number (⟦<Backend::IntoReversed as Holds<Word, Stack>>⟧.words) Word.BITS State.BITS result }
+        ensures coder { IsCoder Word.number ⟦<Backend::IntoReversed as Holds<Word, Stack>>⟧
+            Word.BITS State.BITS result }
     {
         let (bulk, head) = self.into_raw_parts();
         AnsCoder::from_raw_parts(bulk.into_reversed_stack(), head)
@@ -281,7 +289,8 @@ impl<Word: WordOf<State>, State: BitArray, Backend: IntoSeekReadWords<Word, Stac
     pub fn into_seekable_decoder(self) -> AnsCoder<Word, State, Backend::IntoSeekReadWords>
         ensures state { result.state ≡ self.state }
         ensures place { Backend.becomes self.backend result.backend }
-        ensures coder { IsCoder Word.number (⟦<Backend::IntoSeekReadWords as Holds<Word, Stack>>⟧.words) Word.BITS State.BITS result }
+        ensures coder { IsCoder Word.number ⟦<Backend::IntoSeekReadWords as Holds<Word, Stack>>⟧
+            Word.BITS State.BITS result }
     {
         let (bulk, head) = self.into_raw_parts();
         AnsCoder::from_raw_parts(bulk.into_seek_read_words(), head)
@@ -299,7 +308,8 @@ impl<Word: WordOf<State>, State: BitArray, Backend: Holds<Word, Stack>> AnsCoder
         Backend: AsSeekReadWords<'a, Word, Stack>,
         ensures state { result.state ≡ self.now.state }
         ensures place { Backend.becomes self.now.backend result.backend }
-        ensures coder { IsCoder Word.number (⟦<Backend::AsSeekReadWords as Holds<Word, Stack>>⟧.words) Word.BITS State.BITS result }
+        ensures coder { IsCoder Word.number ⟦<Backend::AsSeekReadWords as Holds<Word, Stack>>⟧
+            Word.BITS State.BITS result }
     {
         AnsCoder::from_raw_parts(self.bulk.as_seek_read_words(), self.state)
     }
@@ -310,7 +320,8 @@ impl<'a, Word: WordOf<State>, State: BitArray, Backend: AsReadWords<'a, Word, St
     &'a AnsCoder<Word, State, Backend>,
 > for AnsCoder<Word, State, <Backend as AsReadWords<'a, Word, Stack>>::AsReadWords> {
     ghost from_gives = { λ coder result. (result.state ≡ coder.now.state)
-        × IsCoder Word.number (⟦<<Backend as AsReadWords<'a, Word, Stack>>::AsReadWords as Holds<Word, Stack>>⟧.words) Word.BITS State.BITS result };
+        × IsCoder Word.number ⟦<<Backend as AsReadWords<'a, Word, Stack>>::AsReadWords as Holds<Word, Stack>>⟧
+        Word.BITS State.BITS result };
 
     fn from(coder: &'a AnsCoder<Word, State, Backend>) -> Self {
         coder.as_decoder()
@@ -325,7 +336,8 @@ impl<Word: WordOf<State>, State: BitArray, Backend: Holds<Word, Stack> + PosSeek
 
 impl<Word: WordOf<State>, State: BitArray, Backend: Holds<Word, Stack> + Pos> Pos
     for AnsCoder<Word, State, Backend> {
-    ghost stands_at = { λ coder position. Backend.stands_at coder.backend position.0 × (State.number position.1 ≡ coder.state.head) };
+    ghost stands_at = { λ coder position. Backend.stands_at coder.backend position.0
+        × (State.number position.1 ≡ coder.state.head) };
 
     ghost can_tell = { λ coder. Backend.can_tell coder.backend };
 
@@ -334,7 +346,7 @@ impl<Word: WordOf<State>, State: BitArray, Backend: Holds<Word, Stack> + Pos> Po
         requires { Backend.can_tell self.now.backend }
         ensures place { Backend.stands_at self.now.backend result.0 }
         ensures head { State.number result.1 ≡ self.now.state.head }
-        ensures coder { IsCoder Word.number Backend.words Word.BITS State.BITS self.now }
+        ensures coder { IsCoder Word.number Backend.Holds Word.BITS State.BITS self.now }
     {
         (self.bulk.pos(), self.state)
     }
@@ -347,10 +359,10 @@ impl<Word: WordOf<State>, State: BitArray, Backend: Holds<Word, Stack> + Seek> S
     ghost seek_fails = { λ coder position. Backend.seek_fails coder.backend position.0 };
 
     ghost sought = { λ old position new. Backend.sought old.backend position.0 new.backend
-        × (new.state ≡ record { head = State.number position.1; words = map Word.number (Backend.words new.backend) }) };
+        × (new.state ≡ state_of Word.number Backend.Holds (State.number position.1) new.backend) };
 
     ghost stays = { λ old position new. Backend.stays old.backend position.0 new.backend
-        × (new.state ≡ record { head = old.state.head; words = map Word.number (Backend.words new.backend) })
+        × (new.state ≡ state_of Word.number Backend.Holds old.state.head new.backend)
         × (new.backend ≡ old.backend → new ≡ old) };
 
     /// Goes to a position that was recorded before: the head that was recorded, over the words that
@@ -374,12 +386,12 @@ impl<Word: WordOf<State>, State: BitArray, Backend: Holds<Word, Stack> + Seek> S
     fn seek(&mut self, position: (Backend::Position, State)) -> Result<(), ()>
         ensures variant { IsOk result → Backend.can_seek self.old.backend position.0 }
         ensures ok { OnOk result (Backend.sought self.old.backend position.0 self.new.backend
-            × (self.new.state ≡ record { head = State.number position.1; words = map Word.number (Backend.words self.new.backend) })) }
+            × (self.new.state ≡ state_of Word.number Backend.Holds (State.number position.1) self.new.backend)) }
         ensures err { OnErr result (Backend.seek_fails self.old.backend position.0) }
         ensures kept { OnErr result (Backend.stays self.old.backend position.0 self.new.backend
             × (self.new.state.head ≡ self.old.state.head)
             × (self.new.backend ≡ self.old.backend → self.new ≡ self.old)) }
-        ensures coder { IsCoder Word.number Backend.words Word.BITS State.BITS self.new }
+        ensures coder { IsCoder Word.number Backend.Holds Word.BITS State.BITS self.new }
     {
         let (place, state) = position;
         self.bulk.seek(place)?;

@@ -2,20 +2,21 @@
 //! them off.
 
 ghost use Rattle.constriction_base.specs.Readings.{NeverRefused};
-ghost use Rattle.std.specs.Prelude.{◌≡◌, ◌↔◌, ◌⊎◌, ◌<◌, ◌^◌, ◌++◌, ℕ, drop, map, Ok, Err, IfOk, IfErr, OnOk, OnErr};
+ghost use Rattle.std.specs.Prelude.{◌≡◌, ◌↔◌, ◌^◌, ◌++◌, ℕ, drop, map, Ok, Err, IfOk, IfErr, OnOk};
 ghost use Rattle.std.specs.Borrow.{sem, RestsIfErr};
-ghost use Rattle.constriction_base.specs.Digits.{fixed_digits, count_of_words};
+ghost use Rattle.constriction_base.specs.Digits.{fixed_digits};
 ghost use Rattle.constriction_base.specs.Steps.{IsSizes};
 ghost use Rattle.constriction_base.specs.declared.errors.CoderError.TheVariants as coder_error;
-ghost use Rattle.constriction_stack.specs.Ans.{IsCoder, PartlyExported, exported};
-ghost use Rattle.constriction_stack.specs.Binary.{IsBinary, PartlyBinary, binary_words};
-ghost use Rattle.constriction_stack.specs.Guards.{LeftByRefusal, without};
+ghost use Rattle.constriction_base.specs.Writing.{IsOneAbove, NotWritten};
+ghost use Rattle.constriction_stack.specs.Ans.{IsCoder, state_of, value_of};
+ghost use Rattle.constriction_stack.specs.Exports.{BinaryExportNotWritten, ExportNotWritten};
+ghost use Rattle.constriction_stack.specs.Guards.{BinaryLeft, ExportLeft, LeftByRefusal};
+ghost use Rattle.constriction_stack.specs.Guards.{ShowsBinary, ShowsExported, without};
 
 use crate::coder::AnsCoder;
-use crate::moves::{append_words, words_below_one};
 use constriction_base::backends::{Holds, ReadWords, Stack, WriteWords, take_back};
 use constriction_base::errors::CoderError;
-use constriction_base::head_words::count_of_words;
+use constriction_base::head_words::{append_words, count_of_words, words_below_one};
 use constriction_words::{BitArray, WordOf};
 use std::fmt;
 
@@ -50,7 +51,7 @@ where
     /// The backend, with the words on it.
     pub fn backend(&self) -> &Backend
         ensures backend { result.now ≡ (lender self.now).now.backend }
-        ensures coder { IsCoder Word.number Backend.words Word.BITS State.BITS (lender self.now).now }
+        ensures coder { IsCoder Word.number Backend.Holds Word.BITS State.BITS (lender self.now).now }
     {
         let inner: &AnsCoder<Word, State, Backend> = &*self.inner;
         &inner.bulk
@@ -70,7 +71,7 @@ where
         ensures kept { (lent_back self.exit).now.state.head ≡ (lender self.entry).now.state.head }
         ensures back { NeverRefused Backend.reads →
             (lent_back self.exit).now.state ≡ without (written self.entry) (lender self.entry).now.state }
-        ensures coder { IsCoder Word.number Backend.words Word.BITS State.BITS (lent_back self.exit).now }
+        ensures coder { IsCoder Word.number Backend.Holds Word.BITS State.BITS (lent_back self.exit).now }
     {
         let CoderGuard { inner, count } = self;
         take_back::<Word, Backend>(&mut inner.bulk, count);
@@ -96,17 +97,12 @@ where
 {
     /// Writes the head's words onto the backend, and keeps the head. Returns how many they are.
     fn put_compressed(&mut self) -> Result<usize, Backend::WriteError>
-        ensures shows { OnOk result (self.new.state
-            ≡ record { head = self.old.state.head; words = exported Word.BITS self.old.state }) }
+        ensures shows { OnOk result (ShowsExported Word.BITS self.old.state self.new.state) }
         ensures back { IfOk result (λ count. without count self.new.state ≡ self.old.state) }
-        ensures kept { IfErr result (λ e. LeftByRefusal (NeverRefused Backend.reads)
-            ((Backend.makes_room → ⊥) × ((last : Backend) × Backend.write_fails last e
-            × PartlyExported Word.BITS self.old.state (map Word.number (Backend.words last))))
-            self.old.state self.new.state) }
-        ensures err { IfErr result (λ e. (Backend.room self.old.backend < count_of_words Word.BITS self.old.state.head)
-            × (Backend.prepare_fails self.old.backend (count_of_words Word.BITS self.old.state.head) e
-            ⊎ ((Backend.makes_room → ⊥) × ((last : Backend) × Backend.write_fails last e
-            × PartlyExported Word.BITS self.old.state (map Word.number (Backend.words last)))))) }
+        ensures err { IfErr result
+            (ExportNotWritten Word.number Backend.Holds Backend.WriteWords.own Word.BITS self.old) }
+        ensures left { IfErr result (λ e. ExportLeft Word.number Backend.Holds Backend.WriteWords.own Backend.reads
+            Word.BITS self.old e self.new) }
     {
         let count = count_of_words::<Word, State>(self.state);
         match show_words(&mut self.bulk, self.state, count) {
@@ -119,22 +115,14 @@ where
     /// Writes the head's words below its leading 1 onto the backend, and keeps the head. Returns
     /// how many they are.
     fn put_binary(&mut self) -> Result<usize, CoderError<(), Backend::WriteError>>
-        ensures shows { OnOk result ((m : ℕ) × IsBinary Word.BITS m self.old.state × (self.new.state
-            ≡ record { head = self.old.state.head; words = binary_words Word.BITS m self.old.state })) }
+        ensures shows { OnOk result (ShowsBinary Word.BITS self.old.state self.new.state) }
         ensures back { IfOk result (λ count. without count self.new.state ≡ self.old.state) }
         ensures frontend { (result ≡ Err (coder_error.Frontend tt))
-            ↔ ((m : ℕ) → IsBinary Word.BITS m self.old.state → ⊥) }
-        ensures kept { result ≡ Err (coder_error.Frontend tt) → self.new ≡ self.old }
-        ensures taken_back { (e : Backend.WriteError) → result ≡ Err (coder_error.Backend e) →
-            LeftByRefusal (NeverRefused Backend.reads)
-            ((Backend.makes_room → ⊥) × ((m : ℕ) × (last : Backend) × Backend.write_fails last e
-            × PartlyBinary Word.BITS m self.old.state (map Word.number (Backend.words last))))
-            self.old.state self.new.state }
+            ↔ ((m : ℕ) → IsOneAbove Word.BITS m self.old.state.head → ⊥) }
         ensures err { (e : Backend.WriteError) → result ≡ Err (coder_error.Backend e) →
-            (m : ℕ) × IsBinary Word.BITS m self.old.state × (Backend.room self.old.backend < m)
-            × (Backend.prepare_fails self.old.backend m e
-            ⊎ ((Backend.makes_room → ⊥) × ((last : Backend) × Backend.write_fails last e
-            × PartlyBinary Word.BITS m self.old.state (map Word.number (Backend.words last))))) }
+            BinaryExportNotWritten Word.number Backend.Holds Backend.WriteWords.own Word.BITS self.old e }
+        ensures left { IfErr result (λ error. BinaryLeft Word.number Backend.Holds Backend.WriteWords.own Backend.reads
+            Word.BITS self.old error self.new) }
     {
         let Some(count) = words_below_one::<Word, State>(self.state) else {
             return Err(CoderError::Frontend(()));
@@ -178,19 +166,16 @@ where
         &mut self,
     ) -> Result<CoderGuard<'_, Word, State, Backend, 0>, Backend::WriteError>
         ensures same_reference { IfOk result (λ g. (lender g).ghost_name ≡ self.entry.ghost_name) }
-        ensures shows { IfOk result (λ g. (lender g).now.state
-            ≡ record { head = self.old.state.head; words = exported Word.BITS self.old.state }) }
+        ensures shows { IfOk result (λ g. ShowsExported Word.BITS self.old.state (lender g).now.state) }
         ensures back { IfOk result (λ g. without (written g) (lender g).now.state ≡ self.old.state) }
-        ensures err { IfErr result (λ e. (Backend.room self.old.backend < count_of_words Word.BITS self.old.state.head)
-            × (Backend.prepare_fails self.old.backend (count_of_words Word.BITS self.old.state.head) e
-            ⊎ ((Backend.makes_room → ⊥) × ((last : Backend) × Backend.write_fails last e
-            × PartlyExported Word.BITS self.old.state (map Word.number (Backend.words last)))))) }
-        ensures* kept { sem 𝓛 (RestsIfErr (the_row Word.row State.row Backend.row Word.NonZero.row State.NonZero.row Word.BitArray State.BitArray Backend.Holds)
+        ensures err { IfErr result
+            (ExportNotWritten Word.number Backend.Holds Backend.WriteWords.own Word.BITS self.old) }
+        ensures* kept { sem 𝓛 (RestsIfErr
+            (the_row Word.row State.row Backend.row Word.NonZero.row State.NonZero.row
+            Word.BitArray State.BitArray Backend.Holds)
             self.entry (λ g. (lender g).ghost_name) result
-            (λ after. IfErr result (λ e. LeftByRefusal (NeverRefused Backend.reads)
-            ((Backend.makes_room → ⊥) × ((last : Backend) × Backend.write_fails last e
-            × PartlyExported Word.BITS self.old.state (map Word.number (Backend.words last))))
-            self.old.state after.state))) }
+            (λ after. IfErr result (λ e. ExportLeft Word.number Backend.Holds Backend.WriteWords.own Backend.reads
+            Word.BITS self.old e after))) }
     {
         let count = self.put_compressed()?;
         Ok(CoderGuard { inner: self, count })
@@ -212,24 +197,18 @@ where
         &mut self,
     ) -> Result<CoderGuard<'_, Word, State, Backend, 1>, CoderError<(), Backend::WriteError>>
         ensures same_reference { IfOk result (λ g. (lender g).ghost_name ≡ self.entry.ghost_name) }
-        ensures shows { IfOk result (λ g. (m : ℕ) × IsBinary Word.BITS m self.old.state × ((lender g).now.state
-            ≡ record { head = self.old.state.head; words = binary_words Word.BITS m self.old.state })) }
+        ensures shows { IfOk result (λ g. ShowsBinary Word.BITS self.old.state (lender g).now.state) }
         ensures back { IfOk result (λ g. without (written g) (lender g).now.state ≡ self.old.state) }
         ensures frontend { (result ≡ Err (coder_error.Frontend tt))
-            ↔ ((m : ℕ) → IsBinary Word.BITS m self.old.state → ⊥) }
+            ↔ ((m : ℕ) → IsOneAbove Word.BITS m self.old.state.head → ⊥) }
         ensures err { (e : Backend.WriteError) → result ≡ Err (coder_error.Backend e) →
-            (m : ℕ) × IsBinary Word.BITS m self.old.state × (Backend.room self.old.backend < m)
-            × (Backend.prepare_fails self.old.backend m e
-            ⊎ ((Backend.makes_room → ⊥) × ((last : Backend) × Backend.write_fails last e
-            × PartlyBinary Word.BITS m self.old.state (map Word.number (Backend.words last))))) }
-        ensures* kept { sem 𝓛 (RestsIfErr (the_row Word.row State.row Backend.row Word.NonZero.row State.NonZero.row Word.BitArray State.BitArray Backend.Holds)
+            BinaryExportNotWritten Word.number Backend.Holds Backend.WriteWords.own Word.BITS self.old e }
+        ensures* kept { sem 𝓛 (RestsIfErr
+            (the_row Word.row State.row Backend.row Word.NonZero.row State.NonZero.row
+            Word.BitArray State.BitArray Backend.Holds)
             self.entry (λ g. (lender g).ghost_name) result
-            (λ after. (result ≡ Err (coder_error.Frontend tt) → after ≡ self.old)
-            × ((e : Backend.WriteError) → result ≡ Err (coder_error.Backend e) →
-            LeftByRefusal (NeverRefused Backend.reads)
-            ((Backend.makes_room → ⊥) × ((m : ℕ) × (last : Backend) × Backend.write_fails last e
-            × PartlyBinary Word.BITS m self.old.state (map Word.number (Backend.words last))))
-            self.old.state after.state))) }
+            (λ after. IfErr result (λ error. BinaryLeft Word.number Backend.Holds Backend.WriteWords.own Backend.reads
+            Word.BITS self.old error after))) }
     {
         match self.put_binary() {
             Ok(count) => Ok(CoderGuard { inner: self, count }),
@@ -249,16 +228,15 @@ where
     Backend: WriteWords<Word> + ReadWords<Word, Stack>,
     Backend::ReadError: Drop,
     requires { IsSizes Word.BITS State.BITS }
-    ensures ok { OnOk result ((map Word.number (Backend.words bulk.new)
-        ≡ fixed_digits (2 ^ Word.BITS) count (State.number head) ++ map Word.number (Backend.words bulk.old))
-        × (drop count (Backend.words bulk.new) ≡ Backend.words bulk.old)) }
-    ensures room { OnErr result (Backend.room bulk.old < count) }
-    ensures err { IfErr result (λ e.
-        ((Backend.words bulk.new ≡ Backend.words bulk.old) × Backend.prepare_fails bulk.old count e)
-        ⊎ ((NeverRefused Backend.reads → Backend.words bulk.new ≡ Backend.words bulk.old)
-        × (Backend.makes_room → ⊥) × ((last : Backend) × Backend.write_fails last e
-        × PartlyBinary Word.BITS count record { head = State.number head; words = map Word.number (Backend.words bulk.old) }
-        (map Word.number (Backend.words last))))) }
+    ensures shown { OnOk result (map Word.number (Backend.words bulk.new)
+        ≡ fixed_digits (2 ^ Word.BITS) count (State.number head) ++ map Word.number (Backend.words bulk.old)) }
+    ensures back { OnOk result (drop count (Backend.words bulk.new) ≡ Backend.words bulk.old) }
+    ensures err { IfErr result (NotWritten Word.number Backend.Holds Backend.WriteWords.own
+        (fixed_digits (2 ^ Word.BITS) count (State.number head)) bulk.old) }
+    ensures left { IfErr result (λ e. LeftByRefusal Word.number Backend.Holds Backend.WriteWords.own Backend.reads
+        (fixed_digits (2 ^ Word.BITS) count (State.number head))
+        (value_of Word.number Backend.Holds (State.number head) bulk.old) e
+        (state_of Word.number Backend.Holds (State.number head) bulk.new)) }
 {
     match append_words(bulk, head, count) {
         Ok(()) => Ok(()),

@@ -3,7 +3,8 @@
 
 ghost use Rattle.constriction_base.specs.declared.errors.DefaultEncoderFrontendError.TheVariants.{ImpossibleSymbol};
 ghost use Rattle.constriction_stack.specs.Ans.{DecodeCall, EncodeCall, IsCoder};
-ghost use Rattle.constriction_stream.specs.Symbols.{ByBackend, EncodesSymbol, GoesOn, HasRoom, IsBackendError, never_frontend};
+ghost use Rattle.constriction_stream.specs.Symbols.{ByBackend, EncodesSymbol, GoesOn, HasRoom, IsBackendError};
+ghost use Rattle.constriction_stream.specs.Symbols.{never_frontend};
 ghost use Rattle.std.specs.Bool.{OnFalse};
 ghost use Rattle.std.specs.Prelude.{IsTrue, ⊤, ◌+◌, ◌↔◌, ◌≡◌, ◌≤◌};
 
@@ -24,7 +25,8 @@ impl<Word: WordOf<State>, State: BitArray, Backend: Holds<Word, Stack>> Code
 
     type State = State;
 
-    ghost shows = { λ coder head. (State.number head ≡ coder.state.head) × IsCoder Word.number Backend.words Word.BITS State.BITS coder };
+    ghost shows = { λ coder head. (State.number head ≡ coder.state.head)
+        × IsCoder Word.number Backend.Holds Word.BITS State.BITS coder };
 
     /// The head.
     #[inline]
@@ -43,8 +45,7 @@ impl<
 
     type BackendError = Backend::WriteError;
 
-    ghost encodes = { ByBackend (EncodeCall Word.number Backend.words Word.BITS State.BITS
-        Backend.room Backend.makes_room Backend.prepare_fails Backend.write_fails) };
+    ghost encodes = { ByBackend (EncodeCall Word.number Backend.Holds Backend.WriteWords.own Word.BITS State.BITS) };
 
     ghost is_impossible_symbol = { λ error. error ≡ ImpossibleSymbol };
 
@@ -134,7 +135,7 @@ impl<
 
     type BackendError = Backend::ReadError;
 
-    ghost decodes = { ByBackend (DecodeCall Word.number Backend.words Backend.is_list Backend.reads Word.BITS State.BITS) };
+    ghost decodes = { ByBackend (DecodeCall Word.number Backend.Holds Backend.ReadWords.own Word.BITS State.BITS) };
 
     ghost halts = { λ _ _ _. ⊥ };
 

@@ -4,19 +4,20 @@
 //! written marks the top of the head, so that any words are those of a coder.
 
 ghost use Rattle.constriction_base.specs.Readings.{BeginsHigh};
-ghost use Rattle.constriction_base.specs.Digits.{count_of_words};
 ghost use Rattle.constriction_base.specs.Steps.{IsSizes};
-ghost use Rattle.constriction_stack.specs.Ans.{IsCoder, PartlyExported, exported, filled};
-ghost use Rattle.constriction_stack.specs.Binary.{BinaryFilledBy, BinaryRefused, IsBinary, PartlyBinary, binary_state, binary_words};
+ghost use Rattle.constriction_stack.specs.Ans.{IsCoder, exported, filled};
+ghost use Rattle.constriction_base.specs.Writing.{IsOneAbove};
+ghost use Rattle.constriction_stack.specs.Binary.{BinaryFilledBy, BinaryRefused, binary_state, binary_words};
+ghost use Rattle.constriction_stack.specs.Exports.{BinaryExportNotWritten, ExportNotWritten};
 ghost use Rattle.constriction_stack.specs.Sizes.{SizesFit, valid_bit_count};
 ghost use Rattle.constriction_stack.specs.Imports.{FilledBy, ImportRefused, ListRefused};
 ghost use Rattle.std.specs.Int.Digits.{digits_of};
-ghost use Rattle.std.specs.Prelude.{Err, IfErr, IfOk, IsTrue, None, Ok, OnErr, OnOk, Some, length, map, reverse, ℕ, ◌*◌, ◌++◌, ◌<◌, ◌^◌, ◌↔◌, ◌≡◌, ◌⊎◌};
+ghost use Rattle.std.specs.Prelude.{Err, IfErr, IfOk, IsTrue, None, Ok, OnOk, Some, length, map, reverse};
+ghost use Rattle.std.specs.Prelude.{ℕ, ◌*◌, ◌++◌, ◌^◌, ◌↔◌, ◌≡◌};
 
 use crate::coder::AnsCoder;
-use crate::moves::{append_words, filled, words_below_one};
 use constriction_base::backends::{BoundedReadWords, Holds, ReadWords, Stack, Words, WriteWords};
-use constriction_base::head_words::count_of_words;
+use constriction_base::head_words::{append_words, count_of_words, fill, words_below_one};
 use constriction_words::{BitArray, WordOf};
 use std::fmt;
 use std::marker::{Model, PhantomData};
@@ -50,7 +51,7 @@ impl<Word: WordOf<State>, State: BitArray, Backend: ReadWords<Word, Stack>> AnsC
         ensures ok { Backend.is_list → IfOk result (λ new.
             new.state ≡ filled Word.BITS State.BITS 0 (map Word.number (Backend.words bulk))) }
         ensures high { Backend.is_list → OnOk result (BeginsHigh (map Word.number (Backend.words bulk))) }
-        ensures coder { IfOk result (λ new. IsCoder Word.number Backend.words Word.BITS State.BITS new) }
+        ensures coder { IfOk result (λ new. IsCoder Word.number Backend.Holds Word.BITS State.BITS new) }
         ensures reads { IfOk result (λ new.
             FilledBy Word.number Backend.reads Word.BITS State.BITS bulk new.state.head new.backend) }
         ensures err { IfErr result (λ rest.
@@ -72,9 +73,9 @@ impl<Word: WordOf<State>, State: BitArray, Backend: ReadWords<Word, Stack>> AnsC
         if top.is_nothing() {
             return Err(bulk);
         }
-        let head = match filled(&mut bulk, top.widen()) {
+        let head = match fill(&mut bulk, top.widen(), State::BITS - Word::BITS) {
             Err(_) => return Err(bulk),
-            Ok(head) => head,
+            Ok((head, _)) => head,
         };
         Ok(AnsCoder {
             bulk,
@@ -103,13 +104,8 @@ impl<Word: WordOf<State>, State: BitArray, Backend: WriteWords<Word>> AnsCoder<
         ensures ok { IfOk result (λ all.
             map Word.number (Backend.words all) ≡ exported Word.BITS self.state) }
         ensures empty { self.state.head ≡ 0 → result ≡ Ok self.backend }
-        ensures room { OnErr result (Backend.room self.backend < count_of_words Word.BITS self.state.head) }
-        // No room for them all; or, where asking for room makes none, a write after a beginning of them.
-        ensures err { IfErr result (λ e.
-            Backend.prepare_fails self.backend (count_of_words Word.BITS self.state.head) e
-            ⊎ ((Backend.makes_room → ⊥) × ((last : Backend) × Backend.write_fails last e
-            × PartlyExported Word.BITS self.state (map Word.number (Backend.words last))))) }
-        ensures coder { IsCoder Word.number Backend.words Word.BITS State.BITS self }
+        ensures err { IfErr result (ExportNotWritten Word.number Backend.Holds Backend.WriteWords.own Word.BITS self) }
+        ensures coder { IsCoder Word.number Backend.Holds Word.BITS State.BITS self }
     {
         let AnsCoder {
             mut bulk,
@@ -153,15 +149,15 @@ impl<Word: WordOf<State>, State: BitArray, Backend: ReadWords<Word, Stack>> AnsC
         requires { IsSizes Word.BITS State.BITS }
         ensures ok { Backend.is_list → IfOk result (λ new.
             new.state ≡ binary_state Word.BITS State.BITS (map Word.number (Backend.words bulk))) }
-        ensures coder { IfOk result (λ new. IsCoder Word.number Backend.words Word.BITS State.BITS new) }
+        ensures coder { IfOk result (λ new. IsCoder Word.number Backend.Holds Word.BITS State.BITS new) }
         ensures reads { IfOk result (λ new.
             BinaryFilledBy Word.number Backend.reads Word.BITS State.BITS bulk new.state.head new.backend) }
         ensures err { IfErr result (λ e.
             BinaryRefused Word.number Backend.reads Word.BITS State.BITS bulk e) }
     {
-        let head = match filled(&mut bulk, State::unit()) {
+        let head = match fill(&mut bulk, State::unit(), State::BITS - Word::BITS) {
             Err(error) => return Err(error),
-            Ok(head) => head,
+            Ok((head, _)) => head,
         };
         Ok(AnsCoder {
             bulk,
@@ -192,17 +188,13 @@ impl<Word: WordOf<State>, State: BitArray, Backend: WriteWords<Word>> AnsCoder<
     pub fn into_binary(self) -> Result<Backend, Option<Backend::WriteError>>
     where
         Backend: Drop,
-        ensures ok { IfOk result (λ all. (m : ℕ) × IsBinary Word.BITS m self.state
+        ensures ok { IfOk result (λ all. (m : ℕ) × IsOneAbove Word.BITS m self.state.head
             × (map Word.number (Backend.words all) ≡ binary_words Word.BITS m self.state)) }
         ensures empty { self.state.head ≡ 1 → result ≡ Ok self.backend }
-        ensures variant { (result ≡ Err None) ↔ ((m : ℕ) → IsBinary Word.BITS m self.state → ⊥) }
-        // No room for them all; or, where asking for room makes none, a write after a beginning of them.
+        ensures variant { (result ≡ Err None) ↔ ((m : ℕ) → IsOneAbove Word.BITS m self.state.head → ⊥) }
         ensures err { (e : Backend.WriteError) → result ≡ Err (Some e) →
-            (m : ℕ) × IsBinary Word.BITS m self.state × (Backend.room self.backend < m)
-            × (Backend.prepare_fails self.backend m e
-            ⊎ ((Backend.makes_room → ⊥) × ((last : Backend) × Backend.write_fails last e
-            × PartlyBinary Word.BITS m self.state (map Word.number (Backend.words last))))) }
-        ensures coder { IsCoder Word.number Backend.words Word.BITS State.BITS self }
+            BinaryExportNotWritten Word.number Backend.Holds Backend.WriteWords.own Word.BITS self e }
+        ensures coder { IsCoder Word.number Backend.Holds Word.BITS State.BITS self }
     {
         let AnsCoder {
             mut bulk,

@@ -122,7 +122,8 @@ where
     ensures read { IfOk result (λ both. (last : AnsState) × DecodesAll Word.BITS State.BITS
         (items_of record { precision = PRECISION; table = M.table model.now } both.0.items)
         (binary_state Word.BITS State.BITS (map Word.number (Backend.words words))) last) }
-    ensures back { IfOk result (λ both. map Word.number (Backend.words both.1) ≡ map Word.number (Backend.words words)) }
+    ensures back { IfOk result (λ both.
+        map Word.number (Backend.words both.1) ≡ map Word.number (Backend.words words)) }
     ensures err { IfErr result OnlyRefused }
 {
     let taken = list_from_binary_words::<Word, State, Backend, M, PRECISION>(
@@ -195,7 +196,8 @@ where
         (pairs_of PRECISION M.table symbols.now models.now) (binary_state Word.BITS State.BITS words) coder.state →
         IfOk result (λ again. map Word.number (Backend.words again) ≡ words) }
     ensures err { IfErr result (Reasons (HasImpossibleItem (pairs_of PRECISION M.table symbols.now models.now)) ⊥
-        (ComesFromNoWords Word.BITS State.BITS (pairs_of PRECISION M.table symbols.now models.now) coder.state) (λ taken. ⊥)) }
+        (ComesFromNoWords Word.BITS State.BITS (pairs_of PRECISION M.table symbols.now models.now) coder.state)
+        (λ taken. ⊥)) }
 {
     let mut coder = coder;
     put_pairs(&mut coder, symbols, models)?;
@@ -231,7 +233,8 @@ where
     ensures read { IfOk result (λ both. (last : AnsState) × DecodesAll Word.BITS State.BITS
         (pairs_of PRECISION M.table both.0.items models.now)
         (binary_state Word.BITS State.BITS (map Word.number (Backend.words words))) last) }
-    ensures back { IfOk result (λ both. map Word.number (Backend.words both.1) ≡ map Word.number (Backend.words words)) }
+    ensures back { IfOk result (λ both.
+        map Word.number (Backend.words both.1) ≡ map Word.number (Backend.words words)) }
     ensures err { IfErr result OnlyRefused }
 {
     let taken = pairs_from_binary_words::<Word, State, Backend, M, PRECISION>(

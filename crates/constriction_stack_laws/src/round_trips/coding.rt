@@ -1,7 +1,8 @@
 //! List calls of the stack coder, said in the words of the laws: which states they lead to.
 
 ghost use Rattle.std.specs.Prelude.{◌≡◌, List, length, reverse, IfOk, IfErr, OnOk};
-ghost use Rattle.constriction_coder_laws.specs.Outcomes.{HasImpossible, HasImpossibleItem, StopsAmong, StopsShort, WhereFrontend};
+ghost use Rattle.constriction_coder_laws.specs.Outcomes.{HasImpossible, HasImpossibleItem, WhereFrontend};
+ghost use Rattle.constriction_coder_laws.specs.Outcomes.{StopsAmong, StopsShort};
 ghost use Rattle.constriction_stack.specs.Ans.{AnsState, IsValid};
 ghost use Rattle.constriction_stack_laws.specs.Readings.{DecodesAllBy};
 ghost use Rattle.constriction_stack.specs.Symbols.{EncodesAll, DecodesAll};
@@ -113,7 +114,8 @@ where
         before coder.old.state → length symbols ≡ amt →
         IfOk result (λ again. (again.items ≡ reverse symbols) × (coder.new.state ≡ before)) }
     ensures err { IfErr result (λ e. StopsShort (⟦<AnsCoder<Word, State, Backend> as Decode<PRECISION>>⟧.decodes)
-        (⟦<AnsCoder<Word, State, Backend> as Decode<PRECISION>>⟧.halts) PRECISION (M.table model.now) amt coder.old e coder.new) }
+        (⟦<AnsCoder<Word, State, Backend> as Decode<PRECISION>>⟧.halts)
+        PRECISION (M.table model.now) amt coder.old e coder.new) }
 {
     any_coder::decode_list::<_, _, PRECISION>(alloc, coder, amt, model)
 }
@@ -142,7 +144,8 @@ where
     requires { length symbols.now ≡ length models.now }
     ensures coded { IsValid Word.BITS State.BITS coder.old.state → OnOk result (EncodesAll Word.BITS State.BITS
         (reverse (pairs_of PRECISION M.table symbols.now models.now)) coder.old.state coder.new.state) }
-    ensures err { IfErr result (λ e. WhereFrontend e (HasImpossibleItem (pairs_of PRECISION M.table symbols.now models.now))) }
+    ensures err { IfErr result (λ e.
+        WhereFrontend e (HasImpossibleItem (pairs_of PRECISION M.table symbols.now models.now))) }
 {
     coder.encode_symbols_reverse(symbols.iter().zip(models.iter()))
 }
@@ -175,11 +178,13 @@ where
     ensures decoded { Backend.is_list → IfOk result (λ again. DecodesAll Word.BITS State.BITS
         (pairs_of PRECISION M.table again.items models.now) coder.old.state coder.new.state) }
     ensures back { Backend.is_list → (symbols : List M.Symbol) (before : AnsState) →
-        EncodesAll Word.BITS State.BITS (reverse (pairs_of PRECISION M.table symbols models.now)) before coder.old.state →
+        EncodesAll Word.BITS State.BITS (reverse (pairs_of PRECISION M.table symbols models.now))
+        before coder.old.state →
         length symbols ≡ length models.now →
         IfOk result (λ again. (again.items ≡ symbols) × (coder.new.state ≡ before)) }
     ensures err { IfErr result (λ e. StopsAmong (⟦<AnsCoder<Word, State, Backend> as Decode<PRECISION>>⟧.decodes)
-        (⟦<AnsCoder<Word, State, Backend> as Decode<PRECISION>>⟧.halts) PRECISION M.table models.now coder.old e coder.new) }
+        (⟦<AnsCoder<Word, State, Backend> as Decode<PRECISION>>⟧.halts)
+        PRECISION M.table models.now coder.old e coder.new) }
 {
     any_coder::decode_by_models::<_, _, PRECISION>(alloc, coder, models)
 }

@@ -44,7 +44,8 @@ where
     ensures read { IfOk result (λ both. (last : AnsState) × DecodesAll Word.BITS State.BITS
         (items_of record { precision = PRECISION; table = M.table model.now } both.0.items)
         (filled Word.BITS State.BITS 0 (map Word.number (Backend.words words))) last) }
-    ensures back { IfOk result (λ both. map Word.number (Backend.words both.1) ≡ map Word.number (Backend.words words)) }
+    ensures back { IfOk result (λ both.
+        map Word.number (Backend.words both.1) ≡ map Word.number (Backend.words words)) }
     ensures err { IfErr result (UnlessInvalid ((rest : Backend)
         × ImportRefused Word.number Backend.reads Word.BITS State.BITS words rest)) }
 {

@@ -90,7 +90,8 @@ where
     take_list(alloc, &mut decoder, amt, model)
 }
 
-/// Symbols that are put on a coder, the last one first, come back in order from [`decode_as_decoder`], and then once more from the coder itself.
+/// Symbols that are put on a coder, the last one first, come back in order from [`decode_as_decoder`], and then once more
+/// from the coder itself.
 ///
 /// # Errors
 ///
@@ -110,7 +111,8 @@ pub fn list_as_decoder<
 where
     M::Probability: WordOf<Word>,
     ensures back { IsValid Word.BITS State.BITS coder.old.state →
-        IfOk result (λ back. (back.0.items ≡ symbols.now) × (back.1.items ≡ symbols.now) × (coder.new.state ≡ coder.old.state)) }
+        IfOk result (λ back. (back.0.items ≡ symbols.now) × (back.1.items ≡ symbols.now)
+        × (coder.new.state ≡ coder.old.state)) }
     ensures err { IfErr result (UnlessImpossible (HasImpossible (M.table model.now) symbols.now)) }
 {
     put_list(coder, symbols, model)?;

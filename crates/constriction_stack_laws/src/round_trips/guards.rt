@@ -3,7 +3,8 @@
 ghost use Rattle.std.specs.Prelude.{◌≡◌, ℕ, map, reverse, IfOk, IfErr};
 ghost use Rattle.constriction_coder_laws.specs.Outcomes.{OnlyRefused, UnlessInvalid};
 ghost use Rattle.constriction_stack.specs.Ans.{exported};
-ghost use Rattle.constriction_stack.specs.Binary.{IsBinary, binary_words};
+ghost use Rattle.constriction_base.specs.Writing.{IsOneAbove};
+ghost use Rattle.constriction_stack.specs.Binary.{binary_words};
 
 use crate::binary::one_binary_form;
 use constriction_base::errors::CoderError;
@@ -45,10 +46,10 @@ pub fn copy_lent_binary_words<Word: WordOf<State>, State: BitArray, A: Allocator
     alloc: Global,
     coder: &mut AnsCoder<Word, State, Vec<Word, A>>,
 ) -> Result<Vec<Word>, RoundTripError>
-    ensures words { IfOk result (λ words. (m : ℕ) × IsBinary Word.BITS m coder.old.state
+    ensures words { IfOk result (λ words. (m : ℕ) × IsOneAbove Word.BITS m coder.old.state.head
         × (map Word.number (reverse words.items) ≡ binary_words Word.BITS m coder.old.state)) }
     ensures kept { coder.new.state ≡ coder.old.state }
-    ensures err { IfErr result (UnlessInvalid ((m : ℕ) → IsBinary Word.BITS m coder.old.state → ⊥)) }
+    ensures err { IfErr result (UnlessInvalid ((m : ℕ) → IsOneAbove Word.BITS m coder.old.state.head → ⊥)) }
 {
     let mut shown = Vec::new(alloc);
     let guard = match coder.get_binary() {
@@ -71,7 +72,8 @@ pub fn words_lent_and_given<Word: WordOf<State>, State: BitArray>(
     alloc: Global,
     coder: AnsCoder<Word, State, Vec<Word>>,
 ) -> Result<(Vec<Word>, Vec<Word>), RoundTripError>
-    ensures same { IfOk result (λ both. map Word.number (reverse both.0.items) ≡ map Word.number (reverse both.1.items)) }
+    ensures same { IfOk result (λ both.
+        map Word.number (reverse both.0.items) ≡ map Word.number (reverse both.1.items)) }
     ensures given { IfOk result (λ both. map Word.number (reverse both.1.items) ≡ exported Word.BITS coder.state) }
     ensures err { IfErr result OnlyRefused }
 {
@@ -92,10 +94,11 @@ pub fn binary_words_lent_and_given<Word: WordOf<State>, State: BitArray>(
     alloc: Global,
     coder: AnsCoder<Word, State, Vec<Word>>,
 ) -> Result<(Vec<Word>, Vec<Word>), RoundTripError>
-    ensures same { IfOk result (λ both. map Word.number (reverse both.0.items) ≡ map Word.number (reverse both.1.items)) }
-    ensures given { IfOk result (λ both. (m : ℕ) × IsBinary Word.BITS m coder.state
+    ensures same { IfOk result (λ both.
+        map Word.number (reverse both.0.items) ≡ map Word.number (reverse both.1.items)) }
+    ensures given { IfOk result (λ both. (m : ℕ) × IsOneAbove Word.BITS m coder.state.head
         × (map Word.number (reverse both.1.items) ≡ binary_words Word.BITS m coder.state)) }
-    ensures err { IfErr result (UnlessInvalid ((m : ℕ) → IsBinary Word.BITS m coder.state → ⊥)) }
+    ensures err { IfErr result (UnlessInvalid ((m : ℕ) → IsOneAbove Word.BITS m coder.state.head → ⊥)) }
 {
     let mut coder = coder;
     let lent = copy_lent_binary_words(alloc, &mut coder)?;

@@ -5,7 +5,7 @@ ghost use Rattle.constriction_base.specs.Models.{items_of};
 ghost use Rattle.constriction_base.specs.Readings.{BeginsHigh};
 ghost use Rattle.constriction_coder_laws.specs.Outcomes.{HasImpossible, UnlessImpossible, UnlessInvalid};
 ghost use Rattle.constriction_stack.specs.Ans.{AnsState, IsValid, exported};
-ghost use Rattle.constriction_stack.specs.Binary.{IsBinary};
+ghost use Rattle.constriction_base.specs.Writing.{IsOneAbove};
 ghost use Rattle.constriction_stack.specs.Symbols.{EncodesAll};
 
 use crate::guards::shown_words_are_exported;
@@ -86,7 +86,7 @@ where
         before coder.old.state → length symbols ≡ amt →
         IfOk result (λ again. again.items ≡ reverse symbols) }
     ensures kept { coder.new.state ≡ coder.old.state }
-    ensures err { IfErr result (UnlessInvalid ((m : ℕ) → IsBinary Word.BITS m coder.old.state → ⊥)) }
+    ensures err { IfErr result (UnlessInvalid ((m : ℕ) → IsOneAbove Word.BITS m coder.old.state.head → ⊥)) }
 {
     let guard = match coder.get_binary() {
         Ok(guard) => guard,
@@ -122,7 +122,8 @@ pub fn list_from_lent_words<
 where
     M::Probability: WordOf<Word>,
     ensures back { IsValid Word.BITS State.BITS coder.old.state →
-        IfOk result (λ back. (back.0.items ≡ symbols.now) × (back.1.items ≡ symbols.now) × (coder.new.state ≡ coder.old.state)) }
+        IfOk result (λ back. (back.0.items ≡ symbols.now) × (back.1.items ≡ symbols.now)
+        × (coder.new.state ≡ coder.old.state)) }
     ensures err { IfErr result (UnlessImpossible (HasImpossible (M.table model.now) symbols.now)) }
 {
     put_list(coder, symbols, model)?;

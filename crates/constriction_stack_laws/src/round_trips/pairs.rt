@@ -40,9 +40,11 @@ where
     Backend::WriteError: Drop,
     requires { length symbols.now ≡ length models.now }
     ensures words { IsValid Word.BITS State.BITS coder.state → IfOk result (λ words. ExportsAll Word.BITS State.BITS
-        (reverse (pairs_of PRECISION M.table symbols.now models.now)) coder.state (map Word.number (Backend.words words))) }
+        (reverse (pairs_of PRECISION M.table symbols.now models.now))
+        coder.state (map Word.number (Backend.words words))) }
     ensures sizes { OnOk result (IsSizes Word.BITS State.BITS) }
-    ensures err { IfErr result (UnlessImpossible (HasImpossibleItem (pairs_of PRECISION M.table symbols.now models.now))) }
+    ensures err { IfErr result (UnlessImpossible
+        (HasImpossibleItem (pairs_of PRECISION M.table symbols.now models.now))) }
 {
     let mut coder = coder;
     put_pairs(&mut coder, symbols, models)?;
@@ -52,9 +54,9 @@ where
     }
 }
 
-/// A symbol for each of the models from words, and the coder that is left: `from_compressed`, `decode_symbols`. Where the
-/// words are those of a coder on which as many symbols were put by these models, from the last to the first, the symbols
-/// come back in order, and the state before.
+/// A symbol for each of the models from words, and the coder that is left: `from_compressed`, `decode_symbols`. Where
+/// the words are those of a coder on which as many symbols were put by these models, from the last to the first, the
+/// symbols come back in order, and the state before.
 ///
 /// # Errors
 ///
@@ -119,7 +121,8 @@ where
     requires { length symbols.now ≡ length models.now }
     ensures back { IsValid Word.BITS State.BITS coder.state →
         IfOk result (λ back. (back.0.items ≡ symbols.now) × (back.1.state ≡ coder.state)) }
-    ensures err { IfErr result (UnlessImpossible (HasImpossibleItem (pairs_of PRECISION M.table symbols.now models.now))) }
+    ensures err { IfErr result (UnlessImpossible
+        (HasImpossibleItem (pairs_of PRECISION M.table symbols.now models.now))) }
 {
     let words = words_with_pairs(coder, symbols, models)?;
     match pairs_from_words(alloc, words, models) {

@@ -2,7 +2,8 @@
 
 ghost use Rattle.std.specs.Prelude.{◌≡◌, List, length, reverse, IfOk, IfErr, OnOk};
 ghost use Rattle.constriction_base.specs.Models.{items_of, pairs_of};
-ghost use Rattle.constriction_coder_laws.specs.Outcomes.{HasImpossible, HasImpossibleItem, OnlyRefused, UnlessImpossible};
+ghost use Rattle.constriction_coder_laws.specs.Outcomes.{HasImpossible, HasImpossibleItem, OnlyRefused};
+ghost use Rattle.constriction_coder_laws.specs.Outcomes.{UnlessImpossible};
 ghost use Rattle.constriction_stack.specs.Ans.{AnsState, IsValid};
 ghost use Rattle.constriction_stack.specs.Symbols.{EncodesAll, DecodesAll};
 ghost use Rattle.constriction_stack_laws.specs.Readings.{DecodesAllBy};
@@ -63,7 +64,8 @@ where
     requires { length symbols.now ≡ length models.now }
     ensures coded { IsValid Word.BITS State.BITS coder.old.state → OnOk result (EncodesAll Word.BITS State.BITS
         (reverse (pairs_of PRECISION M.table symbols.now models.now)) coder.old.state coder.new.state) }
-    ensures err { IfErr result (UnlessImpossible (HasImpossibleItem (pairs_of PRECISION M.table symbols.now models.now))) }
+    ensures err { IfErr result (UnlessImpossible
+        (HasImpossibleItem (pairs_of PRECISION M.table symbols.now models.now))) }
 {
     match encode_pairs_reverse(coder, symbols, models) {
         Ok(()) => Ok(()),
@@ -126,7 +128,8 @@ where
     ensures decoded { Backend.is_list → IfOk result (λ again. DecodesAll Word.BITS State.BITS
         (pairs_of PRECISION M.table again.items models.now) coder.old.state coder.new.state) }
     ensures back { Backend.is_list → (symbols : List M.Symbol) (before : AnsState) →
-        EncodesAll Word.BITS State.BITS (reverse (pairs_of PRECISION M.table symbols models.now)) before coder.old.state →
+        EncodesAll Word.BITS State.BITS (reverse (pairs_of PRECISION M.table symbols models.now))
+        before coder.old.state →
         length symbols ≡ length models.now →
         IfOk result (λ again. (again.items ≡ symbols) × (coder.new.state ≡ before)) }
     ensures err { IfErr result OnlyRefused }

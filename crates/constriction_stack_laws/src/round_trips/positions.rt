@@ -8,7 +8,7 @@ ghost use Rattle.constriction_coder_laws.specs.Outcomes.{HasImpossible, UnlessIm
 ghost use Rattle.constriction_stack.specs.Ans.{AnsState, IsValid, exported};
 ghost use Rattle.constriction_stack.specs.Positions.{Grows, position_of, sought};
 ghost use Rattle.constriction_stack.specs.Symbols.{DecodesAll, EncodesAll};
-ghost use Rattle.constriction_stack_laws.specs.Exporting.{RecordsBetween};
+ghost use Rattle.constriction_stack_laws.specs.Exporting.{ExportsAfter, RecordsBetween};
 
 use crate::round_trips::parts::{put_list, take_list};
 use constriction_base::backends::{Pos, Seek};
@@ -52,8 +52,9 @@ where
     Ok(position)
 }
 
-/// So many symbols from a decoder of a coder's words that goes to a position: `as_seekable_decoder`, `seek`. Where it was
-/// recorded when as many symbols had been put on, and words were only written since, they come back, the last one first.
+/// So many symbols from a decoder of a coder's words that goes to a position: `as_seekable_decoder`, `seek`. Where it
+/// was recorded when as many symbols had been put on, and words were only written since, they come back, the last one
+/// first.
 ///
 /// # Errors
 ///
@@ -179,10 +180,9 @@ where
     M::Probability: WordOf<Word>,
     requires { IsSizes Word.BITS State.BITS }
     ensures count { IfOk result (λ again. length again.items ≡ amt) }
-    ensures back { (symbols : List M.Symbol) (old there last : AnsState) → EncodesAll Word.BITS State.BITS
-        (items_of record { precision = PRECISION; table = M.table model.now } symbols) old there →
-        record { held = position.0; head = State.number position.1 } ≡ position_of there → Grows there last →
-        map Word.number (reverse words.now) ≡ exported Word.BITS last →
+    ensures back { (symbols : List M.Symbol) → ExportsAfter Word.BITS State.BITS
+        (items_of record { precision = PRECISION; table = M.table model.now } symbols)
+        record { held = position.0; head = State.number position.1 } (map Word.number (reverse words.now)) →
         length symbols ≡ amt → IfOk result (λ again. again.items ≡ reverse symbols) }
     ensures err { IfErr result (UnlessInvalid
         ((BeginsHigh (map Word.number (reverse words.now)) → ⊥) ⊎ (length words.now < position.0))) }

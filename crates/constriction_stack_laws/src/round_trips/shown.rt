@@ -27,7 +27,8 @@ pub fn words_shown_and_given<
 where
     Backend::WriteError: Drop,
     requires { Backend.words coder.backend ≡ reverse (Backend.lent coder.backend) }
-    ensures same { IfOk result (λ both. map Word.number (reverse both.0.items) ≡ map Word.number (Backend.words both.1)) }
+    ensures same { IfOk result (λ both.
+        map Word.number (reverse both.0.items) ≡ map Word.number (Backend.words both.1)) }
     ensures given { IfOk result (λ both. map Word.number (Backend.words both.1) ≡ exported Word.BITS coder.state) }
     ensures err { IfErr result OnlyRefused }
 {

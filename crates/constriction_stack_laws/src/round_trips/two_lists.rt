@@ -6,7 +6,7 @@ ghost use Rattle.constriction_base.specs.Steps.{IsSizes};
 ghost use Rattle.constriction_coder_laws.specs.Outcomes.{HasImpossible, UnlessImpossible, UnlessInvalid};
 ghost use Rattle.constriction_stack.specs.Ans.{AnsState, IsValid};
 ghost use Rattle.constriction_stack.specs.Imports.{ImportRefused};
-ghost use Rattle.constriction_stack_laws.specs.Exporting.{ExportsBoth};
+ghost use Rattle.constriction_stack_laws.specs.Exporting.{ComesFromTwoLists, ExportsBoth};
 
 use crate::round_trips::parts::{put_list, take_list};
 use crate::round_trips::words::{list_from_words, words_with_list};
@@ -91,11 +91,10 @@ where
     requires { IsSizes Word.BITS State.BITS }
     ensures count { IfOk result (λ back. (length back.0.items ≡ first) × (length back.1.items ≡ second)) }
     ensures back { Backend.is_list → (symbols : List M.Symbol) (others : List N.Symbol) (old : AnsState) →
-        IsValid Word.BITS State.BITS old → ExportsBoth Word.BITS State.BITS
-        (items_of record { precision = Q; table = N.table other.now } others)
-        (items_of record { precision = P; table = M.table model.now } symbols)
+        ComesFromTwoLists Word.BITS State.BITS P (M.table model.now) symbols Q (N.table other.now) others
         old (map Word.number (Backend.words words)) → length symbols ≡ first → length others ≡ second →
-        IfOk result (λ back. (back.0.items ≡ reverse symbols) × (back.1.items ≡ reverse others) × (back.2.state ≡ old)) }
+        IfOk result (λ back. (back.0.items ≡ reverse symbols) × (back.1.items ≡ reverse others)
+        × (back.2.state ≡ old)) }
     ensures err { IfErr result (UnlessInvalid ((rest : Backend)
         × ImportRefused Word.number Backend.reads Word.BITS State.BITS words rest)) }
 {

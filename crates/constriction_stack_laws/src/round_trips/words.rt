@@ -180,7 +180,8 @@ where
         (items_of record { precision = PRECISION; table = M.table model.now } again.items)
         (filled Word.BITS State.BITS 0 (map Word.number words.items)) last) }
     ensures back { (symbols : List M.Symbol) (state : AnsState) →
-        EncodesAll Word.BITS State.BITS (items_of record { precision = PRECISION; table = M.table model.now } symbols) empty state →
+        EncodesAll Word.BITS State.BITS (items_of record { precision = PRECISION; table = M.table model.now } symbols)
+        empty state →
         map Word.number words.items ≡ exported Word.BITS state → length symbols ≡ amt →
         IfOk result (λ again. again.items ≡ reverse symbols) }
     ensures err { IfErr result (UnlessInvalid (BeginsHigh (map Word.number words.items) → ⊥)) }
@@ -216,7 +217,8 @@ where
         (items_of record { precision = PRECISION; table = M.table model.now } again.items)
         (filled Word.BITS State.BITS 0 (map Word.number (reverse words.now))) last) }
     ensures back { (symbols : List M.Symbol) (state : AnsState) →
-        EncodesAll Word.BITS State.BITS (items_of record { precision = PRECISION; table = M.table model.now } symbols) empty state →
+        EncodesAll Word.BITS State.BITS (items_of record { precision = PRECISION; table = M.table model.now } symbols)
+        empty state →
         map Word.number (reverse words.now) ≡ exported Word.BITS state → length symbols ≡ amt →
         IfOk result (λ again. again.items ≡ reverse symbols) }
     ensures err { IfErr result (UnlessInvalid (BeginsHigh (map Word.number (reverse words.now)) → ⊥)) }
@@ -252,7 +254,8 @@ where
     ensures count { IfOk result (λ again. length again.items ≡ amt) }
     ensures back { (words : Iter → List Word) (symbols : List M.Symbol) (state : AnsState) →
         TellsItems Iter.next_gives words →
-        EncodesAll Word.BITS State.BITS (items_of record { precision = PRECISION; table = M.table model.now } symbols) empty state →
+        EncodesAll Word.BITS State.BITS (items_of record { precision = PRECISION; table = M.table model.now } symbols)
+        empty state →
         map Word.number (words items) ≡ exported Word.BITS state → length symbols ≡ amt →
         IfOk result (λ again. again.items ≡ reverse symbols) }
     ensures err { IfErr result (UnlessInvalid ((rest : Iter) × (done : Bool)

@@ -1,8 +1,8 @@
 //! The same bits for reading.
 
 ghost use Rattle.constriction_base.specs.Backends.{IsWrite};
-ghost use Rattle.constriction_symbol.specs.Bits.{ClosesQueue, IsQueueWords, PadsTo, bits_of_words};
-ghost use Rattle.std.specs.Prelude.{IfErr, IfOk, Ok, [], map, reverse, ◌≡◌};
+ghost use Rattle.constriction_symbol.specs.Bits.{PadsTo, ReadsClosed, bits_of_words};
+ghost use Rattle.std.specs.Prelude.{IfErr, IfOk, [], map, ◌≡◌};
 
 use crate::coder::{QueueEncoder, StackCoder, SymbolCoder};
 use crate::queue::QueueDecoder;
@@ -25,12 +25,10 @@ impl<
         B: Drop,
         ensures bits { IfOk result (λ decoder. PadsTo Word.BITS self.bits decoder.bits) }
         ensures last { IfOk result (λ decoder. decoder.last ≡ []) }
-        ensures words { IfOk result (λ decoder. decoder.bits
-            ≡ bits_of_words Word.BITS (map Word.number (⟦<B::IntoReadWords as Holds<Word, Queue>>⟧.words decoder.backend))) }
-        ensures place { IfOk result (λ decoder. (all : B) × IsQueueWords Word.BITS self.bits (map Word.number (reverse (⟦<B as Holds<Word, Stack>>⟧.words all)))
-            × ClosesQueue Word.BITS Word.number (IsWrite (⟦<B as Holds<Word, Stack>>⟧.words) B.room B.writes B.write_fails)
-            self.last self.backend (Ok all)
-            × (self.last ≡ [] → all ≡ self.backend) × B.becomes all decoder.backend) }
+        ensures words { IfOk result (λ decoder. decoder.bits ≡ bits_of_words Word.BITS
+            (map Word.number (⟦<B::IntoReadWords as Holds<Word, Queue>>⟧.words decoder.backend))) }
+        ensures place { IfOk result (λ decoder. ReadsClosed Word.BITS Word.number ⟦<B as Holds<Word, Stack>>⟧.words
+            (IsWrite ⟦<B as Holds<Word, Stack>>⟧.words B.room B.writes B.write_fails) B.becomes self decoder.backend) }
         ensures err { IfErr result (λ e. (self.last ≡ [] → ⊥) × B.write_fails self.backend e) }
     {
         match self.into_compressed() {
@@ -50,12 +48,10 @@ impl<
         B: Drop,
         ensures bits { IfOk result (λ decoder. PadsTo Word.BITS self.bits decoder.bits) }
         ensures last { IfOk result (λ decoder. decoder.last ≡ []) }
-        ensures words { IfOk result (λ decoder. decoder.bits
-            ≡ bits_of_words Word.BITS (map Word.number (⟦<B::IntoReadWords as Holds<Word, Queue>>⟧.words decoder.backend))) }
-        ensures place { IfOk result (λ decoder. (all : B) × IsQueueWords Word.BITS self.bits (map Word.number (reverse (⟦<B as Holds<Word, Stack>>⟧.words all)))
-            × ClosesQueue Word.BITS Word.number (IsWrite (⟦<B as Holds<Word, Stack>>⟧.words) B.room B.writes B.write_fails)
-            self.last self.backend (Ok all)
-            × (self.last ≡ [] → all ≡ self.backend) × B.becomes all decoder.backend) }
+        ensures words { IfOk result (λ decoder. decoder.bits ≡ bits_of_words Word.BITS
+            (map Word.number (⟦<B::IntoReadWords as Holds<Word, Queue>>⟧.words decoder.backend))) }
+        ensures place { IfOk result (λ decoder. ReadsClosed Word.BITS Word.number ⟦<B as Holds<Word, Stack>>⟧.words
+            (IsWrite ⟦<B as Holds<Word, Stack>>⟧.words B.room B.writes B.write_fails) B.becomes self decoder.backend) }
         ensures err { IfErr result (λ e. (self.last ≡ [] → ⊥) × B.write_fails self.backend e) }
     {
         QueueEncoder::into_decoder(self)

@@ -13,7 +13,8 @@ impl<Word: BitArray, S: Semantics, B: Holds<Word, Stack> + PartialEq> PartialEq
 
     ghost eq = { eq_of_both (on (λ c. c.last) (pointwise beq)) (on (λ c. c.backend) B.eq) };
 
-    ghost laws = { and_per (on_per (λ c. c.last) (lists_per (partial_equiv_from_equiv bool_eq_equiv))) (on_per (λ c. c.backend) B.laws) };
+    ghost laws = { and_per (on_per (λ c. c.last) (lists_per (partial_equiv_from_equiv bool_eq_equiv)))
+        (on_per (λ c. c.backend) B.laws) };
 
     /// Whether all parts are equal.
     fn eq(&self, other: &Self) -> bool {
@@ -25,5 +26,6 @@ impl<Word: BitArray, S: Semantics, B: Holds<Word, Stack> + Eq> Eq for SymbolCode
     ghost use Rattle.std.specs.Cmp.{and_equiv, bool_eq_equiv, on_equiv};
     ghost use Rattle.std.specs.Cmp.Lexicographic.{lists_equiv};
 
-    ghost laws = { and_equiv (on_equiv (λ c. c.last) (lists_equiv bool_eq_equiv)) (on_equiv (λ c. c.backend) B.Eq.laws) };
+    ghost laws = { and_equiv (on_equiv (λ c. c.last) (lists_equiv bool_eq_equiv))
+        (on_equiv (λ c. c.backend) B.Eq.laws) };
 }

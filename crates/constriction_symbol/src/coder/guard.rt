@@ -1,13 +1,14 @@
 //! The words of a coder that is used again: a guard shows them on the vector, and its drop takes them off.
 
-ghost use Rattle.constriction_symbol.specs.Bits.{IsQueueWords, IsStackWords, bits_above};
-ghost use Rattle.constriction_symbol.specs.Guards.{LacksEnd, bits_without};
+ghost use Rattle.constriction_symbol.specs.Bits.{IsQueueWords, IsStackWords};
+ghost use Rattle.constriction_symbol.specs.Guards.{LacksEnd, LacksRest, SameBits, bits_without};
 ghost use Rattle.std.specs.Borrow.{RestsIfErr, sem};
-ghost use Rattle.std.specs.Prelude.{IfErr, IfOk, OnErr, OnOk, [], drop, map, reverse, vec_capacity, vec_len, ◌-◌, ◌≡◌, ◌≤◌};
+ghost use Rattle.std.specs.Prelude.{IfOk, OnErr, OnOk, map, ◌≡◌};
+ghost use Rattle.std.specs.contracts.vec.Vec.{the_row as vec_row};
 
 use crate::coder::{QueueEncoder, StackCoder, SymbolCoder};
 use crate::top_bits::TopBits;
-use constriction_base::backends::{Queue, Semantics, Stack, WriteWords, take_back};
+use constriction_base::backends::{Holds, Queue, Semantics, Stack, WriteWords, take_back};
 use constriction_words::BitArray;
 use std::alloc::{AllocError, Allocator, Global};
 use std::fmt;
@@ -38,13 +39,13 @@ impl<'a, Word: BitArray, S: Semantics, A: Allocator> CoderGuard<'a, Word, S, A> 
 }
 
 impl<Word: BitArray, S: Semantics, A: Allocator> Drop for CoderGuard<'_, Word, S, A> {
-    ghost use Rattle.constriction_symbol.specs.Guarded.{lender, written};
+    ghost use Rattle.constriction_symbol.specs.Guarded.{lender, lent_back, written};
 
     /// Takes the words off that were written.
     fn drop(self)
-        ensures last { self.exit.0.now.last ≡ (lender self.entry).now.last }
-        ensures restored { self.exit.0.now.bits ≡ bits_without Word.BITS Word.number (written self.entry)
-            (reverse (lender self.entry).now.backend.items) (lender self.entry).now.last }
+        ensures last { (lent_back self.exit).now.last ≡ (lender self.entry).now.last }
+        ensures back { (lent_back self.exit).now.bits
+            ≡ bits_without Word.BITS Word.number (written self.entry) (lender self.entry).now }
     {
         let CoderGuard { inner, count } = self;
         take_back::<Word, Vec<Word, A>>(&mut inner.backend, count);
@@ -60,15 +61,14 @@ impl<Word: BitArray + fmt::Debug, S: Semantics, A: Allocator> fmt::Debug
 }
 
 impl<Word: BitArray, A: Allocator> StackCoder<Word, Vec<Word, A>> {
-    /// Writes the words that end the bits, and keeps the bits outside the vector. Returns how many they are: two where the
-    /// last word is full, else one.
+    /// Writes the words that end the bits, and keeps the bits outside the vector. Returns how many they are: two where
+    /// the last word is full, else one.
     fn put_end(&mut self) -> Result<usize, AllocError>
         ensures shows { OnOk result (IsStackWords Word.BITS self.old.bits (map Word.number self.new.backend.items)) }
-        ensures back { IfOk result (λ count. drop count (reverse self.new.backend.items) ≡ reverse self.old.backend.items) }
-        ensures bits { self.old.bits ≡ bits_above Word.BITS Word.number (reverse self.old.backend.items) self.old.last }
+        ensures back { IfOk result (λ count. bits_without Word.BITS Word.number count self.new ≡ self.old.bits) }
         ensures last { self.new.last ≡ self.old.last }
-        ensures left { OnErr result (self.new.bits ≡ self.old.bits) }
-        ensures err { OnErr result (LacksEnd Word.BITS self.old.last (vec_capacity self.old.backend - vec_len self.old.backend)) }
+        ensures kept { OnErr result (SameBits self.old self.new) }
+        ensures err { OnErr result (LacksEnd Word.BITS self.old) }
     {
         let mut last = self.last.copied();
         if last.is_full() {
@@ -98,15 +98,14 @@ impl<Word: BitArray, A: Allocator> StackCoder<Word, Vec<Word, A>> {
 }
 
 impl<Word: BitArray, A: Allocator> QueueEncoder<Word, Vec<Word, A>> {
-    /// Writes the word of the bits outside the vector, and keeps them. Returns how many words it wrote: none where there
-    /// are no such bits, else one.
+    /// Writes the word of the bits outside the vector, and keeps them. Returns how many words it wrote: none where
+    /// there are no such bits, else one.
     fn put_rest(&mut self) -> Result<usize, AllocError>
         ensures shows { OnOk result (IsQueueWords Word.BITS self.old.bits (map Word.number self.new.backend.items)) }
-        ensures back { IfOk result (λ count. drop count (reverse self.new.backend.items) ≡ reverse self.old.backend.items) }
-        ensures bits { self.old.bits ≡ bits_above Word.BITS Word.number (reverse self.old.backend.items) self.old.last }
+        ensures back { IfOk result (λ count. bits_without Word.BITS Word.number count self.new ≡ self.old.bits) }
         ensures last { self.new.last ≡ self.old.last }
-        ensures left { OnErr result (self.new.bits ≡ self.old.bits) }
-        ensures err { OnErr result ((self.old.last ≡ [] → ⊥) × (vec_capacity self.old.backend ≤ vec_len self.old.backend)) }
+        ensures kept { OnErr result (SameBits self.old self.new) }
+        ensures err { OnErr result (LacksRest self.old) }
     {
         if self.last.is_empty() {
             return Ok(0);
@@ -121,13 +120,11 @@ impl<Word: BitArray, A: Allocator> QueueEncoder<Word, Vec<Word, A>> {
 
 impl<Word: BitArray, A: Allocator> StackCoder<Word, Vec<Word, A>> {
     ghost use Rattle.constriction_base.specs.contracts.backends.semantics.Stack as order;
-    ghost use Rattle.constriction_base.specs.contracts.vectors.VecHoldsStack.TheImpl as held;
     ghost use Rattle.constriction_symbol.specs.contracts.coder.SymbolCoder.{the_row};
-    ghost use Rattle.std.specs.contracts.vec.Vec as vec;
     ghost use Rattle.constriction_symbol.specs.Guarded.{lender, written};
 
-    /// The words that [`StackCoder::into_compressed`] would give, for as long as the guard lives. When it is dropped, the
-    /// coder holds its bits as before.
+    /// The words that [`StackCoder::into_compressed`] would give, for as long as the guard lives. When it is dropped,
+    /// the coder holds its bits as before.
     ///
     /// # Errors
     /// Where there is no memory for the words, two where the last word is full, else one. The bits are as before.
@@ -141,14 +138,16 @@ impl<Word: BitArray, A: Allocator> StackCoder<Word, Vec<Word, A>> {
     /// ```
     pub fn get_compressed(&mut self) -> Result<StackCoderGuard<'_, Word, A>, AllocError>
         ensures same_reference { IfOk result (λ g. (lender g).ghost_name ≡ self.entry.ghost_name) }
-        ensures shows { IfOk result (λ g. IsStackWords Word.BITS self.old.bits (map Word.number (lender g).now.backend.items)) }
-        ensures back { IfOk result (λ g. bits_without Word.BITS Word.number (written g)
-            (reverse (lender g).now.backend.items) (lender g).now.last ≡ self.old.bits) }
+        ensures shows { IfOk result (λ g.
+            IsStackWords Word.BITS self.old.bits (map Word.number (lender g).now.backend.items)) }
+        ensures back { IfOk result (λ g.
+            bits_without Word.BITS Word.number (written g) (lender g).now ≡ self.old.bits) }
         ensures last { IfOk result (λ g. (lender g).now.last ≡ self.old.last) }
-        ensures err { OnErr result (LacksEnd Word.BITS self.old.last (vec_capacity self.old.backend - vec_len self.old.backend)) }
-        ensures* left { sem 𝓛 (RestsIfErr (the_row Word.row order.the_row (vec.the_row Word.row A.row A.Allocator) Word.NonZero.row Word.BitArray (held.ghosts Word.row A.row Word.NonZero.row Word.BitArray held.no_dict Word.Clone held.no_dict Word.NonZero.Clone held.no_dict A.Allocator held.no_dict held.no_dict))
-            self.entry (λ g. (lender g).ghost_name) result
-            (λ after. OnErr result ((after.bits ≡ self.old.bits) × (after.last ≡ self.old.last)))) }
+        ensures err { OnErr result (LacksEnd Word.BITS self.old) }
+        ensures* kept { sem 𝓛 (RestsIfErr
+            (the_row Word.row order.the_row (vec_row Word.row A.row A.Allocator) Word.NonZero.row Word.BitArray
+            ⟦<Vec<Word, A> as Holds<Word, Stack>>⟧)
+            self.entry (λ g. (lender g).ghost_name) result (λ after. OnErr result (SameBits self.old after))) }
     {
         let count = self.put_end()?;
         Ok(CoderGuard { inner: self, count })
@@ -157,26 +156,26 @@ impl<Word: BitArray, A: Allocator> StackCoder<Word, Vec<Word, A>> {
 
 impl<Word: BitArray, A: Allocator> QueueEncoder<Word, Vec<Word, A>> {
     ghost use Rattle.constriction_base.specs.contracts.backends.semantics.Queue as order;
-    ghost use Rattle.constriction_base.specs.contracts.vectors.VecHoldsStack.TheImpl as held;
     ghost use Rattle.constriction_symbol.specs.contracts.coder.SymbolCoder.{the_row};
-    ghost use Rattle.std.specs.contracts.vec.Vec as vec;
     ghost use Rattle.constriction_symbol.specs.Guarded.{lender, written};
 
-    /// The words that [`QueueEncoder::into_compressed`] would give, for as long as the guard lives. When it is dropped, the
-    /// coder holds its bits as before.
+    /// The words that [`QueueEncoder::into_compressed`] would give, for as long as the guard lives. When it is dropped,
+    /// the coder holds its bits as before.
     ///
     /// # Errors
     /// Where there are bits outside the vector, and there is no memory for their word. The bits are as before.
     pub fn get_compressed(&mut self) -> Result<QueueEncoderGuard<'_, Word, A>, AllocError>
         ensures same_reference { IfOk result (λ g. (lender g).ghost_name ≡ self.entry.ghost_name) }
-        ensures shows { IfOk result (λ g. IsQueueWords Word.BITS self.old.bits (map Word.number (lender g).now.backend.items)) }
-        ensures back { IfOk result (λ g. bits_without Word.BITS Word.number (written g)
-            (reverse (lender g).now.backend.items) (lender g).now.last ≡ self.old.bits) }
+        ensures shows { IfOk result (λ g.
+            IsQueueWords Word.BITS self.old.bits (map Word.number (lender g).now.backend.items)) }
+        ensures back { IfOk result (λ g.
+            bits_without Word.BITS Word.number (written g) (lender g).now ≡ self.old.bits) }
         ensures last { IfOk result (λ g. (lender g).now.last ≡ self.old.last) }
-        ensures err { OnErr result ((self.old.last ≡ [] → ⊥) × (vec_capacity self.old.backend ≤ vec_len self.old.backend)) }
-        ensures* left { sem 𝓛 (RestsIfErr (the_row Word.row order.the_row (vec.the_row Word.row A.row A.Allocator) Word.NonZero.row Word.BitArray (held.ghosts Word.row A.row Word.NonZero.row Word.BitArray held.no_dict Word.Clone held.no_dict Word.NonZero.Clone held.no_dict A.Allocator held.no_dict held.no_dict))
-            self.entry (λ g. (lender g).ghost_name) result
-            (λ after. OnErr result ((after.bits ≡ self.old.bits) × (after.last ≡ self.old.last)))) }
+        ensures err { OnErr result (LacksRest self.old) }
+        ensures* kept { sem 𝓛 (RestsIfErr
+            (the_row Word.row order.the_row (vec_row Word.row A.row A.Allocator) Word.NonZero.row Word.BitArray
+            ⟦<Vec<Word, A> as Holds<Word, Stack>>⟧)
+            self.entry (λ g. (lender g).ghost_name) result (λ after. OnErr result (SameBits self.old after))) }
     {
         let count = self.put_rest()?;
         Ok(CoderGuard { inner: self, count })

@@ -2,7 +2,8 @@
 
 ghost use Rattle.constriction_base.specs.Backends.{IsWrite};
 ghost use Rattle.constriction_base.specs.declared.errors.CoderError.TheVariants as coder_error;
-ghost use Rattle.constriction_symbol.specs.Bits.{ClosesQueue, ClosesStack, HasStackWords, IsQueueWords, IsStackWords, TopWord, bits_of_words};
+ghost use Rattle.constriction_symbol.specs.Bits.{ClosesQueue, ClosesStack, HasStackWords, IsQueueWords, IsStackWords};
+ghost use Rattle.constriction_symbol.specs.Bits.{TopWord, bits_of_words};
 ghost use Rattle.std.specs.Prelude.{Err, IfErr, IfOk, None, Ok, Some, [], map, reverse, ◌∷◌, ◌≡◌, ◌⊎◌};
 
 use crate::coder::{QueueEncoder, StackCoder, SymbolCoder};
@@ -43,8 +44,8 @@ impl<Word: BitArray, B: WriteWords<Word>> StackCoder<Word, B> {
 }
 
 impl<Word: BitArray, B: ReadWords<Word, Stack>> StackCoder<Word, B> {
-    /// The coder whose words these are, as [`StackCoder::into_compressed`] gives them. Of no words it is a coder without
-    /// bits. The highest set bit of the last word ends the bits.
+    /// The coder whose words these are, as [`StackCoder::into_compressed`] gives them. Of no words it is a coder
+    /// without bits. The highest set bit of the last word ends the bits.
     ///
     /// # Errors
     /// - `Frontend(backend)` exactly where the last word is zero, which was then read.
@@ -52,14 +53,17 @@ impl<Word: BitArray, B: ReadWords<Word, Stack>> StackCoder<Word, B> {
     pub fn from_compressed(mut compressed: B) -> Result<Self, CoderError<B, B::ReadError>>
     where
         B: Drop,
-        ensures ok { B.is_list → IfOk result (λ new. HasStackWords Word.BITS new.bits (map Word.number (reverse (B.words compressed)))) }
+        ensures ok { B.is_list → IfOk result (λ new.
+            HasStackWords Word.BITS new.bits (map Word.number (reverse (B.words compressed)))) }
         ensures reads { IfOk result (λ new.
             ((new.last ≡ []) × B.reads compressed (Ok None) new.backend)
-            ⊎ ((word : Word) × TopWord Word.BITS new.last (Word.number word) × B.reads compressed (Ok (Some word)) new.backend)) }
+            ⊎ ((word : Word) × TopWord Word.BITS new.last (Word.number word)
+            × B.reads compressed (Ok (Some word)) new.backend)) }
         ensures frontend { (rest : B) → result ≡ Err (coder_error.Frontend rest) →
             (word : Word) × (Word.number word ≡ 0) × B.reads compressed (Ok (Some word)) rest
             × (B.is_list → B.words compressed ≡ word ∷ B.words rest) }
-        ensures err { (e : B.ReadError) → result ≡ Err (coder_error.Backend e) → (rest : B) × B.reads compressed (Err e) rest }
+        ensures err { (e : B.ReadError) → result ≡ Err (coder_error.Backend e) →
+            (rest : B) × B.reads compressed (Err e) rest }
     {
         let word = match compressed.read() {
             Err(error) => return Err(CoderError::Backend(error)),
@@ -94,7 +98,7 @@ impl<Word: BitArray, B: WriteWords<Word>> QueueEncoder<Word, B> {
         ensures ok { IfOk result (λ all. IsQueueWords Word.BITS self.bits (map Word.number (reverse (B.words all)))) }
         ensures closes { ClosesQueue Word.BITS Word.number (IsWrite B.words B.room B.writes B.write_fails)
             self.last self.backend result }
-        ensures whole { self.last ≡ [] → result ≡ Ok self.backend }
+        ensures untouched { self.last ≡ [] → result ≡ Ok self.backend }
         ensures err { IfErr result (λ e. (self.last ≡ [] → ⊥) × B.write_fails self.backend e) }
     {
         let SymbolCoder {

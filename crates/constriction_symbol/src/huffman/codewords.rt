@@ -23,7 +23,7 @@ fn codeword_below(above: usize, bit: usize) -> usize
 /// For each node the bits that lead to it from the root, as the lowest ones of a number, the first one highest, below
 /// a bit that is set. 0 where they are too many.
 pub fn codewords_of(alloc: Global, nodes: &[usize]) -> Result<Vec<usize>, AllocError>
-    requires up { GoesUp (length nodes.now) nodes.now }
+    requires rising { GoesUp (length nodes.now) nodes.now }
     ensures { IfOk result (λ codewords. HasCodewords nodes.now codewords.items) }
 {
     let mut codewords = vec![in alloc; 1usize; nodes.len()]?;
@@ -43,7 +43,8 @@ pub fn codewords_of(alloc: Global, nodes: &[usize]) -> Result<Vec<usize>, AllocE
 #[inline]
 pub fn below_one<Word: BitArray>(number: usize) -> Option<(Word, u32)>
     ensures some { OnSome result (1 < number) }
-    ensures bits { IfSome result (λ found. (bits : List Bool) → HasBelowOne bits number → IsLowBits Word.BITS (Some bits) (Word.number found.0) found.1) }
+    ensures bits { IfSome result (λ found. (bits : List Bool) → HasBelowOne bits number →
+        IsLowBits Word.BITS (Some bits) (Word.number found.0) found.1) }
 {
     if number < 2 {
         return None;

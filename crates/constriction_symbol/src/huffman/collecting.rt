@@ -18,7 +18,8 @@ where
     I: IntoIterator<Item = Result<P, E>>,
     I::IntoIter: Drop,
     requires { IsFiniteIterable I.into_iter_gives I.IntoIter.can_next I.IntoIter.remaining probabilities }
-    ensures ok { IfOk result (λ weights. GivesWeights (I.into_iter_gives probabilities) I.IntoIter.next_gives weights.items) }
+    ensures ok { IfOk result (λ weights.
+        GivesWeights (I.into_iter_gives probabilities) I.IntoIter.next_gives weights.items) }
     ensures err { IfErr result (λ e. StopsGiving (I.into_iter_gives probabilities) I.IntoIter.next_gives e) }
 {
     let mut weights = Vec::new(alloc);
@@ -45,7 +46,8 @@ where
     I: IntoIterator<Item = L>,
     I::IntoIter: Drop,
     requires { IsFiniteIterable I.into_iter_gives I.IntoIter.can_next I.IntoIter.remaining probabilities }
-    ensures ok { IfOk result (λ weights. LendsWeights (I.into_iter_gives probabilities) I.IntoIter.next_gives L.lent weights.items) }
+    ensures ok { IfOk result (λ weights.
+        LendsWeights (I.into_iter_gives probabilities) I.IntoIter.next_gives L.lent weights.items) }
     ensures err { IfErr result (λ _. StopsLending (I.into_iter_gives probabilities) I.IntoIter.next_gives) }
 {
     let mut weights = Vec::new(alloc);

@@ -1,13 +1,14 @@
 //! Huffman trees for decoding: from the root to the symbols.
 
 ghost use Rattle.constriction_symbol.specs.Codewords.{BeginsTopBits, GivesBits, StopsWithin};
-ghost use Rattle.constriction_symbol.specs.Bits.{bits_of};
+ghost use Rattle.constriction_symbol.specs.Bits.{top_bits};
 ghost use Rattle.constriction_symbol.specs.DecoderTree.{HoldsTree, LeadsTo, tree_of_pairs};
 ghost use Rattle.constriction_symbol.specs.Huffman.{ReadsOnIn, leaves, path};
 ghost use Rattle.constriction_symbol.specs.HuffmanLaws.{inner_begins_none, path_prefix_free, same_path};
-ghost use Rattle.constriction_symbol.specs.Merging.{GivesWeights, LendsWeights, MakeNoTree, MakesTree, RefusesGiven, RefusesLent};
+ghost use Rattle.constriction_symbol.specs.Merging.{MakeNoTree, MakesTree};
+ghost use Rattle.constriction_symbol.specs.Merging.{MakesGiven, MakesLent, RefusesGiven, RefusesLent};
 ghost use Rattle.std.specs.Iterator.{IsFinite, IsFiniteIterable};
-ghost use Rattle.std.specs.Prelude.{Bool, IfErr, IfOk, IfSome, List, OnOk, Some, length, reverse, ◌-◌, ◌/◌, ◌<◌, ◌^◌, ◌≡◌, ◌≤◌};
+ghost use Rattle.std.specs.Prelude.{Bool, IfErr, IfOk, IfSome, List, OnOk, Some, length, ◌-◌, ◌<◌, ◌^◌, ◌≡◌, ◌≤◌};
 
 use crate::codebooks::{Codebook, DecoderCodebook};
 use crate::huffman::collecting::{collect_given, collect_lent};
@@ -22,7 +23,8 @@ use std::alloc::{AllocError, Global};
 use std::convert::Infallible;
 use std::marker::Model;
 
-/// A Huffman tree for decoding: codewords of the symbols `0`, `1`, .. that cost as little as any prefix-free ones for their weights.
+/// A Huffman tree for decoding: codewords of the symbols `0`, `1`, .. that cost as little as any prefix-free ones for
+/// their weights.
 ///
 /// Contracts see it as a tree, whose leaves are the symbols. A symbol's codeword is the path to it from the root.
 #[derive(Debug, Drop)]
@@ -47,8 +49,9 @@ impl Model for DecoderHuffmanTree {
 
     ghost view = { λ t. tree_of_pairs t.nodes.items };
 
-    ghost invariant = { λ t. HoldsTree t.nodes.items (tree_of_pairs t.nodes.items) × HasPlaces t.nodes.items t.places.items
-        × (0 < t.most) × (t.most ≤ 9) × (length t.places.items ≡ 2 ^ (t.most + 1)) };
+    ghost invariant = { λ t. HoldsTree t.nodes.items (tree_of_pairs t.nodes.items)
+        × HasPlaces t.nodes.items t.places.items × (0 < t.most) × (t.most ≤ 9)
+        × (length t.places.items ≡ 2 ^ (t.most + 1)) };
 }
 
 impl Clone for DecoderHuffmanTree {
@@ -112,8 +115,10 @@ impl DecoderHuffmanTree {
         I: IntoIterator<Item = L>,
         I::IntoIter: Drop,
         requires { IsFiniteIterable I.into_iter_gives I.IntoIter.can_next I.IntoIter.remaining probabilities }
-        ensures ok { IfOk result (λ tree. (weights : List P) × LendsWeights (I.into_iter_gives probabilities) I.IntoIter.next_gives L.lent weights × MakesTree P.number P.BITS (2 ^ 63 - 1) weights tree) }
-        ensures err { IfErr result (λ e. RefusesLent (I.into_iter_gives probabilities) I.IntoIter.next_gives L.lent P.number P.BITS (2 ^ 63 - 1) e) }
+        ensures ok { IfOk result (λ tree. MakesLent (I.into_iter_gives probabilities) I.IntoIter.next_gives L.lent
+            P.number P.BITS (2 ^ 63 - 1) tree) }
+        ensures err { IfErr result (λ e. RefusesLent (I.into_iter_gives probabilities) I.IntoIter.next_gives L.lent
+            P.number P.BITS (2 ^ 63 - 1) e) }
     {
         match collect_lent(alloc, probabilities) {
             Ok(weights) => tree_of(alloc, &weights),
@@ -136,8 +141,10 @@ impl DecoderHuffmanTree {
         I: IntoIterator<Item = Result<P, E>>,
         I::IntoIter: Drop,
         requires { IsFiniteIterable I.into_iter_gives I.IntoIter.can_next I.IntoIter.remaining probabilities }
-        ensures ok { IfOk result (λ tree. (weights : List P) × GivesWeights (I.into_iter_gives probabilities) I.IntoIter.next_gives weights × MakesTree P.number P.BITS (2 ^ 63 - 1) weights tree) }
-        ensures err { IfErr result (λ e. RefusesGiven (I.into_iter_gives probabilities) I.IntoIter.next_gives P.number P.BITS (2 ^ 63 - 1) e) }
+        ensures ok { IfOk result (λ tree. MakesGiven (I.into_iter_gives probabilities) I.IntoIter.next_gives
+            P.number P.BITS (2 ^ 63 - 1) tree) }
+        ensures err { IfErr result (λ e. RefusesGiven (I.into_iter_gives probabilities) I.IntoIter.next_gives
+            P.number P.BITS (2 ^ 63 - 1) e) }
     {
         match collect_given(alloc, probabilities) {
             Ok(given) => tree_of(alloc, &given),
@@ -214,8 +221,10 @@ fn walk<V, E, I: Iterator<Item = Result<bool, E>>>(
     requires tree { HoldsTree nodes.now (tree_of_pairs nodes.now) }
     ensures can { OnOk result (I.can_next source.new) }
     ensures finite { IsFinite (I.remaining source.old) → OnOk result (IsFinite (I.remaining source.new)) }
-    ensures bits { IfOk result (λ symbol. (bits : List Bool) × (path (tree_of_pairs nodes.now) symbol ≡ Some bits) × GivesBits I.next_gives source.old bits source.new) }
-    ensures stops { IfErr result (λ e. StopsWithin I.next_gives (ReadsOnIn (tree_of_pairs nodes.now)) source.old e source.new) }
+    ensures bits { IfOk result (λ symbol. (bits : List Bool) × (path (tree_of_pairs nodes.now) symbol ≡ Some bits)
+        × GivesBits I.next_gives source.old bits source.new) }
+    ensures stops { IfErr result (λ e.
+        StopsWithin I.next_gives (ReadsOnIn (tree_of_pairs nodes.now)) source.old e source.new) }
 {
     let symbols = nodes.len() + 1;
     let mut index = 2 * nodes.len();
@@ -228,8 +237,8 @@ fn walk<V, E, I: Iterator<Item = Result<bool, E>>>(
     Ok(index)
 }
 
-/// Takes the highest bits of a word down to a symbol, from where the first of them lead, and returns it with their count.
-/// `None` where they are not fewer than `count`.
+/// Takes the highest bits of a word down to a symbol, from where the first of them lead, and returns it with their
+/// count. `None` where they are not fewer than `count`.
 #[inline]
 fn walk_on<Word: BitArray>(
     nodes: &[[usize; 2]],
@@ -241,8 +250,9 @@ fn walk_on<Word: BitArray>(
     requires within { count ≤ Word.BITS }
     requires some { 0 < place.taken }
     requires part { place.taken < count }
-    requires place { LeadsTo nodes.now (reverse (bits_of place.taken (Word.number bits / 2 ^ (Word.BITS - place.taken)))) place.index }
-    ensures { IfSome result (λ found. BeginsTopBits Word.BITS count (Word.number bits) (path (tree_of_pairs nodes.now) found.0) found.1) }
+    requires place { LeadsTo nodes.now (top_bits Word.BITS place.taken (Word.number bits)) place.index }
+    ensures { IfSome result (λ found.
+        BeginsTopBits Word.BITS count (Word.number bits) (path (tree_of_pairs nodes.now) found.0) found.1) }
 {
     let symbols = nodes.len() + 1;
     let mut index = place.index;

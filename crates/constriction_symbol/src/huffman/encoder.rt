@@ -1,12 +1,12 @@
 //! Huffman trees for encoding: from the symbols to the root.
 
-ghost use Rattle.constriction_symbol.specs.Codewords.{EmitsCodeword, formed};
 ghost use Rattle.constriction_symbol.specs.Huffman.{leaves, path};
 ghost use Rattle.constriction_symbol.specs.HuffmanLaws.{path_prefix_free, same_path};
-ghost use Rattle.constriction_symbol.specs.Merging.{GivesWeights, LendsWeights, MakeNoTree, MakesTree, RefusesGiven, RefusesLent};
+ghost use Rattle.constriction_symbol.specs.Merging.{MakeNoTree, MakesTree};
+ghost use Rattle.constriction_symbol.specs.Merging.{MakesGiven, MakesLent, RefusesGiven, RefusesLent};
 ghost use Rattle.constriction_symbol.specs.Reversed.{IsLongerThan};
 ghost use Rattle.std.specs.Iterator.{IsFiniteIterable};
-ghost use Rattle.std.specs.Prelude.{IfErr, IfOk, List, length, reverse, ◌*◌, ◌-◌, ◌^◌, ◌≡◌};
+ghost use Rattle.std.specs.Prelude.{IfErr, IfOk, length, ◌*◌, ◌-◌, ◌^◌, ◌≡◌};
 
 use crate::codebooks::{Codebook, EncoderCodebook};
 use crate::huffman::codewords::{below_one, codewords_of};
@@ -22,7 +22,8 @@ use std::alloc::{AllocError, Global};
 use std::convert::Infallible;
 use std::marker::Model;
 
-/// A Huffman tree for encoding: codewords of the symbols `0`, `1`, .. that cost as little as any prefix-free ones for their weights.
+/// A Huffman tree for encoding: codewords of the symbols `0`, `1`, .. that cost as little as any prefix-free ones for
+/// their weights.
 ///
 /// Contracts see it as a tree, whose leaves are the symbols. A symbol's codeword is the path to it from the root.
 #[derive(Debug, Clone, Drop)]
@@ -47,7 +48,8 @@ impl Model for EncoderHuffmanTree {
 
     ghost view = { λ t. tree_of_parents t.nodes.items };
 
-    ghost invariant = { λ t. ClimbsTree t.nodes.items (tree_of_parents t.nodes.items) × HasCodewords t.nodes.items t.codewords.items };
+    ghost invariant = { λ t. ClimbsTree t.nodes.items (tree_of_parents t.nodes.items)
+        × HasCodewords t.nodes.items t.codewords.items };
 }
 
 /// The tree of these weights.
@@ -103,8 +105,10 @@ impl EncoderHuffmanTree {
         I: IntoIterator<Item = L>,
         I::IntoIter: Drop,
         requires { IsFiniteIterable I.into_iter_gives I.IntoIter.can_next I.IntoIter.remaining probabilities }
-        ensures ok { IfOk result (λ tree. (weights : List P) × LendsWeights (I.into_iter_gives probabilities) I.IntoIter.next_gives L.lent weights × MakesTree P.number P.BITS (2 ^ 62 - 1) weights tree) }
-        ensures err { IfErr result (λ e. RefusesLent (I.into_iter_gives probabilities) I.IntoIter.next_gives L.lent P.number P.BITS (2 ^ 62 - 1) e) }
+        ensures ok { IfOk result (λ tree. MakesLent (I.into_iter_gives probabilities) I.IntoIter.next_gives L.lent
+            P.number P.BITS (2 ^ 62 - 1) tree) }
+        ensures err { IfErr result (λ e. RefusesLent (I.into_iter_gives probabilities) I.IntoIter.next_gives L.lent
+            P.number P.BITS (2 ^ 62 - 1) e) }
     {
         match collect_lent(alloc, probabilities) {
             Ok(weights) => tree_of(alloc, &weights),
@@ -127,8 +131,10 @@ impl EncoderHuffmanTree {
         I: IntoIterator<Item = Result<P, E>>,
         I::IntoIter: Drop,
         requires { IsFiniteIterable I.into_iter_gives I.IntoIter.can_next I.IntoIter.remaining probabilities }
-        ensures ok { IfOk result (λ tree. (weights : List P) × GivesWeights (I.into_iter_gives probabilities) I.IntoIter.next_gives weights × MakesTree P.number P.BITS (2 ^ 62 - 1) weights tree) }
-        ensures err { IfErr result (λ e. RefusesGiven (I.into_iter_gives probabilities) I.IntoIter.next_gives P.number P.BITS (2 ^ 62 - 1) e) }
+        ensures ok { IfOk result (λ tree. MakesGiven (I.into_iter_gives probabilities) I.IntoIter.next_gives
+            P.number P.BITS (2 ^ 62 - 1) tree) }
+        ensures err { IfErr result (λ e. RefusesGiven (I.into_iter_gives probabilities) I.IntoIter.next_gives
+            P.number P.BITS (2 ^ 62 - 1) e) }
     {
         match collect_given(alloc, probabilities) {
             Ok(given) => tree_of(alloc, &given),
@@ -177,8 +183,8 @@ impl EncoderCodebook for EncoderHuffmanTree {
 
     ghost suffix_wants = { λ _ _. ⊥ };
 
-    /// Emits the codeword from the first bit to the last. It is found from the last to the first, and turned round: one of
-    /// more than `2 * usize::BITS` bits wants memory.
+    /// Emits the codeword from the first bit to the last. It is found from the last to the first, and turned round: one
+    /// of more than `2 * usize::BITS` bits wants memory.
     #[inline]
     fn encode_symbol_prefix<E: From<AllocError>, F: FnMut(bool) -> Result<(), E>>(
         &self,

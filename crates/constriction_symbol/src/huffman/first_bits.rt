@@ -1,9 +1,8 @@
 //! Where the first bits of a codeword lead from the root of a tree for decoding, as a table of all first bits.
 
 ghost use Rattle.constriction_symbol.specs.DecoderTree.{HasPlaces, HoldsTree, IsPlace, LeadsTo, tree_of_pairs};
-ghost use Rattle.constriction_symbol.specs.EncoderTree.{HasBelowOne};
-ghost use Rattle.constriction_symbol.specs.Bits.{bits_of};
-ghost use Rattle.std.specs.Prelude.{Bool, IfOk, List, [], length, reverse, ◌%◌, ◌+◌, ◌++◌, ◌-◌, ◌/◌, ◌<◌, ◌==◌, ◌^◌, ◌∷◌, ◌≡◌, ◌≤◌, ℕ};
+ghost use Rattle.constriction_symbol.specs.Bits.{top_bits};
+ghost use Rattle.std.specs.Prelude.{Bool, IfOk, List, [], length, ◌+◌, ◌++◌, ◌<◌, ◌==◌, ◌^◌, ◌∷◌, ◌≡◌, ◌≤◌, ℕ};
 
 use constriction_words::BitArray;
 use std::alloc::{AllocError, Global};
@@ -18,8 +17,8 @@ pub struct Place {
     pub taken: u32,
 }
 
-/// How many of the first bits have a place in the table of a tree of so many nodes: one more than the codewords of as many
-/// symbols of one weight have.
+/// How many of the first bits have a place in the table of a tree of so many nodes: one more than the codewords of as
+/// many symbols of one weight have.
 fn most_of(nodes: usize) -> u32
     ensures some { 0 < result }
     ensures few { result ≤ 9 }
@@ -32,8 +31,9 @@ fn most_of(nodes: usize) -> u32
 fn place_below(nodes: &[[usize; 2]], place: Place, bit: usize) -> Place
     requires tree { HoldsTree nodes.now (tree_of_pairs nodes.now) }
     requires place { (bits : List Bool) × (length bits < 32) × IsPlace nodes.now bits place }
-    requires bit { bit < 2 }
-    ensures { (bits : List Bool) → IsPlace nodes.now bits place → IsPlace nodes.now (bits ++ (bit == 1) ∷ []) result }
+    requires below { bit < 2 }
+    ensures { (bits : List Bool) → IsPlace nodes.now bits place →
+        IsPlace nodes.now (bits ++ (bit == 1) ∷ []) result }
 {
     let symbols = nodes.len() + 1;
     if place.index < symbols {
@@ -45,12 +45,12 @@ fn place_below(nodes: &[[usize; 2]], place: Place, bit: usize) -> Place
     }
 }
 
-/// Of each number up to a number of bits the place of the bits below the highest one that is set, and how many these are
-/// at most.
+/// Of each number up to a number of bits the place of the bits below the highest one that is set, and how many these
+/// are at most.
 pub fn places_of(alloc: Global, nodes: &[[usize; 2]]) -> Result<(Vec<Place>, u32), AllocError>
     requires tree { HoldsTree nodes.now (tree_of_pairs nodes.now) }
     ensures some { IfOk result (λ table. 0 < table.1) }
-    ensures len { IfOk result (λ table. length table.0.items ≡ 2 ^ (table.1 + 1)) }
+    ensures count { IfOk result (λ table. length table.0.items ≡ 2 ^ (table.1 + 1)) }
     ensures few { IfOk result (λ table. table.1 ≤ 9) }
     ensures places { IfOk result (λ table. HasPlaces nodes.now table.0.items) }
 {
@@ -73,7 +73,7 @@ pub fn places_of(alloc: Global, nodes: &[[usize; 2]]) -> Result<(Vec<Place>, u32
 #[inline]
 fn lesser(most: u32, all: u32) -> u32
     ensures most { result ≤ most }
-    ensures all { result ≤ all }
+    ensures within { result ≤ all }
     ensures some { 0 < most → 0 < all → 0 < result }
 {
     if most < all { most } else { all }
@@ -84,9 +84,9 @@ fn lesser(most: u32, all: u32) -> u32
 pub fn place_of<Word: BitArray>(places: &[Place], most: u32, bits: Word) -> Place
     requires some { 0 < most }
     requires few { most ≤ 9 }
-    requires len { length places.now ≡ 2 ^ (most + 1) }
+    requires count { length places.now ≡ 2 ^ (most + 1) }
     ensures { (nodes : List (List ℕ)) → HasPlaces nodes places.now →
-        (result.taken ≤ Word.BITS) × LeadsTo nodes (reverse (bits_of result.taken (Word.number bits / 2 ^ (Word.BITS - result.taken)))) result.index }
+        (result.taken ≤ Word.BITS) × LeadsTo nodes (top_bits Word.BITS result.taken (Word.number bits)) result.index }
 {
     let count = lesser(most, Word::BITS);
     let first = bits.shifted_right(Word::BITS - count).to_index();

@@ -1,10 +1,11 @@
 //! Merging a set of weights, the two least at a time.
 
 ghost use Rattle.constriction_symbol.specs.Huffman.{IsPairLe, keys_from};
-ghost use Rattle.constriction_symbol.specs.Merging.{ArePairs, FitTree, MakeNoTree, keys_of};
+ghost use Rattle.constriction_symbol.specs.Merging.{ArePairs, FitTree, MakeNoTree, all_keys, key_of, keys_of};
 ghost use Rattle.constriction_symbol.specs.Queues.{AreQueues, AreRising};
 ghost use Rattle.std.specs.VecDeque.{deque_len};
-ghost use Rattle.std.specs.Prelude.{All, IfErr, IfNone, IfOk, IfSome, IsPermutation, IsTrue, OnOk, OnSome, length, map, sum_by, ◌*◌, ◌+◌, ◌++◌, ◌<◌, ◌^◌, ◌↔◌, ◌∷◌, ◌≡◌, ◌≤◌};
+ghost use Rattle.std.specs.Prelude.{All, IfErr, IfNone, IfOk, IfSome, IsPermutation, IsTrue, OnOk, OnSome};
+ghost use Rattle.std.specs.Prelude.{length, map, sum_by, ◌*◌, ◌+◌, ◌<◌, ◌^◌, ◌↔◌, ◌∷◌, ◌≡◌};
 
 use crate::huffman::error::HuffmanError;
 use crate::huffman::weighed::Weighed;
@@ -31,8 +32,9 @@ fn sorted_leaves<P: BitArray>(
     alloc: Global,
     weights: &[P],
 ) -> Result<VecDeque<Weighed<P>>, AllocError>
-    ensures rise { IfOk result (λ leaves. AreRising (keys_of P.number leaves.items)) }
-    ensures items { IfOk result (λ leaves. IsPermutation (keys_from 0 (map P.number weights.now)) (keys_of P.number leaves.items)) }
+    ensures rising { IfOk result (λ leaves. AreRising (keys_of P.number leaves.items)) }
+    ensures items { IfOk result (λ leaves.
+        IsPermutation (keys_from 0 (map P.number weights.now)) (keys_of P.number leaves.items)) }
 {
     let mut leaves = Vec::with_capacity(alloc, weights.len())?;
     for (index, weight) in weights.iter().enumerate() {
@@ -51,11 +53,15 @@ fn take_least<P: BitArray>(
     unions: &mut VecDeque<Weighed<P>>,
 ) -> Option<Weighed<P>>
     requires { (n : _) × AreQueues n (keys_of P.number leaves.old.items) (keys_of P.number unions.old.items) }
-    ensures queues { (n : _) → AreQueues n (keys_of P.number leaves.old.items) (keys_of P.number unions.old.items) → AreQueues n (keys_of P.number leaves.new.items) (keys_of P.number unions.new.items) }
+    ensures queues { (n : _) → AreQueues n (keys_of P.number leaves.old.items) (keys_of P.number unions.old.items) →
+        AreQueues n (keys_of P.number leaves.new.items) (keys_of P.number unions.new.items) }
     ensures none { IfNone result (deque_len leaves.old + deque_len unions.old ≡ 0) }
-    ensures len { OnSome result (deque_len leaves.new + deque_len unions.new + 1 ≡ deque_len leaves.old + deque_len unions.old) }
-    ensures rest { IfSome result (λ x. IsPermutation (keys_of P.number leaves.old.items ++ keys_of P.number unions.old.items) ((P.number x.weight, x.index) ∷ (keys_of P.number leaves.new.items ++ keys_of P.number unions.new.items))) }
-    ensures least { IfSome result (λ x. All (IsPairLe (P.number x.weight, x.index)) (keys_of P.number leaves.old.items ++ keys_of P.number unions.old.items)) }
+    ensures count { OnSome result
+        (deque_len leaves.new + deque_len unions.new + 1 ≡ deque_len leaves.old + deque_len unions.old) }
+    ensures rest { IfSome result (λ x. IsPermutation (all_keys P.number leaves.old.items unions.old.items)
+        (key_of P.number x ∷ all_keys P.number leaves.new.items unions.new.items)) }
+    ensures least { IfSome result (λ x.
+        All (IsPairLe (key_of P.number x)) (all_keys P.number leaves.old.items unions.old.items)) }
 {
     let Some(leaf) = leaves.front() else {
         return unions.pop_front();
@@ -74,7 +80,7 @@ fn take_least<P: BitArray>(
 fn merge_all<P: BitArray>(alloc: Global, weights: &[P]) -> Result<Vec<[usize; 2]>, AllocError>
     requires some { 0 < length weights.now }
     requires total { sum_by P.number weights.now < 2 ^ P.BITS }
-    requires indices { 2 * length weights.now < 2 ^ 64 }
+    requires fits { 2 * length weights.now < 2 ^ 64 }
     ensures { IfOk result (λ pairs. ArePairs (map P.number weights.now) pairs.items) }
 {
     let mut leaves = sorted_leaves(alloc, weights)?;

@@ -12,7 +12,7 @@ use std::alloc::{AllocError, Global};
 pub fn parents_of(alloc: Global, pairs: &[[usize; 2]]) -> Result<Vec<usize>, AllocError>
     requires unions { AreUnions (length pairs.now + 1) (map as_pair pairs.now) }
     requires fits { 4 * length pairs.now + 4 < 2 ^ 64 }
-    ensures len { IfOk result (λ nodes. length nodes.items ≡ 2 * length pairs.now + 1) }
+    ensures count { IfOk result (λ nodes. length nodes.items ≡ 2 * length pairs.now + 1) }
     ensures ok { IfOk result (λ nodes. IsParents (length pairs.now + 1) (map as_pair pairs.now) nodes.items) }
 {
     let symbols = pairs.len() + 1;
@@ -33,7 +33,7 @@ pub fn climb<E, F: FnMut(bool) -> Result<(), E>>(
     emit: &mut F,
 ) -> Result<(), DefaultEncoderError<E>>
     requires callable { F.IsAlwaysCallable emit.old }
-    requires up { GoesUp (length nodes.now) nodes.now }
+    requires rising { GoesUp (length nodes.now) nodes.now }
     requires within { symbol < length nodes.now }
     ensures { Emits F.FnMut emit.old (reverse (climbed (length nodes.now) nodes.now symbol)) result emit.new }
 {

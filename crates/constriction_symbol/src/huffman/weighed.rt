@@ -1,6 +1,6 @@
 //! A tree that is merged, by its weight and its index.
 
-ghost use Rattle.std.specs.Prelude.{false, ◌==◌, ◌≡◌};
+ghost use Rattle.std.specs.Prelude.{◌==◌};
 ghost use Rattle.std.proofs.Common.{rules};
 ghost use Rattle.std.specs.Cmp.{partial_order_from_own_ties};
 ghost use Rattle.std.specs.Cmp.Rules.{comparing};

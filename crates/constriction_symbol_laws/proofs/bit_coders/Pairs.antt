@@ -12,15 +12,10 @@ use Rattle.constriction_symbol.specs.Codewords.{ReadsSymbol}
 use Rattle.constriction_symbol.specs.declared.codebooks.SymbolCodeError.{SymbolCodeError}
 use Rattle.constriction_symbol_laws.specs.Lists.{ReadsPairs}
 use Rattle.constriction_coder_laws.proofs.ListsGiven.{none_left, zip_more}
+use Rattle.constriction_coder_laws.proofs.PairCalls.{both_now, rest_of}
 
 -- ---- what an iterator over two slices gave
 module _ {A B : Type 0} where
-  abbrev rest_of : Zip (Iter A) (Iter B) → List (A × B)
-  rest_of i = zip (iter_rest (zip_first i)) (iter_rest (zip_second i))
-
-  abbrev pub both_now : Bor A × Bor B → A × B
-  both_now p = (p.0.now, p.1.now)
-
   zip_none : (xs : List A) (ys : List B) → ys ≡ [] → zip xs ys ≡ []
   zip_none [] ys none = refl
   zip_none (x ∷ xs) [] none = refl

@@ -1,5 +1,5 @@
 -- Reads that were refused where codewords are there.
-use Rattle.std.proofs.Common.{◌≡◌, ◌<◌, ◌∙◌, ℕ, Bool, Option, Some, List, ◌++◌, Result, Ok, Err, length, ap, arith, append_assoc}
+use Rattle.std.proofs.Common.{◌≡◌, ◌∙◌, ℕ, Bool, Option, Some, List, ◌++◌, Result, Ok, Err, ap, arith, append_assoc}
 use Rattle.constriction_base.specs.declared.errors.CoderError.{CoderError}
 use Rattle.constriction_base.specs.declared.errors.CoderError.TheVariants.{Frontend}
 use Rattle.constriction_coder_laws.specs.declared.errors.Stopped.TheVariants.{Refused}

@@ -1,7 +1,7 @@
 -- Codewords of Huffman trees; lists of codewords by two codebooks that have the same ones, and lists whose items are equal.
 use Rattle.std.proofs.Common.{◌≡◌, ◌<◌, ◌≤◌, ℕ, Bool, List, [], ◌∷◌, Option, Some, None, length, ap, ap₂, refl, sym, ◌∙◌, arith}
 use Rattle.constriction_symbol.specs.Huffman.{huffman}
-use Rattle.constriction_symbol.specs.HuffmanMerge.{huffman_path, merge_one, merge_path_none, merge_path_some}
+use Rattle.constriction_symbol.proofs.HuffmanMerge.{huffman_path, merge_one, merge_path_none, merge_path_some}
 use Rattle.constriction_symbol_laws.specs.Lists.{AreCodewords, AreEach}
 
 -- the codewords of a list by the one codebook are those by the other

@@ -4,12 +4,12 @@ use Rattle.std.specs.Iterator.Adapters.{zip_steps, zip_steps_back}
 use Rattle.std.specs.Slice.Iter.{iter_rest, iter_steps, iter_steps_back}
 use Rattle.std.specs.declared.iter.Zip.{Zip}
 use Rattle.std.specs.Prelude.{reverse}
-use Rattle.std.proofs.Common.{◌≡◌, ◌∙◌, Bool, Bor, Iter, Option, None, Some, List, [], ◌∷◌, ◌++◌, Result, Ok, Err, map, refl, ap, append_assoc}
+use Rattle.std.proofs.Common.{◌≡◌, ◌∙◌, Bool, Bor, Iter, Option, None, Some, List, [], ◌∷◌, ◌++◌, Result, Err, map, refl, ap, append_assoc}
 use Rattle.constriction_base.specs.declared.errors.CoderError.{CoderError}
 use Rattle.constriction_base.specs.declared.errors.CoderError.TheVariants.{Frontend, Backend}
 use Rattle.constriction_base.specs.declared.errors.DefaultEncoderFrontendError.{DefaultEncoderFrontendError}
 use Rattle.constriction_symbol.specs.Codewords.{WritesCodeword, formed}
-use Rattle.constriction_symbol_laws.specs.Refusals.{NotWritten}
+use Rattle.constriction_symbol_laws.specs.Refusals.{SymbolNotWritten}
 use Rattle.constriction_coder_laws.proofs.ListsGiven.{from_back}
 use Rattle.constriction_coder_laws.proofs.PairCalls.{SameLength, both_now, left_in, pairs_from_back, rest_of}
 use Rattle.constriction_coder_laws.proofs.Refused.{from_front, pairs_from_front}
@@ -22,7 +22,7 @@ none_of bits puts wants form (Some code) old new e h = absurd h
 
 pub not_written : {C E A : Type 0} (bits : C → List Bool) (puts : C → Bool → Result (Unit {0}) E → C → Type 0) (wants : E → Type 0) (form : List Bool → List Bool) (codeword : A → Option (List Bool))
     (items before after : List A) (item : A) (old new : C) (e : CoderError DefaultEncoderFrontendError E) → items ≡ before ++ item ∷ after
-    → WritesCodeword bits puts wants old (formed form (codeword item)) (Err e) new → NotWritten codeword items e
+    → WritesCodeword bits puts wants old (formed form (codeword item)) (Err e) new → SymbolNotWritten codeword items e
 not_written bits puts wants form codeword items before after item old new (Frontend e) is h = (before, after, item, is, none_of bits puts wants form (codeword item) old new e h)
 not_written bits puts wants form codeword items before after item old new (Backend e) is h = tt
 

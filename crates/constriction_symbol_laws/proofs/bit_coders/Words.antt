@@ -1,6 +1,6 @@
 -- Bits have one list of words, as a queue and as a stack.
 use Rattle.std.proofs.Common.{◌≡◌, ◌<◌, ◌≤◌, ◌+◌, ◌*◌, ℕ, suc, Bool, true, false, List, [], ◌∷◌, ◌++◌, length, replicate, refl, sym, ap, ap₂, ◌∙◌, arith, length-append}
-use Rattle.std.proofs.lemmas.List.{length-replicate}
+use Rattle.std.proofs.lemmas.List.{length-replicate, append_cancel_left}
 use native.Mathlib.Nat.{mul-le-mul_right}
 use Rattle.constriction_base.specs.Steps.{AreWords}
 use Rattle.constriction_symbol.specs.Bits.{bits_of, bits_of_words, IsQueueWords, IsStackWords}
@@ -21,10 +21,6 @@ one_count a b w n z y low high first second =
     let down = not_fewer b a w n y z high low second first in
     omega (arith, up, down)
 
-rest_of : (xs ms ns : List Bool) → xs ++ ms ≡ xs ++ ns → ms ≡ ns
-rest_of [] ms ns is = is
-rest_of (x ∷ xs) ms ns is = let rest : xs ++ ms ≡ xs ++ ns = cc in rest_of xs ms ns rest
-
 -- as many words with the same bits are the same
 same_words : (w : ℕ) (vs us : List ℕ) → AreWords w vs → AreWords w us → length vs ≡ length us → bits_of_words w vs ≡ bits_of_words w us → vs ≡ us
 same_words w [] [] small fit count is = refl
@@ -32,7 +28,7 @@ same_words w [] (u ∷ us) small fit count is = absurd (omega (arith, count))
 same_words w (v ∷ vs) [] small fit count is = absurd (omega (arith, count))
 same_words w (v ∷ vs) (u ∷ us) small fit count is =
     let first : bits_of w v ≡ bits_of w u = same_front (bits_of w v) (bits_of w u) (bits_of_words w vs) (bits_of_words w us) (length_bits w v ∙ sym (length_bits w u)) is in
-    let rest = rest_of (bits_of w v) (bits_of_words w vs) (bits_of_words w us) (is ∙ ap (λ bs. bs ++ bits_of_words w us) (sym first)) in
+    let rest = append_cancel_left (bits_of w v) (bits_of_words w vs) (bits_of_words w us) (is ∙ ap (λ bs. bs ++ bits_of_words w us) (sym first)) in
     ap₂ (λ x xs. x ∷ xs) (same_number w v u small.0 fit.0 first) (same_words w vs us small.1 fit.1 (omega (arith, count)) rest)
 
 -- the same bits and then zeros, of which there are fewer than a word has

@@ -6,8 +6,8 @@ use Rattle.std.proofs.lemmas.List.{length_push}
 use Rattle.std.proofs.lemmas.List.Sums.{sum_by-cons}
 use Rattle.constriction_symbol.specs.Huffman.{Tree, Weighed, comes_before, put_in, leaves_from, united, merged, path, leaves, times}
 use Rattle.constriction_symbol.specs.Huffman.Tree.{Leaf, Node}
-use Rattle.constriction_symbol.specs.HuffmanLaws.{path_none, path_some, times_node}
-use Rattle.constriction_symbol.specs.HuffmanMerge.{sum_put}
+use Rattle.constriction_symbol.proofs.HuffmanTrees.{path_none, path_some, times_node}
+use Rattle.constriction_symbol.proofs.HuffmanMerge.{sum_put}
 use Rattle.constriction_symbol_laws.specs.Cost.{cost}
 use Rattle.constriction_symbol_laws.proofs.least_cost.Lengths.{unions}
 

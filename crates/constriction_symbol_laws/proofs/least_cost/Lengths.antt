@@ -3,7 +3,7 @@ use Rattle.std.proofs.Common.{◌≡◌, ◌+◌, ◌-◌, ◌*◌, ◌^◌, ◌
 use native.Mathlib.Nat.{lt_of_mul-lt-mul_left}
 use Rattle.std.proofs.lemmas.Bool.{cond_both, ltb-true, ltb-false, eqb-true, or_cases, or_parts, and_parts}
 use Rattle.constriction_symbol.specs.Huffman.{Weighed, comes_before, put_in, united}
-use Rattle.constriction_symbol.specs.HuffmanMerge.{length_put}
+use Rattle.constriction_symbol.proofs.HuffmanMerge.{length_put}
 
 -- the sum of weight times length
 abbrev pub spent : List Weighed → List ℕ → ℕ

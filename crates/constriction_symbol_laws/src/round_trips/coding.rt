@@ -1,7 +1,7 @@
 //! Lists that are written and read, in the words of the laws.
 
 ghost use Rattle.constriction_symbol_laws.specs.Lists.{AreCodewords, ReadsAll};
-ghost use Rattle.constriction_symbol_laws.specs.Refusals.{NotWritten, StopsReading};
+ghost use Rattle.constriction_symbol_laws.specs.Refusals.{SymbolNotWritten, StopsReading};
 ghost use Rattle.std.specs.Prelude.{Bool, IfErr, IfOk, List, OnOk, length, reverse, ◌++◌, ◌≡◌};
 
 use constriction_base::backends::{Queue, Semantics, WriteWords};
@@ -27,7 +27,7 @@ pub fn encode_list<W: WriteBitStream<Queue>, C: EncoderCodebook>(
 ) -> Result<(), DefaultEncoderError<W::WriteError>>
     ensures words { OnOk result ((code : List Bool) × AreCodewords (C.codeword codebook.now) symbols.now code
         × (W.bits stream.new ≡ W.bits stream.old ++ code)) }
-    ensures err { IfErr result (NotWritten (C.codeword codebook.now) symbols.now) }
+    ensures err { IfErr result (SymbolNotWritten (C.codeword codebook.now) symbols.now) }
 {
     WriteBitStream::<Queue>::encode_iid_symbols(stream, symbols, codebook)
 }
@@ -47,7 +47,7 @@ where
     B::WriteError: From<AllocError>,
     ensures words { OnOk result ((code : List Bool) × AreCodewords (C.codeword codebook.now) symbols.now code
         × (reverse coder.new.bits ≡ code ++ reverse coder.old.bits)) }
-    ensures err { IfErr result (NotWritten (C.codeword codebook.now) symbols.now) }
+    ensures err { IfErr result (SymbolNotWritten (C.codeword codebook.now) symbols.now) }
 {
     coder.encode_iid_symbols_reverse(symbols, codebook)
 }
@@ -69,9 +69,11 @@ where
     C::Symbol: Drop,
     C::InvalidCodeword: Drop,
     ensures count { IfOk result (λ symbols. length symbols.items ≡ amt) }
-    ensures steps { IfOk result (λ symbols. ReadsAll R.gives (C.codeword codebook.now) (C.reads_on codebook.now) (C.is_invalid codebook.now)
+    ensures steps { IfOk result (λ symbols. ReadsAll R.gives
+        (C.codeword codebook.now) (C.reads_on codebook.now) (C.is_invalid codebook.now)
         symbols.items stream.old stream.new) }
-    ensures err { IfErr result (λ e. StopsReading R.gives (C.codeword codebook.now) (C.reads_on codebook.now) (C.is_invalid codebook.now)
+    ensures err { IfErr result (λ e. StopsReading R.gives
+        (C.codeword codebook.now) (C.reads_on codebook.now) (C.is_invalid codebook.now)
         amt stream.old e stream.new) }
 {
     let mut symbols = Vec::new(alloc);

@@ -33,10 +33,12 @@ pub fn list_from_lent_queue<Word: BitArray, A: Allocator, C: DecoderCodebook>(
 where
     C::Symbol: Drop,
     C::InvalidCodeword: Drop,
-    ensures back { (symbols : List C.Symbol) (code rest : List Bool) → AreCodewords (C.codeword codebook.now) symbols code →
+    ensures back { (symbols : List C.Symbol) (code rest : List Bool) →
+        AreCodewords (C.codeword codebook.now) symbols code →
         encoder.old.bits ≡ code ++ rest → amt ≡ length symbols →
         IfOk result (λ again. AreEach (C.is_same codebook.now) again.items symbols) }
-    ensures err { IfErr result (Reasons ⊥ ⊥ (BeginsWithNone (C.codeword codebook.now) amt encoder.old.bits) (λ taken. ⊥)) }
+    ensures err { IfErr result
+        (Reasons ⊥ ⊥ (BeginsWithNone (C.codeword codebook.now) amt encoder.old.bits) (λ taken. ⊥)) }
     ensures kept { encoder.new.bits ≡ encoder.old.bits }
 {
     let Ok(guard) = encoder.get_compressed() else {
@@ -69,10 +71,12 @@ pub fn list_from_lent_stack<Word: BitArray, A: Allocator, C: DecoderCodebook>(
 where
     C::Symbol: Drop,
     C::InvalidCodeword: Drop,
-    ensures back { (symbols : List C.Symbol) (code rest : List Bool) → AreCodewords (C.codeword codebook.now) symbols code →
+    ensures back { (symbols : List C.Symbol) (code rest : List Bool) →
+        AreCodewords (C.codeword codebook.now) symbols code →
         reverse coder.old.bits ≡ code ++ rest → amt ≡ length symbols →
         IfOk result (λ again. AreEach (C.is_same codebook.now) again.items symbols) }
-    ensures err { IfErr result (Reasons ⊥ ⊥ (BeginsWithNone (C.codeword codebook.now) amt (reverse coder.old.bits)) (λ taken. ⊥)) }
+    ensures err { IfErr result
+        (Reasons ⊥ ⊥ (BeginsWithNone (C.codeword codebook.now) amt (reverse coder.old.bits)) (λ taken. ⊥)) }
     ensures kept { coder.new.bits ≡ coder.old.bits }
 {
     let Ok(guard) = coder.get_compressed() else {

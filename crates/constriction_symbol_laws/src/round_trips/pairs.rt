@@ -1,7 +1,7 @@
 //! Symbols that have a codebook each, so that codebooks are mixed in one stream.
 
-ghost use Rattle.constriction_symbol_laws.specs.Lists.{AreCodewords, AreEach, IsSamePair, ReadsPairs};
-ghost use Rattle.constriction_symbol_laws.specs.Refusals.{HasNoCodeword, NotWritten, StopsAtCodebook};
+ghost use Rattle.constriction_symbol_laws.specs.Lists.{AreCodewordsBy, AreSameBy, ReadsPairs, of_pair};
+ghost use Rattle.constriction_symbol_laws.specs.Refusals.{HasNoCodeword, SymbolNotWritten, StopsAtCodebook};
 ghost use Rattle.constriction_coder_laws.specs.Outcomes.{UnlessImpossible};
 ghost use Rattle.std.specs.List.{zip};
 ghost use Rattle.std.specs.Prelude.{Bool, IfErr, IfOk, List, OnOk, length, reverse, ◌++◌, ◌≡◌};
@@ -31,9 +31,9 @@ pub fn encode_pairs<W: WriteBitStream<Queue>, C: EncoderCodebook>(
     symbols: &[C::Symbol],
     codebooks: &[C],
 ) -> Result<(), DefaultEncoderError<W::WriteError>>
-    ensures words { OnOk result ((code : List Bool) × AreCodewords (λ pair. C.codeword pair.1 pair.0) (zip symbols.now codebooks.now) code
+    ensures words { OnOk result ((code : List Bool) × AreCodewordsBy C.codeword codebooks.now symbols.now code
         × (W.bits stream.new ≡ W.bits stream.old ++ code)) }
-    ensures err { IfErr result (NotWritten (λ pair. C.codeword pair.1 pair.0) (zip symbols.now codebooks.now)) }
+    ensures err { IfErr result (SymbolNotWritten (of_pair C.codeword) (zip symbols.now codebooks.now)) }
 {
     WriteBitStream::<Queue>::encode_symbols(stream, symbols.iter().zip(codebooks.iter()))
 }
@@ -48,9 +48,9 @@ pub fn encode_pairs_reverse<Word: BitArray, B: WriteWords<Word>, C: EncoderCodeb
 where
     B::WriteError: From<AllocError>,
     requires { length symbols.now ≡ length codebooks.now }
-    ensures words { OnOk result ((code : List Bool) × AreCodewords (λ pair. C.codeword pair.1 pair.0) (zip symbols.now codebooks.now) code
+    ensures words { OnOk result ((code : List Bool) × AreCodewordsBy C.codeword codebooks.now symbols.now code
         × (reverse coder.new.bits ≡ code ++ reverse coder.old.bits)) }
-    ensures err { IfErr result (NotWritten (λ pair. C.codeword pair.1 pair.0) (zip symbols.now codebooks.now)) }
+    ensures err { IfErr result (SymbolNotWritten (of_pair C.codeword) (zip symbols.now codebooks.now)) }
 {
     coder.encode_symbols_reverse(symbols.iter().zip(codebooks.iter()))
 }
@@ -73,7 +73,8 @@ where
     ensures count { IfOk result (λ symbols. length symbols.items ≡ length codebooks.now) }
     ensures steps { IfOk result (λ symbols. ReadsPairs R.gives C.codeword C.reads_on C.is_invalid
         (zip symbols.items codebooks.now) stream.old stream.new) }
-    ensures err { IfErr result (λ e. StopsAtCodebook R.gives C.codeword C.reads_on C.is_invalid codebooks.now stream.old e stream.new) }
+    ensures err { IfErr result (λ e. StopsAtCodebook R.gives C.codeword C.reads_on C.is_invalid
+        codebooks.now stream.old e stream.new) }
 {
     let mut symbols = Vec::new(alloc);
     'decode: for answer in stream.decode_symbols(codebooks) {
@@ -93,7 +94,8 @@ where
 ///
 /// # Errors
 ///
-/// `ImpossibleSymbol` where one of the symbols has no codeword, and `Refused` where memory is, or what holds the bits refuses.
+/// `ImpossibleSymbol` where one of the symbols has no codeword, and `Refused` where memory is, or what holds the bits
+/// refuses.
 pub fn pairs_through_queue<Word: BitArray, C: EncoderCodebook + DecoderCodebook>(
     alloc: Global,
     symbols: &[C::Symbol],
@@ -103,8 +105,9 @@ where
     C::Symbol: Drop,
     C::InvalidCodeword: Drop,
     requires { length symbols.now ≡ length codebooks.now }
-    ensures back { IfOk result (λ again. AreEach (IsSamePair C.is_same) (zip again.items codebooks.now) (zip symbols.now codebooks.now)) }
-    ensures err { IfErr result (UnlessImpossible (HasNoCodeword (λ pair. C.codeword pair.1 pair.0) (zip symbols.now codebooks.now))) }
+    ensures back { IfOk result (λ again. AreSameBy C.is_same codebooks.now again.items symbols.now) }
+    ensures err { IfErr result
+        (UnlessImpossible (HasNoCodeword (of_pair C.codeword) (zip symbols.now codebooks.now))) }
 {
     let mut encoder: QueueEncoder<Word> = QueueEncoder::new(alloc);
     match encode_pairs(&mut encoder, symbols, codebooks) {
@@ -131,7 +134,8 @@ where
 ///
 /// # Errors
 ///
-/// `ImpossibleSymbol` where one of the symbols has no codeword, and `Refused` where memory is, or what holds the bits refuses.
+/// `ImpossibleSymbol` where one of the symbols has no codeword, and `Refused` where memory is, or what holds the bits
+/// refuses.
 pub fn pairs_through_stack<
     Word: BitArray,
     B: ReadWords<Word, Stack> + WriteWords<Word> + Drop,
@@ -148,9 +152,10 @@ where
     C::Symbol: Drop,
     C::InvalidCodeword: Drop,
     requires { length symbols.now ≡ length codebooks.now }
-    ensures back { IfOk result (λ back. AreEach (IsSamePair C.is_same) (zip back.0.items codebooks.now) (zip symbols.now codebooks.now)
+    ensures back { IfOk result (λ back. AreSameBy C.is_same codebooks.now back.0.items symbols.now
         × (back.1.bits ≡ coder.bits)) }
-    ensures err { IfErr result (UnlessImpossible (HasNoCodeword (λ pair. C.codeword pair.1 pair.0) (zip symbols.now codebooks.now))) }
+    ensures err { IfErr result
+        (UnlessImpossible (HasNoCodeword (of_pair C.codeword) (zip symbols.now codebooks.now))) }
 {
     let mut coder = coder;
     match encode_pairs_reverse(&mut coder, symbols, codebooks) {

@@ -15,7 +15,8 @@ pub fn symbol_comes_back<S: Semantics, R: ReadBitStream<S>, C: DecoderCodebook>(
     codebook: C,
 ) -> Result<C::Symbol, CoderError<SymbolCodeError<C::InvalidCodeword>, R::ReadError>>
     requires { R.is_list }
-    ensures { (symbol : C.Symbol) (code rest : List Bool) → C.codeword codebook symbol ≡ Some code → R.unread stream.old ≡ code ++ rest →
+    ensures { (symbol : C.Symbol) (code rest : List Bool) →
+        C.codeword codebook symbol ≡ Some code → R.unread stream.old ≡ code ++ rest →
         ComesBack (C.is_same codebook) symbol rest result (R.unread stream.new) }
 {
     stream.decode_symbol(codebook)

@@ -30,7 +30,8 @@ pub fn list_through_queue_by_trees<Word: BitArray, P: BitArray>(
     symbols: &[usize],
 ) -> Result<Vec<usize>, ByTreesError>
     ensures back { IfOk result (λ again. again.items ≡ symbols.now) }
-    ensures err { IfErr result (NotByTrees P.number P.BITS weights.now (HasNoCodeword (huffman (map P.number weights.now)) symbols.now)) }
+    ensures err { IfErr result (NotByTrees P.number P.BITS weights.now
+        (HasNoCodeword (huffman (map P.number weights.now)) symbols.now)) }
 {
     let encoding = match EncoderHuffmanTree::from_probabilities(alloc, weights) {
         Ok(encoding) => encoding,
@@ -76,7 +77,8 @@ pub fn list_through_stack_by_trees<Word: BitArray, P: BitArray>(
     symbols: &[usize],
 ) -> Result<Vec<usize>, ByTreesError>
     ensures back { IfOk result (λ again. again.items ≡ symbols.now) }
-    ensures err { IfErr result (NotByTrees P.number P.BITS weights.now (HasNoCodeword (huffman (map P.number weights.now)) symbols.now)) }
+    ensures err { IfErr result (NotByTrees P.number P.BITS weights.now
+        (HasNoCodeword (huffman (map P.number weights.now)) symbols.now)) }
 {
     let encoding = match EncoderHuffmanTree::from_probabilities(alloc, weights) {
         Ok(encoding) => encoding,

@@ -23,7 +23,8 @@ use std::alloc::{AllocError, Global};
 ///
 /// # Errors
 ///
-/// `ImpossibleSymbol` where one of the symbols has no codeword, and `Refused` where memory is, or what holds the bits refuses.
+/// `ImpossibleSymbol` where one of the symbols has no codeword, and `Refused` where memory is, or what holds the bits
+/// refuses.
 pub fn list_through_queue<Word: BitArray, C: EncoderCodebook + DecoderCodebook>(
     alloc: Global,
     symbols: &[C::Symbol],
@@ -60,7 +61,8 @@ where
 ///
 /// # Errors
 ///
-/// `ImpossibleSymbol` where one of the symbols has no codeword, and `Refused` where memory is, or what holds the bits refuses.
+/// `ImpossibleSymbol` where one of the symbols has no codeword, and `Refused` where memory is, or what holds the bits
+/// refuses.
 pub fn list_through_stack<
     Word: BitArray,
     B: ReadWords<Word, Stack> + WriteWords<Word> + Drop,
@@ -76,7 +78,8 @@ where
     B::WriteError: From<AllocError> + Drop,
     C::Symbol: Drop,
     C::InvalidCodeword: Drop,
-    ensures back { IfOk result (λ back. AreEach (C.is_same codebook.now) back.0.items symbols.now × (back.1.bits ≡ coder.bits)) }
+    ensures back { IfOk result (λ back.
+        AreEach (C.is_same codebook.now) back.0.items symbols.now × (back.1.bits ≡ coder.bits)) }
     ensures err { IfErr result (UnlessImpossible (HasNoCodeword (C.codeword codebook.now) symbols.now)) }
 {
     let mut coder = coder;

@@ -1,8 +1,8 @@
 use Rattle.std.specs.Prelude.{◌^◌, Ok, Err}
-use Rattle.std.proofs.Common.{arith}
+use Rattle.std.proofs.Common.{arith, inr}
 use Rattle.constriction_base.specs.Digits.{fixed_digits}
 use Rattle.constriction_base.proofs.Guards.{fixed-length}
-use Rattle.constriction_base.proofs.Results.{mapped}
+use Rattle.constriction_base.proofs.Results.{mapped, refused}
 use Rattle.constriction_base.proofs.Written.{appended, not_prepared}
 use Rattle.constriction_base.proofs.head_words.append_words.Goals as goal
 
@@ -22,3 +22,8 @@ returns-clause-written g c =
     (λ done i. after (Ok done) c.in-Ok.ensures.room c.prepare.ensures.words (λ m. rw len (c.in-Ok.ensures.made m)) (omega (arith, len)) i)
     (λ refused i. after (Err refused.1) c.in-Ok.ensures.room c.prepare.ensures.words (λ m. rw len (c.in-Ok.ensures.made m)) (omega (arith, len)) i)
     c.write_words.ensures.written
+
+pub returns-clause-refused : goal.returns-clause-refused
+returns-clause-refused g c =
+    let len = fixed-length (2 ^ g.Word.BitArray.BITS) c.args.count (g.State.BitArray.number c.args.head) in
+    refused _ _ _ c.write_words.result (λ r i. inr (λ makes. (let full = c.in-Ok.ensures.made makes in omega (arith, full, i.short, len)), i.error)) c.write_words.ensures.written

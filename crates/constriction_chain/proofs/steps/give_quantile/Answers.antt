@@ -18,20 +18,21 @@ plus-requires g c =
 
 pub returns-then-not-owes_word-clause-ok : goal.returns-then-not-owes_word-clause-ok
 returns-then-not-owes_word-clause-ok g c =
-    let test = c.if-not-owes_word.ensures in (
-      rw (c.plus.ensures, c.shifted_left.ensures)
-          (give_bits g.Word.BitArray.BITS c.args.precision c.requires.sized.1 _ _ _ test.0 c.requires.some test.1 c.requires.below),
-      λ none. refl,
-      omega arith,
-    )
+    let test = c.if-not-owes_word.ensures in
+    record {
+      walk = rw (c.plus.ensures, c.shifted_left.ensures)
+          (give_bits g.Word.BitArray.BITS c.args.precision c.requires.sized.1 _ _ _ test.0 c.requires.some test.1 c.requires.below);
+      untouched = λ none. refl;
+      room_used = omega arith;
+    }
 
 pub returns-then-precision-BITS-clause-ok : goal.returns-then-precision-BITS-clause-ok
-returns-then-precision-BITS-clause-ok g c = (
-  rw c.in_ok-write.ensures.ok
-      (give_whole g.Word.BitArray.BITS c.args.precision c.requires.sized.1 _ _ _ _ (c.if-precision-BITS.true ∙ c.BITS.ensures) c.requires.some (g.met.Word.BitArray.number_law _) c.requires.below refl),
-  λ none. absurd (none c.if-not-owes_word.ensures),
-  rw c.in_ok-write.ensures.ok (omega (arith, c.in_ok-write.ensures.room)),
-)
+returns-then-precision-BITS-clause-ok g c = record {
+  walk = rw c.in_ok-write.ensures.ok
+      (give_whole g.Word.BitArray.BITS c.args.precision c.requires.sized.1 _ _ _ _ (c.if-precision-BITS.true ∙ c.BITS.ensures) c.requires.some (g.met.Word.BitArray.number_law _) c.requires.below refl);
+  untouched = λ none. absurd (none c.if-not-owes_word.ensures);
+  room_used = rw c.in_ok-write.ensures.ok (omega (arith, c.in_ok-write.ensures.room));
+}
 
 pub shifted_left-requires-2-clause-fits : goal.shifted_left-requires-2-clause-fits
 shifted_left-requires-2-clause-fits g c =
@@ -47,9 +48,10 @@ plus-word-requires g c =
 pub returns-clause-ok : goal.returns-clause-ok
 returns-clause-ok g c =
     let less : c.args.precision < g.Word.BitArray.BITS = omega arith in
-    let owed = c.if-not-owes_word.ensures in (
-      rw (c.shifted_right.ensures, c.BITS-3.ensures, c.in_ok-write-2.ensures.ok, c.plus-word.ensures, c.shifted_left-2.ensures, c.low_bits-others.ensures, c.BITS-2.ensures)
-          (give_word g.Word.BitArray.BITS c.args.precision c.requires.sized.1 _ _ _ _ less (g.met.Word.BitArray.number_law _) (high_of_owed _ _ _ less owed) c.requires.below refl),
-      λ none. absurd (none owed),
-      rw c.in_ok-write-2.ensures.ok (omega (arith, c.in_ok-write-2.ensures.room)),
-    )
+    let owed = c.if-not-owes_word.ensures in
+    record {
+      walk = rw (c.shifted_right.ensures, c.BITS-3.ensures, c.in_ok-write-2.ensures.ok, c.plus-word.ensures, c.shifted_left-2.ensures, c.low_bits-others.ensures, c.BITS-2.ensures)
+          (give_word g.Word.BitArray.BITS c.args.precision c.requires.sized.1 _ _ _ _ less (g.met.Word.BitArray.number_law _) (high_of_owed _ _ _ less owed) c.requires.below refl);
+      untouched = λ none. absurd (none owed);
+      room_used = rw c.in_ok-write-2.ensures.ok (omega (arith, c.in_ok-write-2.ensures.room));
+    }

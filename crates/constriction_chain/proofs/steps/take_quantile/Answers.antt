@@ -5,8 +5,8 @@ use Rattle.constriction_chain.proofs.steps.take_quantile.Goals as goal
 pub needs_word-requires : goal.needs_word-requires
 needs_word-requires g c = c.requires.sized.1
 
-pub returns-then-not-needs_word : goal.returns-then-not-needs_word
-returns-then-not-needs_word g c =
+pub returns-then-not-needs_word-clause-ok : goal.returns-then-not-needs_word-clause-ok
+returns-then-not-needs_word-clause-ok g c =
     let test = c.if-not-needs_word.ensures in
     let alone = walk_bits g.Word.BitArray.BITS c.args.precision c.requires.sized.1 _ _ _ [] [] test.0 (g.met.Word.BitArray.number_law _) test.1 refl c.low_bits.ensures c.shifted_right.ensures in record {
       walk = λ list. walk_bits g.Word.BitArray.BITS c.args.precision c.requires.sized.1 _ _ _ _ _ test.0 (g.met.Word.BitArray.number_law _) test.1 refl c.low_bits.ensures c.shifted_right.ensures;
@@ -20,8 +20,8 @@ returns-then-not-needs_word g c =
       roomy = λ m. inl refl;
     }
 
-pub returns-in-Ok-Some : goal.returns-in-Ok-Some
-returns-in-Ok-Some g c =
+pub returns-in-Ok-Some-clause-ok : goal.returns-in-Ok-Some-clause-ok
+returns-in-Ok-Some-clause-ok g c =
     let read = rw c.in-Ok-Some.field-0-is at c.in-Ok-Some.ensures.words in
     let reads = rw c.in-Ok-Some.field-0-is at c.in-Ok-Some.ensures.reads in
     let word = g.Word.BitArray.number c.in-Ok-Some.word in

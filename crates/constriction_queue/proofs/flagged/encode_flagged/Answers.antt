@@ -1,6 +1,6 @@
-use Rattle.std.proofs.Common.{◌≡◌, ℕ, Bool, true, false, Result, Ok, Err, arith, refl, sym, ap, ◌∙◌, ◌≤◌, length}
+use Rattle.std.proofs.Common.{ℕ, true, false, arith, sym, ◌∙◌, ◌≤◌, length}
 use Rattle.std.proofs.lemmas.List.{take_all}
-use Rattle.constriction_base.specs.Models.{Model, Item}
+use Rattle.constriction_base.specs.Models.{Model}
 use Rattle.constriction_queue.specs.Flagged.{EncodesItem}
 use Rattle.constriction_queue.proofs.FlaggedRuns.{coded_more, fault_at, flag_at}
 use Rattle.constriction_queue.proofs.flagged.encode_flagged.Goals as goal
@@ -8,8 +8,7 @@ use Rattle.constriction_queue.proofs.flagged.encode_flagged.Goals.{then-switched
 
 pub returns-in-Err-clause-steps : goal.returns-in-Err-clause-steps
 returns-in-Err-clause-steps g c =
-    let write = g.Backend.WriteWords in
-    let step = EncodesItem {S = ℕ} g.Word.BitArray.number g.Backend.Holds.words g.Word.BitArray.BITS g.State.BitArray.BITS write.room write.makes_room write.prepare_fails write.write_fails in
+    let step = EncodesItem {A = ℕ} g.Word.BitArray.number g.Backend.Holds g.Backend.WriteWords g.Word.BitArray.BITS g.State.BitArray.BITS in
     let first : Model ℕ = record { precision = g.row.P1; table = g.M1.EntropyModel.table c.args.first.now } in
     let second : Model ℕ = record { precision = g.row.P2; table = g.M2.EntropyModel.table c.args.second.now } in
     let inv = c.loop-symbol.invariant in
@@ -17,8 +16,7 @@ returns-in-Err-clause-steps g c =
 
 pub returns-in-Err-encode_symbol-clause-steps : goal.returns-in-Err-encode_symbol-clause-steps
 returns-in-Err-encode_symbol-clause-steps g c =
-    let write = g.Backend.WriteWords in
-    let step = EncodesItem {S = ℕ} g.Word.BitArray.number g.Backend.Holds.words g.Word.BitArray.BITS g.State.BitArray.BITS write.room write.makes_room write.prepare_fails write.write_fails in
+    let step = EncodesItem {A = ℕ} g.Word.BitArray.number g.Backend.Holds g.Backend.WriteWords g.Word.BitArray.BITS g.State.BitArray.BITS in
     let first : Model ℕ = record { precision = g.row.P1; table = g.M1.EntropyModel.table c.args.first.now } in
     let second : Model ℕ = record { precision = g.row.P2; table = g.M2.EntropyModel.table c.args.second.now } in
     let inv = c.loop-symbol.invariant in
@@ -26,8 +24,7 @@ returns-in-Err-encode_symbol-clause-steps g c =
 
 pub loop-symbol-preserved : goal.loop-symbol-preserved
 loop-symbol-preserved g c =
-    let write = g.Backend.WriteWords in
-    let step = EncodesItem {S = ℕ} g.Word.BitArray.number g.Backend.Holds.words g.Word.BitArray.BITS g.State.BitArray.BITS write.room write.makes_room write.prepare_fails write.write_fails in
+    let step = EncodesItem {A = ℕ} g.Word.BitArray.number g.Backend.Holds g.Backend.WriteWords g.Word.BitArray.BITS g.State.BitArray.BITS in
     let first : Model ℕ = record { precision = g.row.P1; table = g.M1.EntropyModel.table c.args.first.now } in
     let second : Model ℕ = record { precision = g.row.P2; table = g.M2.EntropyModel.table c.args.second.now } in
     let inv = c.loop-symbol.invariant in

@@ -16,7 +16,7 @@ returns-in-Ok-clause-list g c list ws r h =
     let scale = c.shifted_right-scale.ensures in
     let lower = rw c.times-before.ensures at c.wrapping_plus-start.ensures in
     let some = scale_some g.Word.BitArray.BITS g.State.BitArray.BITS c.args.precision _ c.requires.step.within_word c.requires.sizes.two_words c.requires.wide in
-    let before = part_from (g.State.BitArray.number c.args.distance) _ (g.State.BitArray.number c.args.left) some c.requires.from in
+    let before = part_from (g.State.BitArray.number c.args.distance) _ (g.State.BitArray.number c.args.left) some c.requires.above in
     let stays : (g.State.BitArray.number c.minus.result + g.State.BitArray.number c.wrapping_plus-start.result) % 2 ^ g.State.BitArray.BITS ≡ (g.State.BitArray.number c.args.distance + g.State.BitArray.number c.args.lower) % 2 ^ g.State.BitArray.BITS =
     rw (c.minus.ensures, lower, c.times-before.ensures, scale) (point_stays (g.State.BitArray.number c.args.distance) (g.State.BitArray.number c.args.lower) _ (2 ^ g.State.BitArray.BITS) (pow_pos g.State.BitArray.BITS) before) in
     (rw stays at c.in-Ok.ensures.list) list ws (cut _ r) (at_cut _ _ _ _ _ ws r _ _ _ _ _ _ _ scale lower c.times-part.ensures h)
@@ -26,7 +26,7 @@ returns-in-Ok-clause-reads g c =
     let scale = c.shifted_right-scale.ensures in
     let lower = rw c.times-before.ensures at c.wrapping_plus-start.ensures in
     let some = scale_some g.Word.BitArray.BITS g.State.BitArray.BITS c.args.precision _ c.requires.step.within_word c.requires.sizes.two_words c.requires.wide in
-    let before = part_from (g.State.BitArray.number c.args.distance) _ (g.State.BitArray.number c.args.left) some c.requires.from in
+    let before = part_from (g.State.BitArray.number c.args.distance) _ (g.State.BitArray.number c.args.left) some c.requires.above in
     let stays : (g.State.BitArray.number c.minus.result + g.State.BitArray.number c.wrapping_plus-start.result) % 2 ^ g.State.BitArray.BITS ≡ (g.State.BitArray.number c.args.distance + g.State.BitArray.number c.args.lower) % 2 ^ g.State.BitArray.BITS =
     rw (c.minus.ensures, lower, c.times-before.ensures, scale) (point_stays (g.State.BitArray.number c.args.distance) (g.State.BitArray.number c.args.lower) _ (2 ^ g.State.BitArray.BITS) (pow_pos g.State.BitArray.BITS) before) in
     let range = rw scale at c.times-part.ensures in
@@ -67,9 +67,9 @@ returns-in-Err-clause-err g c = (rw (c.times-part.ensures, c.shifted_right-scale
 pub minus-requires : goal.minus-requires
 minus-requires g c =
     let some = scale_some g.Word.BitArray.BITS g.State.BitArray.BITS c.args.precision _ c.requires.step.within_word c.requires.sizes.two_words c.requires.wide in
-    rw (c.times-before.ensures, c.shifted_right-scale.ensures) (part_from (g.State.BitArray.number c.args.distance) _ (g.State.BitArray.number c.args.left) some c.requires.from)
+    rw (c.times-before.ensures, c.shifted_right-scale.ensures) (part_from (g.State.BitArray.number c.args.distance) _ (g.State.BitArray.number c.args.left) some c.requires.above)
 
-pub refilled-requires-clause-inside : goal.refilled-requires-clause-inside
-refilled-requires-clause-inside g c =
+pub refilled-requires-clause-below : goal.refilled-requires-clause-below
+refilled-requires-clause-below g c =
     let some = scale_some g.Word.BitArray.BITS g.State.BitArray.BITS c.args.precision _ c.requires.step.within_word c.requires.sizes.two_words c.requires.wide in
-    rw (c.minus.ensures, c.times-before.ensures, c.times-part.ensures, c.shifted_right-scale.ensures) (part_below (g.State.BitArray.number c.args.distance) _ (g.State.BitArray.number c.args.left) (g.State.BitArray.number c.args.p) some c.requires.from c.requires.below)
+    rw (c.minus.ensures, c.times-before.ensures, c.times-part.ensures, c.shifted_right-scale.ensures) (part_below (g.State.BitArray.number c.args.distance) _ (g.State.BitArray.number c.args.left) (g.State.BitArray.number c.args.p) some c.requires.above c.requires.below)

@@ -25,7 +25,7 @@ pub shifted_left-requires-clause-fits : goal.shifted_left-requires-clause-fits
 shifted_left-requires-clause-fits g c =
     let is = rw (c.BITS.ensures, c.BITS-2.ensures) at c.shifted_right.ensures in
     let short = small_of_shr _ _ (sym is ∙ c.if-not-is_nothing.ensures.0 refl) in
-    let room = room_for_word g.Word.BitArray.BITS g.State.BitArray.BITS (g.State.BitArray.number c.args.distance) 0 (omega arith) (omega (arith, short, c.requires.inside)) (pow_pos g.Word.BitArray.BITS) in
+    let room = room_for_word g.Word.BitArray.BITS g.State.BitArray.BITS (g.State.BitArray.number c.args.distance) 0 (omega arith) (omega (arith, short, c.requires.below)) (pow_pos g.Word.BitArray.BITS) in
     rw c.BITS-5.ensures (omega (arith, room))
 
 pub plus-distance-requires : goal.plus-distance-requires
@@ -33,7 +33,7 @@ plus-distance-requires g c =
     let is = rw (c.BITS.ensures, c.BITS-2.ensures) at c.shifted_right.ensures in
     let short = small_of_shr _ _ (sym is ∙ c.if-not-is_nothing.ensures.0 refl) in
     rw (c.shifted_left.ensures, c.BITS-5.ensures, c.widen.ensures)
-    (room_for_word g.Word.BitArray.BITS g.State.BitArray.BITS (g.State.BitArray.number c.args.distance) _ (omega arith) (omega (arith, short, c.requires.inside)) (g.met.Word.BitArray.number_law _))
+    (room_for_word g.Word.BitArray.BITS g.State.BitArray.BITS (g.State.BitArray.number c.args.distance) _ (omega arith) (omega (arith, short, c.requires.below)) (g.met.Word.BitArray.number_law _))
 
 pub returns-then-not-is_nothing-clause-list : goal.returns-then-not-is_nothing-clause-list
 returns-then-not-is_nothing-clause-list g c list ws r h =

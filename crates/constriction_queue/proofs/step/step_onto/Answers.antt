@@ -18,9 +18,9 @@ returns-in-Ok-clause-ok g c =
     let all = c.grow-after.ensures.run (released ++ words) ∙ ap (grown g.Word.BitArray.BITS g.State.BitArray.BITS) (c.narrowed-part.ensures.run words) in
     let is = rw (sym (append_assoc top released words)) at all in
     record {
-      before = is_encoder number g.Backend.Holds.words _ _ _ _ _ c.args.situation c.requires.sizes c.requires.fit c.requires.wide (g.met.State.BitArray.number_law _) (g.met.State.BitArray.number_law _);
-      after = is_encoder number g.Backend.Holds.words _ _ _ _ _ c.grow-after.result.situation c.requires.sizes c.grow-after.ensures.fit c.grow-after.ensures.wide (g.met.State.BitArray.number_law _) (g.met.State.BitArray.number_law _);
-      narrowed = rw c.in-Ok.ensures.ok is;
+      before = is_encoder number g.Backend.Holds _ _ _ _ _ c.args.situation c.requires.sizes c.requires.fit c.requires.wide (g.met.State.BitArray.number_law _) (g.met.State.BitArray.number_law _);
+      after = is_encoder number g.Backend.Holds _ _ _ _ _ c.grow-after.result.situation c.requires.sizes c.grow-after.ensures.fit c.grow-after.ensures.wide (g.met.State.BitArray.number_law _) (g.met.State.BitArray.number_law _);
+      narrowed = rw c.in-Ok.ensures.written.words is;
       written = record {
         owed = top ++ released;
         owes = record {
@@ -32,9 +32,9 @@ returns-in-Ok-clause-ok g c =
           fits = c.grow-after.ensures.fit;
           is = is;
         };
-        words = c.in-Ok.ensures.ok;
-        room_used = c.in-Ok.ensures.room;
-        untouched = c.in-Ok.ensures.untouched;
+        words = c.in-Ok.ensures.written.words;
+        room_used = c.in-Ok.ensures.written.room_used;
+        untouched = λ none. (c.in-Ok.ensures.written.untouched none).1;
       };
       held = omega (arith, c.grow-after.ensures.held, c.narrowed-part.ensures.held);
       heads = tt;
@@ -51,13 +51,13 @@ returns-in-Err-clause-err g c =
     let all = c.grow-after.ensures.run (released ++ words) ∙ ap (grown g.Word.BitArray.BITS g.State.BitArray.BITS) (c.narrowed-part.ensures.run words) in
     let is = rw (sym (append_assoc top released words)) at all in
     record {
-      before = is_encoder number g.Backend.Holds.words _ _ _ _ _ c.args.situation c.requires.sizes c.requires.fit c.requires.wide (g.met.State.BitArray.number_law _) (g.met.State.BitArray.number_law _);
-      after = is_encoder number g.Backend.Holds.words _ _ _ _ _ c.args.situation c.requires.sizes c.requires.fit c.requires.wide (g.met.State.BitArray.number_law _) (g.met.State.BitArray.number_law _);
+      before = is_encoder number g.Backend.Holds _ _ _ _ _ c.args.situation c.requires.sizes c.requires.fit c.requires.wide (g.met.State.BitArray.number_law _) (g.met.State.BitArray.number_law _);
+      after = is_encoder number g.Backend.Holds _ _ _ _ _ c.args.situation c.requires.sizes c.requires.fit c.requires.wide (g.met.State.BitArray.number_law _) (g.met.State.BitArray.number_law _);
       narrowed = tt;
       written = tt;
       held = omega arith;
       heads = record { held = refl; lower = refl; range = refl };
-      kept = λ makes. ap (map number) (c.in-Err.ensures.kept makes);
+      kept = λ makes. ap (map number) (c.in-Err.ensures.written.kept makes);
       error = record {
         owed = top ++ released;
         owes = record {
@@ -69,10 +69,10 @@ returns-in-Err-clause-err g c =
           fits = c.grow-after.ensures.fit;
           is = is;
         };
-        begun = c.in-Err.ensures.begun;
-        short = c.in-Err.ensures.short;
-        error = elim c.in-Err.ensures.err [
-          | inl room ↦ inl room
+        begun = c.in-Err.ensures.written.begun;
+        short = c.in-Err.ensures.written.short;
+        error = elim c.in-Err.ensures.written.error [
+          | inl room ↦ inl room.0
           | inr write ↦ inr (write.0, (write.1.0, write.1.1, ap (map number) write.1.2))
         ];
         one = λ none. c.in-Err.ensures.one (c.narrowed-part.ensures.none none);

@@ -1,7 +1,8 @@
 use Rattle.std.proofs.Common.{◌≡◌, ◌∙◌, ◌++◌, ℕ, List, [], drop, map, refl, subst, arith}
 use Rattle.constriction_base.specs.Models.{Model, IsModel, items_of}
+use Rattle.constriction_queue.specs.Decoder.{StandsAt}
 use Rattle.constriction_queue.specs.Range.{start}
-use Rattle.constriction_queue_laws.specs.Symbols.{FindsAll, StandsAt}
+use Rattle.constriction_queue.specs.Symbols.{FindsAll}
 use Rattle.constriction_queue_laws.proofs.Concatenating.{numbers_from, words_from}
 use Rattle.constriction_coder_laws.proofs.SameModel.{are_models}
 use Rattle.constriction_queue_laws.proofs.concatenated.list_at_place.Goals as goal

@@ -6,7 +6,7 @@ use Rattle.constriction_coder_laws.specs.Outcomes.{HasImpossibleItem}
 use Rattle.constriction_queue.specs.Range.{Run, start}
 use Rattle.constriction_queue.proofs.Seals.{words_of_numbers}
 use Rattle.constriction_queue_laws.specs.Outcomes.{HoldNone}
-use Rattle.constriction_queue_laws.specs.Symbols.{FindsAll}
+use Rattle.constriction_queue.specs.Symbols.{FindsAll}
 use Rattle.constriction_queue_laws.proofs.Told.{passed, while_reading}
 use Rattle.constriction_queue_laws.proofs.concatenated.pairs_whatever_follows.Goals as goal
 

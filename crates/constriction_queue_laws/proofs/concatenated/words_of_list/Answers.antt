@@ -6,7 +6,7 @@ use Rattle.constriction_queue.specs.Encoder.{left_to_encode, run_by}
 use Rattle.constriction_queue.specs.Range.{Run, start}
 use Rattle.constriction_queue.specs.SelfDelimiting.{SelfDelimits}
 use Rattle.constriction_queue.proofs.Showing.{queue_is}
-use Rattle.constriction_queue_laws.specs.Symbols.{NarrowsAll}
+use Rattle.constriction_queue.specs.Symbols.{NarrowsAll}
 use Rattle.constriction_coder_laws.specs.Outcomes.{HasImpossible}
 use Rattle.constriction_queue_laws.proofs.Told.{passed, while_coding}
 use Rattle.constriction_queue_laws.proofs.concatenated.words_of_list.Goals as goal

@@ -3,7 +3,7 @@ use Rattle.constriction_base.specs.Models.{Model, IsModel}
 use Rattle.constriction_queue.specs.Flagged.{HoldsNone, has_flag, next_model}
 use Rattle.constriction_queue.specs.declared.decoder.symbols.DecoderFrontendError.{DecoderFrontendError}
 use Rattle.constriction_queue.proofs.FlaggedRuns.{flag_more}
-use Rattle.constriction_queue_laws.specs.Symbols.{Finds}
+use Rattle.constriction_queue.specs.Symbols.{Finds}
 use Rattle.constriction_queue_laws.proofs.Flagging.{finds_flagged, flagged_next, found_quantile, next_lawful, only_invalid}
 use Rattle.constriction_queue_laws.proofs.ListCalls.{decode_of}
 use Rattle.constriction_queue_laws.proofs.flagged.decode_flagged.Goals as goal
@@ -35,7 +35,7 @@ decode-preserved g c =
           (c.in-Ok.ensures.switched ∙ ap₂ (λ (b : Bool) (f : ℕ). b || symbol == f) (inv.switched off) inv.flag);
       read = λ known off words old at.
           let here = inv.read known off words old at in
-          let next = decode_of DecoderFrontendError g.Word.BitArray.number g.Backend.Holds.words g.Backend.Holds.is_list g.Backend.ReadWords.reads w s words known (next_model c.decode.switch.switched first second) symbol here.0 c.decode.switch.decoder c.next_symbol.new.self.decoder here.2 c.in-Ok.ensures.step in
+          let next = decode_of DecoderFrontendError g.Word.BitArray.number g.Backend.Holds g.Backend.ReadWords w s words known (next_model c.decode.switch.switched first second) symbol here.0 c.decode.switch.decoder c.next_symbol.new.self.decoder here.2 c.in-Ok.ensures.step in
           let found = subst (λ (b : Bool). Finds w s words (next_model b first second) symbol here.0 next.0) (inv.switched off) next.1 in
           (next.0, rw items (finds_flagged w s flag first second words so_far symbol old here.0 next.0 here.1 found), next.2);
     }
@@ -55,7 +55,7 @@ returns-in-Err-clause-err g c = λ known off words old at.
     let so_far = c.decode.symbols.items in
     let decoder = c.decode.switch.decoder in
     let here = inv.read known off words old at in
-    only_invalid g.Word.BitArray.number g.Backend.Holds.words g.Backend.Holds.is_list g.Backend.ReadWords.reads w s (next_model c.decode.switch.switched first second) _ decoder
+    only_invalid g.Word.BitArray.number g.Backend.Holds g.Backend.ReadWords w s (next_model c.decode.switch.switched first second) _ decoder
     c.next_symbol.new.self.decoder c.in-Err.error c.in-Err.ensures.step (λ halt symbols last count found. (
     let next = flagged_next w s words flag first second m n so_far symbols old here.0 last (omega (arith, count, inv.count)) here.1 found in
     let model : Model ℕ = next_model (has_flag flag so_far) first second in

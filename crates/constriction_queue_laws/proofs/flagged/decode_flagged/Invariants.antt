@@ -1,8 +1,9 @@
 use Rattle.std.proofs.Common.{◌≡◌, ℕ, List, false, length}
 use Rattle.constriction_base.specs.Models.{Model}
+use Rattle.constriction_queue.specs.Decoder.{StandsAt}
 use Rattle.constriction_queue.specs.Flagged.{flagged, has_flag}
 use Rattle.constriction_queue.specs.Range.{Run}
-use Rattle.constriction_queue_laws.specs.Symbols.{FindsAll, StandsAt}
+use Rattle.constriction_queue.specs.Symbols.{FindsAll}
 use Rattle.constriction_queue_laws.proofs.flagged.decode_flagged.Given as goal
 
 -- the symbols so far are read, and the flag is among them where the models were switched

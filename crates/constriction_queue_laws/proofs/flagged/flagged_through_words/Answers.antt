@@ -2,7 +2,7 @@ use Rattle.std.proofs.Common.{ℕ, List, [], append-nil, map, refl, arith}
 use Rattle.constriction_base.specs.Models.{Model, Item, IsModel}
 use Rattle.constriction_queue.specs.Flagged.{flagged}
 use Rattle.constriction_queue.specs.Range.{start}
-use Rattle.constriction_queue_laws.specs.Symbols.{FindsAll}
+use Rattle.constriction_queue.specs.Symbols.{FindsAll}
 use Rattle.constriction_queue_laws.proofs.flagged.flagged_through_words.Goals as goal
 
 pub returns-in-Ok-decode_flagged-clause-back : goal.returns-in-Ok-decode_flagged-clause-back

@@ -3,7 +3,7 @@ use Rattle.constriction_queue.specs.Range.{start}
 use Rattle.constriction_queue.proofs.Narrowing.{valid_start}
 use Rattle.constriction_queue.proofs.SealedRuns.{words-append}
 use Rattle.constriction_queue.proofs.SelfDelimited.{self_words}
-use Rattle.constriction_queue_laws.proofs.Entries.{intervals}
+use Rattle.constriction_queue.proofs.Entries.{intervals}
 use Rattle.constriction_queue_laws.proofs.Followed.{read_whatever_follows}
 use Rattle.constriction_queue_laws.proofs.following.symbols_come_back_whatever_follows.Goals as goal
 

@@ -1,10 +1,9 @@
 use Rattle.std.proofs.Common.{subst}
 use Rattle.std.proofs.lemmas.List.{reverse-reverse}
 use Rattle.constriction_base.specs.Models.{IsModel}
-use Rattle.constriction_queue_laws.specs.Symbols.{FindsAll}
+use Rattle.constriction_queue.specs.Symbols.{FindsAll}
 use Rattle.constriction_queue_laws.specs.Undone.{Reading}
-use Rattle.constriction_queue_laws.proofs.Entries.{taken_back}
-use Rattle.constriction_queue_laws.proofs.ComingBack.{decodes_unique}
+use Rattle.constriction_queue_laws.proofs.ComingBack.{decodes_unique, taken_back}
 use Rattle.constriction_coder_laws.proofs.Turned.{all-reverse}
 use Rattle.std.specs.Prelude.{reverse}
 use Rattle.constriction_queue_laws.proofs.lists.decodes_undo_encodes.Goals as goal

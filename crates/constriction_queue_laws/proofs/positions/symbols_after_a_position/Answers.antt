@@ -1,6 +1,6 @@
 use Rattle.constriction_queue.specs.Range.{start, sealed}
 use Rattle.constriction_queue.proofs.Narrowing.{valid_start}
-use Rattle.constriction_queue_laws.proofs.Entries.{intervals}
+use Rattle.constriction_queue.proofs.Entries.{intervals}
 use Rattle.constriction_queue_laws.proofs.Reading.{read_behind}
 use Rattle.constriction_queue_laws.proofs.Sealing.{sealed_words}
 use Rattle.constriction_queue_laws.proofs.positions.symbols_after_a_position.Goals as goal

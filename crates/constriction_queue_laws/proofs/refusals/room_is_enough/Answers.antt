@@ -3,5 +3,5 @@ use Rattle.constriction_queue_laws.proofs.refusals.room_is_enough.Goals as goal
 
 pub returns : goal.returns
 returns g c = λ old step e new enough refused.
-    room_enough g.Word.BitArray.number g.Backend.Holds.words g.Word.BitArray.BITS g.State.BitArray.BITS g.Backend.WriteWords.room g.Backend.WriteWords.makes_room g.Backend.WriteWords.prepare_fails g.Backend.WriteWords.write_fails
+    room_enough g.Word.BitArray.number g.Backend.Holds g.Backend.WriteWords g.Word.BitArray.BITS g.State.BitArray.BITS
     old step e new enough refused

@@ -1,5 +1,5 @@
-use Rattle.constriction_stack.proofs.BinaryForms.{binary_unique}
+use Rattle.constriction_stack.proofs.BinaryForms.{one_count}
 use Rattle.constriction_stack_laws.proofs.binary.one_binary_form.Goals as goal
 
 pub returns : goal.returns
-returns c = binary_unique
+returns c = λ w m n state. one_count w m n state.head

@@ -5,7 +5,7 @@ use Rattle.constriction_stack.specs.Symbols.{DecodesAll}
 use Rattle.constriction_stack_laws.proofs.readings.symbols_come_back_by_reads.Goals as goal
 
 pub returns : goal.returns
-returns g c = λ words w s items others state given start last z ms law h same r fits d e.
+returns g c = λ words w s items others given last z ms (law, (state, h, same)) (start, r, fits, d) e.
     let number = g.Word.BitArray.number in
     let imported : filled w s 0 (exported w state) ≡ told number words start =
     ap (λ (ws : List ℕ). filled w s 0 ws) (sym same) ∙ c.imports_are_words.ensures words w s start.state.head given start.backend z fits law r in

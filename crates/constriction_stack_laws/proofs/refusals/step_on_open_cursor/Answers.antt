@@ -1,5 +1,4 @@
-use Rattle.std.proofs.Common.{◌≡◌, ◌-◌, length, take, inl, inr, rules}
-use Rattle.std.specs.Prelude.{reverse}
+use Rattle.std.proofs.Common.{◌≡◌, inl, inr, rules}
 use Rattle.constriction_base.specs.declared.errors.BoundedWriteError.TheVariants.{OutOfSpace}
 use Rattle.constriction_base.specs.declared.errors.DefaultEncoderFrontendError.TheVariants.{ImpossibleSymbol}
 use Rattle.constriction_stream.specs.Symbols.{ByBackend, IsBackendError}
@@ -14,8 +13,7 @@ returns-clause-impossible g c =
     let old = c.args.coder.now in
     let new = c.encode_symbol.new.self in
     let answer = c.encode_symbol.result in
-    let steps = EncodeCall g.Word.BitArray.number (λ b. reverse (take b.pos (lent b.buf))) g.Word.BitArray.BITS g.State.BitArray.BITS
-    (λ b. length (lent b.buf) - b.pos) ⊥ (λ _ _ _. ⊥) (λ b e. (e ≡ OutOfSpace) × (b.pos ≡ length (lent b.buf))) in
+    let steps = EncodeCall g.Word.BitArray.number _ _ g.Word.BitArray.BITS g.State.BitArray.BITS in
     let room = no_lack (ByBackend steps) (λ error. error ≡ ImpossibleSymbol) (λ error. IsBackendError error (λ refusal. refusal ≡ OutOfSpace)) g.row.PRECISION table c.args.symbol.now
     old new answer (λ e impossible lack. lack) (on_false c.maybe_full.result c.maybe_full.ensures.room (search rules) tt) c.encode_symbol.ensures.step in
     only_impossible steps g.row.PRECISION table c.args.symbol.now old new answer

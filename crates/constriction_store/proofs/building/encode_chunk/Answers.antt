@@ -13,7 +13,7 @@ loop-place-preserved g c =
     let inv = c.loop-place.invariant in
     let symbols = c.args.symbols.now in
     let k = c.loop-place.place in
-    let one = encode_of _ _ w s _ _ _ _ _ model _ c.loop-place.encoder c.encode_symbol.new.self c.in-Ok.ensures.step in
+    let one = encode_of _ _ _ w s _ model _ c.loop-place.encoder c.encode_symbol.new.self c.in-Ok.ensures.step in
     record {
       coded = narrowed_more w s model symbols k (run_by w s c.args.encoder.now) (run_by w s c.loop-place.encoder) (run_by w s c.encode_symbol.new.self) c.loop-place-test.true inv.coded one;
       known = known_more model symbols k c.loop-place-test.true inv.known (one.0, one.1, one.2);

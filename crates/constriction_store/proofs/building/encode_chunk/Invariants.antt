@@ -1,7 +1,7 @@
 use Rattle.std.proofs.Common.{ℕ, ◌+◌, ◌≤◌, take}
 use Rattle.constriction_base.specs.Models.{Model, items_of}
 use Rattle.constriction_queue.specs.Encoder.{left_to_encode, run_by}
-use Rattle.constriction_queue_laws.specs.Symbols.{NarrowsAll}
+use Rattle.constriction_queue.specs.Symbols.{NarrowsAll}
 use Rattle.constriction_store.specs.Chunks.{AllKnown}
 use Rattle.constriction_store.proofs.building.encode_chunk.Given as goal
 

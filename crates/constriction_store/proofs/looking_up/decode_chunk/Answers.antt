@@ -23,7 +23,7 @@ returns-in-Err-clause-err g c = λ words there at.
     let model : Model ℕ = record { precision = g.row.PRECISION; table = g.M.EntropyModel.table c.args.model.now } in
     let here = c.symbols.invariant.read words there at in
     let d = c.symbols.decoder in
-    let one = decoded_by (DecodeCall _ _ _ _ w s) (λ _ _ _. ⊥) _ _ _ _ _ c.in-Ok.ensures.step in
+    let one = decoded_by (DecodeCall _ _ _ w s) (λ _ _ _. ⊥) _ _ _ _ _ c.in-Ok.ensures.step in
     let e : Step = record { precision = g.row.PRECISION; left = one.0; p = one.1 } in
     let takes = takes_is w s g.row.PRECISION one.0 one.1 words here.0 d.lower d.range d.point (quantile_read s g.row.PRECISION d) d.words refl one.3.from one.3.below here.2 in
     let more = found_more w s words model c.symbols.symbols.items c.in-Ok.symbol there here.0 (narrow w s e here.0) here.1 (one.0, one.1, one.2, (takes, refl)) in
@@ -45,7 +45,7 @@ symbols-preserved g c =
     let s = g.State.BitArray.BITS in
     let model : Model ℕ = record { precision = g.row.PRECISION; table = g.M.EntropyModel.table c.args.model.now } in
     let d = c.symbols.decoder in
-    let one = decoded_by (DecodeCall _ _ _ _ w s) (λ _ _ _. ⊥) _ _ _ _ _ c.in-Ok.ensures.step in
+    let one = decoded_by (DecodeCall _ _ _ w s) (λ _ _ _. ⊥) _ _ _ _ _ c.in-Ok.ensures.step in
     let e : Step = record { precision = g.row.PRECISION; left = one.0; p = one.1 } in
     let items = c.in-Ok-push.ensures.items in
     record {

@@ -1,7 +1,8 @@
 use Rattle.std.proofs.Common.{◌≡◌, ℕ, List, length}
 use Rattle.constriction_base.specs.Models.{Model, items_of}
+use Rattle.constriction_queue.specs.Decoder.{StandsAt}
 use Rattle.constriction_queue.specs.Range.{Run}
-use Rattle.constriction_queue_laws.specs.Symbols.{FindsAll, StandsAt}
+use Rattle.constriction_queue.specs.Symbols.{FindsAll}
 use Rattle.constriction_store.proofs.looking_up.decode_chunk.Given as goal
 
 -- the symbols so far are read, and the decoder is at the moment behind them

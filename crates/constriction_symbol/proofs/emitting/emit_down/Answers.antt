@@ -3,8 +3,8 @@ use Rattle.constriction_symbol.specs.Bits.{bits_of}
 use Rattle.constriction_symbol.proofs.GolombLemmas.{reverse_next, emitted_more, emitted_failed}
 use Rattle.constriction_symbol.proofs.emitting.emit_down.Goals as goal
 
-pub returns-in-Err-clause-run : goal.returns-in-Err-clause-run
-returns-in-Err-clause-run g c =
+pub returns-in-Err-clause-emits : goal.returns-in-Err-clause-emits
+returns-in-Err-clause-emits g c =
     let all : c.bits.left - 1 + 1 ≡ c.bits.left = omega (arith, c.bits-test.true) in
     let top : reverse (bits_of c.bits.left (g.Word.BitArray.number c.args.word)) ≡ not c.is_nothing.result ∷ reverse (bits_of (c.bits.left - 1) (g.Word.BitArray.number c.args.word)) =
     rw all at (reverse_next _ _ _ _ _ c.shifted_right.ensures c.low_bits.ensures c.is_nothing.ensures) in

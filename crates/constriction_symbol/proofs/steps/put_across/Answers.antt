@@ -1,6 +1,6 @@
 use Rattle.std.proofs.Common.{◌≡◌, ◌≤◌, ◌+◌, ◌-◌, ◌/◌, ◌^◌, ◌++◌, arith, ap, sym, inr, ◌∙◌, length}
+use Rattle.constriction_base.proofs.Heads.{shr_below_top}
 use Rattle.constriction_symbol.specs.Bits.{bits_of}
-use Rattle.constriction_symbol.proofs.TopLemmas.{above_room}
 use Rattle.constriction_symbol.proofs.TurningLemmas.{bits_split, filled_length}
 use Rattle.constriction_symbol.proofs.PutAtOnce.{first_bit}
 use Rattle.constriction_symbol.proofs.steps.put_across.Goals as goal
@@ -26,7 +26,7 @@ returns-in-Err g c =
 pub push_all-requires-clause-small : goal.push_all-requires-clause-small
 push_all-requires-clause-small g c =
     let within : c.room-room.result ≤ c.args.count = omega (arith, c.room-room.ensures, c.requires.across) in
-    rw c.shifted_right.ensures (above_room c.args.count c.room-room.result (g.Word.BitArray.number c.args.bits) within c.requires.small)
+    rw c.shifted_right.ensures (shr_below_top c.args.count c.room-room.result (g.Word.BitArray.number c.args.bits) within c.requires.small)
 
 pub returns : goal.returns
 returns g c =

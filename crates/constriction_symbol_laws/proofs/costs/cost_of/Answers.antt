@@ -1,4 +1,4 @@
-use Rattle.std.proofs.Common.{◌≡◌, ◌≤◌, ◌∙◌, ◌∷◌, ◌+◌, ◌-◌, ◌*◌, ◌^◌, ◌<◌, arith, drop, get_or, length, subst, sym, ap}
+use Rattle.std.proofs.Common.{◌≡◌, ◌∙◌, ◌∷◌, ◌+◌, ◌-◌, ◌*◌, ◌<◌, arith, drop, get_or, length, subst, sym, ap}
 use Rattle.std.proofs.lemmas.List.{drop_more}
 use Rattle.constriction_symbol_laws.specs.Cost.{Costs}
 use Rattle.constriction_symbol_laws.proofs.Costless.{cost_on, no_cost_at}

@@ -1,4 +1,4 @@
-use Rattle.constriction_symbol.specs.HuffmanMerge.{huffman_prefix_free}
+use Rattle.constriction_symbol.proofs.HuffmanMerge.{huffman_prefix_free}
 use Rattle.constriction_symbol_laws.proofs.huffman.huffman_is_prefix_free.Goals as goal
 
 pub returns : goal.returns

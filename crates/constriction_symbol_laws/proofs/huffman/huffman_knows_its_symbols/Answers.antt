@@ -1,4 +1,3 @@
-use Rattle.std.proofs.Common.{◌∙◌, arith, length, [], ◌∷◌}
 use Rattle.constriction_symbol_laws.proofs.bit_coders.Trees.{known_symbol, unknown_symbol}
 use Rattle.constriction_symbol_laws.proofs.huffman.huffman_knows_its_symbols.Goals as goal
 

@@ -41,7 +41,7 @@ symbols-preserved g c =
     let long : left ≤ length items = pairs_long g.row.PRECISION (λ (t : List (ℕ × ℕ × ℕ)). t) xs tables left kept.within (omega (arith, kept.within, c.requires.count)) in
     let is : get_or items (left - 1) item ≡ item =
     pair_at g.row.PRECISION (λ (t : List (ℕ × ℕ × ℕ)). t) xs tables (left - 1) table item (omega (arith, kept.within, c.symbols-test.true)) (omega (arith, kept.within, c.symbols-test.true, c.requires.count)) c.at.ensures in
-    let one = encode_of g.Word.BitArray.number _ w s _ _ _ _ _ model (get_or xs (left - 1) 0) c.symbols.coder c.encode_symbol.new.self kept.valid c.in-Ok.ensures.step in
+    let one = encode_of g.Word.BitArray.number _ _ w s _ model (get_or xs (left - 1) 0) c.symbols.coder c.encode_symbol.new.self kept.valid c.in-Ok.ensures.step in
     let sized = g.met.L.Model.EntropyModel.sized c.at.result.now in
     let all = InTurn-more (λ item. Encodes w s item.model item.symbol) (reverse (drop left items)) item c.from_raw_parts-coder.result.state c.symbols.coder.state c.encode_symbol.new.self.state kept.coded one in
     record {

@@ -1,7 +1,8 @@
 use Rattle.std.proofs.Common.{◌≡◌, ℕ, List, drop, length, vec_capacity}
 use Rattle.constriction_base.specs.Models.{pairs_of}
+use Rattle.constriction_queue.specs.Decoder.{StandsAt}
 use Rattle.constriction_queue.specs.Range.{Run}
-use Rattle.constriction_queue_laws.specs.Symbols.{FindsAll, StandsAt}
+use Rattle.constriction_queue.specs.Symbols.{FindsAll}
 use Rattle.constriction_calls.proofs.range.decoding.take_list.Given as goal
 
 abbrev pub invariant-loop-i : goal.invariant-loop-i

@@ -4,7 +4,7 @@ use Rattle.constriction_base.specs.Models.{Item, Model, item_of, pairs_of}
 use Rattle.constriction_base.proofs.InTurn.{InTurn-append}
 use Rattle.constriction_queue.specs.Encoder.{run_by}
 use Rattle.constriction_queue.specs.Range.{Run}
-use Rattle.constriction_queue_laws.specs.Symbols.{Narrows, NarrowsAll}
+use Rattle.constriction_queue.specs.Symbols.{Narrows, NarrowsAll}
 use Rattle.constriction_queue_laws.proofs.ListCalls.{encode_of}
 use Rattle.constriction_calls.proofs.RangeTaking.{pairs_more}
 use Rattle.constriction_calls.proofs.range.encoding.put_list.Goals as goal
@@ -26,7 +26,7 @@ loop-i-preserved g c =
     let mid = run_by w s c.loop-i.encoder in
     let last = run_by w s c.encode_symbol.new.self in
     let x = get_or symbols i 0 in
-    let step : Narrows w s model x mid last = encode_of g.Word.BitArray.number _ w s _ _ _ _ _ model x c.loop-i.encoder c.encode_symbol.new.self c.in-Ok.ensures.step in
+    let step : Narrows w s model x mid last = encode_of g.Word.BitArray.number _ _ w s _ model x c.loop-i.encoder c.encode_symbol.new.self c.in-Ok.ensures.step in
     let before = take i symbols in
     let all : NarrowsAll w s (pairs_of P same before tables ++ item_of model x ∷ []) first last =
     InTurn-append (λ item. Narrows w s item.model item.symbol) (pairs_of P same before tables) (item_of model x ∷ []) first mid last l.narrowed (last, step, refl) in

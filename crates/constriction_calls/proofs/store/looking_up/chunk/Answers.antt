@@ -1,7 +1,7 @@
 use Rattle.std.proofs.Common.{◌≡◌, ◌∙◌, ◌-◌, ◌^◌, ◌≤◌, ℕ, List, length, map, refl, sym, ap, ap₂, subst, arith, rules}
 use Rattle.std.proofs.lemmas.List.{length-map}
 use Rattle.constriction_base.specs.Models.{items_of}
-use Rattle.constriction_queue_laws.specs.Symbols.{FindsAll}
+use Rattle.constriction_queue.specs.Symbols.{FindsAll}
 use Rattle.constriction_queue.specs.Range.{Run}
 use Rattle.constriction_queue.specs.States.{lower_of, range_of}
 use Rattle.constriction_store.specs.Stores.{run_from}

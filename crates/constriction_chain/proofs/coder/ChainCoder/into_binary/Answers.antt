@@ -1,5 +1,6 @@
 use Rattle.std.proofs.Common.{refl}
 use Rattle.std.proofs.lemmas.Bool.{false≢true}
+use Rattle.constriction_base.proofs.Written.{not_written}
 use Rattle.constriction_chain.proofs.Chains.{coder_of}
 use Rattle.constriction_chain.proofs.coder.ChainCoder.into_binary.Goals as goal
 
@@ -30,8 +31,9 @@ returns-in-Err-clause-coder g c =
 pub returns-in-Err-clause-err : goal.returns-in-Err-clause-err
 returns-in-Err-clause-err g c =
     let ones = rw c.parts.ensures.is at c.in-Some.ensures.some in
-    let refused = rw c.parts.ensures.is at c.in-Err.ensures in
-    rw (← c.self.view_is) ((c.if-not-is_whole.ensures.0 refl, (_, ones)), (_, ones, refused))
+    let refused = not_written g.Word.BitArray.number g.C.Holds g.C.WriteWords _ _ _ _ c.in-Err.ensures.written in
+    let refused' = rw c.parts.ensures.is at refused in
+    rw (← c.self.view_is) ((c.if-not-is_whole.ensures.0 refl, (_, ones)), (_, ones, refused'))
 
 pub returns-then-not-is_whole-clause-ok : goal.returns-then-not-is_whole-clause-ok
 returns-then-not-is_whole-clause-ok g c = tt
@@ -50,7 +52,7 @@ returns-in_default-clause-err g c =
 pub returns-in-Ok-clause-ok : goal.returns-in-Ok-clause-ok
 returns-in-Ok-clause-ok g c =
     let ones = rw c.parts.ensures.is at c.in-Some.ensures.some in
-    let done = rw c.parts.ensures.is at c.in-Ok.ensures in
+    let done = rw c.parts.ensures.is at c.in-Ok.ensures.written.words in
     rw (← c.self.view_is) (c.if-not-is_whole.ensures.0 refl, refl, (_, ones, done))
 
 pub returns-in-Ok-clause-err : goal.returns-in-Ok-clause-err

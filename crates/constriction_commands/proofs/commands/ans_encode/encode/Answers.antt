@@ -13,7 +13,7 @@ symbols-init g c = record {
 
 pub symbols-preserved : goal.symbols-preserved
 symbols-preserved g c =
-    let coded = ok_by (EncodeCall _ _ 32 64 _ _ _ _) _ _ _ _ _ c.in-Ok.ensures.step in
+    let coded = ok_by (EncodeCall _ _ _ 32 64) _ _ _ _ _ c.in-Ok.ensures.step in
     let push = coded.3.pushed c.symbols.invariant.valid in
     let inside : c.symbols.left - 1 < length c.args.symbols.now = omega (arith, c.symbols-test.true, c.symbols.invariant.within) in
     let next : c.symbols.left ≡ (c.symbols.left - 1) + 1 = omega (arith, c.symbols-test.true) in
@@ -31,5 +31,5 @@ returns-clause-ok g c =
 pub returns-in-Err-Frontend-clause-err : goal.returns-in-Err-Frontend-clause-err
 returns-in-Err-Frontend-clause-err g c =
     let inside : c.symbols.left - 1 < length c.args.symbols.now = omega (arith, c.symbols-test.true, c.symbols.invariant.within) in
-    let none = frontend_by (EncodeCall _ _ 32 64 _ _ _ _) _ _ _ _ _ _ (rw c.in-Err-Frontend.field-0-is at c.in-Err-Frontend.ensures.step) in
+    let none = frontend_by (EncodeCall _ _ _ 32 64) _ _ _ _ _ _ (rw c.in-Err-Frontend.field-0-is at c.in-Err-Frontend.ensures.step) in
     impossible_at _ c.args.symbols.now (c.symbols.left - 1) inside none.0

@@ -19,7 +19,7 @@ loop-preserved g c =
     let words = c.args.words.now in
     let model = of_24_bits (g.M.EntropyModel.table c.args.model.now) in
     let here = c.loop.invariant.read in
-    let one = decoded_by (DecodeCall _ _ _ _ 32 64) (λ _ _ _. ⊥) _ _ _ _ _ c.in-Ok.ensures.step in
+    let one = decoded_by (DecodeCall _ _ _ 32 64) (λ _ _ _. ⊥) _ _ _ _ _ c.in-Ok.ensures.step in
     let quantile = quantile_is words here.0 c.loop.coder here.1 in
     let more = c.in_ok-push-in-Ok.ensures.items in
     record {

@@ -18,7 +18,7 @@ encode_symbol-requires g c = λ _. omega (arith, c.loop-symbol.invariant.room, c
 
 pub loop-symbol-preserved : goal.loop-symbol-preserved
 loop-symbol-preserved g c =
-    let coded = ok_by (EncodeCall _ _ 32 64 _ _ _ _) _ _ _ _ _ c.in-Ok.ensures.step in
+    let coded = ok_by (EncodeCall _ _ _ 32 64) _ _ _ _ _ c.in-Ok.ensures.step in
     record {
       room = omega (arith, c.loop-symbol.invariant.room, c.in-Ok.ensures.fewer_left);
       narrowed = narrowed-more _ c.args.symbols.now c.loop-symbol.symbol-index _ _ c.loop-symbol-test.true c.loop-symbol.invariant.narrowed (coded.0, coded.1, coded.2, coded.3.narrowed);
@@ -34,5 +34,5 @@ returns-clause-ok g c =
 
 pub returns-in-Err-Frontend-clause-err : goal.returns-in-Err-Frontend-clause-err
 returns-in-Err-Frontend-clause-err g c =
-    let none = frontend_by (EncodeCall _ _ 32 64 _ _ _ _) _ _ _ _ _ _ (rw c.in-Err-Frontend.field-0-is at c.in-Err-Frontend.ensures.step) in
+    let none = frontend_by (EncodeCall _ _ _ 32 64) _ _ _ _ _ _ (rw c.in-Err-Frontend.field-0-is at c.in-Err-Frontend.ensures.step) in
     impossible_at _ c.args.symbols.now c.loop-symbol.symbol-index c.loop-symbol-test.true none.0

@@ -27,12 +27,12 @@ returns-clause-net g c = λ valid.
     let full : 2 ^ (s - w) ≤ old.head = rw c.state.ensures.0 at c.if-is_low.ensures in
     let middle_full : 2 ^ (s - w) ≤ middle.head = rw c.state-2.ensures.0 at c.if-is_low-2.ensures in
     let taken : Decodes w s off c.in-Ok.taken old middle =
-    (decode_of _ number g.Backend.Holds.words g.Backend.Holds.is_list g.Backend.ReadWords.reads w s off _ _ _ c.in-Ok.ensures.step).0 g.met.Backend.WriteWords.knows_words in
+    (decode_of _ number g.Backend.Holds g.Backend.ReadWords w s off _ _ _ c.in-Ok.ensures.step).0 g.met.Backend.WriteWords.knows_words in
     let out : Step = record { precision = g.row.PRECISION; left = taken.0; p = taken.1 } in
     let out_step : IsStep w out = step_of w s off c.in-Ok.taken taken.0 taken.1 off_lawful taken.2 in
     let middle_valid : IsValid w s middle = subst (λ (x : AnsState). IsValid w s x) (sym taken.3.1) (valid_pop w s out sizes out_step old valid taken.3.0) in
     let given : Encodes w s on c.args.symbol.now middle new =
-    encode_of number g.Backend.Holds.words w s g.Backend.WriteWords.room g.Backend.WriteWords.makes_room g.Backend.WriteWords.prepare_fails g.Backend.WriteWords.write_fails _ on _ _ _ middle_valid c.in-Ok-encode_symbol.ensures.step in
+    encode_of number g.Backend.Holds g.Backend.WriteWords w s _ on _ _ _ middle_valid c.in-Ok-encode_symbol.ensures.step in
     let put : Step = record { precision = g.row.PRECISION; left = given.0; p = given.1 } in
     let put_step : IsStep w put = step_of w s on c.args.symbol.now given.0 given.1 on_lawful given.2 in (
       out,

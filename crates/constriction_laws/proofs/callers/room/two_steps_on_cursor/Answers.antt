@@ -11,10 +11,10 @@ one_word false v ws = omega arith
 
 pub returns-in-Ok-clause-enough : goal.returns-in-Ok-clause-enough
 returns-in-Ok-clause-enough g c =
-    let before = ok_by (EncodeCall _ _ 8 16 _ _ _ _) 8 _ _ _ _ c.in-Ok.ensures.step in
+    let before = ok_by (EncodeCall _ _ _ 8 16) 8 _ _ _ _ c.in-Ok.ensures.step in
     let grown = one_word (nat_lt (c.args.coder.now.state.head / 2 ^ (16 - 8)) before.1) (c.args.coder.now.state.head % 2 ^ 8) c.args.coder.now.state.words in
     λ e is.
-    let refused = refused_by (EncodeCall _ _ 8 16 _ _ _ _) 8 _ _ _ _ e (rw is at c.encode_symbol-in-Ok.ensures.step) in
+    let refused = refused_by (EncodeCall _ _ _ 8 16) 8 _ _ _ _ e (rw is at c.encode_symbol-in-Ok.ensures.step) in
     elim refused.3.error.1 [
       | inl never ↦ absurd never
       | inr full ↦ omega (arith, full.1.1, before.3.room_used, ap length before.3.words, grown, c.requires)

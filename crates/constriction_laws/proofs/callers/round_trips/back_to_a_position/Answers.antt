@@ -22,10 +22,10 @@ returns-clause-back g c =
     let two : AnsState = c.encode_symbol-2.new.self.state in
     let last : AnsState = c.decode_symbol.new.self.state in
     let valid : IsValid 8 16 c.new-coder.result.state = subst (λ (x : AnsState). IsValid 8 16 x) (sym c.new-coder.ensures.state) (empty_valid 8 16) in
-    let here : Encodes 8 16 model c.args.before c.new-coder.result.state one = encode_of _ _ 8 16 _ _ _ _ _ model _ _ _ valid c.in-Ok.ensures.step in
+    let here : Encodes 8 16 model c.args.before c.new-coder.result.state one = encode_of _ _ _ 8 16 _ model _ _ _ valid c.in-Ok.ensures.step in
     let first : Encodes 8 16 model c.args.before empty one = subst (λ (x : AnsState). Encodes 8 16 model c.args.before x one) c.new-coder.ensures.state here in
-    let second : Encodes 8 16 model c.args.since one two = encode_of _ _ 8 16 _ _ _ _ _ model _ _ _ first.3.valid c.in-Ok-encode_symbol.ensures.step in
-    let third : Decodes 8 16 model c.in-Ok-decode_symbol.again c.from_raw_parts-decoder.result.state last = (decode_of _ _ _ _ _ 8 16 model _ _ _ c.in-Ok-decode_symbol.ensures.step).0 tt in
+    let second : Encodes 8 16 model c.args.since one two = encode_of _ _ _ 8 16 _ model _ _ _ first.3.valid c.in-Ok-encode_symbol.ensures.step in
+    let third : Decodes 8 16 model c.in-Ok-decode_symbol.again c.from_raw_parts-decoder.result.state last = (decode_of _ _ _ _ 8 16 model _ _ _ c.in-Ok-decode_symbol.ensures.step).0 tt in
     let held : c.len-held.result ≡ length one.words =
     omega (arith, c.len-held.ensures, c.bulk.result.now.ok.0, ap length (ap (λ b. map f (reverse b.items)) c.bulk.ensures.backend ∙ sym c.bulk.ensures.coder.words_are), length-map (reverse c.bulk.result.now.items) f, length-reverse c.bulk.result.now.items) in
     let words : two.words ≡ map f (reverse c.into_raw_parts-words.result.0.items) = ap (λ (x : AnsState). x.words) c.into_raw_parts-words.ensures.state in

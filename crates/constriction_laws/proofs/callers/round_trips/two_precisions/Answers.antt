@@ -32,14 +32,14 @@ returns-clause-back g c =
     let second : Model ℕ = record { precision = 5; table = g.Second.EntropyModel.table c.args.second.now } in
     let valid : IsValid 8 16 c.new-coder.result.state = subst (λ (x : AnsState). IsValid 8 16 x) (sym c.new-coder.ensures.state) (empty_valid 8 16) in
     let one : Encodes 8 16 first c.args.a empty c.encode_symbol.new.self.state =
-    (let here : Encodes 8 16 first c.args.a c.new-coder.result.state c.encode_symbol.new.self.state = encode_of _ _ 8 16 _ _ _ _ _ first _ _ _ valid c.in-Ok.ensures.step in
+    (let here : Encodes 8 16 first c.args.a c.new-coder.result.state c.encode_symbol.new.self.state = encode_of _ _ _ 8 16 _ first _ _ _ valid c.in-Ok.ensures.step in
     subst (λ (x : AnsState). Encodes 8 16 first c.args.a x c.encode_symbol.new.self.state) c.new-coder.ensures.state here) in
-    let two : Encodes 8 16 second c.args.b c.encode_symbol.new.self.state c.encode_symbol-2.new.self.state = encode_of _ _ 8 16 _ _ _ _ _ second _ _ _ one.3.valid c.in-Ok-encode_symbol.ensures.step in
+    let two : Encodes 8 16 second c.args.b c.encode_symbol.new.self.state c.encode_symbol-2.new.self.state = encode_of _ _ _ 8 16 _ second _ _ _ one.3.valid c.in-Ok-encode_symbol.ensures.step in
     let imported = c.in-Ok-from_compressed.ensures.ok tt in
     let words = c.in-Ok-into_compressed.ensures.ok in
     let start : c.in-Ok-from_compressed.decoder.state ≡ filled 8 16 0 (exported 8 c.encode_symbol-2.new.self.state) = rw words at imported in
-    let three : Decodes 8 16 second c.in-Ok-decode_symbol.b_again c.in-Ok-from_compressed.decoder.state c.decode_symbol.new.self.state = (decode_of _ _ _ _ _ 8 16 second _ _ _ c.in-Ok-decode_symbol.ensures.step).0 tt in
-    let four : Decodes 8 16 first c.in-Ok-decode_symbol-2.a_again c.decode_symbol.new.self.state c.decode_symbol-2.new.self.state = (decode_of _ _ _ _ _ 8 16 first _ _ _ c.in-Ok-decode_symbol-2.ensures.step).0 tt in
+    let three : Decodes 8 16 second c.in-Ok-decode_symbol.b_again c.in-Ok-from_compressed.decoder.state c.decode_symbol.new.self.state = (decode_of _ _ _ _ 8 16 second _ _ _ c.in-Ok-decode_symbol.ensures.step).0 tt in
+    let four : Decodes 8 16 first c.in-Ok-decode_symbol-2.a_again c.decode_symbol.new.self.state c.decode_symbol-2.new.self.state = (decode_of _ _ _ _ 8 16 first _ _ _ c.in-Ok-decode_symbol-2.ensures.step).0 tt in
     let sizes : IsSizes 8 16 = record { some_bits = lit≤ tt; two_words = lit≤ tt; whole = refl } in
     let law : Only 8 16 = λ items others state last ms h k e. c.symbols_come_back.ensures.only 8 16 items others state last sizes ms h k e in
     let back = two_back 8 16 c.args.a c.args.b c.in-Ok-decode_symbol-2.a_again c.in-Ok-decode_symbol.b_again first second

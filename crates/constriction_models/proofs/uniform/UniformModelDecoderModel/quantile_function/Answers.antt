@@ -12,5 +12,5 @@ interval-left-requires-clause-long g c =
 pub returns-clause-found : goal.returns-clause-found
 returns-clause-found g c =
     let m = c.args.self.now in
-    uniform_has g.row.PRECISION m.count c.symbol_at-symbol.result _ _ c.symbol_at-symbol.ensures.within (omega (arith, c.interval-left.ensures.left, c.start.ensures))
-    (omega (arith, c.interval-left.ensures.left, c.interval-left.ensures.long, c.start-2.ensures))
+    uniform_has g.row.PRECISION m.count c.symbol_at-symbol.result _ _ c.symbol_at-symbol.ensures.within (omega (arith, c.interval-left.ensures.lower, c.start.ensures))
+    (omega (arith, c.interval-left.ensures.lower, c.interval-left.ensures.long, c.start-2.ensures))

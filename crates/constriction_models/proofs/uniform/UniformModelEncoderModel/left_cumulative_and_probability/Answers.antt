@@ -27,5 +27,5 @@ interval-requires-clause-long g c =
 pub returns-clause-found : goal.returns-clause-found
 returns-clause-found g c =
     let m = c.args.self.now in
-    uniform_has g.row.PRECISION m.count c.args.symbol.now _ _ c.if-symbol-self.false (omega (arith, c.interval.ensures.left, c.start-left.ensures))
-    (omega (arith, c.interval.ensures.left, c.interval.ensures.long, c.start-end.ensures))
+    uniform_has g.row.PRECISION m.count c.args.symbol.now _ _ c.if-symbol-self.false (omega (arith, c.interval.ensures.lower, c.start-left.ensures))
+    (omega (arith, c.interval.ensures.lower, c.interval.ensures.long, c.start-end.ensures))

@@ -7,7 +7,7 @@ use Rattle.constriction_queue.proofs.decoder.RangeDecoder.with_backend.Goals as 
 
 pub returns-in-Ok-clause-coder : goal.returns-in-Ok-clause-coder
 returns-in-Ok-clause-coder g c =
-    is_decoder g.Word.BitArray.number g.Backend.Holds.words _ _ _ _ _ _ c.requires c.start.result.wide (g.met.State.BitArray.number_law _) (g.met.State.BitArray.number_law _) (mod-lt _ (pow_pos g.State.BitArray.BITS))
+    is_decoder g.Word.BitArray.number g.Backend.Holds _ _ _ _ _ _ c.requires c.start.result.wide (g.met.State.BitArray.number_law _) (g.met.State.BitArray.number_law _) (mod-lt _ (pow_pos g.State.BitArray.BITS))
 
 pub read_point-requires : goal.read_point-requires
 read_point-requires g c = c.requires

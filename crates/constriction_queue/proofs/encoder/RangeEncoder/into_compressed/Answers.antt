@@ -1,4 +1,5 @@
-use Rattle.std.proofs.Common.{map, ap, inl, inr}
+use Rattle.std.proofs.Common.{map}
+use Rattle.constriction_base.proofs.Written.{not_written}
 use Rattle.constriction_queue.specs.Encoder.{owed_of}
 use Rattle.constriction_queue.proofs.Encoders.{is_encoder}
 use Rattle.constriction_queue.proofs.Seals.{words_of_numbers}
@@ -8,7 +9,7 @@ pub returns-in-Ok-clause-ok : goal.returns-in-Ok-clause-ok
 returns-in-Ok-clause-ok g c =
     let number = g.Word.BitArray.number in
     let words = g.Backend.Holds.words c.self.inside.bulk in
-    rw (c.in-Ok.ensures.ok, ← c.self.view_is)
+    rw (c.in-Ok.ensures.words, ← c.self.view_is)
     (c.sealing-seal.ensures.words (map number words) (words_of_numbers number _ g.met.Word.BitArray.number_law words))
 
 pub returns-in-Err-clause-err : goal.returns-in-Err-clause-err
@@ -20,17 +21,13 @@ returns-in-Err-clause-err g c =
     rw (← c.self.view_is) record {
       owed = owed_of number seal.held seal.point seal.zero;
       is = all;
-      short = c.in-Err.ensures.short;
-      error = elim c.in-Err.ensures.err [
-        | inl room ↦ inl room
-        | inr write ↦ inr (write.0, (write.1.0, write.1.1, rw (ap (map number) write.1.2) c.in-Err.ensures.begun))
-      ];
+      not_written = not_written number g.Backend.Holds g.Backend.WriteWords _ _ _ _ c.in-Err.ensures;
     }
 
 pub returns-in-Ok-clause-coder : goal.returns-in-Ok-clause-coder
 returns-in-Ok-clause-coder g c =
-    rw (← c.self.view_is) (is_encoder g.Word.BitArray.number g.Backend.Holds.words _ _ _ _ _ c.self.inside.situation c.self.invariant.0 c.self.invariant.1 c.self.inside.state.wide (g.met.State.BitArray.number_law _) (g.met.State.BitArray.number_law _))
+    rw (← c.self.view_is) (is_encoder g.Word.BitArray.number g.Backend.Holds _ _ _ _ _ c.self.inside.situation c.self.invariant.0 c.self.invariant.1 c.self.inside.state.wide (g.met.State.BitArray.number_law _) (g.met.State.BitArray.number_law _))
 
 pub returns-in-Err-clause-coder : goal.returns-in-Err-clause-coder
 returns-in-Err-clause-coder g c =
-    rw (← c.self.view_is) (is_encoder g.Word.BitArray.number g.Backend.Holds.words _ _ _ _ _ c.self.inside.situation c.self.invariant.0 c.self.invariant.1 c.self.inside.state.wide (g.met.State.BitArray.number_law _) (g.met.State.BitArray.number_law _))
+    rw (← c.self.view_is) (is_encoder g.Word.BitArray.number g.Backend.Holds _ _ _ _ _ c.self.inside.situation c.self.invariant.0 c.self.invariant.1 c.self.inside.state.wide (g.met.State.BitArray.number_law _) (g.met.State.BitArray.number_law _))

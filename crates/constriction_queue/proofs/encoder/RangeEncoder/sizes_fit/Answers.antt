@@ -12,7 +12,7 @@ returns-in_default g c =
     let held = g.Backend.Holds.words c.self.inside.bulk in
     let seal = c.sealing-seal.result in
     let all = c.sealing-seal.ensures.words (map number held) (words_of_numbers number _ g.met.Word.BitArray.number_law held) in
-    let n = length (sealed_by w g.State.BitArray.BITS (encoder_of number g.Backend.Holds.words w (g.State.BitArray.number c.self.inside.state.lower) (g.State.BitArray.number c.self.inside.state.range) c.self.inside.bulk c.self.inside.situation)) in
+    let n = length (sealed_by w g.State.BitArray.BITS (encoder_of number g.Backend.Holds w (g.State.BitArray.number c.self.inside.state.lower) (g.State.BitArray.number c.self.inside.state.range) c.self.inside.bulk c.self.inside.situation)) in
     let sum : c.remaining.result + c.owed_count-owed.result ≡ n =
     omega (arith, c.remaining.ensures, c.owed_count-owed.ensures, count_is number (owed_of number seal.held seal.point seal.zero) held _ all) in
     let top : 2 ^ 64 ≡ 18446744073709551616 = refl in
@@ -28,7 +28,7 @@ returns g c =
     let held = g.Backend.Holds.words c.self.inside.bulk in
     let seal = c.sealing-seal.result in
     let all = c.sealing-seal.ensures.words (map number held) (words_of_numbers number _ g.met.Word.BitArray.number_law held) in
-    let n = length (sealed_by w g.State.BitArray.BITS (encoder_of number g.Backend.Holds.words w (g.State.BitArray.number c.self.inside.state.lower) (g.State.BitArray.number c.self.inside.state.range) c.self.inside.bulk c.self.inside.situation)) in
+    let n = length (sealed_by w g.State.BitArray.BITS (encoder_of number g.Backend.Holds w (g.State.BitArray.number c.self.inside.state.lower) (g.State.BitArray.number c.self.inside.state.range) c.self.inside.bulk c.self.inside.situation)) in
     let sum : c.remaining.result + c.owed_count-owed.result ≡ n =
     omega (arith, c.remaining.ensures, c.owed_count-owed.ensures, count_is number (owed_of number seal.held seal.point seal.zero) held _ all) in
     let added = c.in-Some.ensures in

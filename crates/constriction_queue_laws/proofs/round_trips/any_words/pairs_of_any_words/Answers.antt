@@ -3,7 +3,7 @@ use Rattle.constriction_base.specs.Models.{Item, IsModel, AreModels, pairs_of}
 use Rattle.constriction_queue.proofs.Seals.{words_of_numbers}
 use Rattle.constriction_coder_laws.proofs.PairCalls.{are_pairs}
 use Rattle.constriction_queue.specs.Range.{Run, Within, start}
-use Rattle.constriction_queue_laws.specs.Symbols.{FindsAll, NarrowsAll}
+use Rattle.constriction_queue.specs.Symbols.{FindsAll, NarrowsAll}
 use Rattle.constriction_queue_laws.proofs.AnyWords.{found_of, lie_of, none_within, some_pairs}
 use Rattle.constriction_queue_laws.proofs.Told.{passed, while_reading}
 use Rattle.constriction_queue_laws.proofs.round_trips.any_words.pairs_of_any_words.Goals as goal

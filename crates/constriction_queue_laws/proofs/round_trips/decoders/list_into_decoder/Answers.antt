@@ -5,7 +5,7 @@ use Rattle.constriction_coder_laws.specs.Outcomes.{HasImpossible}
 use Rattle.constriction_queue.specs.Encoder.{left_to_encode, run_by}
 use Rattle.constriction_queue_laws.specs.Outcomes.{GivesNone}
 use Rattle.constriction_queue_laws.proofs.Told.{passed, while_coding, while_reading}
-use Rattle.constriction_queue_laws.specs.Symbols.{NarrowsAll}
+use Rattle.constriction_queue.specs.Symbols.{NarrowsAll}
 use Rattle.constriction_coder_laws.proofs.SameModel.{are_models}
 use Rattle.std.proofs.Common.{pow_pos}
 use Rattle.std.specs.Prelude.{⊤}

@@ -1,7 +1,7 @@
 use Rattle.std.proofs.Common.{subst, arith, ◌≡◌, ◌<◌, length}
 use Rattle.constriction_base.specs.Models.{IsModel, pairs_of}
 use Rattle.constriction_queue.specs.Range.{Run, start}
-use Rattle.constriction_queue_laws.specs.Symbols.{NarrowsAll}
+use Rattle.constriction_queue.specs.Symbols.{NarrowsAll}
 use Rattle.constriction_coder_laws.proofs.PairCalls.{are_pairs}
 use Rattle.constriction_coder_laws.specs.Outcomes.{HasImpossibleItem}
 use Rattle.constriction_queue.specs.Encoder.{left_to_encode, run_by}

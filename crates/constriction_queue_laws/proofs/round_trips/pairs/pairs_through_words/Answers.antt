@@ -5,7 +5,7 @@ use Rattle.constriction_coder_laws.specs.Outcomes.{HasImpossibleItem}
 use Rattle.constriction_queue.specs.Encoder.{left_to_encode, run_by}
 use Rattle.constriction_queue_laws.proofs.ListCalls.{queue_words, sealed_back}
 use Rattle.constriction_queue_laws.proofs.Told.{err_weaker, ok_both, passed, while_coding, while_reading}
-use Rattle.constriction_queue_laws.specs.Symbols.{FindsAll, MayEnd, NarrowsAll}
+use Rattle.constriction_queue.specs.Symbols.{FindsAll, MayEnd, NarrowsAll}
 use Rattle.constriction_coder_laws.proofs.PairCalls.{are_pairs}
 use Rattle.std.proofs.Common.{sym, ◌∙◌}
 use Rattle.std.specs.Prelude.{⊤}

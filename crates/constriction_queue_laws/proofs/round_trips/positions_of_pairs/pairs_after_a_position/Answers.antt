@@ -1,10 +1,10 @@
 use Rattle.std.proofs.Common.{List, length, map, ap, arith}
 use Rattle.constriction_base.specs.Models.{Item, IsModel, pairs_of}
 use Rattle.constriction_queue.specs.Range.{Run}
-use Rattle.constriction_queue_laws.specs.Symbols.{FindsAll}
+use Rattle.constriction_queue.specs.Symbols.{FindsAll}
 use Rattle.constriction_coder_laws.proofs.PairCalls.{are_pairs}
 use Rattle.constriction_queue_laws.proofs.AnyEncoder.{items_known}
-use Rattle.constriction_queue_laws.proofs.Entries.{intervals}
+use Rattle.constriction_queue.proofs.Entries.{intervals}
 use Rattle.constriction_queue_laws.proofs.Seeking.{place_within}
 use Rattle.constriction_queue_laws.proofs.round_trips.positions_of_pairs.pairs_after_a_position.Goals as goal
 

@@ -1,8 +1,8 @@
 use Rattle.std.proofs.Common.{◌≡◌, ◌∙◌, ℕ, List, drop, length, map, refl, ap, arith, inl, inr}
 use Rattle.std.proofs.lemmas.List.{length-map}
+use Rattle.constriction_queue.specs.Decoder.{StandsAt}
 use Rattle.constriction_queue.specs.Range.{Run}
 use Rattle.constriction_queue.specs.States.{IsPosition, lower_of, range_of}
-use Rattle.constriction_queue_laws.specs.Symbols.{StandsAt}
 use Rattle.std.specs.declared.convert.Infallible.{Infallible}
 use Rattle.constriction_queue.proofs.Beginning.{cursor_keeps}
 use Rattle.constriction_queue.proofs.Seals.{words_of_numbers}

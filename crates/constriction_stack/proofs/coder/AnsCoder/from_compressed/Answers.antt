@@ -1,32 +1,28 @@
-use Rattle.std.specs.Prelude.{◌∷◌}
-use Rattle.std.proofs.Common.{ap, ◌∙◌, inl, inr, refl}
-use Rattle.constriction_stack.proofs.BinaryForms.{imports_of}
+use Rattle.std.proofs.Common.{inl, refl}
+use Rattle.constriction_base.proofs.Sizes.{facts}
+use Rattle.constriction_stack.proofs.Moved.{ended_import, ended_state, refused_import, refused_list}
 use Rattle.constriction_base.proofs.Exporting.{some_of}
 use Rattle.constriction_stack.proofs.FirstReads.{refused_at_once, list_refused_at_once, none_filled, none_imported, none_high, first_imported, first_high}
 use Rattle.constriction_stack.proofs.coder.AnsCoder.from_compressed.Goals as goal
 
-pub returns-in-Err-filled-clause-err : goal.returns-in-Err-filled-clause-err
-returns-in-Err-filled-clause-err g c =
+pub returns-in-Err-fill-clause-err : goal.returns-in-Err-fill-clause-err
+returns-in-Err-fill-clause-err g c =
     let number = g.Word.BitArray.number in
     let word = c.in-Ok-Some.word in
     let read = rw c.in-Ok-Some.field-0-is at c.in-Ok-Some.ensures.reads in
     let some = some_of (number word) c.if-is_nothing.ensures.1 in
-    let rest = c.in-Err-filled.ensures.reads in
-    inr (
-      rest.0,
-      rest.1,
-      c.in-Err-filled.field-0,
-      imports_of number g.Backend.ReadWords.reads g.Word.BitArray.BITS rest.0 c.args.bulk c.read.new.self rest.1 word read some (rw c.widen.ensures at rest.2),
-      rest.3,
-      rest.4,
-    )
+    let rest = rw (c.widen.ensures, c.BITS.ensures, c.BITS-2.ensures) at c.in-Err-fill.ensures.moves in
+    refused_import number g.Backend.Holds g.Backend.ReadWords g.Word.BitArray.BITS g.State.BitArray.BITS c.args.bulk c.read.new.self word read some rest.0 c.fill.new.bulk c.in-Err-fill.field-0 rest.1
 
-pub returns-in-Err-filled-clause-taken : goal.returns-in-Err-filled-clause-taken
-returns-in-Err-filled-clause-taken g c = λ list.
+pub returns-in-Err-fill-clause-taken : goal.returns-in-Err-fill-clause-taken
+returns-in-Err-fill-clause-taken g c = λ list.
+    let number = g.Word.BitArray.number in
     let word = c.in-Ok-Some.word in
-    let read = rw c.in-Ok-Some.field-0-is at c.in-Ok-Some.ensures.words in
-    let taken = c.in-Err-filled.ensures.list list in
-    inr (word ∷ taken.0, c.in-Err-filled.field-0, read list ∙ ap (λ ws. word ∷ ws) taken.1)
+    let read = rw c.in-Ok-Some.field-0-is at c.in-Ok-Some.ensures.reads in
+    let taken = rw c.in-Ok-Some.field-0-is at c.in-Ok-Some.ensures.words in
+    let some = some_of (number word) c.if-is_nothing.ensures.1 in
+    let rest = rw (c.widen.ensures, c.BITS.ensures, c.BITS-2.ensures) at c.in-Err-fill.ensures.moves in
+    refused_list number g.Backend.Holds g.Backend.ReadWords g.Word.BitArray.BITS g.State.BitArray.BITS c.args.bulk c.read.new.self word read some rest.0 c.fill.new.bulk c.in-Err-fill.field-0 (taken list) rest.1 list
 
 pub returns-clause-reads : goal.returns-clause-reads
 returns-clause-reads g c =
@@ -34,11 +30,8 @@ returns-clause-reads g c =
     let word = c.in-Ok-Some.word in
     let read = rw c.in-Ok-Some.field-0-is at c.in-Ok-Some.ensures.reads in
     let some = some_of (number word) c.if-is_nothing.ensures.1 in
-    let rest = c.in-Ok.ensures.reads in (
-      rest.0,
-      imports_of number g.Backend.ReadWords.reads g.Word.BitArray.BITS (g.State.BitArray.number c.in-Ok.head) c.args.bulk c.read.new.self rest.0 word read some (rw c.widen.ensures at rest.1),
-      rest.2,
-    )
+    let moved = rw (c.widen.ensures, c.BITS.ensures, c.BITS-2.ensures) at c.in-Ok.ensures.moves in
+    ended_import number g.Backend.Holds g.Backend.ReadWords g.Word.BitArray.BITS g.State.BitArray.BITS c.args.bulk c.read.new.self word read some _ _ c.fill.new.bulk moved
 
 pub returns-in-Err-clause-err : goal.returns-in-Err-clause-err
 returns-in-Err-clause-err g c = refused_at_once _ _ _ _ _ _ _ c.in-Err.ensures.reads
@@ -73,8 +66,13 @@ returns-then-is_nothing-clause-taken g c = λ list.
 
 pub returns-clause-ok : goal.returns-clause-ok
 returns-clause-ok g c = λ list.
+    let w = g.Word.BitArray.BITS in
+    let s = g.State.BitArray.BITS in
+    let number = g.Word.BitArray.number in
     let read = rw c.in-Ok-Some.field-0-is at c.in-Ok-Some.ensures.words in
-    first_imported g.Word.BitArray.number g.Word.BitArray.BITS g.State.BitArray.BITS _ c.in-Ok-Some.word _ _ _ (read list) c.widen.ensures (c.in-Ok.ensures.list list)
+    let moved = rw (c.BITS.ensures, c.BITS-2.ensures) at c.in-Ok.ensures.moves in
+    let full = ended_state number g.Backend.Holds g.Backend.ReadWords w s _ (g.State.BitArray.number c.widen.result) _ c.read.new.self c.fill.new.bulk (facts w s c.requires) (g.met.State.BitArray.number_law _) moved list in
+    first_imported number w s _ c.in-Ok-Some.word _ _ _ (read list) c.widen.ensures full
 
 pub returns-clause-high : goal.returns-clause-high
 returns-clause-high g c = λ list.

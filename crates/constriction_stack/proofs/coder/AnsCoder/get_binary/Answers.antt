@@ -17,7 +17,7 @@ returns-in-Ok g c = (
 
 pub returns-in-Err : goal.returns-in-Err
 returns-in-Err g c = (
-  (refl, λ w. tt, (λ is. c.in-Err.ensures.kept (same_error is), λ e is. c.in-Err.ensures.taken_back e (same_error is))),
+  (refl, λ w. tt, c.in-Err.ensures.left),
   record {
     same_reference = tt;
     shows = tt;

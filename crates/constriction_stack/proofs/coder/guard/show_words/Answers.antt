@@ -1,8 +1,16 @@
-use Rattle.std.proofs.Common.{ap, ◌∙◌, inl, inr}
+use Rattle.std.specs.Prelude.{List, map}
+use Rattle.std.proofs.Common.{ap, ◌∙◌, inl, inr, refl}
+use Rattle.constriction_base.proofs.Written.{not_written}
+use Rattle.constriction_stack.specs.Ans.{AnsState}
 use Rattle.constriction_stack.proofs.coder.guard.show_words.Goals as goal
 
 pub returns-in-Err-clause-err : goal.returns-in-Err-clause-err
-returns-in-Err-clause-err g c = elim c.in-Err.ensures.err [
-  | inl none ↦ inl (ap g.Backend.Holds.words (c.take_back.ensures.none none.0) ∙ none.1, none.2)
-  | inr some ↦ inr (λ never. c.take_back.ensures.words never ∙ some.1.3, some.0, (some.1.0, some.1.1, some.1.2))
-]
+returns-in-Err-clause-err g c = not_written g.Word.BitArray.number g.Backend.Holds g.Backend.WriteWords _ _ _ _ c.in-Err.ensures.written
+
+pub returns-in-Err-clause-left : goal.returns-in-Err-clause-left
+returns-in-Err-clause-left g c =
+    let state : List g.row.Word.Denot → AnsState = λ ws. record { head = g.State.BitArray.number c.args.head; words = map g.Word.BitArray.number ws } in
+    elim c.in-Err.ensures.refused [
+      | inl none ↦ inl (ap state (ap g.Backend.Holds.words (c.take_back.ensures.none none) ∙ (rw none at c.in-Err.ensures.back)))
+      | inr some ↦ inr (refl, λ never. ap state (c.take_back.ensures.words never ∙ c.in-Err.ensures.back), (some.0, (some.1.0, some.1.1, rw some.1.2 c.in-Err.ensures.written.begun)))
+    ]

@@ -10,7 +10,7 @@ pub returns-clause-decoded : goal.returns-clause-decoded
 returns-clause-decoded g c = λ known.
     let table = g.M.EntropyModel.table in
     ok_weaker c.decode_by_models.result c.decode_by_models.ensures.steps (λ again all.
-    (decodes_of _ g.Word.BitArray.number g.Backend.Holds.words g.Backend.Holds.is_list g.Backend.ReadWords.reads g.Word.BitArray.BITS g.State.BitArray.BITS
+    (decodes_of _ g.Word.BitArray.number g.Backend.Holds g.Backend.ReadWords g.Word.BitArray.BITS g.State.BitArray.BITS
     (λ pair. item_of (record { precision = g.row.PRECISION; table = table pair.1 }) pair.0) (zip again.items c.args.models.now) c.args.coder.now c.decode_by_models.new.decoder all).0 known)
 
 pub returns-clause-back : goal.returns-clause-back
@@ -22,5 +22,5 @@ returns-clause-back g c = λ known symbols before encoded count.
     pairs_back g.row.PRECISION table w s symbols again.items c.args.models.now before c.args.coder.now.state c.decode_by_models.new.decoder.state
     (λ m. (let sized = g.met.M.EntropyModel.sized m in record { some_bits = sized.0; within_word = omega (arith, sized.1, g.met.M.Probability.WordOf.width_law); lawful = g.M.EntropyModel.lawful m }))
     count many encoded
-    ((decodes_of _ g.Word.BitArray.number g.Backend.Holds.words g.Backend.Holds.is_list g.Backend.ReadWords.reads w s
+    ((decodes_of _ g.Word.BitArray.number g.Backend.Holds g.Backend.ReadWords w s
     (λ pair. item_of (record { precision = g.row.PRECISION; table = table pair.1 }) pair.0) (zip again.items c.args.models.now) c.args.coder.now c.decode_by_models.new.decoder all).0 known))

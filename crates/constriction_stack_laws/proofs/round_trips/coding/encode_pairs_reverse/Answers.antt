@@ -31,7 +31,7 @@ returns-clause-coded g c = λ valid.
     (λ _ p.
     (let given = all_pairs_from_back e.0 e.2 same p.1 ∙ ap₂ (λ xs ms. reverse (zip xs ms)) first second in
     let all = ap (λ pairs. map item pairs) given ∙ map-reverse item (zip symbols models) in
-    let coded = encodes_of g.Word.BitArray.number g.Backend.Holds.words w s g.Backend.WriteWords.room g.Backend.WriteWords.makes_room g.Backend.WriteWords.prepare_fails g.Backend.WriteWords.write_fails _ (λ p. (p.0.now, p.1.now)) item e.2 old e.3 valid e.4 in
+    let coded = encodes_of g.Word.BitArray.number g.Backend.Holds g.Backend.WriteWords w s _ (λ p. (p.0.now, p.1.now)) item e.2 old e.3 valid e.4 in
     subst (λ items. EncodesAll w s items old.state new.state) all
     (subst (λ x. EncodesAll w s (map item (map (λ p. (p.0.now, p.1.now)) e.2)) old.state x.state) p.0 coded)))
     (λ _ _. tt)
@@ -45,4 +45,4 @@ returns-clause-err g c =
     let second : iter_rest (zip_second e.0) ≡ models = ap (λ i. iter_rest (zip_second i)) e.1 ∙ (ap iter_rest c.zip.ensures.second ∙ c.iter-2.ensures.rest) in
     let same : length (iter_rest (zip_first e.0)) ≡ length (iter_rest (zip_second e.0)) = omega (arith, ap length first, ap length second, c.requires) in
     MatchResult-weaker c.encode_symbols_reverse.result e.5 (λ _ _. tt)
-    (λ error p. reversed_pairs_impossible (EncodeCall g.Word.BitArray.number g.Backend.Holds.words g.Word.BitArray.BITS g.State.BitArray.BITS g.Backend.WriteWords.room g.Backend.WriteWords.makes_room g.Backend.WriteWords.prepare_fails g.Backend.WriteWords.write_fails) g.row.PRECISION g.M.EntropyModel.table symbols models e.0 (ap₂ (λ xs ms. zip xs ms) first second) e.2 e.3 c.encode_symbols_reverse.new.self error same p)
+    (λ error p. reversed_pairs_impossible (EncodeCall g.Word.BitArray.number g.Backend.Holds g.Backend.WriteWords g.Word.BitArray.BITS g.State.BitArray.BITS) g.row.PRECISION g.M.EntropyModel.table symbols models e.0 (ap₂ (λ xs ms. zip xs ms) first second) e.2 e.3 c.encode_symbols_reverse.new.self error same p)

@@ -9,7 +9,7 @@ use Rattle.constriction_stack_laws.proofs.Seeking.{words_sought}
 use Rattle.constriction_stack_laws.proofs.round_trips.positions.list_at_position_in_words.Goals as goal
 
 pub returns-clause-back : goal.returns-clause-back
-returns-clause-back g c = λ symbols old there last coded named grows same count.
+returns-clause-back g c = λ symbols (old, there, last, coded, named, grows, same) count.
     let w = g.Word.BitArray.BITS in
     let s = g.State.BitArray.BITS in
     let f = g.Word.BitArray.number in

@@ -5,7 +5,7 @@ use Rattle.constriction_stack_laws.proofs.ComingBack.{encoded_all_valid}
 use Rattle.constriction_stack_laws.proofs.round_trips.two_lists.two_lists_from_words.Goals as goal
 
 pub returns-clause-back : goal.returns-clause-back
-returns-clause-back g c = λ known symbols others old valid exports first second.
+returns-clause-back g c = λ known symbols others old (valid, exports) first second.
     let w = g.Word.BitArray.BITS in
     let s = g.State.BitArray.BITS in
     let other : Model g.row.N-Symbol.Denot = record { precision = g.row.Q; table = g.N.EntropyModel.table c.args.other.now } in

@@ -7,6 +7,6 @@ pub returns-in-Ok-clause-back : goal.returns-in-Ok-clause-back
 returns-in-Ok-clause-back g c = λ valid.
     let first = c.args.first.now in
     let second = c.args.second.now in
-    let back = c.in-Ok.ensures.back g.met.Backend.WriteWords.knows_words (reverse first) (reverse second) c.args.coder.state valid (c.in_ok-words.ensures.words valid)
+    let back = c.in-Ok.ensures.back g.met.Backend.WriteWords.knows_words (reverse first) (reverse second) c.args.coder.state (valid, c.in_ok-words.ensures.words valid)
     (length-reverse first) (length-reverse second) in
     (back.0 ∙ reverse-reverse first, back.1 ∙ reverse-reverse second, back.2)

@@ -15,6 +15,6 @@ returns-clause-back g c = λ words symbols state tells coded same count.
     let lawful : IsModel w model = record { some_bits = sized.0; within_word = omega (arith, sized.1, g.met.M.Probability.WordOf.width_law); lawful = g.M.EntropyModel.lawful c.args.model.now } in
     ok_both c.take_list.result c.take_list.ensures.count c.take_list.ensures.read (λ again many read.
     (let turned = models_turned model symbols again.items (omega (arith, many, count)) in
-    let back = c.symbols_come_back_by_reads.ensures (words_left words) w s (items_of model symbols) (items_of model again.items) state (c.args.items, false) c.in-Ok.decoder c.take_list.new.coder
-    c.requires.sizes (are_models w model symbols lawful) (c.items_are_words.ensures words tells) coded same c.in-Ok.ensures.reads c.in-Ok.ensures.coder.head_fits read turned in
+    let back = c.symbols_come_back_by_reads.ensures (words_left words) w s (items_of model symbols) (items_of model again.items) (c.args.items, false) c.take_list.new.coder
+    c.requires.sizes (are_models w model symbols lawful) (c.items_are_words.ensures words tells, (state, coded, same)) (c.in-Ok.decoder, c.in-Ok.ensures.reads, c.in-Ok.ensures.coder.head_fits, read) turned in
     symbols_turned model symbols again.items back.0))

@@ -1,7 +1,7 @@
 use Rattle.std.proofs.Common.{◌≡◌, ◌≤◌, ◌<◌, ◌++◌, ◌∷◌, [], ap, arith, sym, ◌∙◌, true, false, replicate, length, Some, List, Bool, inr, append_assoc}
 use Rattle.constriction_symbol.specs.Golomb.{golomb, number_after, zeros_one, WantsBit, IsInvalid}
-use Rattle.constriction_symbol.specs.GolombLaws.{no_bits, number_zeros}
-use Rattle.constriction_symbol.proofs.GolombLemmas.{fits_below, some_after, golomb_read, golomb_read_greatest}
+use Rattle.constriction_symbol.specs.GolombLaws.{no_bits}
+use Rattle.constriction_symbol.proofs.GolombLemmas.{number_zeros, fits_below, some_after, golomb_read, golomb_read_greatest}
 use Rattle.constriction_symbol.proofs.BitsGiven.{gives_then, stops_then, stops_reading}
 use Rattle.constriction_symbol.proofs.exp_golomb.ExpGolombDecoderCodebook.decode_symbol.Goals as goal
 

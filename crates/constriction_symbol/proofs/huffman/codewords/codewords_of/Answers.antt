@@ -9,10 +9,10 @@ down-preserved-then-entry-ne0 c =
     let h = c.down.invariant in
     let nodes = c.args.nodes.now in
     let index = c.down.index - 1 in
-    let within = parent_within nodes index c.requires.up c.if-entry-ne0.true in
+    let within = parent_within nodes index c.requires.rising c.if-entry-ne0.true in
     let above = get_or_read_under c.down.codewords.items (get_or nodes index 0 / 2) (length nodes) c.index.result.now 0 c.index.ensures within (omega (arith, h.len)) in
-    let parent = h.each (get_or nodes index 0 / 2) (omega (arith, parent_above nodes index c.requires.up c.if-entry-ne0.true)) within in
-    let here = numbered_step nodes index c.index.result.now c.codeword_below.result c.requires.up c.if-entry-ne0.true (rw above parent) c.codeword_below.ensures in
+    let parent = h.each (get_or nodes index 0 / 2) (omega (arith, parent_above nodes index c.requires.rising c.if-entry-ne0.true)) within in
+    let here = numbered_step nodes index c.index.result.now c.codeword_below.result c.requires.rising c.if-entry-ne0.true (rw above parent) c.codeword_below.ensures in
     record {
       len = length-set _ _ _ ∙ h.len;
       within = omega (arith, h.within);

@@ -1,7 +1,7 @@
 use Rattle.std.proofs.Common.{map, arith}
 use Rattle.std.proofs.lemmas.List.{length-map}
 use Rattle.constriction_symbol.specs.DecoderTree.{tree_of_pairs}
-use Rattle.constriction_symbol.specs.HuffmanMerge.{merged_book}
+use Rattle.constriction_symbol.proofs.HuffmanMerge.{merged_book}
 use Rattle.constriction_symbol.proofs.DecoderTrees.{pairs_hold}
 use Rattle.constriction_symbol.proofs.huffman.decoder.tree_of.Goals as goal
 
@@ -17,7 +17,7 @@ invariant_of-result g c =
     let few = c.in_ok-nodes.ensures.fit.few in
     let held = (pairs_hold (map g.P.BitArray.number c.args.weights.now) c.in_ok-nodes.nodes.items (omega (arith, n, few)) c.in_ok-nodes.ensures.ok).0 in
     let made = c.in_ok-places.ensures in
-    (held, rw c.deref.ensures.value at made.places, made.some, made.few, made.len)
+    (held, rw c.deref.ensures.value at made.places, made.some, made.few, made.count)
 
 pub returns-clause-ok : goal.returns-clause-ok
 returns-clause-ok g c =

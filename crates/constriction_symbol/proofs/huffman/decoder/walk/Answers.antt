@@ -1,7 +1,7 @@
 use Rattle.std.proofs.Common.{◌≡◌, ◌+◌, ◌*◌, [], ◌∷◌, ◌++◌, length, map, arith, ap, subst, sym, refl, ◌∙◌, append-nil}
 use Rattle.constriction_symbol.specs.DecoderTree.{tree_of_pairs}
 use Rattle.constriction_symbol.specs.Huffman.{IsTreeAt, ReadsOnIn}
-use Rattle.constriction_symbol.specs.HuffmanLaws.{node_at}
+use Rattle.constriction_symbol.proofs.HuffmanTrees.{node_at}
 use Rattle.constriction_symbol.specs.Merging.{as_pair}
 use Rattle.constriction_symbol.proofs.BitsGiven.{gives_then, stops_then}
 use Rattle.constriction_symbol.proofs.Walking.{node_within, child_below, child_at, arrived}

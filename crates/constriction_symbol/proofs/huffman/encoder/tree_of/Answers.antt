@@ -1,7 +1,7 @@
 use Rattle.std.proofs.Common.{map, arith}
 use Rattle.std.proofs.lemmas.List.{length-map}
 use Rattle.constriction_symbol.specs.EncoderTree.{tree_of_parents}
-use Rattle.constriction_symbol.specs.HuffmanMerge.{merged_book}
+use Rattle.constriction_symbol.proofs.HuffmanMerge.{merged_book}
 use Rattle.constriction_symbol.specs.Merging.{ArePairs}
 use Rattle.constriction_symbol.proofs.EncoderTrees.{pairs_unions, parents_climb}
 use Rattle.constriction_symbol.proofs.huffman.encoder.tree_of.Goals as goal
@@ -21,10 +21,10 @@ parents_of-requires-clause-fits g c =
 pub invariant_of-result : goal.invariant_of-result
 invariant_of-result g c =
     let made : ArePairs (map g.P.BitArray.number c.args.weights.now) c.deref.result.now = rw c.deref.ensures.value c.in-Ok.ensures.ok in
-    ((parents_climb (map g.P.BitArray.number c.args.weights.now) c.deref.result.now c.in-Ok-parents_of.nodes.items made c.in-Ok-parents_of.ensures.len c.in-Ok-parents_of.ensures.ok).0, rw c.deref-2.ensures.value at c.in-Ok-codewords_of.ensures)
+    ((parents_climb (map g.P.BitArray.number c.args.weights.now) c.deref.result.now c.in-Ok-parents_of.nodes.items made c.in-Ok-parents_of.ensures.count c.in-Ok-parents_of.ensures.ok).0, rw c.deref-2.ensures.value at c.in-Ok-codewords_of.ensures)
 
 pub returns-in-Ok-codewords_of-clause-ok : goal.returns-in-Ok-codewords_of-clause-ok
 returns-in-Ok-codewords_of-clause-ok g c =
     let made : ArePairs (map g.P.BitArray.number c.args.weights.now) c.deref.result.now = rw c.deref.ensures.value c.in-Ok.ensures.ok in
-    let held = parents_climb (map g.P.BitArray.number c.args.weights.now) c.deref.result.now c.in-Ok-parents_of.nodes.items made c.in-Ok-parents_of.ensures.len c.in-Ok-parents_of.ensures.ok in
+    let held = parents_climb (map g.P.BitArray.number c.args.weights.now) c.deref.result.now c.in-Ok-parents_of.nodes.items made c.in-Ok-parents_of.ensures.count c.in-Ok-parents_of.ensures.ok in
     (c.in-Ok.ensures.fit, merged_book (map g.P.BitArray.number c.args.weights.now) (tree_of_parents c.in-Ok-parents_of.nodes.items) held.1)

@@ -22,4 +22,4 @@ pub returns-then-place-symbols : goal.returns-then-place-symbols
 returns-then-place-symbols c = λ bits is. place_stays c.args.nodes.now bits (c.args.bit == 1) c.args.place c.if-place-symbols.true is
 
 pub returns : goal.returns
-returns c = λ bits is. place_moves c.args.nodes.now bits c.args.bit c.args.place c.requires.bit (λ low. omega (arith, low, c.if-place-symbols.false)) is
+returns c = λ bits is. place_moves c.args.nodes.now bits c.args.bit c.args.place c.requires.below (λ low. omega (arith, low, c.if-place-symbols.false)) is

@@ -3,9 +3,9 @@ use Rattle.std.proofs.lemmas.List.{length-map, map_push}
 use Rattle.std.proofs.lemmas.List.Sums.{sum-map}
 use Rattle.constriction_symbol.specs.Huffman.{keys_from}
 use Rattle.constriction_symbol.specs.Merging.{as_pair, key_of, keys_of}
-use Rattle.constriction_symbol.specs.Queues.{AreQueues, IsInTurn}
+use Rattle.constriction_symbol.specs.Queues.{AreQueues}
+use Rattle.constriction_symbol.proofs.TwoQueues.{IsInTurn, queues_start, queues_step, union_put}
 use Rattle.constriction_symbol.proofs.HuffmanMerging.{Merging, merging_start, merging_step, merging_done, merging_fits, merging_count, merging_some}
-use Rattle.constriction_symbol.proofs.TwoQueues.{queues_start, queues_step, union_put}
 use Rattle.constriction_symbol.proofs.huffman.merging.merge_all.Goals as goal
 
 pub plus-requires : goal.plus-requires
@@ -21,7 +21,7 @@ loop-lesser-init g c =
     let leaves = keys_of number c.in_ok-leaves.leaves.items in
     let none = c.in_ok-pairs.ensures.items in
     let no_unions : [] ≡ keys_of number c.in_ok-unions.unions.items = sym (ap (keys_of number) c.in_ok-unions.ensures.items) in
-    let start = queues_start (length c.args.weights.now) weights leaves n c.in_ok-leaves.ensures.items c.in_ok-leaves.ensures.rise in
+    let start = queues_start (length c.args.weights.now) weights leaves n c.in_ok-leaves.ensures.items c.in_ok-leaves.ensures.rising in
     let all : IsPermutation (keys_from 0 weights) (leaves ++ []) = subst (IsPermutation (keys_from 0 weights)) (sym (append-nil leaves)) c.in_ok-leaves.ensures.items in
     record {
       count = rw none (omega arith);
@@ -38,7 +38,7 @@ overflow_add-next g c =
     let count = merging_count _ _ _ c.loop-lesser.invariant.merging in
     let n = length-map c.args.weights.now g.P.BitArray.number in
     let m = length-map c.loop-lesser.pairs.items as_pair in
-    record { fits = omega (arith, c.loop-lesser.invariant.count, count, n, m, c.requires.indices) }
+    record { fits = omega (arith, c.loop-lesser.invariant.count, count, n, m, c.requires.fits) }
 
 pub loop-lesser-preserved : goal.loop-lesser-preserved
 loop-lesser-preserved g c =
@@ -71,7 +71,7 @@ loop-lesser-preserved g c =
 pub returns-in_default-take_least : goal.returns-in_default-take_least
 returns-in_default-take_least g c =
     let number = g.P.BitArray.number in
-    let first = c.in-Some.ensures.len in
+    let first = c.in-Some.ensures.count in
     let none = c.in_default-take_least.ensures.none in
     let leaves_ok = c.loop-lesser.leaves.ok in
     let unions_ok = c.loop-lesser.unions.ok in

@@ -1,7 +1,8 @@
 use Rattle.std.proofs.Common.{◌≡◌, ◌+◌, ◌++◌, ℕ, All, length, map}
 use Rattle.std.specs.VecDeque.{deque_len}
 use Rattle.constriction_symbol.specs.Merging.{as_pair, keys_of}
-use Rattle.constriction_symbol.specs.Queues.{AreQueues, IsInTurn}
+use Rattle.constriction_symbol.specs.Queues.{AreQueues}
+use Rattle.constriction_symbol.proofs.TwoQueues.{IsInTurn}
 use Rattle.constriction_symbol.proofs.HuffmanMerging.{Merging}
 use Rattle.constriction_symbol.proofs.huffman.merging.merge_all.Given as goal
 

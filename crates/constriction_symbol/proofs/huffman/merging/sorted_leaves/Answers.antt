@@ -16,8 +16,8 @@ loop-index-preserved g c =
     let step = keys_step n c.args.weights.now i c.index-weights-index.result c.loop-index-test.true in
     pushed ∙ (ap (λ ks. ks ++ (n c.index-weights-index.result, i) ∷ []) c.loop-index.invariant ∙ (ap (λ w. front ++ (n w, i) ∷ []) c.index-weights-index.is ∙ sym step))
 
-pub returns-clause-rise : goal.returns-clause-rise
-returns-clause-rise g c =
+pub returns-clause-rising : goal.returns-clause-rising
+returns-clause-rising g c =
     let n = g.P.BitArray.number in
     subst (λ xs. AreRising (keys_of n xs)) (sym c.from_vec.ensures.items) (rising_from_sorted n _ c.sort_unstable.ensures.sorted)
 

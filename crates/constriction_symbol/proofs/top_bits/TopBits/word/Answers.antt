@@ -1,6 +1,6 @@
 use Rattle.std.proofs.Common.{◌-◌, ◌/◌, ◌^◌, arith, refl}
+use Rattle.constriction_base.proofs.Heads.{shr_below_top}
 use Rattle.constriction_symbol.proofs.Coding.{length_bits}
-use Rattle.constriction_symbol.proofs.TopLemmas.{above_room}
 use Rattle.constriction_symbol.proofs.top_bits.TopBits.word.Goals as goal
 
 pub returns-then-room-BITS-clause-bits : goal.returns-then-room-BITS-clause-bits
@@ -10,7 +10,7 @@ returns-then-room-BITS-clause-bits g c =
 pub returns-then-room-BITS-clause-small : goal.returns-then-room-BITS-clause-small
 returns-then-room-BITS-clause-small g c =
     rw (← c.self.view_is, length_bits (g.Word.BitArray.BITS - c.self.inside.room) (g.Word.BitArray.number c.self.inside.word / 2 ^ c.self.inside.room), c.shifted_right.ensures)
-    (above_room g.Word.BitArray.BITS c.self.inside.room (g.Word.BitArray.number c.self.inside.word) c.self.invariant (g.met.Word.BitArray.number_law c.self.inside.word))
+    (shr_below_top g.Word.BitArray.BITS c.self.inside.room (g.Word.BitArray.number c.self.inside.word) c.self.invariant (g.met.Word.BitArray.number_law c.self.inside.word))
 
 pub returns-then-room-BITS-clause-within : goal.returns-then-room-BITS-clause-within
 returns-then-room-BITS-clause-within g c =

@@ -1,9 +1,8 @@
 use Rattle.std.specs.Iterator.Adapters.{rev_source}
-use Rattle.std.proofs.Common.{refl, reverse}
+use Rattle.std.proofs.Common.{refl}
 use Rattle.constriction_stream.proofs.Lists.{StepsAll-more, Yields-back}
 use Rattle.constriction_base.specs.Backends.{IsWrite}
-use Rattle.constriction_symbol.specs.Bits.{BitsValue, PutsOnto}
-use Rattle.constriction_symbol.specs.Codewords.{WritesPair}
+use Rattle.constriction_symbol.specs.Reversed.{StacksPair}
 use Rattle.constriction_symbol.proofs.writing.StackCoder+Word+B.encode_symbols_reverse.Goals as goal
 
 pub returns-in-Err : goal.returns-in-Err
@@ -31,7 +30,7 @@ loop-symbol-preserved g c =
     let on = c.in-Some.ensures.goes.on c.loop-symbol.invariant.1 in (
       on.0,
       on.1,
-      StepsAll-more (WritesPair {C = BitsValue g.row.B.Denot} (λ c. c.bits) (PutsOnto g.Word.BitArray.BITS g.Word.BitArray.number (IsWrite g.B.Holds.words g.B.WriteWords.room g.B.WriteWords.writes g.B.WriteWords.write_fails)) (λ codebook symbol e. g.C.EncoderCodebook.suffix_wants codebook symbol × ((a : _) × g.B.WriteError.From.from_gives a e)) g.C.Codebook.codeword (λ bits. reverse bits) g.L.Lent.lent) c.args.self.now c.loop-symbol.yielded c.loop-symbol.self (c.in-Some.symbol, c.in-Some.codebook) c.encode_symbol.new.self c.loop-symbol.invariant.2 (rw c.lend.ensures at c.in-Ok.ensures),
+      StepsAll-more (StacksPair g.Word.BitArray.BITS g.Word.BitArray.number (IsWrite g.B.Holds.words g.B.WriteWords.room g.B.WriteWords.writes g.B.WriteWords.write_fails) g.C.EncoderCodebook.suffix_wants g.B.WriteError.From.from_gives g.C.Codebook.codeword g.L.Lent.lent) c.args.self.now c.loop-symbol.yielded c.loop-symbol.self (c.in-Some.symbol, c.in-Some.codebook) c.encode_symbol.new.self c.loop-symbol.invariant.2 (rw c.lend.ensures at c.in-Ok.ensures),
     )
 
 pub loop-symbol-init : goal.loop-symbol-init

@@ -1,8 +1,6 @@
-use Rattle.std.proofs.Common.{reverse}
 use Rattle.constriction_stream.specs.Lists.{StepsAll}
 use Rattle.constriction_base.specs.Backends.{IsWrite}
-use Rattle.constriction_symbol.specs.Bits.{BitsValue, PutsOnto}
-use Rattle.constriction_symbol.specs.Codewords.{WritesPair}
+use Rattle.constriction_symbol.specs.Reversed.{StacksPair}
 use Rattle.constriction_symbol.proofs.writing.StackCoder+Word+B.encode_symbols_reverse.Given as goal
 
 -- the codewords of the items that came were written
@@ -10,4 +8,4 @@ abbrev pub invariant-loop-symbol : goal.invariant-loop-symbol
 invariant-loop-symbol g l =
     (goal.iterator-loop-symbol g).can_next l.symbol-iterator
     × (goal.iterator-loop-symbol g).is_finite l.symbol-iterator
-    × StepsAll (WritesPair {C = BitsValue g.row.B.Denot} (λ c. c.bits) (PutsOnto g.Word.BitArray.BITS g.Word.BitArray.number (IsWrite g.B.Holds.words g.B.WriteWords.room g.B.WriteWords.writes g.B.WriteWords.write_fails)) (λ codebook symbol e. g.C.EncoderCodebook.suffix_wants codebook symbol × ((a : _) × g.B.WriteError.From.from_gives a e)) g.C.Codebook.codeword (λ bits. reverse bits) g.L.Lent.lent) l.initial.self l.yielded l.self
+    × StepsAll (StacksPair g.Word.BitArray.BITS g.Word.BitArray.number (IsWrite g.B.Holds.words g.B.WriteWords.room g.B.WriteWords.writes g.B.WriteWords.write_fails) g.C.EncoderCodebook.suffix_wants g.B.WriteError.From.from_gives g.C.Codebook.codeword g.L.Lent.lent) l.initial.self l.yielded l.self

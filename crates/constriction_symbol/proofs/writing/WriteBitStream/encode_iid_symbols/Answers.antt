@@ -1,6 +1,6 @@
 use Rattle.std.proofs.Common.{refl}
 use Rattle.constriction_stream.proofs.Lists.{StepsAll-more}
-use Rattle.constriction_symbol.specs.Codewords.{WritesSymbol}
+use Rattle.constriction_symbol.specs.Codewords.{LacksMemoryFor, WritesSymbol}
 use Rattle.constriction_symbol.proofs.writing.WriteBitStream.encode_iid_symbols.Goals as goal
 
 pub returns-in-Err : goal.returns-in-Err
@@ -28,5 +28,5 @@ loop-symbol-preserved g c =
     let on = c.in-Some.ensures.goes.on c.loop-symbol.invariant.1 in (
       on.0,
       on.1,
-      StepsAll-more (WritesSymbol g.Self.WriteBitStream.bits g.Self.WriteBitStream.puts (λ symbol e. g.S.BitOrder.chosen (g.C.EncoderCodebook.prefix_wants c.args.codebook.now symbol) (g.C.EncoderCodebook.suffix_wants c.args.codebook.now symbol) × ((a : _) × g.Self.WriteError.From.from_gives a e)) (g.C.Codebook.codeword c.args.codebook.now) g.S.BitOrder.form g.L.Lent.lent) c.args.self.now c.loop-symbol.yielded c.loop-symbol.self c.in-Some.symbol c.encode_symbol.new.self c.loop-symbol.invariant.2 (rw c.lend.ensures at c.in-Ok.ensures),
+      StepsAll-more (WritesSymbol g.Self.WriteBitStream.bits g.Self.WriteBitStream.puts (LacksMemoryFor g.S.BitOrder.chosen g.C.EncoderCodebook.prefix_wants g.C.EncoderCodebook.suffix_wants g.Self.WriteError.From.from_gives c.args.codebook.now) (g.C.Codebook.codeword c.args.codebook.now) g.S.BitOrder.form g.L.Lent.lent) c.args.self.now c.loop-symbol.yielded c.loop-symbol.self c.in-Some.symbol c.encode_symbol.new.self c.loop-symbol.invariant.2 (rw c.lend.ensures at c.in-Ok.ensures),
     )

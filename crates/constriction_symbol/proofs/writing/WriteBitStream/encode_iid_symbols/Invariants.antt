@@ -1,5 +1,5 @@
 use Rattle.constriction_stream.specs.Lists.{StepsAll}
-use Rattle.constriction_symbol.specs.Codewords.{WritesSymbol}
+use Rattle.constriction_symbol.specs.Codewords.{LacksMemoryFor, WritesSymbol}
 use Rattle.constriction_symbol.proofs.writing.WriteBitStream.encode_iid_symbols.Given as goal
 
 -- the codewords of the items that came were written
@@ -7,4 +7,4 @@ abbrev pub invariant-loop-symbol : goal.invariant-loop-symbol
 invariant-loop-symbol g l =
     (goal.iterator-loop-symbol g).can_next l.symbol-iterator
     × (goal.iterator-loop-symbol g).is_finite l.symbol-iterator
-    × StepsAll (WritesSymbol g.Self.WriteBitStream.bits g.Self.WriteBitStream.puts (λ symbol e. g.S.BitOrder.chosen (g.C.EncoderCodebook.prefix_wants l.codebook symbol) (g.C.EncoderCodebook.suffix_wants l.codebook symbol) × ((a : _) × g.Self.WriteError.From.from_gives a e)) (g.C.Codebook.codeword l.codebook) g.S.BitOrder.form g.L.Lent.lent) l.initial.self l.yielded l.self
+    × StepsAll (WritesSymbol g.Self.WriteBitStream.bits g.Self.WriteBitStream.puts (LacksMemoryFor g.S.BitOrder.chosen g.C.EncoderCodebook.prefix_wants g.C.EncoderCodebook.suffix_wants g.Self.WriteError.From.from_gives l.codebook) (g.C.Codebook.codeword l.codebook) g.S.BitOrder.form g.L.Lent.lent) l.initial.self l.yielded l.self

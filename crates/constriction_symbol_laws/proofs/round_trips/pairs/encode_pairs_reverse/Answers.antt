@@ -9,9 +9,8 @@ use Rattle.constriction_base.specs.Backends.{IsWrite}
 use Rattle.constriction_symbol.specs.Bits.{PutsOnto}
 use Rattle.constriction_symbol_laws.specs.Lists.{AreCodewords}
 use Rattle.constriction_coder_laws.proofs.Turned.{map-reverse}
-use Rattle.constriction_coder_laws.proofs.PairCalls.{all_pairs_from_back, rest_of}
+use Rattle.constriction_coder_laws.proofs.PairCalls.{all_pairs_from_back, rest_of, both_now}
 use Rattle.constriction_symbol_laws.proofs.bit_coders.Codewords.{codewords_map, written_last}
-use Rattle.constriction_symbol_laws.proofs.bit_coders.Pairs.{both_now}
 use Rattle.constriction_symbol_laws.proofs.bit_coders.Unwritten.{not_written, pair_stands_back}
 use Rattle.constriction_symbol_laws.proofs.round_trips.pairs.encode_pairs_reverse.Goals as goal
 

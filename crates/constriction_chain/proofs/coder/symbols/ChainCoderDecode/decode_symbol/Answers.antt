@@ -7,12 +7,12 @@ use Rattle.constriction_chain.proofs.coder.symbols.ChainCoderDecode.decode_symbo
 
 pub quantile_function-symbol-requires : goal.quantile_function-symbol-requires
 quantile_function-symbol-requires g c =
-    let below = c.in-Ok.ensures.below in
+    let below = c.in-Ok.ensures.ok.below in
     rw (c.narrow.ensures, narrowed _ _ _ below (g.met.M.EntropyModel.sized c.args.model).1) below
 
 pub keep-requires-clause-covers : goal.keep-requires-clause-covers
 keep-requires-clause-covers g c =
-    let covers = covered _ _ _ _ _ _ c.in-Ok.ensures.below (g.met.M.EntropyModel.sized c.args.model).1 c.narrow.ensures c.quantile_function-symbol.ensures.covers in
+    let covers = covered _ _ _ _ _ _ c.in-Ok.ensures.ok.below (g.met.M.EntropyModel.sized c.args.model).1 c.narrow.ensures c.quantile_function-symbol.ensures.covers in
     rw (c.widen-left.ensures, c.widen-p.ensures, c.from_nonzero.ensures) covers
 
 pub keep-requires-clause-few : goal.keep-requires-clause-few
@@ -22,23 +22,25 @@ keep-requires-clause-few g c =
 
 pub returns-in-Ok-keep : goal.returns-in-Ok-keep
 returns-in-Ok-keep g c =
-    let taken = c.in-Ok.ensures in
+    let number = g.Word.BitArray.number in
+    let taken = c.in-Ok.ensures.ok in
     let covers = covered _ _ _ _ _ _ taken.below (g.met.M.EntropyModel.sized c.args.model).1 c.narrow.ensures c.quantile_function-symbol.ensures.covers in
-    let kept = rw (c.widen-left.ensures, c.widen-p.ensures, c.from_nonzero.ensures, c.parts-r.ensures.is) at c.in-Ok-keep.ensures in
+    let kept = rw (c.widen-left.ensures, c.widen-p.ensures, c.from_nonzero.ensures, c.parts-r.ensures.is) at c.in-Ok-keep.ensures.ok in
     rw (← c.self.view_is, c.of-after.ensures) (record {
       step = (
         _,
         _,
         c.quantile_function-symbol.ensures.found,
-        decoded _ _ _ _ _ _ _ _ _ _ g.met.Word.BitArray.number_law _ _ _ _ _ _ _ _ _ _ _ covers.0 covers.1 (g.met.Word.BitArray.number_law _) taken kept,
+        decoded number g.C.Holds g.C.ReadWords g.R.Holds g.R.WriteWords _ _ g.met.Word.BitArray.number_law _ _ _ _ _ _ _ _ _ _ _ covers.0 covers.1 (g.met.Word.BitArray.number_law _) taken kept,
       );
     })
 
 pub returns : goal.returns
 returns g c =
-    let taken = c.in-Ok.ensures in
+    let number = g.Word.BitArray.number in
+    let taken = c.in-Ok.ensures.ok in
     let covers = covered _ _ _ _ _ _ taken.below (g.met.M.EntropyModel.sized c.args.model).1 c.narrow.ensures c.quantile_function-symbol.ensures.covers in
-    let lost = rw (c.widen-left.ensures, c.widen-p.ensures, c.from_nonzero.ensures, c.parts-r.ensures.is) at c.in-Err-keep.ensures in
+    let lost = rw (c.widen-left.ensures, c.widen-p.ensures, c.from_nonzero.ensures, c.parts-r.ensures.is) at c.in-Err-keep.ensures.err in
     rw (← c.self.view_is) (record {
       step = inr (
         _,
@@ -46,7 +48,7 @@ returns g c =
           _,
           _,
           c.quantile_function-symbol.ensures.found,
-          undecoded _ _ _ _ _ _ _ _ g.met.R.WriteWords.room_law _ _ g.met.Word.BitArray.number_law _ _ _ _ _ _ _ _ _ _ _ covers.0 covers.1 taken lost,
+          undecoded number g.C.Holds g.C.ReadWords g.R.Holds g.R.WriteWords g.met.R.WriteWords.room_law _ _ g.met.Word.BitArray.number_law _ _ _ _ _ _ _ _ _ _ _ covers.0 covers.1 taken lost,
         ),
       );
     })

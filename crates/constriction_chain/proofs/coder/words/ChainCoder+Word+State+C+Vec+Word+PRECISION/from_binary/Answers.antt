@@ -1,33 +1,45 @@
-use Rattle.std.proofs.Common.{rules, arith, refl}
+use Rattle.std.proofs.Common.{rules, arith, refl, ◌-◌}
 use Rattle.constriction_base.proofs.Exporting.{base_two}
 use Rattle.constriction_chain.proofs.Chains.{coder_of}
-use Rattle.constriction_chain.proofs.Moving.{binary_begin}
+use Rattle.constriction_chain.proofs.Moving.{binary_begin, window_filled, word_below}
 use Rattle.constriction_chain.proofs.coder.words.ChainCoder+Word+State+C+Vec+Word+PRECISION.from_binary.Goals as goal
 
-pub fill_window-requires-clause-some : goal.fill_window-requires-clause-some
-fill_window-requires-clause-some g c = rw c.unit.ensures (omega arith)
+pub fill-requires-clause-some : goal.fill-requires-clause-some
+fill-requires-clause-some g c = rw c.unit.ensures (omega arith)
 
-pub fill_window-requires-clause-below : goal.fill_window-requires-clause-below
-fill_window-requires-clause-below g c = rw c.unit.ensures (omega (arith, base_two g.Word.BitArray.BITS c.requires.sizes.some_bits))
+pub of-requires : goal.of-requires
+of-requires g c =
+    let w = g.Word.BitArray.BITS in
+    let moved = rw (c.if-full.true, c.BITS.ensures, c.BITS-2.ensures, c.unit.ensures) at c.in-Ok.ensures.moves in
+    let below = rw (c.BITS.ensures, c.BITS-2.ensures, c.unit.ensures) at c.in-Ok.ensures.below in
+    let two = base_two w c.requires.sizes.some_bits in
+    let window = window_filled w (g.State.BitArray.BITS - w - g.row.PRECISION) _ moved.1 (below (word_below w _ 1 (omega (arith, two)))) in
+    (search rules, (c.requires, (rw c.unit-then-full.ensures (omega arith), window)))
 
-pub returns-in-Ok-Some-clause-ok : goal.returns-in-Ok-Some-clause-ok
-returns-in-Ok-Some-clause-ok g c =
-    let found = rw (c.in-Ok-Some.field-0-is, c.unit.ensures) at c.in-Ok-Some.ensures in
-    rw (c.of.ensures, c.unit-in-Ok-Some.ensures) (refl, search rules, λ list. binary_begin g.Word.BitArray.number g.C.Holds.words g.C.Holds.is_list g.C.ReadWords.reads _ _ _ _ g.met.Word.BitArray.number_law found.1 list)
+pub returns-then-full-clause-ok : goal.returns-then-full-clause-ok
+returns-then-full-clause-ok g c =
+    let moved = rw (c.if-full.true, c.BITS.ensures, c.BITS-2.ensures, c.unit.ensures) at c.in-Ok.ensures.moves in
+    rw (c.of.ensures, c.unit-then-full.ensures) (refl, search rules, λ list. binary_begin g.Word.BitArray.number g.C.Holds g.C.ReadWords _ _ _ _ g.met.Word.BitArray.number_law moved.0 list)
 
-pub returns-in-Ok-Some-clause-reads : goal.returns-in-Ok-Some-clause-reads
-returns-in-Ok-Some-clause-reads g c =
-    let found = rw (c.in-Ok-Some.field-0-is, c.unit.ensures) at c.in-Ok-Some.ensures in
-    rw c.of.ensures found.1
+pub returns-then-full-clause-reads : goal.returns-then-full-clause-reads
+returns-then-full-clause-reads g c =
+    let moved = rw (c.if-full.true, c.BITS.ensures, c.BITS-2.ensures, c.unit.ensures) at c.in-Ok.ensures.moves in
+    rw c.of.ensures moved.0
 
-pub returns-in-Ok-Some-clause-coder : goal.returns-in-Ok-Some-clause-coder
-returns-in-Ok-Some-clause-coder g c =
+pub returns-then-full-clause-coder : goal.returns-then-full-clause-coder
+returns-then-full-clause-coder g c =
     let law = g.met.Word.BitArray.number_law in
-    let found = rw c.in-Ok-Some.field-0-is at c.in-Ok-Some.ensures in
-    rw c.of.ensures (coder_of _ _ _ g.Word.BitArray.number law _ _ _ _ _ _ c.requires (rw c.unit-in-Ok-Some.ensures (omega arith)) (law _) found.0)
+    let w = g.Word.BitArray.BITS in
+    let moved = rw (c.if-full.true, c.BITS.ensures, c.BITS-2.ensures, c.unit.ensures) at c.in-Ok.ensures.moves in
+    let below = rw (c.BITS.ensures, c.BITS-2.ensures, c.unit.ensures) at c.in-Ok.ensures.below in
+    let two = base_two w c.requires.sizes.some_bits in
+    let window = window_filled w (g.State.BitArray.BITS - w - g.row.PRECISION) _ moved.1 (below (word_below w _ 1 (omega (arith, two)))) in
+    rw c.of.ensures (coder_of _ _ _ g.Word.BitArray.number law _ _ _ _ _ _ c.requires (rw c.unit-then-full.ensures (omega arith)) (law _) window)
 
-pub returns-in-Ok-None-clause-err : goal.returns-in-Ok-None-clause-err
-returns-in-Ok-None-clause-err g c = rw (c.in-Ok-None.field-0-is, c.unit.ensures) at c.in-Ok-None.ensures
+pub returns-else-full-clause-err : goal.returns-else-full-clause-err
+returns-else-full-clause-err g c = (_, rw (c.if-full.false, c.BITS.ensures, c.BITS-2.ensures, c.unit.ensures) at c.in-Ok.ensures.moves)
 
 pub returns-in-Err-clause-err : goal.returns-in-Err-clause-err
-returns-in-Err-clause-err g c = (_, rw c.unit.ensures at c.in-Err.ensures)
+returns-in-Err-clause-err g c =
+    let stop = rw (c.BITS.ensures, c.BITS-2.ensures, c.unit.ensures) at c.in-Err.ensures.moves in
+    (_, stop.0, stop.1)

@@ -5,23 +5,24 @@ use Rattle.constriction_chain.proofs.coder.words.ChainCoder+Word+State+C+Vec+Wor
 
 pub returns-in-Ok-Some-clause-ok : goal.returns-in-Ok-Some-clause-ok
 returns-in-Ok-Some-clause-ok g c =
-    let found = rw c.in-Ok-Some.field-0-is at c.in-Ok-Some.ensures in
-    let some : 0 < g.State.BitArray.number c.in-Ok-Some.r = omega (arith, found.0.from, pow_pos (g.State.BitArray.BITS - g.Word.BitArray.BITS - g.row.PRECISION)) in
-    rw (c.of.ensures, c.unit.ensures) (refl, search rules, λ list. digits_begin g.Word.BitArray.number g.C.Holds.words g.C.Holds.is_list g.C.ReadWords.reads _ _ _ _ c.requires.sizes.some_bits g.met.Word.BitArray.number_law some found.1 list)
+    let found = rw c.in-Ok-Some.field-0-is at c.in-Ok-Some.ensures.some in
+    let window = rw c.in-Ok-Some.field-0-is at c.in-Ok-Some.ensures.window in
+    let some : 0 < g.State.BitArray.number c.in-Ok-Some.r = omega (arith, window.from, pow_pos (g.State.BitArray.BITS - g.Word.BitArray.BITS - g.row.PRECISION)) in
+    rw (c.of.ensures, c.unit.ensures) (refl, search rules, λ list. digits_begin g.Word.BitArray.number g.C.Holds g.C.ReadWords _ _ _ _ c.requires.sizes.some_bits g.met.Word.BitArray.number_law some found list)
 
 pub returns-in-Ok-Some-clause-reads : goal.returns-in-Ok-Some-clause-reads
 returns-in-Ok-Some-clause-reads g c =
-    let found = rw c.in-Ok-Some.field-0-is at c.in-Ok-Some.ensures in
-    rw c.of.ensures found.1
+    let found = rw c.in-Ok-Some.field-0-is at c.in-Ok-Some.ensures.some in
+    rw c.of.ensures found
 
 pub returns-in-Ok-Some-clause-coder : goal.returns-in-Ok-Some-clause-coder
 returns-in-Ok-Some-clause-coder g c =
     let law = g.met.Word.BitArray.number_law in
-    let found = rw c.in-Ok-Some.field-0-is at c.in-Ok-Some.ensures in
-    rw c.of.ensures (coder_of _ _ _ g.Word.BitArray.number law _ _ _ _ _ _ c.requires (rw c.unit.ensures (omega arith)) (law _) found.0)
+    let window = rw c.in-Ok-Some.field-0-is at c.in-Ok-Some.ensures.window in
+    rw c.of.ensures (coder_of _ _ _ g.Word.BitArray.number law _ _ _ _ _ _ c.requires (rw c.unit.ensures (omega arith)) (law _) window)
 
 pub returns-in-Ok-None-clause-err : goal.returns-in-Ok-None-clause-err
-returns-in-Ok-None-clause-err g c = rw c.in-Ok-None.field-0-is at c.in-Ok-None.ensures
+returns-in-Ok-None-clause-err g c = rw c.in-Ok-None.field-0-is at c.in-Ok-None.ensures.none
 
 pub returns-in-Err-clause-err : goal.returns-in-Err-clause-err
-returns-in-Err-clause-err g c = c.in-Err.ensures
+returns-in-Err-clause-err g c = c.in-Err.ensures.err

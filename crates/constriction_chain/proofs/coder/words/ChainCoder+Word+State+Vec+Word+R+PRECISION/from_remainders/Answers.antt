@@ -23,36 +23,37 @@ pub returns-in-Ok-None-begin_window-clause-err : goal.returns-in-Ok-None-begin_w
 returns-in-Ok-None-begin_window-clause-err g c =
     let reads = rw c.in-Ok-Some.field-0-is at c.in-Ok-Some.ensures.reads in
     let top = rw c.in-Ok-Some.field-0-is at c.in-Ok-Some.ensures.words in
-    let none = rw c.in-Ok-None-begin_window.field-0-is at c.in-Ok-None-begin_window.ensures in
+    let none = rw c.in-Ok-None-begin_window.field-0-is at c.in-Ok-None-begin_window.ensures.none in
     inr (inr (c.in-Ok-Some.word, c.read.new.self, some_of _ c.if-is_nothing.ensures.1, (reads, top), none))
 
 pub returns-in-Err-begin_window-clause-err : goal.returns-in-Err-begin_window-clause-err
 returns-in-Err-begin_window-clause-err g c =
     let reads = rw c.in-Ok-Some.field-0-is at c.in-Ok-Some.ensures.reads in
     let top = rw c.in-Ok-Some.field-0-is at c.in-Ok-Some.ensures.words in
-    inr (c.in-Ok-Some.word, c.read.new.self, some_of _ c.if-is_nothing.ensures.1, (reads, top), c.in-Err-begin_window.ensures)
+    inr (c.in-Ok-Some.word, c.read.new.self, some_of _ c.if-is_nothing.ensures.1, (reads, top), c.in-Err-begin_window.ensures.err)
 
 pub returns-in-Ok-Some-begin_window-clause-ok : goal.returns-in-Ok-Some-begin_window-clause-ok
 returns-in-Ok-Some-begin_window-clause-ok g c =
     let number = g.Word.BitArray.number in
     let top = rw c.in-Ok-Some.field-0-is at c.in-Ok-Some.ensures.words in
-    let found = rw c.in-Ok-Some-begin_window.field-0-is at c.in-Ok-Some-begin_window.ensures in
-    let some : 0 < g.State.BitArray.number c.in-Ok-Some-begin_window.r = omega (arith, found.0.from, pow_pos (g.State.BitArray.BITS - g.Word.BitArray.BITS - g.row.PRECISION)) in
+    let found = rw c.in-Ok-Some-begin_window.field-0-is at c.in-Ok-Some-begin_window.ensures.some in
+    let window = rw c.in-Ok-Some-begin_window.field-0-is at c.in-Ok-Some-begin_window.ensures.window in
+    let some : 0 < g.State.BitArray.number c.in-Ok-Some-begin_window.r = omega (arith, window.from, pow_pos (g.State.BitArray.BITS - g.Word.BitArray.BITS - g.row.PRECISION)) in
     rw c.of.ensures (
       search rules,
       λ list. ap (λ (ws : List _). map number ws) (top list)
-          ∙ ap (λ (ws : List ℕ). number c.in-Ok-Some.word ∷ ws) (digits_begin number g.R.Holds.words g.R.Holds.is_list g.R.ReadWords.reads _ _ _ _ c.requires.sizes.some_bits g.met.Word.BitArray.number_law some found.1 list),
+          ∙ ap (λ (ws : List ℕ). number c.in-Ok-Some.word ∷ ws) (digits_begin number g.R.Holds g.R.ReadWords _ _ _ _ c.requires.sizes.some_bits g.met.Word.BitArray.number_law some found list),
     )
 
 pub returns-in-Ok-Some-begin_window-clause-reads : goal.returns-in-Ok-Some-begin_window-clause-reads
 returns-in-Ok-Some-begin_window-clause-reads g c =
     let reads = rw c.in-Ok-Some.field-0-is at c.in-Ok-Some.ensures.reads in
     let top = rw c.in-Ok-Some.field-0-is at c.in-Ok-Some.ensures.words in
-    let found = rw c.in-Ok-Some-begin_window.field-0-is at c.in-Ok-Some-begin_window.ensures in
-    rw c.of.ensures (c.in-Ok-Some.word, c.read.new.self, refl, (reads, top), found.1)
+    let found = rw c.in-Ok-Some-begin_window.field-0-is at c.in-Ok-Some-begin_window.ensures.some in
+    rw c.of.ensures (c.in-Ok-Some.word, c.read.new.self, refl, (reads, top), found)
 
 pub returns-in-Ok-Some-begin_window-clause-coder : goal.returns-in-Ok-Some-begin_window-clause-coder
 returns-in-Ok-Some-begin_window-clause-coder g c =
     let law = g.met.Word.BitArray.number_law in
-    let found = rw c.in-Ok-Some-begin_window.field-0-is at c.in-Ok-Some-begin_window.ensures in
-    rw c.of.ensures (coder_of _ _ _ g.Word.BitArray.number law _ _ _ _ _ _ c.requires (some_of _ c.if-is_nothing.ensures.1) (law _) found.0)
+    let window = rw c.in-Ok-Some-begin_window.field-0-is at c.in-Ok-Some-begin_window.ensures.window in
+    rw c.of.ensures (coder_of _ _ _ g.Word.BitArray.number law _ _ _ _ _ _ c.requires (some_of _ c.if-is_nothing.ensures.1) (law _) window)

@@ -34,5 +34,5 @@ pub returns-clause-found : goal.returns-clause-found
 returns-clause-found g c =
     let m = c.args.self.now.model in
     let q = m.quantizer in
-    indexed_has g.row.PRECISION (g.D.CumulativeDistribution.below m.distribution) q.min q.count c.args.symbol.now _ _ c.if-place-self.false (omega (arith, c.interval.ensures.left, c.start-left.ensures))
-    (omega (arith, c.interval.ensures.left, c.interval.ensures.long, c.start-end.ensures))
+    indexed_has g.row.PRECISION (g.D.CumulativeDistribution.below m.distribution) q.min q.count c.args.symbol.now _ _ c.if-place-self.false (omega (arith, c.interval.ensures.lower, c.start-left.ensures))
+    (omega (arith, c.interval.ensures.lower, c.interval.ensures.long, c.start-end.ensures))

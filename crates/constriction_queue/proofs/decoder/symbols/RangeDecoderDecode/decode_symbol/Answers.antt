@@ -1,14 +1,16 @@
 use Rattle.std.specs.Prelude.{Ok, Err}
-use Rattle.std.proofs.Common.{◌≡◌, ◌+◌, ◌-◌, ◌/◌, ◌%◌, ◌^◌, mod-lt, pow_pos, arith, refl, ◌∙◌, sym, inl, inr}
+use Rattle.std.proofs.Common.{◌≡◌, ◌+◌, ◌-◌, ◌/◌, ◌%◌, ◌^◌, mod-lt, pow_pos, arith, refl, ℕ, ◌∙◌, sym, ap₂, inl, inr}
 use Rattle.constriction_base.proofs.Heads.{large_of_shr, small_of_shr}
 use Rattle.constriction_base.proofs.Entering.{entry_is_step}
-use Rattle.constriction_queue.proofs.Decoders.{is_decoder}
+use Rattle.constriction_queue.specs.Range.{step_of}
+use Rattle.constriction_queue.specs.Decoder.{decoder_at}
+use Rattle.constriction_queue.proofs.Decoders.{is_decoder, follows_by, reads_by}
 use Rattle.constriction_queue.proofs.Distances.{distance_of}
 use Rattle.constriction_queue.proofs.Pointing.{low_in_word}
 use Rattle.constriction_queue.proofs.decoder.symbols.RangeDecoderDecode.decode_symbol.Goals as goal
 
-pub quantile_at-quotient-requires-clause-precise : goal.quantile_at-quotient-requires-clause-precise
-quantile_at-quotient-requires-clause-precise g c = omega (arith, (g.met.M.EntropyModel.sized c.args.model).1, g.met.M.Probability.WordOf.width_law)
+pub quantile_at-quotient-requires-clause-sized : goal.quantile_at-quotient-requires-clause-sized
+quantile_at-quotient-requires-clause-sized g c = omega (arith, (g.met.M.EntropyModel.sized c.args.model).1, g.met.M.Probability.WordOf.width_law)
 
 pub narrowed_by_reading-requires-clause-step : goal.narrowed_by_reading-requires-clause-step
 narrowed_by_reading-requires-clause-step g c =
@@ -45,6 +47,13 @@ returns-in-Ok-clause-step g c =
     let sized = g.met.M.EntropyModel.sized c.args.model in
     let small = small_of_shr _ _ (sym c.shifted_right.ensures ∙ c.if-not-is_nothing.ensures.0 refl) in
     let quantile = (rw c.narrow.ensures at c.narrow-quantile.ensures) ∙ low_in_word _ _ _ _ small (omega (arith, sized.1, g.met.M.Probability.WordOf.width_law)) sized.1 ∙ read in
+    let number = g.Word.BitArray.number in
+    let state = g.State.BitArray.number in
+    let w = g.Word.BitArray.BITS in
+    let s = g.State.BitArray.BITS in
+    let old = decoder_at number g.Backend.Holds s (state c.self.inside.state.lower) (state c.self.inside.state.range) (state c.self.inside.distance) c.self.inside.bulk in
+    let new = decoder_at number g.Backend.Holds s (state c.in-Ok.now.lower) (state c.in-Ok.now.range) (state c.in-Ok.now.distance) c.narrowed_by_reading.new.bulk in
+    let step = ap₂ (λ (left p : ℕ). step_of g.row.PRECISION left p) (c.widen-left.ensures ∙ c.widen.ensures) (c.widen-p.ensures ∙ c.widen-2.ensures ∙ c.from_nonzero-p.ensures) in
     let covers = c.quantile_function-symbol.ensures.covers in
     rw (← c.self.view_is, c.long-self-inside.ensures.lower, c.long-self-inside.ensures.range) (
       _,
@@ -53,12 +62,12 @@ returns-in-Ok-clause-step g c =
       (
         Ok tt,
         record {
-          before = is_decoder g.Word.BitArray.number g.Backend.Holds.words _ _ _ _ _ _ c.self.invariant c.self.inside.state.wide (g.met.State.BitArray.number_law _) (g.met.State.BitArray.number_law _) (mod-lt _ (pow_pos g.State.BitArray.BITS));
-          after = is_decoder g.Word.BitArray.number g.Backend.Holds.words _ _ _ _ _ _ c.self.invariant c.in-Ok.ensures.wide (g.met.State.BitArray.number_law _) (g.met.State.BitArray.number_law _) (mod-lt _ (pow_pos g.State.BitArray.BITS));
+          before = is_decoder g.Word.BitArray.number g.Backend.Holds _ _ _ _ _ _ c.self.invariant c.self.inside.state.wide (g.met.State.BitArray.number_law _) (g.met.State.BitArray.number_law _) (mod-lt _ (pow_pos g.State.BitArray.BITS));
+          after = is_decoder g.Word.BitArray.number g.Backend.Holds _ _ _ _ _ _ c.self.invariant c.in-Ok.ensures.wide (g.met.State.BitArray.number_law _) (g.met.State.BitArray.number_law _) (mod-lt _ (pow_pos g.State.BitArray.BITS));
           from = rw quantile at covers.0;
           below = rw quantile at covers.1;
-          read = λ list. rw (c.widen-left.ensures, c.widen.ensures, c.widen-p.ensures, c.widen-2.ensures, c.from_nonzero-p.ensures) at c.in-Ok.ensures.list list;
-          by_reads = rw (c.widen-left.ensures, c.widen.ensures, c.widen-p.ensures, c.widen-2.ensures, c.from_nonzero-p.ensures) at c.in-Ok.ensures.reads;
+          read = λ list. follows_by w s old new _ _ step (c.in-Ok.ensures.list list);
+          by_reads = reads_by number g.Backend.ReadWords w s (state c.self.inside.state.range) old new _ _ step c.in-Ok.ensures.reads;
           lower = tt;
           range = tt;
           point = tt;
@@ -99,8 +108,8 @@ returns-clause-step g c =
         (
           Err c.in-Err.error,
           record {
-            before = is_decoder g.Word.BitArray.number g.Backend.Holds.words _ _ _ _ _ _ c.self.invariant c.self.inside.state.wide (g.met.State.BitArray.number_law _) (g.met.State.BitArray.number_law _) (mod-lt _ (pow_pos g.State.BitArray.BITS));
-            after = is_decoder g.Word.BitArray.number g.Backend.Holds.words _ _ _ _ _ _ c.self.invariant c.self.inside.state.wide (g.met.State.BitArray.number_law _) (g.met.State.BitArray.number_law _) (mod-lt _ (pow_pos g.State.BitArray.BITS));
+            before = is_decoder g.Word.BitArray.number g.Backend.Holds _ _ _ _ _ _ c.self.invariant c.self.inside.state.wide (g.met.State.BitArray.number_law _) (g.met.State.BitArray.number_law _) (mod-lt _ (pow_pos g.State.BitArray.BITS));
+            after = is_decoder g.Word.BitArray.number g.Backend.Holds _ _ _ _ _ _ c.self.invariant c.self.inside.state.wide (g.met.State.BitArray.number_law _) (g.met.State.BitArray.number_law _) (mod-lt _ (pow_pos g.State.BitArray.BITS));
             from = rw quantile at covers.0;
             below = rw quantile at covers.1;
             read = tt;
@@ -126,8 +135,8 @@ returns-clause-variant g c =
     let small = rw read at (small_of_shr _ _ (sym c.shifted_right.ensures ∙ c.if-not-is_nothing.ensures.0 refl)) in
     rw (← c.self.view_is) (λ e. absurd (cc), λ h. absurd (omega arith))
 
-pub narrowed_by_reading-requires-clause-from : goal.narrowed_by_reading-requires-clause-from
-narrowed_by_reading-requires-clause-from g c =
+pub narrowed_by_reading-requires-clause-above : goal.narrowed_by_reading-requires-clause-above
+narrowed_by_reading-requires-clause-above g c =
     let sized = g.met.M.EntropyModel.sized c.args.model in
     let small = small_of_shr _ _ (sym c.shifted_right.ensures ∙ c.if-not-is_nothing.ensures.0 refl) in
     let quantile = (rw c.narrow.ensures at c.narrow-quantile.ensures) ∙ low_in_word _ _ _ _ small (omega (arith, sized.1, g.met.M.Probability.WordOf.width_law)) sized.1 ∙ c.quantile_at-quotient.ensures in

@@ -10,7 +10,7 @@ pub returns-clause-shows : goal.returns-clause-shows
 returns-clause-shows g c =
     let number = g.Word.BitArray.number in
     let words = reverse c.self.inside.bulk.items in
-    rw (← c.self.view_is) (ap reverse c.in-Ok.ensures.ok ∙ c.sealing-seal.ensures.words (map number words) (words_of_numbers number _ g.met.Word.BitArray.number_law words))
+    rw (← c.self.view_is) (ap reverse c.in-Ok.ensures.words ∙ c.sealing-seal.ensures.words (map number words) (words_of_numbers number _ g.met.Word.BitArray.number_law words))
 
 pub returns-clause-back : goal.returns-clause-back
 returns-clause-back g c =
@@ -18,7 +18,7 @@ returns-clause-back g c =
     let words = reverse c.self.inside.bulk.items in
     let seal = c.sealing-seal.result in
     let owed = owed_of number seal.held seal.point seal.zero in
-    rw (← c.self.view_is, c.owed_count-count.ensures) (ap (drop (length owed)) c.in-Ok.ensures.ok ∙ drop_owed owed (map number words))
+    rw (← c.self.view_is, c.owed_count-count.ensures) (ap (drop (length owed)) c.in-Ok.ensures.words ∙ drop_owed owed (map number words))
 
 pub returns-in-Err-clause-room : goal.returns-in-Err-clause-room
 returns-in-Err-clause-room g c =

@@ -17,5 +17,5 @@ returns g c =
         lower_is = low_is g.Word.BitArray.BITS g.State.BitArray.BITS _ (g.State.BitArray.number c.self.inside.state.range) (held ++ map number words) (g.met.State.BitArray.number_law _);
         range_is = refl;
       },
-      is_encoder number g.Backend.Holds.words _ _ _ _ _ c.self.inside.situation c.self.invariant.0 c.self.invariant.1 c.self.inside.state.wide (g.met.State.BitArray.number_law _) (g.met.State.BitArray.number_law _),
+      is_encoder number g.Backend.Holds _ _ _ _ _ c.self.inside.situation c.self.invariant.0 c.self.invariant.1 c.self.inside.state.wide (g.met.State.BitArray.number_law _) (g.met.State.BitArray.number_law _),
     )

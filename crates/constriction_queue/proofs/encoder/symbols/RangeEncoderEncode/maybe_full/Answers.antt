@@ -7,9 +7,9 @@ use Rattle.constriction_queue.proofs.encoder.symbols.RangeEncoderEncode.maybe_fu
 
 pub returns-clause-room : goal.returns-clause-room
 returns-clause-room g c = rw (← c.self.view_is) (room_unless _ c.maybe_full.result (held_of g.Word.BitArray.number g.Word.BitArray.BITS c.self.inside.situation ≡ [])
-    (EncodeCall g.Word.BitArray.number g.Backend.Holds.words g.Word.BitArray.BITS g.State.BitArray.BITS g.Backend.WriteWords.room g.Backend.WriteWords.makes_room g.Backend.WriteWords.prepare_fails g.Backend.WriteWords.write_fails)
+    (EncodeCall g.Word.BitArray.number g.Backend.Holds g.Backend.WriteWords g.Word.BitArray.BITS g.State.BitArray.BITS)
     g.Backend.WriteWords.is_lack_of_room
-    (encoder_of g.Word.BitArray.number g.Backend.Holds.words g.Word.BitArray.BITS (g.State.BitArray.number c.self.inside.state.lower) (g.State.BitArray.number c.self.inside.state.range) c.self.inside.bulk c.self.inside.situation)
+    (encoder_of g.Word.BitArray.number g.Backend.Holds g.Word.BitArray.BITS (g.State.BitArray.number c.self.inside.state.lower) (g.State.BitArray.number c.self.inside.state.range) c.self.inside.bulk c.self.inside.situation)
     (λ not_full none step e new given lack. elim (given.error.one none) [
       | inl prepare ↦ g.met.Backend.WriteWords.full_law _ e (sym c.maybe_full.ensures.value ∙ not_full) lack prepare
       | inr write ↦ c.maybe_full.ensures.room_left not_full e lack write.1

@@ -13,8 +13,7 @@ buffer place = place.buf
 
 pub returns-clause-same_reference : goal.returns-clause-same_reference
 returns-clause-same_reference g c =
-    let reads = c.in-Ok.ensures.reads in
-    let buf = cursor_keeps Infallible g.Word.BitArray.number lent_by _ _ _ c.new_at_write_beginning-bulk.result c.read_point.new.bulk reads ∙ ap buffer c.new_at_write_beginning-bulk.ensures in
+    let buf = cursor_keeps Infallible g.Word.BitArray.number lent_by _ _ _ c.new_at_write_beginning-bulk.result c.read_point.new.bulk c.in-Ok.ensures.reads ∙ ap buffer c.new_at_write_beginning-bulk.ensures in
     rw buf refl
 
 pub returns-clause-ok : goal.returns-clause-ok
@@ -29,18 +28,15 @@ returns-clause-ok g c =
 
 pub returns-clause-back : goal.returns-clause-back
 returns-clause-back g c =
-    let reads = c.in-Ok.ensures.reads in
-    let buf = cursor_keeps Infallible g.Word.BitArray.number lent_by _ _ _ c.new_at_write_beginning-bulk.result c.read_point.new.bulk reads ∙ ap buffer c.new_at_write_beginning-bulk.ensures in
+    let buf = cursor_keeps Infallible g.Word.BitArray.number lent_by _ _ _ c.new_at_write_beginning-bulk.result c.read_point.new.bulk c.in-Ok.ensures.reads ∙ ap buffer c.new_at_write_beginning-bulk.ensures in
     rw buf c.in_ok-count.ensures.back
 
 pub returns-clause-heads : goal.returns-clause-heads
 returns-clause-heads g c =
-    let reads = c.in-Ok.ensures.reads in
-    let buf = cursor_keeps Infallible g.Word.BitArray.number lent_by _ _ _ c.new_at_write_beginning-bulk.result c.read_point.new.bulk reads ∙ ap buffer c.new_at_write_beginning-bulk.ensures in
+    let buf = cursor_keeps Infallible g.Word.BitArray.number lent_by _ _ _ c.new_at_write_beginning-bulk.result c.read_point.new.bulk c.in-Ok.ensures.reads ∙ ap buffer c.new_at_write_beginning-bulk.ensures in
     rw buf c.put_seal.ensures.heads
 
 pub returns-clause-shows : goal.returns-clause-shows
 returns-clause-shows g c =
-    let reads = c.in-Ok.ensures.reads in
-    let buf = cursor_keeps Infallible g.Word.BitArray.number lent_by _ _ _ c.new_at_write_beginning-bulk.result c.read_point.new.bulk reads ∙ ap buffer c.new_at_write_beginning-bulk.ensures in
+    let buf = cursor_keeps Infallible g.Word.BitArray.number lent_by _ _ _ c.new_at_write_beginning-bulk.result c.read_point.new.bulk c.in-Ok.ensures.reads ∙ ap buffer c.new_at_write_beginning-bulk.ensures in
     rw buf c.in_ok-count.ensures.shows

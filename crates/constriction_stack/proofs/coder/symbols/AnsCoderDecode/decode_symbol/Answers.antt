@@ -30,7 +30,7 @@ returns-in-Ok g c =
           record {
             before = is_coder _ _ _ _ _ _ c.self.invariant (g.met.State.BitArray.number_law _);
             after = is_coder _ _ _ _ _ _ c.self.invariant (g.met.State.BitArray.number_law _);
-            holds = record { from = rw quantile at covers.0; below = rw quantile at covers.1 };
+            is_next = record { from = rw quantile at covers.0; below = rw quantile at covers.1 };
             popped = λ list. sym (rw (c.popped_head-head.ensures, c.widen-2.ensures, c.widen.ensures, c.widen-4.ensures, c.widen-3.ensures, c.from_nonzero-p.ensures) at c.in-Ok.ensures.list list);
             refilled = rw (c.popped_head-head.ensures, c.widen-2.ensures, c.widen.ensures, c.widen-4.ensures, c.widen-3.ensures, c.from_nonzero-p.ensures) at c.in-Ok.ensures.reads;
             head = tt;
@@ -60,7 +60,7 @@ returns g c =
             record {
               before = is_coder _ _ _ _ _ _ c.self.invariant (g.met.State.BitArray.number_law _);
               after = is_coder _ _ _ _ _ _ c.self.invariant (g.met.State.BitArray.number_law _);
-              holds = record { from = rw quantile at covers.0; below = rw quantile at covers.1 };
+              is_next = record { from = rw quantile at covers.0; below = rw quantile at covers.1 };
               popped = tt;
               refilled = tt;
               head = refl;

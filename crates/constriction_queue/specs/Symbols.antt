@@ -3,8 +3,7 @@ use Rattle.std.specs.Prelude.{◌≡◌, ℕ, ◌+◌, ◌-◌, ◌*◌, ◌/◌
 use Rattle.constriction_base.specs.Steps.{InTurn}
 use Rattle.constriction_base.specs.Tables.{AtEntry}
 use Rattle.constriction_base.specs.Models.{Model, Item}
-use Rattle.constriction_queue.specs.Decoder.{Decoder}
-use Rattle.constriction_queue.specs.Range.{Run, IsAt, Takes, narrow, offset}
+use Rattle.constriction_queue.specs.Range.{Run, Takes, narrow, offset}
 
 -- an encode of the symbol leads from the old run to the new one: the run is narrowed to the symbol's entry
 abbrev pub Narrows : {S : Type 0} → ℕ → ℕ → Model S → S → Run → Run → Type 0
@@ -31,7 +30,3 @@ NearsEnd w s words r = (r.range + 1 ≡ 2 ^ s) ⊎ (offset w s words r + 1 < 2 *
 -- or the run is that of no symbol
 abbrev pub MayEnd : ℕ → ℕ → List ℕ → Run → Type 0
 MayEnd w s words r = (drop (r.moves + s / w) words ≡ []) × NearsEnd w s words r
-
--- a decoder stands at this run of reading the words
-abbrev pub StandsAt : {B : Type 0} → ℕ → ℕ → List ℕ → Run → Decoder B → Type 0
-StandsAt w s words r decoder = IsAt w s words r decoder.lower decoder.range decoder.point decoder.words

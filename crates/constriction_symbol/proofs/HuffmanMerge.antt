@@ -7,7 +7,8 @@ use Rattle.std.proofs.lemmas.List.Sums.{sum_by-cons}
 use Rattle.std.proofs.lemmas.List.Sorted.{IsPermutation-refl, IsPermutation-trans, IsPermutation-append_left, IsPermutation-append_right, IsPermutation-append_comm, sum_by-IsPermutation, length_permutation}
 use Rattle.constriction_symbol.specs.Huffman.{Tree, Weighed, comes_before, put_in, leaves_from, united, merged, merge, path, huffman, leaves, times, IsWithoutRepeats, symbols_from, book_of, IsHuffman}
 use Rattle.constriction_symbol.specs.Huffman.Tree.{Leaf}
-use Rattle.constriction_symbol.specs.HuffmanLaws.{path_none, path_some, path_prefix_free}
+use Rattle.constriction_symbol.specs.HuffmanLaws.{path_prefix_free}
+use Rattle.constriction_symbol.proofs.HuffmanTrees.{path_none, path_some}
 
 -- what one more in a set adds to a sum
 pub sum_put : (f : Weighed → ℕ) (x : Weighed) (set : List Weighed) → sum_by f (put_in x set) ≡ f x + sum_by f set
@@ -141,7 +142,7 @@ merge_path_some weights tree symbol is within = path_some tree symbol (omega (ar
 pub merge_path_none : (weights : List ℕ) (tree : Tree) (symbol : ℕ) → merge weights ≡ tree ∷ [] → length weights ≤ symbol → path tree symbol ≡ None
 merge_path_none weights tree symbol is past = path_none tree symbol (merge_times_past weights tree symbol is past)
 
-length_symbols : (from n : ℕ) → length (symbols_from from n) ≡ n
+pub length_symbols : (from n : ℕ) → length (symbols_from from n) ≡ n
 length_symbols from zero = refl
 length_symbols from (suc n) = ap suc (length_symbols (from + 1) n)
 

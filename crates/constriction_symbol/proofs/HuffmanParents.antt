@@ -1,13 +1,13 @@
 -- An array of parents holds the tree of its unions: climbing from a symbol to the root gives its codeword.
-use Rattle.std.proofs.Common.{◌≡◌, ◌+◌, ◌-◌, ◌*◌, ◌/◌, ◌%◌, ◌<◌, ◌≤◌, ◌==◌, ℕ, zero, suc, Bool, true, false, List, [], ◌∷◌, ◌++◌, Some, None, ap, ap₂, sym, inl, inr, refl, ◌∙◌, ◌⊎◌, arith, length, get_or, set, replicate, append_assoc, append-nil, eq-eqb, ne_eqb, le-ltb, lt-ltb}
-use Rattle.std.proofs.lemmas.Bool.{cases_eq, cases_lt}
+use Rattle.std.proofs.Common.{◌≡◌, ◌+◌, ◌-◌, ◌*◌, ◌/◌, ◌%◌, ◌<◌, ◌≤◌, ◌==◌, ℕ, zero, suc, Bool, true, false, List, [], ◌∷◌, ◌++◌, Some, None, ap, ap₂, sym, inl, inr, refl, ◌∙◌, ◌⊎◌, arith, length, get_or, set, append_assoc, append-nil, eq-eqb, ne_eqb, le-ltb, lt-ltb}
+use Rattle.std.proofs.lemmas.Bool.{cases_eq}
 use Rattle.std.proofs.lemmas.Bool.Decides.{eqb_tells}
-use Rattle.std.proofs.lemmas.List.{get_or_append_left, get_or_push, length_push, take_at, length-set, get_or-set_same, get_or-set_other, get_or-replicate, get_or_past, length-replicate}
+use Rattle.std.proofs.lemmas.List.{get_or_append_left, get_or_push, length_push, take_at, length-set, get_or-set_same, get_or-set_other}
 use Rattle.std.proofs.lemmas.List.Elements.{All-nil, All-cons, All-get_or, All-take}
 use Rattle.constriction_symbol.specs.Huffman.{Tree, path, huffman, children, IsTreeAt, IsNeither, IsRoot, IsUnion, IsMerged, climbed, GoesUp, IsParents, found, tree_in}
 use Rattle.constriction_symbol.specs.Huffman.Tree.{Leaf, Node}
 use Rattle.constriction_symbol.specs.HuffmanLaws.{leaf_path, node_path}
-use Rattle.constriction_symbol.specs.HuffmanMerge.{huffman_path, merge_path_some, merge_path_none}
+use Rattle.constriction_symbol.proofs.HuffmanMerge.{huffman_path, merge_path_some, merge_path_none}
 
 -- at the root
 pub climbed_root : (fuel : ℕ) (nodes : List ℕ) (index : ℕ) → get_or nodes index 0 ≡ 0 → climbed fuel nodes index ≡ []
@@ -113,22 +113,6 @@ pub climbed_step : (bound : ℕ) (nodes : List ℕ) (index : ℕ) → GoesUp bou
     → climbed bound nodes index ≡ climbed bound nodes (get_or nodes index 0 / 2) ++ (get_or nodes index 0 % 2 == 1) ∷ []
 climbed_step bound nodes index up some =
     climbed_same bound nodes up bound (suc bound) index (omega arith) (omega arith) ∙ climbed_up bound nodes index some
-
--- at the start: zeros
-pub parents_start : (n count : ℕ) → IsParents n [] (replicate count 0)
-parents_start n count = record {
-  lesser = λ j none. absurd (omega (arith, none));
-  other = λ j none. absurd (omega (arith, none));
-  roots = λ index root. zeros index;
-  up = λ index. inl (zeros index);
-}
-  where
-    zeros : (index : ℕ) → get_or {A = ℕ} (replicate count 0) index 0 ≡ 0
-    zeros index =
-        elim (cases_lt index count) [
-          | inl low ↦ get_or-replicate count index 0 0 low
-          | inr high ↦ get_or_past (replicate count 0) index 0 (omega (arith, length-replicate {A = ℕ} count 0, high))
-        ]
 
 -- two entries of an array
 abbrev pub with_two : List ℕ → ℕ × ℕ → ℕ → List ℕ

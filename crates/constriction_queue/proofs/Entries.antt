@@ -1,15 +1,12 @@
 -- Encodes and decodes of symbols on the range coder as steps of its runs.
 use Rattle.std.proofs.Common.{◌≡◌, ℕ, List, [], ◌∷◌, sym, ap, ◌∙◌, subst, arith}
-use Rattle.std.specs.Prelude.{reverse}
-use Rattle.constriction_base.specs.Steps.{Step, IsStep, AreSteps, IsSizes, InTurn}
+use Rattle.constriction_base.specs.Steps.{Step, IsStep, AreSteps, IsSizes}
 use Rattle.constriction_base.specs.Models.{Model, Item, IsModel, AreModels}
 use Rattle.constriction_base.specs.Tables.{Has}
 use Rattle.constriction_base.proofs.Entering.{entry_is_step}
-use Rattle.constriction_base.proofs.InTurn.{InTurn-turned}
 use Rattle.constriction_queue.specs.Range.{Run, IsInterval, ReadAs, run}
 use Rattle.constriction_queue.proofs.Narrowing.{valid_cut}
-use Rattle.constriction_queue_laws.specs.Symbols.{Narrows, NarrowsAll, FindsAll}
-use Rattle.constriction_queue_laws.specs.Undone.{TakesBack}
+use Rattle.constriction_queue.specs.Symbols.{Narrows, NarrowsAll, FindsAll}
 
 -- an entry of a model is a step
 pub model_step : {S : Type 0} (w : ℕ) (model : Model S) (symbol : S) (left p : ℕ) → IsModel w model → Has model.table symbol left p
@@ -39,13 +36,6 @@ module _ {S : Type 0} (w s : ℕ) where
   pub intervals : (items : List (Item S)) (old last : Run) → IsSizes w s → AreModels w items → IsInterval w s old → NarrowsAll w s items old last → IsInterval w s last
   intervals [] old last z ms v h = subst (λ (r : Run). IsInterval w s r) (sym h) v
   intervals (item ∷ items) old last z ms v h = intervals items h.0 last z ms.1 (interval_after item old h.0 z ms.0 v h.1) h.2
-
-  -- the encodes from the last one back
-  pub taken_back : (items : List (Item S)) (old last : Run) → IsSizes w s → AreModels w items → IsInterval w s old → NarrowsAll w s items old last
-      → InTurn (TakesBack w s) (reverse items) last old
-  taken_back [] old last z ms v h = sym h
-  taken_back (item ∷ items) old last z ms v h =
-      InTurn-turned (TakesBack w s) item items last h.0 old (taken_back items h.0 last z ms.1 (interval_after item old h.0 z ms.0 v h.1) h.2) (v, h.1)
 
   -- a decode finds the entry that an encode takes
   abbrev pub as_encodes : (words : List ℕ) (items : List (Item S)) (old last : Run) → FindsAll w s words items old last → NarrowsAll w s items old last
