@@ -10,7 +10,8 @@ use Rattle.constriction_base.proofs.Entries.{one_of}
 use Rattle.constriction_chain.specs.Chain.{ChainState, IsChain, IsDecode, IsSized, least}
 use Rattle.constriction_chain.specs.Imports.{AreBinaryWords, FromBinary, FromCompressed, FromRemainders, IsWhole, compressed_words}
 use Rattle.constriction_chain.specs.Symbols.{AreModelsAt, TakesOff, TakesOffAll, PutsBack, PutsBackAll, IsModelAt}
-use Rattle.constriction_chain.specs.Words.{IsOneAbove, remainder_words}
+use Rattle.constriction_base.specs.Writing.{IsOneAbove}
+use Rattle.constriction_chain.specs.Words.{remainder_words}
 use Rattle.constriction_chain.proofs.Below.{decodes_part, one_window}
 use Rattle.constriction_chain.proofs.Chains.{state, state_same}
 use Rattle.constriction_chain.proofs.Walks.{cons_same}

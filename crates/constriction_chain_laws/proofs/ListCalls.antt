@@ -1,9 +1,12 @@
 -- What list calls of a chain coder do, in the words of the laws.
-use Rattle.std.proofs.Common.{ℕ, Option, List, [], ◌∷◌, Result, Ok, inl, inr, map, ap}
+use Rattle.std.proofs.Common.{ℕ, List, [], ◌∷◌, Ok, inl, inr, map, ap}
 use Rattle.constriction_base.specs.declared.errors.CoderError.{CoderError}
 use Rattle.constriction_base.specs.Models.{Model, Item, items_of}
 use Rattle.constriction_base.specs.Steps.{InTurn}
 use Rattle.constriction_base.specs.Tables.{AtEntry}
+use Rattle.constriction_base.specs.declared.backends.reading.Holds as holding
+use Rattle.constriction_base.specs.declared.backends.reading.ReadWords as reading
+use Rattle.constriction_base.specs.declared.backends.writing.WriteWords as writing
 use Rattle.constriction_stream.specs.Lists.{StepsAll}
 use Rattle.constriction_stream.specs.Symbols.{EncodesSymbol}
 use Rattle.constriction_chain.specs.Chain.{ChainValue}
@@ -13,18 +16,18 @@ use Rattle.constriction_chain.specs.declared.errors.BackendError.{BackendError}
 use Rattle.constriction_chain.specs.declared.errors.EncoderFrontendError.{EncoderFrontendError}
 
 -- ---- encodes
-module _ {S W C R E F : Type 0} (number : W → ℕ) (is_list : Type 0) (held : C → List W) (held' : R → List W) (reads : R → Result (Option W) F → R → Type 0)
-    (prepare_fails : C → ℕ → E → Type 0) (write_fails : C → E → Type 0) (room : C → ℕ) (makes_room : Type 0) (w s : ℕ) (is_impossible : EncoderFrontendError → Type 0) where
+module _ {S W C R O E F : Type 0} (number : W → ℕ) (compressed_holds : holding.Ghosts C W O) (compressed_writes : writing.Ghosts C W E)
+    (remainders_holds : holding.Ghosts R W O) (remainders_reads : reading.Ghosts R W O F) (w s : ℕ) (is_impossible : EncoderFrontendError → Type 0) where
   -- a step of the coder that went well is an encode of the symbol
-  pub encode_of : (model : Model S) (symbol : S) (old new : ChainValue C R) → is_list
-      → EncodesSymbol (EncodeCall number is_list held held' reads prepare_fails write_fails room makes_room w s) is_impossible model.precision model.table symbol old (Ok tt) new
+  pub encode_of : (model : Model S) (symbol : S) (old new : ChainValue C R) → remainders_holds.is_list
+      → EncodesSymbol (EncodeCall number compressed_holds compressed_writes remainders_holds remainders_reads w s) is_impossible model.precision model.table symbol old (Ok tt) new
       → PutsBack w s model symbol old.state new.state
   encode_of model symbol old new list (inl (left, p, has, call)) = (left, p, has, call.outcome.encoded list)
   encode_of model symbol old new list (inr (never, e, impossible, is, same)) = absurd cc
 
   -- so is a list of them: what was given lends a symbol, or a pair, that stands for an item
-  pub encodes_of : {A T : Type 0} (lent : A → T) (item : T → Item S) (xs : List A) (old new : ChainValue C R) → is_list
-      → StepsAll {E = CoderError EncoderFrontendError (BackendError E F)} (λ old x answer new. EncodesSymbol (EncodeCall number is_list held held' reads prepare_fails write_fails room makes_room w s) is_impossible
+  pub encodes_of : {A T : Type 0} (lent : A → T) (item : T → Item S) (xs : List A) (old new : ChainValue C R) → remainders_holds.is_list
+      → StepsAll {E = CoderError EncoderFrontendError (BackendError E F)} (λ old x answer new. EncodesSymbol (EncodeCall number compressed_holds compressed_writes remainders_holds remainders_reads w s) is_impossible
       (item (lent x)).model.precision (item (lent x)).model.table (item (lent x)).symbol old answer new) old xs new
       → PutsBackAll w s (map item (map lent xs)) old.state new.state
   encodes_of lent item [] old new list all = ap (λ (c : ChainValue C R). c.state) all
@@ -32,18 +35,18 @@ module _ {S W C R E F : Type 0} (number : W → ℕ) (is_list : Type 0) (held : 
       (all.0.state, encode_of (item (lent x)).model (item (lent x)).symbol old all.0 list all.1, encodes_of lent item xs all.0 new list all.2)
 
 -- ---- decodes
-module _ {S W C R E F : Type 0} (number : W → ℕ) (is_list : Type 0) (held : C → List W) (held' : R → List W) (reads : C → Result (Option W) E → C → Type 0)
-    (write_fails : R → F → Type 0) (room : R → ℕ) (makes_room : Type 0) (w s : ℕ) where
+module _ {S W C R O E F : Type 0} (number : W → ℕ) (compressed_holds : holding.Ghosts C W O) (compressed_reads : reading.Ghosts C W O E)
+    (remainders_holds : holding.Ghosts R W O) (remainders_writes : writing.Ghosts R W F) (w s : ℕ) where
   -- a step of the coder that went well is a decode of the symbol
   abbrev Given : Model S → S → ChainValue C R → ChainValue C R → Type 0
   Given model symbol old new =
-      AtEntry model.precision model.table symbol (λ step. DecodeCall number is_list held held' reads write_fails room makes_room w s old step (Ok tt) new)
+      AtEntry model.precision model.table symbol (λ step. DecodeCall number compressed_holds compressed_reads remainders_holds remainders_writes w s old step (Ok tt) new)
 
-  pub decode_of : (model : Model S) (symbol : S) (old new : ChainValue C R) → is_list → Given model symbol old new → TakesOff w s model symbol old.state new.state
+  pub decode_of : (model : Model S) (symbol : S) (old new : ChainValue C R) → compressed_holds.is_list → Given model symbol old new → TakesOff w s model symbol old.state new.state
   decode_of model symbol old new list (left, p, has, call) = (left, p, has, call.outcome.decoded list)
 
   -- so is a list of them, each at the item that stands for what was given
-  pub decodes_of : {T : Type 0} (item : T → Item S) (xs : List T) (old new : ChainValue C R) → is_list → InTurn (λ x. Given (item x).model (item x).symbol) xs old new
+  pub decodes_of : {T : Type 0} (item : T → Item S) (xs : List T) (old new : ChainValue C R) → compressed_holds.is_list → InTurn (λ x. Given (item x).model (item x).symbol) xs old new
       → TakesOffAll w s (map item xs) old.state new.state
   decodes_of item [] old new list all = ap (λ (c : ChainValue C R). c.state) all
   decodes_of item (x ∷ xs) old new list all =

@@ -6,7 +6,7 @@ use Rattle.constriction_base.specs.Windows.{IsInWindow}
 use Rattle.constriction_base.proofs.Sizes.{pow_le}
 use Rattle.constriction_chain.specs.Chain.{ChainState, IsSized, least}
 use Rattle.constriction_chain.specs.Imports.{FromBinary}
-use Rattle.constriction_chain.specs.Words.{IsOneAbove}
+use Rattle.constriction_base.specs.Writing.{IsOneAbove}
 use Rattle.constriction_chain.proofs.Chains.{state_same}
 use Rattle.constriction_chain.proofs.Walks.{cons_same}
 

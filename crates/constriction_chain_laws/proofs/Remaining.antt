@@ -5,7 +5,8 @@ use Rattle.constriction_base.specs.Models.{Model, item_of, items_of}
 use Rattle.constriction_chain.specs.Chain.{ChainState, IsSized}
 use Rattle.constriction_chain.specs.Imports.{FromRemainders, IsWhole}
 use Rattle.constriction_chain.specs.Symbols.{IsModelAt, PutsBackAll, TakesOffAll}
-use Rattle.constriction_chain.specs.Words.{IsOneAbove, remainder_words}
+use Rattle.constriction_base.specs.Writing.{IsOneAbove}
+use Rattle.constriction_chain.specs.Words.{remainder_words}
 use Rattle.constriction_base.specs.Digits.{fixed_digits}
 use Rattle.constriction_chain_laws.specs.Endings.{ComesBackOver}
 use Rattle.constriction_chain_laws.proofs.ComingBack.{come_back}

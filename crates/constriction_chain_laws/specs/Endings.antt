@@ -1,7 +1,7 @@
 -- Why symbols aren't taken out of a chain coder, or put back.
 use Rattle.std.specs.Prelude.{◌≡◌, ℕ, ◌*◌, ◌+◌, ◌<◌, ◌≤◌, ◌⊎◌, ⊤, List, [], ◌∷◌, ◌++◌, drop, Result, Ok, Err, length}
 use Rattle.std.specs.List.{zip}
-use Rattle.constriction_base.specs.Models.{Item}
+use Rattle.constriction_base.specs.Models.{Item, pairs_of}
 use Rattle.constriction_base.specs.Steps.{Step, InTurn}
 use Rattle.constriction_base.specs.Tables.{AtEntry, Impossible}
 use Rattle.constriction_base.specs.declared.errors.CoderError.{CoderError}
@@ -12,7 +12,7 @@ use Rattle.constriction_coder_laws.specs.declared.errors.RoundTripError.{RoundTr
 use Rattle.constriction_coder_laws.specs.declared.errors.Stopped.{Stopped}
 use Rattle.constriction_coder_laws.specs.declared.errors.Stopped.TheVariants.{Refused, NoMemory}
 use Rattle.constriction_chain.specs.Chain.{ChainState, IsPrecisionChange, least}
-use Rattle.constriction_chain.specs.Imports.{FromRemainders}
+use Rattle.constriction_chain.specs.Imports.{AreBinaryWords, FromRemainders}
 use Rattle.constriction_chain.specs.Symbols.{TakesOffAll, PutsBackAll}
 use Rattle.constriction_chain.specs.Walk.{NeedsWord}
 use Rattle.constriction_chain.specs.declared.errors.BackendError.{BackendError}
@@ -69,6 +69,15 @@ EndsAcross {S} w s P N items count later amt old taken = EndsBeforeChange w s P 
     ⊎ ((given : List S) × (mid next after : ChainState) × (more : ℕ) × (length given ≡ count) × TakesOffAll w s (items given) old mid
     × IsPrecisionChange w (least w s N) mid next × (taken ≡ count + more) × (more < amt) × Ended w s N later more next after)
 
+-- the same of symbols under a model each
+abbrev pub PairsEndAcross : {S M L : Type 0} → ℕ → ℕ → ℕ → (M → List (S × ℕ × ℕ)) → List M → ℕ → (L → List (S × ℕ × ℕ)) → List L → ChainState → ℕ → Type 0
+PairsEndAcross w s P table models N later_table later old taken =
+    EndsAcross w s P N (λ given. pairs_of P table given models) (length models) (λ given. pairs_of N later_table given later) (length later) old taken
+
+-- fewer symbols were taken than asked for from a coder of which this holds, and then its words ended
+abbrev pub EndsFrom : {S : Type 0} → (ChainState → Type 0) → ℕ → ℕ → ℕ → (List S → List (Item S)) → ℕ → ℕ → Type 0
+EndsFrom from w s P items amt taken = (taken < amt) × (x after : ChainState) × from x × Ended w s P items taken x after
+
 -- nothing stops the call but words that end, and a refusal
 abbrev pub UnlessEnded : (ℕ → Type 0) → RoundTripError → Type 0
 UnlessEnded ended e = Reasons ⊥ ⊥ ⊥ ended e
@@ -102,6 +111,10 @@ NotPutBack w s P words items unequal put.OutOfRemainders = (x y : ChainState) ×
 NotPutBack w s P words items unequal put.NoMemory = ⊤
 
 -- ---- the way by the remainders
+
+-- words are those of a coder in binary form, and others behind them
+abbrev pub BeginInBinary : ℕ → List ℕ → ChainState → List ℕ → Type 0
+BeginInBinary w words x others = (written : List ℕ) × AreBinaryWords w written x × (words ≡ written ++ others)
 
 -- a coder is as it was before symbols were taken out, but that the words below stand under its remainders, and the prefix is gone
 abbrev pub ComesBackOver : ChainState → List ℕ → List ℕ → ChainState → Type 0

@@ -6,7 +6,8 @@
 ghost use Rattle.std.specs.Prelude.{◌≡◌, ℕ, List, reverse, ⊤};
 ghost use Rattle.constriction_base.specs.Models.{Item};
 ghost use Rattle.constriction_chain.specs.Chain.{ChainState, IsChain, IsSized};
-ghost use Rattle.constriction_chain.specs.Symbols.{AreModelsAt, TakesOff, TakesOffAll, PutsBack, PutsBackAll, IsModelAt};
+ghost use Rattle.constriction_chain.specs.Symbols.{AreModelsAt, TakesOff, TakesOffAll, PutsBack, PutsBackAll};
+ghost use Rattle.constriction_chain.specs.Symbols.{IsModelAt};
 ghost use Rattle.constriction_chain_laws.specs.Undone.{Sizes, decode_back, encode_back, decoded_at};
 
 use constriction_coder_laws::lists::{StepsUndo, lists_undo};

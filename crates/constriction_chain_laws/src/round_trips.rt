@@ -1,9 +1,9 @@
 //! Round trips of the chain coder through its own calls, at every size of words, numbers and tables.
 //!
-//! Each function makes the calls that its name tells, and its contract is the theorem. An error says why symbols weren't
-//! taken, or put back: [`RoundTripError`](constriction_coder_laws::errors::RoundTripError),
-//! [`PutBackError`](crate::errors::PutBackError). Each of its cases comes for no other reason than it tells, but want of
-//! memory, and backends that refuse a word.
+//! Each function makes the calls that its name tells, and its contract is the theorem. An error says why symbols
+//! weren't taken, or put back: [`RoundTripError`](constriction_coder_laws::errors::RoundTripError),
+//! [`PutBackError`](crate::errors::PutBackError). Each of its cases comes for no other reason than it tells, but want
+//! of memory, and backends that refuse a word.
 //!
 //! - [`changes`]: symbols that stay where models of others are replaced, across a change of the precision.
 //! - [`coding`]: list calls, said in the words of the laws.

@@ -4,11 +4,15 @@ ghost use Rattle.std.specs.Prelude.{◌≡◌, ◌≤◌, ℕ, List, reverse, �
 ghost use Rattle.constriction_base.specs.Models.{Item};
 ghost use Rattle.constriction_base.specs.Steps.{AreWords};
 ghost use Rattle.constriction_chain.specs.Chain.{ChainState, IsSized};
-ghost use Rattle.constriction_chain.specs.Imports.{AreBinaryWords, FromBinary, FromCompressed, FromRemainders, IsWhole, compressed_words};
+ghost use Rattle.constriction_chain_laws.specs.Endings.{BeginInBinary};
+ghost use Rattle.constriction_chain.specs.Imports.{FromBinary, FromCompressed, FromRemainders, IsWhole};
+ghost use Rattle.constriction_chain.specs.Imports.{compressed_words};
 ghost use Rattle.constriction_chain.specs.Symbols.{AreModelsAt, TakesOffAll, PutsBackAll};
-ghost use Rattle.constriction_chain.specs.Words.{IsOneAbove, remainder_words};
+ghost use Rattle.constriction_base.specs.Writing.{IsOneAbove};
+ghost use Rattle.constriction_chain.specs.Words.{remainder_words};
 
-/// Words stand for one coder, as compressed words, in binary form, and as remainders; and of one number there is one binary form.
+/// Words stand for one coder, as compressed words, in binary form, and as remainders; and of one number there is one
+/// binary form.
 pub fn one_coder()
     ensures compressed { (w s P : ℕ) (words : List ℕ) (x y : ChainState) → 1 ≤ w →
         FromCompressed w s P words x → FromCompressed w s P words y → x ≡ y }
@@ -40,5 +44,5 @@ pub fn words_come_back<Symbol>()
         FromBinary w s P words x → TakesOffAll w s items x y →
         FromRemainders w s P (remainder_words w y ++ below) z → PutsBackAll w s (reverse items) z last →
         (last.h ≡ 1) × (last.remainders ≡ below)
-        × ((written : List ℕ) × AreBinaryWords w written last × (words ≡ written ++ y.compressed)) }
+        × BeginInBinary w words last y.compressed }
 {}

@@ -5,7 +5,7 @@ ghost use Rattle.constriction_base.specs.Models.{pairs_of};
 ghost use Rattle.constriction_chain.specs.Chain.{ChainState, IsPrecisionChange, least};
 ghost use Rattle.constriction_chain.specs.Runs.{AreIsolated, IsRun, decodings};
 ghost use Rattle.constriction_chain.specs.Symbols.{TakesOffAll};
-ghost use Rattle.constriction_chain_laws.specs.Endings.{EndsAcross, EndsBeforeChange, UnlessEnded};
+ghost use Rattle.constriction_chain_laws.specs.Endings.{EndsBeforeChange, PairsEndAcross, UnlessEnded};
 ghost use Rattle.constriction_chain_laws.specs.Fits.{CoderFits};
 ghost use Rattle.constriction_chain_laws.specs.Isolating.{events_across};
 
@@ -19,12 +19,13 @@ use constriction_coder_laws::errors::RoundTripError;
 use constriction_words::{BitArray, WordOf};
 use std::alloc::Global;
 
-/// A symbol for each of the models, and the coder at another precision behind them: [`decode_pairs`], `change_precision`.
+/// A symbol for each of the models, and the coder at another precision behind them: [`decode_pairs`],
+/// `change_precision`.
 ///
 /// # Errors
 ///
-/// `OutOfData(count)` after so many symbols, where a word is needed and none is left: of the data for the next symbol, or
-/// of the remainders for the change. `Refused` for want of memory.
+/// `OutOfData(count)` after so many symbols, where a word is needed and none is left: of the data for the next
+/// symbol, or of the remainders for the change. `Refused` for want of memory.
 pub fn decode_and_change<
     Word: WordOf<State>,
     State: BitArray,
@@ -65,8 +66,8 @@ where
     }
 }
 
-/// A symbol for each of the models at one precision, and behind a change to another a symbol for each of the later models:
-/// [`decode_and_change`], [`decode_pairs`].
+/// A symbol for each of the models at one precision, and behind a change to another a symbol for each of the later
+/// models: [`decode_and_change`], [`decode_pairs`].
 ///
 /// # Errors
 ///
@@ -94,9 +95,8 @@ where
     ensures later { IfOk result (λ back. length back.1.items ≡ length later.now) }
     ensures run { IfOk result (λ back. (last : ChainState) × IsRun Word.BITS State.BITS coder.state
         (events_across PRECISION M.table back.0.items models.now N L.table back.1.items later.now) last) }
-    ensures err { IfErr result (UnlessEnded (EndsAcross Word.BITS State.BITS PRECISION N
-        (λ given. pairs_of PRECISION M.table given models.now) (length models.now)
-        (λ given. pairs_of N L.table given later.now) (length later.now) coder.state)) }
+    ensures err { IfErr result (UnlessEnded (PairsEndAcross Word.BITS State.BITS
+        PRECISION M.table models.now N L.table later.now coder.state)) }
 {
     let (symbols, changed) = decode_and_change::<Word, State, M, PRECISION, N>(
         alloc, coder, models,
@@ -112,8 +112,9 @@ where
     }
 }
 
-/// Symbols of two coders over the same words, each across a change to the same precision, by a list of models each before
-/// it and one behind it: wherever the tables at a place are equal, so are the symbols there, whatever the other tables are.
+/// Symbols of two coders over the same words, each across a change to the same precision, by a list of models each
+/// before it and one behind it: wherever the tables at a place are equal, so are the symbols there, whatever the
+/// other tables are.
 ///
 /// # Errors
 ///
@@ -148,8 +149,10 @@ where
     M::Symbol: Drop,
     requires fits { CoderFits Word.row State.row }
     requires to { (1 ≤ N) × (N ≤ Word.BITS) }
-    ensures count { IfOk result (λ both. (length both.0.0.items ≡ length models.now) × (length both.1.0.items ≡ length others.now)) }
-    ensures later { IfOk result (λ both. (length both.0.1.items ≡ length later.now) × (length both.1.1.items ≡ length other_later.now)) }
+    ensures count { IfOk result (λ both. (length both.0.0.items ≡ length models.now)
+        × (length both.1.0.items ≡ length others.now)) }
+    ensures later { IfOk result (λ both. (length both.0.1.items ≡ length later.now)
+        × (length both.1.1.items ≡ length other_later.now)) }
     ensures first { IfOk result (λ both. (last : ChainState) × IsRun Word.BITS State.BITS coder.state
         (events_across PRECISION M.table both.0.0.items models.now N L.table both.0.1.items later.now) last) }
     ensures other { IfOk result (λ both. (last : ChainState) × IsRun Word.BITS State.BITS same.state
@@ -157,12 +160,12 @@ where
     ensures isolated { coder.state.h ≡ same.state.h → coder.state.compressed ≡ same.state.compressed →
         IfOk result (λ both. AreIsolated
         (decodings (events_across PRECISION M.table both.0.0.items models.now N L.table both.0.1.items later.now))
-        (decodings (events_across PRECISION O.table both.1.0.items others.now N L.table both.1.1.items other_later.now))) }
+        (decodings (events_across PRECISION O.table both.1.0.items others.now N L.table both.1.1.items
+        other_later.now))) }
     ensures err { IfErr result (UnlessEnded (λ taken.
-        EndsAcross Word.BITS State.BITS PRECISION N (λ given. pairs_of PRECISION M.table given models.now)
-        (length models.now) (λ given. pairs_of N L.table given later.now) (length later.now) coder.state taken
-        ⊎ EndsAcross Word.BITS State.BITS PRECISION N (λ given. pairs_of PRECISION O.table given others.now)
-        (length others.now) (λ given. pairs_of N L.table given other_later.now) (length other_later.now) same.state taken)) }
+        PairsEndAcross Word.BITS State.BITS PRECISION M.table models.now N L.table later.now coder.state taken
+        ⊎ PairsEndAcross Word.BITS State.BITS
+        PRECISION O.table others.now N L.table other_later.now same.state taken)) }
 {
     let one = decode_across_a_change::<Word, State, M, L, PRECISION, N>(
         alloc, coder, models, later,

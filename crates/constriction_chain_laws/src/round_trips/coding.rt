@@ -19,7 +19,8 @@ use std::alloc::Global;
 ///
 /// # Errors
 ///
-/// `OutOfData(count)` after so many symbols, where a word is needed and none is left, and `Refused`, which tells nothing.
+/// `OutOfData(count)` after so many symbols, where a word is needed and none is left, and `Refused`, which tells
+/// nothing.
 pub fn decode_list<
     Word: WordOf<State>,
     State: BitArray,
@@ -42,7 +43,8 @@ where
         (items_of record { precision = PRECISION; table = M.table model.now } again.items)
         coder.old.state coder.new.state) }
     ensures err { IfErr result (UnlessEnded (λ taken. EndsEarly C.is_list Word.BITS State.BITS PRECISION
-        (items_of record { precision = PRECISION; table = M.table model.now }) amt coder.old.state taken coder.new.state)) }
+        (items_of record { precision = PRECISION; table = M.table model.now }) amt coder.old.state taken
+        coder.new.state)) }
 {
     match decode_list_counting::<_, _, PRECISION>(alloc, coder, amt, model) {
         Ok(symbols) => Ok(symbols),
@@ -78,7 +80,8 @@ where
     ensures decoded { C.is_list → IfOk result (λ again. TakesOffAll Word.BITS State.BITS
         (pairs_of PRECISION M.table again.items models.now) coder.old.state coder.new.state) }
     ensures err { IfErr result (UnlessEnded (λ taken. EndsEarly C.is_list Word.BITS State.BITS PRECISION
-        (λ given. pairs_of PRECISION M.table given models.now) (length models.now) coder.old.state taken coder.new.state)) }
+        (λ given. pairs_of PRECISION M.table given models.now)
+        (length models.now) coder.old.state taken coder.new.state)) }
 {
     match decode_by_models_counting::<_, _, PRECISION>(alloc, coder, models) {
         Ok(symbols) => Ok(symbols),
@@ -112,7 +115,8 @@ where
         (items_of record { precision = PRECISION; table = M.table model.now } (reverse symbols.now))
         coder.old.state coder.new.state) }
     ensures err { R.is_list → IfErr result (λ e. NotEncoded Word.BITS State.BITS
-        (items_of record { precision = PRECISION; table = M.table model.now } (reverse symbols.now)) coder.old.state e coder.new.state) }
+        (items_of record { precision = PRECISION; table = M.table model.now } (reverse symbols.now)) coder.old.state e
+        coder.new.state) }
 {
     coder.encode_iid_symbols_reverse(symbols, model)
 }

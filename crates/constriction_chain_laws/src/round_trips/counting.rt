@@ -17,8 +17,8 @@ use std::alloc::Global;
 ///
 /// # Errors
 ///
-/// How many symbols were given, fewer than asked for, and `Refused(error)`, which the decoder answered to the next step, or
-/// `NoMemory`, where the symbols found no memory.
+/// How many symbols were given, fewer than asked for, and `Refused(error)`, which the decoder answered to the next
+/// step, or `NoMemory`, where the symbols found no memory.
 pub fn decode_list_counting<C, M, const PRECISION: usize>(
     alloc: Global,
     decoder: &mut C,
@@ -39,7 +39,8 @@ where
     ensures steps { IfOk result (λ symbols. InTurn
         (λ symbol old new. DecodesSymbol C.decodes C.halts PRECISION (M.table model.now) old (Ok symbol) new)
         symbols.items decoder.old decoder.new) }
-    ensures err { IfErr result (λ e. StopsAfter C.decodes C.halts PRECISION (M.table model.now) amt e.0 decoder.old e.1 decoder.new) }
+    ensures err { IfErr result (λ e. StopsAfter C.decodes C.halts PRECISION
+        (M.table model.now) amt e.0 decoder.old e.1 decoder.new) }
 {
     let mut symbols = Vec::new(alloc);
     'decode: for answer in decoder.decode_iid_symbols(amt, model) {
@@ -78,7 +79,8 @@ where
     ensures steps { IfOk result (λ symbols. InTurn
         (λ pair old new. DecodesByModel C.decodes C.halts PRECISION M.table old pair.1 (Ok pair.0) new)
         (zip symbols.items models.now) decoder.old decoder.new) }
-    ensures err { IfErr result (λ e. StopsAfterPairs C.decodes C.halts PRECISION M.table models.now e.0 decoder.old e.1 decoder.new) }
+    ensures err { IfErr result (λ e. StopsAfterPairs C.decodes C.halts PRECISION M.table models.now e.0 decoder.old
+        e.1 decoder.new) }
 {
     let mut symbols = Vec::new(alloc);
     'decode: for answer in decoder.decode_symbols(models) {

@@ -22,7 +22,8 @@ use std::alloc::Global;
 ///
 /// # Errors
 ///
-/// `OutOfData(count)` after so many symbols, where a word is needed and none is left, and `Refused`, which tells nothing.
+/// `OutOfData(count)` after so many symbols, where a word is needed and none is left, and `Refused`, which tells
+/// nothing.
 pub fn decode_first_and_later<
     Word: WordOf<State>,
     State: BitArray,
@@ -43,9 +44,11 @@ where
     R::WriteError: Drop,
     ensures count { IfOk result (λ symbols. length symbols.1.items ≡ length later.now) }
     ensures decoded { C.is_list → IfOk result (λ symbols. TakesOffAll Word.BITS State.BITS
-        (pairs_of PRECISION M.table (symbols.0 ∷ symbols.1.items) (first.now ∷ later.now)) coder.old.state coder.new.state) }
+        (pairs_of PRECISION M.table (symbols.0 ∷ symbols.1.items) (first.now ∷ later.now)) coder.old.state
+        coder.new.state) }
     ensures err { IfErr result (UnlessEnded (λ taken. EndsEarly C.is_list Word.BITS State.BITS PRECISION
-        (λ given. pairs_of PRECISION M.table given (first.now ∷ later.now)) (length later.now + 1) coder.old.state taken coder.new.state)) }
+        (λ given. pairs_of PRECISION M.table given (first.now ∷ later.now))
+        (length later.now + 1) coder.old.state taken coder.new.state)) }
 {
     let symbol = match coder.decode_symbol(first) {
         Ok(symbol) => symbol,
@@ -85,17 +88,23 @@ where
     M::Symbol: Drop,
     C::ReadError: Drop,
     R::WriteError: Drop,
-    ensures count { IfOk result (λ both. (length both.0.1.items ≡ length later.now) × (length both.1.1.items ≡ length later.now)) }
+    ensures count { IfOk result (λ both. (length both.0.1.items ≡ length later.now)
+        × (length both.1.1.items ≡ length later.now)) }
     ensures first { C.is_list → IfOk result (λ both. TakesOffAll Word.BITS State.BITS
-        (pairs_of PRECISION M.table (both.0.0 ∷ both.0.1.items) (first.now ∷ later.now)) coder.old.state coder.new.state) }
+        (pairs_of PRECISION M.table (both.0.0 ∷ both.0.1.items) (first.now ∷ later.now)) coder.old.state
+        coder.new.state) }
     ensures other { C.is_list → IfOk result (λ both. TakesOffAll Word.BITS State.BITS
-        (pairs_of PRECISION M.table (both.1.0 ∷ both.1.1.items) (other.now ∷ later.now)) same.old.state same.new.state) }
-    ensures isolated { C.is_list → coder.old.state.h ≡ same.old.state.h → coder.old.state.compressed ≡ same.old.state.compressed →
+        (pairs_of PRECISION M.table (both.1.0 ∷ both.1.1.items) (other.now ∷ later.now)) same.old.state
+        same.new.state) }
+    ensures isolated { C.is_list → coder.old.state.h ≡ same.old.state.h →
+        coder.old.state.compressed ≡ same.old.state.compressed →
         IfOk result (λ both. both.0.1.items ≡ both.1.1.items) }
     ensures err { IfErr result (UnlessEnded (λ taken.
-        EndsEarly C.is_list Word.BITS State.BITS PRECISION (λ given. pairs_of PRECISION M.table given (first.now ∷ later.now))
+        EndsEarly C.is_list Word.BITS State.BITS PRECISION
+        (λ given. pairs_of PRECISION M.table given (first.now ∷ later.now))
         (length later.now + 1) coder.old.state taken coder.new.state
-        ⊎ EndsEarly C.is_list Word.BITS State.BITS PRECISION (λ given. pairs_of PRECISION M.table given (other.now ∷ later.now))
+        ⊎ EndsEarly C.is_list Word.BITS State.BITS PRECISION
+        (λ given. pairs_of PRECISION M.table given (other.now ∷ later.now))
         (length later.now + 1) same.old.state taken same.new.state)) }
 {
     let by_first = decode_first_and_later(alloc, coder, first, later)?;
@@ -109,8 +118,8 @@ where
 ///
 /// # Errors
 ///
-/// `OutOfData(count)` after so many symbols of one of the coders, where it needs a word and none is left, and `Refused`,
-/// which tells nothing.
+/// `OutOfData(count)` after so many symbols of one of the coders, where it needs a word and none is left, and
+/// `Refused`, which tells nothing.
 pub fn decode_by_two<
     Word: WordOf<State>,
     State: BitArray,
@@ -132,13 +141,16 @@ where
     M::Symbol: Drop,
     C::ReadError: Drop,
     R::WriteError: Drop,
-    ensures count { IfOk result (λ both. (length both.0.items ≡ length models.now) × (length both.1.items ≡ length others.now)) }
+    ensures count { IfOk result (λ both. (length both.0.items ≡ length models.now)
+        × (length both.1.items ≡ length others.now)) }
     ensures first { C.is_list → IfOk result (λ both. TakesOffAll Word.BITS State.BITS
         (pairs_of PRECISION M.table both.0.items models.now) coder.old.state coder.new.state) }
     ensures other { C.is_list → IfOk result (λ both. TakesOffAll Word.BITS State.BITS
         (pairs_of PRECISION L.table both.1.items others.now) same.old.state same.new.state) }
-    ensures isolated { C.is_list → coder.old.state.h ≡ same.old.state.h → coder.old.state.compressed ≡ same.old.state.compressed →
-        IfOk result (λ both. AreIsolated (decodings_by PRECISION M.table both.0.items models.now) (decodings_by PRECISION L.table both.1.items others.now)) }
+    ensures isolated { C.is_list → coder.old.state.h ≡ same.old.state.h →
+        coder.old.state.compressed ≡ same.old.state.compressed →
+        IfOk result (λ both. AreIsolated (decodings_by PRECISION M.table both.0.items models.now)
+        (decodings_by PRECISION L.table both.1.items others.now)) }
     ensures err { IfErr result (UnlessEnded (λ taken.
         EndsEarly C.is_list Word.BITS State.BITS PRECISION (λ given. pairs_of PRECISION M.table given models.now)
         (length models.now) coder.old.state taken coder.new.state

@@ -17,8 +17,8 @@ use constriction_words::{BitArray, WordOf};
 ///
 /// # Errors
 ///
-/// `OutOfData(0)` where the other precision is no greater, the number of the remainders needs a word, and none is left; and
-/// `Refused` for want of memory.
+/// `OutOfData(0)` where the other precision is no greater, the number of the remainders needs a word, and none is
+/// left; and `Refused` for want of memory.
 pub fn change_and_back<
     Word: WordOf<State>,
     State: BitArray,

@@ -1,15 +1,15 @@
 //! The whole way of a chain coder's words by the remainders: symbols are taken out, the words are exported, imported as
 //! remainders, and the symbols are put back.
 //!
-//! What is exported has two parts: the prefix, which are the compressed words that are left, and the suffix, which are the
-//! remainders with both heads. The suffix alone is enough; or the prefix stays below it.
+//! What is exported has two parts: the prefix, which are the compressed words that are left, and the suffix, which
+//! are the remainders with both heads. The suffix alone is enough; or the prefix stays below it.
 
 ghost use Rattle.std.specs.Prelude.{◌≡◌, ◌<◌, [], length, map, reverse, IfErr, IfOk};
 ghost use Rattle.constriction_base.specs.Models.{items_of};
 ghost use Rattle.constriction_chain.specs.Chain.{ChainState, IsSized};
 ghost use Rattle.constriction_chain.specs.Imports.{FromBinary, FromCompressed, IsWhole};
 ghost use Rattle.constriction_chain.specs.Symbols.{TakesOffAll};
-ghost use Rattle.constriction_chain_laws.specs.Endings.{ComesBackOver, Ended, UnlessEnded};
+ghost use Rattle.constriction_chain_laws.specs.Endings.{ComesBackOver, Ended, EndsFrom, UnlessEnded};
 ghost use Rattle.constriction_chain_laws.specs.Fits.{CoderFits};
 ghost use Rattle.constriction_coder_laws.specs.Outcomes.{Reasons};
 
@@ -55,7 +55,8 @@ where
         × (map Word.number (reverse back.1.items) ≡ after.compressed)) }
     ensures back { IsWhole Word.BITS State.BITS PRECISION coder.state →
         IfOk result (λ back. ComesBackOver coder.state [] (map Word.number (reverse back.1.items)) back.2.state) }
-    ensures err { IfErr result (UnlessEnded (λ taken. (taken < amt) × (after : ChainState) × Ended Word.BITS State.BITS PRECISION
+    ensures err { IfErr result (UnlessEnded (λ taken. (taken < amt) × (after : ChainState)
+        × Ended Word.BITS State.BITS PRECISION
         (items_of record { precision = PRECISION; table = M.table model.now }) taken coder.state after)) }
 {
     let (symbols, prefix, suffix) = take_symbols(alloc, coder, amt, model)?;
@@ -66,8 +67,8 @@ where
 }
 
 /// The symbols of a coder, and the coder that they are put back to, which is that of the suffix above the prefix:
-/// [`take_symbols`], `extend_from_slice`, [`put_back`]. Where nothing was taken from the coder before, it is as it was, but
-/// that the prefix stands among its remainders.
+/// [`take_symbols`], `extend_from_slice`, [`put_back`]. Where nothing was taken from the coder before, it is as it
+/// was, but that the prefix stands among its remainders.
 ///
 /// # Errors
 ///
@@ -95,9 +96,11 @@ where
     requires { IsSized Word.BITS State.BITS PRECISION }
     ensures count { IfOk result (λ back. length back.0.items ≡ amt) }
     ensures back { IsWhole Word.BITS State.BITS PRECISION coder.state → IfOk result (λ back. (after : ChainState)
-        × TakesOffAll Word.BITS State.BITS (items_of record { precision = PRECISION; table = M.table model.now } back.0.items) coder.state after
+        × TakesOffAll Word.BITS State.BITS (items_of record { precision = PRECISION; table = M.table model.now }
+        back.0.items) coder.state after
         × ComesBackOver coder.state after.compressed after.compressed back.1.state) }
-    ensures err { IfErr result (UnlessEnded (λ taken. (taken < amt) × (after : ChainState) × Ended Word.BITS State.BITS PRECISION
+    ensures err { IfErr result (UnlessEnded (λ taken. (taken < amt) × (after : ChainState)
+        × Ended Word.BITS State.BITS PRECISION
         (items_of record { precision = PRECISION; table = M.table model.now }) taken coder.state after)) }
 {
     let (symbols, prefix, suffix) = take_symbols(alloc, coder, amt, model)?;
@@ -111,13 +114,13 @@ where
     }
 }
 
-/// Words come back from the symbols that are taken out of them: `from_compressed`, [`through_suffix`], `into_compressed`, and
-/// what it gives behind the prefix. The symbols are given too.
+/// Words come back from the symbols that are taken out of them: `from_compressed`, [`through_suffix`],
+/// `into_compressed`, and what it gives behind the prefix. The symbols are given too.
 ///
 /// # Errors
 ///
-/// `InvalidData` where the words are those of no coder, `OutOfData(count)` after so many symbols, where a word is needed and
-/// none is left, and `Refused` for want of memory.
+/// `InvalidData` where the words are those of no coder, `OutOfData(count)` after so many symbols, where a word is
+/// needed and none is left, and `Refused` for want of memory.
 pub fn words_by_suffix<
     Word: WordOf<State>,
     State: BitArray,
@@ -135,13 +138,15 @@ where
     requires fits { CoderFits Word.row State.row }
     requires sized { IsSized Word.BITS State.BITS PRECISION }
     ensures count { IfOk result (λ back. length back.0.items ≡ amt) }
-    ensures taken { IfOk result (λ back. (x after : ChainState) × FromCompressed Word.BITS State.BITS PRECISION (map Word.number (reverse words.items)) x
-        × TakesOffAll Word.BITS State.BITS (items_of record { precision = PRECISION; table = M.table model.now } back.0.items) x after) }
+    ensures taken { IfOk result (λ back. (x after : ChainState)
+        × FromCompressed Word.BITS State.BITS PRECISION (map Word.number (reverse words.items)) x
+        × TakesOffAll Word.BITS State.BITS (items_of record { precision = PRECISION; table = M.table model.now }
+        back.0.items) x after) }
     ensures back { IfOk result (λ back. map Word.number back.1.items ≡ map Word.number words.items) }
     ensures err { IfErr result (Reasons ⊥ ⊥
         ((x : ChainState) → FromCompressed Word.BITS State.BITS PRECISION (map Word.number (reverse words.items)) x → ⊥)
-        (λ taken. (taken < amt) × (x after : ChainState) × FromCompressed Word.BITS State.BITS PRECISION (map Word.number (reverse words.items)) x
-        × Ended Word.BITS State.BITS PRECISION (items_of record { precision = PRECISION; table = M.table model.now }) taken x after)) }
+        (EndsFrom (FromCompressed Word.BITS State.BITS PRECISION (map Word.number (reverse words.items)))
+        Word.BITS State.BITS PRECISION (items_of record { precision = PRECISION; table = M.table model.now }) amt)) }
 {
     let first = match ChainCoder::<Word, State, Vec<Word>, Vec<Word>, PRECISION>::from_compressed(
         alloc, words,
@@ -161,8 +166,8 @@ where
     }
 }
 
-/// The same in binary form, with the prefix below the suffix: `from_binary`, [`through_both_parts`], `into_binary`, whose two
-/// parts are the words, one behind the other.
+/// The same in binary form, with the prefix below the suffix: `from_binary`, [`through_both_parts`], `into_binary`,
+/// whose two parts are the words, one behind the other.
 ///
 /// # Errors
 ///
@@ -184,13 +189,15 @@ where
     requires fits { CoderFits Word.row State.row }
     requires sized { IsSized Word.BITS State.BITS PRECISION }
     ensures count { IfOk result (λ back. length back.0.items ≡ amt) }
-    ensures taken { IfOk result (λ back. (x after : ChainState) × FromBinary Word.BITS State.BITS PRECISION (map Word.number (reverse words.items)) x
-        × TakesOffAll Word.BITS State.BITS (items_of record { precision = PRECISION; table = M.table model.now } back.0.items) x after) }
+    ensures taken { IfOk result (λ back. (x after : ChainState)
+        × FromBinary Word.BITS State.BITS PRECISION (map Word.number (reverse words.items)) x
+        × TakesOffAll Word.BITS State.BITS (items_of record { precision = PRECISION; table = M.table model.now }
+        back.0.items) x after) }
     ensures back { IfOk result (λ back. map Word.number back.1.items ≡ map Word.number words.items) }
     ensures err { IfErr result (Reasons ⊥ ⊥
         ((x : ChainState) → FromBinary Word.BITS State.BITS PRECISION (map Word.number (reverse words.items)) x → ⊥)
-        (λ taken. (taken < amt) × (x after : ChainState) × FromBinary Word.BITS State.BITS PRECISION (map Word.number (reverse words.items)) x
-        × Ended Word.BITS State.BITS PRECISION (items_of record { precision = PRECISION; table = M.table model.now }) taken x after)) }
+        (EndsFrom (FromBinary Word.BITS State.BITS PRECISION (map Word.number (reverse words.items)))
+        Word.BITS State.BITS PRECISION (items_of record { precision = PRECISION; table = M.table model.now }) amt)) }
 {
     let first = match ChainCoder::<Word, State, Vec<Word>, Vec<Word>, PRECISION>::from_binary(
         alloc, words,

@@ -61,8 +61,8 @@ where
 ///
 /// # Errors
 ///
-/// `ImpossibleSymbol` where the model doesn't know the symbol, `OutOfData(0)` where a word of the remainders is needed and
-/// none is left, and `Refused`, which tells nothing.
+/// `ImpossibleSymbol` where the model doesn't know the symbol, `OutOfData(0)` where a word of the remainders is
+/// needed and none is left, and `Refused`, which tells nothing.
 pub fn encode_and_decode<
     Word: WordOf<State>,
     State: BitArray,
@@ -84,7 +84,8 @@ where
     ensures encoded { IfOk result (λ _. (put : ChainState) × PutsBack Word.BITS State.BITS
         record { precision = PRECISION; table = M.table model.now } symbol.now coder.old.state put) }
     ensures back { IfOk result (λ again. (again ≡ symbol.now) × (coder.new.state ≡ coder.old.state)) }
-    ensures err { IfErr result (Reasons (Impossible (M.table model.now) symbol.now) ⊥ ⊥ (λ taken. (taken ≡ 0) × LacksWord Word.BITS State.BITS
+    ensures err { IfErr result (Reasons (Impossible (M.table model.now) symbol.now) ⊥ ⊥
+        (λ taken. (taken ≡ 0) × LacksWord Word.BITS State.BITS
         coder.old.state (item_of record { precision = PRECISION; table = M.table model.now } symbol.now))) }
 {
     match coder.encode_symbol(symbol, model) {

@@ -42,10 +42,12 @@ where
     M::Symbol: Drop,
     ensures count { IfOk result (λ taken. length taken.0.items ≡ amt) }
     ensures words { IfOk result (λ taken. (after : ChainState)
-        × TakesOffAll Word.BITS State.BITS (items_of record { precision = PRECISION; table = M.table model.now } taken.0.items) coder.state after
+        × TakesOffAll Word.BITS State.BITS (items_of record { precision = PRECISION; table = M.table model.now }
+        taken.0.items) coder.state after
         × (map Word.number (reverse taken.1.items) ≡ after.compressed)
         × (map Word.number (reverse taken.2.items) ≡ remainder_words Word.BITS after)) }
-    ensures err { IfErr result (UnlessEnded (λ taken. (taken < amt) × (after : ChainState) × Ended Word.BITS State.BITS PRECISION
+    ensures err { IfErr result (UnlessEnded (λ taken. (taken < amt) × (after : ChainState)
+        × Ended Word.BITS State.BITS PRECISION
         (items_of record { precision = PRECISION; table = M.table model.now }) taken coder.state after)) }
 {
     let mut coder = coder;
@@ -77,7 +79,8 @@ where
     requires { IsSized Word.BITS State.BITS PRECISION }
     ensures encoded { IfOk result (λ coder. (before : ChainState)
         × FromRemainders Word.BITS State.BITS PRECISION (map Word.number (reverse remainders.items)) before
-        × PutsBackAll Word.BITS State.BITS (items_of record { precision = PRECISION; table = M.table model.now } (reverse symbols.now)) before coder.state) }
+        × PutsBackAll Word.BITS State.BITS (items_of record { precision = PRECISION; table = M.table model.now }
+        (reverse symbols.now)) before coder.state) }
     ensures err { IfErr result (NotPutBack Word.BITS State.BITS PRECISION (map Word.number (reverse remainders.items))
         (items_of record { precision = PRECISION; table = M.table model.now } (reverse symbols.now)) ⊥) }
 {
@@ -129,7 +132,8 @@ where
         × TakesOffAll Word.BITS State.BITS (pairs_of PRECISION M.table taken.0.items models.now) coder.state after
         × (map Word.number (reverse taken.1.items) ≡ after.compressed)
         × (map Word.number (reverse taken.2.items) ≡ remainder_words Word.BITS after)) }
-    ensures err { IfErr result (UnlessEnded (λ taken. (taken < length models.now) × (after : ChainState) × Ended Word.BITS State.BITS PRECISION
+    ensures err { IfErr result (UnlessEnded (λ taken. (taken < length models.now) × (after : ChainState)
+        × Ended Word.BITS State.BITS PRECISION
         (λ given. pairs_of PRECISION M.table given models.now) taken coder.state after)) }
 {
     let mut coder = coder;
@@ -140,8 +144,8 @@ where
     }
 }
 
-/// The coder of remainders with symbols put back, each by its own model and the last one first. There have to be as many
-/// models as symbols.
+/// The coder of remainders with symbols put back, each by its own model and the last one first. There have to be as
+/// many models as symbols.
 ///
 /// # Errors
 ///
@@ -162,7 +166,8 @@ where
     requires { IsSized Word.BITS State.BITS PRECISION }
     ensures encoded { IfOk result (λ coder. (before : ChainState)
         × FromRemainders Word.BITS State.BITS PRECISION (map Word.number (reverse remainders.items)) before
-        × PutsBackAll Word.BITS State.BITS (reverse (pairs_of PRECISION M.table symbols.now models.now)) before coder.state) }
+        × PutsBackAll Word.BITS State.BITS (reverse (pairs_of PRECISION M.table symbols.now models.now)) before
+        coder.state) }
     ensures err { IfErr result (NotPutBack Word.BITS State.BITS PRECISION (map Word.number (reverse remainders.items))
         (reverse (pairs_of PRECISION M.table symbols.now models.now)) (length symbols.now ≡ length models.now → ⊥)) }
 {

@@ -6,7 +6,7 @@ use Rattle.constriction_chain_laws.proofs.round_trips.coding.decode_pairs.Goals 
 
 pub returns-in-Ok-clause-decoded : goal.returns-in-Ok-clause-decoded
 returns-in-Ok-clause-decoded g c = λ known.
-    decodes_of g.Word.BitArray.number g.C.Holds.is_list g.C.Holds.words g.R.Holds.words g.C.ReadWords.reads g.R.WriteWords.write_fails g.R.WriteWords.room g.R.WriteWords.makes_room
+    decodes_of g.Word.BitArray.number g.C.Holds g.C.ReadWords g.R.Holds g.R.WriteWords
     g.Word.BitArray.BITS g.State.BitArray.BITS (λ pair. item_of (record { precision = g.row.PRECISION; table = g.M.EntropyModel.table pair.1 }) pair.0)
     (zip c.in-Ok.symbols.items c.args.models.now) c.args.coder.now c.decode_by_models_counting.new.decoder known c.in-Ok.ensures.steps
 
@@ -14,5 +14,5 @@ pub returns-in-Err-default-Refused-Frontend-clause-err : goal.returns-in-Err-def
 returns-in-Err-default-Refused-Frontend-clause-err g c =
     let here = c.in-Err-default-Refused-Frontend in
     let stopped = rw here.field-0-1-0-is at (rw here.field-0-1-is at here.ensures.err) in
-    pairs_end_early g.Word.BitArray.number g.C.Holds.is_list g.C.Holds.words g.R.Holds.words g.C.ReadWords.reads g.R.WriteWords.prepare_fails g.R.WriteWords.write_fails g.R.WriteWords.room g.R.WriteWords.makes_room
+    pairs_end_early g.Word.BitArray.number g.C.Holds g.C.ReadWords g.R.Holds g.R.WriteWords
     g.Word.BitArray.BITS g.State.BitArray.BITS g.row.PRECISION g.M.EntropyModel.table c.args.models.now _ c.args.coder.now c.decode_by_models_counting.new.decoder _ stopped

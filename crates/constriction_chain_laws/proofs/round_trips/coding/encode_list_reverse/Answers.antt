@@ -22,7 +22,7 @@ returns-clause-encoded g c = λ known.
     MatchResult-weaker c.encode_iid_symbols_reverse.result e.5
     (λ _ p.
     let all : map (λ x. x.now) e.2 ≡ reverse c.args.symbols.now = rw e.1.0 at (all_from_back e.0 e.2 p.1) in
-    let coded = encodes_of g.Word.BitArray.number g.R.Holds.is_list g.C.Holds.words g.R.Holds.words g.R.ReadWords.reads g.C.WriteWords.prepare_fails g.C.WriteWords.write_fails g.C.WriteWords.room g.C.WriteWords.makes_room
+    let coded = encodes_of g.Word.BitArray.number g.C.Holds g.C.WriteWords g.R.Holds g.R.ReadWords
     w s _ (λ x. x.now) (item_of model) e.2 old e.3 known e.4 in
     subst (λ xs. PutsBackAll w s (items_of model xs) old.state new.state) all
     (subst (λ x. PutsBackAll w s (items_of model (map (λ x. x.now) e.2)) old.state x.state) p.0 coded))
@@ -37,5 +37,5 @@ returns-clause-err g c = λ known.
     (λ refusal p.
     let stopped : reverse c.args.symbols.now ≡ map (λ x. x.now) e.2 ++ p.0.now ∷ reverse (iter_rest p.1) = rw e.1.0 at (stopped_back e.0 e.2 p.0 p.1 p.2) in
     let is = ap (items_of model) stopped ∙ map-append (item_of model) (map (λ x. x.now) e.2) (p.0.now ∷ reverse (iter_rest p.1)) in
-    not_encoded g.Word.BitArray.number g.R.Holds.is_list g.C.Holds.words g.R.Holds.words g.R.ReadWords.reads g.C.WriteWords.prepare_fails g.C.WriteWords.write_fails g.C.WriteWords.room g.C.WriteWords.makes_room
+    not_encoded g.Word.BitArray.number g.C.Holds g.C.WriteWords g.R.Holds g.R.ReadWords
     g.Word.BitArray.BITS g.State.BitArray.BITS (λ x. x.now) (item_of model) e.2 p.0 _ (items_of model (reverse (iter_rest p.1))) c.args.coder.now e.3 c.encode_iid_symbols_reverse.new.self refusal known is e.4 p.3)

@@ -32,7 +32,7 @@ returns-clause-encoded g c = λ known.
     (λ _ p.
     (let given = all_pairs_from_back e.0 e.2 same p.1 ∙ ap₂ (λ xs ms. reverse (zip xs ms)) first second in
     let all = ap (λ pairs. map item pairs) given ∙ map-reverse item (zip symbols models) in
-    let coded = encodes_of g.Word.BitArray.number g.R.Holds.is_list g.C.Holds.words g.R.Holds.words g.R.ReadWords.reads g.C.WriteWords.prepare_fails g.C.WriteWords.write_fails g.C.WriteWords.room g.C.WriteWords.makes_room
+    let coded = encodes_of g.Word.BitArray.number g.C.Holds g.C.WriteWords g.R.Holds g.R.ReadWords
     w s _ (λ p. (p.0.now, p.1.now)) item e.2 old e.3 known e.4 in
     subst (λ items. PutsBackAll w s items old.state new.state) all
     (subst (λ x. PutsBackAll w s (map item (map (λ p. (p.0.now, p.1.now)) e.2)) old.state x.state) p.0 coded)))
@@ -54,5 +54,5 @@ returns-clause-err g c = λ known.
     let left = reverse (zip (iter_rest (zip_first p.1)) (iter_rest (zip_second p.1))) in
     let stopped = sym (ap₂ (λ xs ms. reverse (zip xs ms)) first second) ∙ stopped_pairs e.0 e.2 p.0 p.1 same p.2 in
     let is = sym (map-reverse item (zip symbols models)) ∙ ap (λ pairs. map item pairs) stopped ∙ map-append item (map (λ p. (p.0.now, p.1.now)) e.2) ((p.0.0.now, p.0.1.now) ∷ left) in
-    not_encoded g.Word.BitArray.number g.R.Holds.is_list g.C.Holds.words g.R.Holds.words g.R.ReadWords.reads g.C.WriteWords.prepare_fails g.C.WriteWords.write_fails g.C.WriteWords.room g.C.WriteWords.makes_room
+    not_encoded g.Word.BitArray.number g.C.Holds g.C.WriteWords g.R.Holds g.R.ReadWords
     g.Word.BitArray.BITS g.State.BitArray.BITS (λ p. (p.0.now, p.1.now)) item e.2 p.0 _ (map item left) c.args.coder.now e.3 c.encode_symbols_reverse.new.self refusal known is e.4 p.3)

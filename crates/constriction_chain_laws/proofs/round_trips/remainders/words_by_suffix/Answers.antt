@@ -7,7 +7,7 @@ use Rattle.constriction_chain_laws.proofs.round_trips.remainders.words_by_suffix
 
 pub returns-in-Err-Frontend-clause-err : goal.returns-in-Err-Frontend-clause-err
 returns-in-Err-Frontend-clause-err g c =
-    no_compressed g.Word.BitArray.number _ _ _ g.Word.BitArray.BITS g.State.BitArray.BITS g.row.PRECISION tt c.requires.sized c.args.words c.in-Err-Frontend.field-0-0
+    no_compressed g.Word.BitArray.number _ _ g.Word.BitArray.BITS g.State.BitArray.BITS g.row.PRECISION tt c.requires.sized c.args.words c.in-Err-Frontend.field-0-0
     (rw c.in-Err-Frontend.field-0-is at c.in-Err-Frontend.ensures.err)
 
 pub returns-in-Ok-extend_from_slice-clause-back : goal.returns-in-Ok-extend_from_slice-clause-back

@@ -12,7 +12,7 @@ returns-in-Ok-encode_symbol-clause-decoded g c =
     let number = g.Word.BitArray.number in
     let model : Model g.row.M-Symbol.Denot = record { precision = g.row.PRECISION; table = g.M.EntropyModel.table c.args.model.now } in
     let step = c.in-Ok.ensures.step in
-    let d = decode_of number g.C.Holds.is_list g.C.Holds.words g.R.Holds.words g.C.ReadWords.reads g.R.WriteWords.write_fails g.R.WriteWords.room g.R.WriteWords.makes_room
+    let d = decode_of number g.C.Holds g.C.ReadWords g.R.Holds g.R.WriteWords
     w s model c.in-Ok.symbol c.args.coder.now c.decode_symbol.new.self g.met.C.WriteWords.knows_words step in
     (c.decode_symbol.new.self.state, d)
 
@@ -24,9 +24,9 @@ returns-in-Ok-encode_symbol-clause-back g c =
     let model : Model g.row.M-Symbol.Denot = record { precision = g.row.PRECISION; table = g.M.EntropyModel.table c.args.model.now } in
     let at : IsModelAt g.row.PRECISION model = record { level = refl; lawful = g.M.EntropyModel.lawful c.args.model.now } in
     let step = c.in-Ok.ensures.step in
-    let d = decode_of number g.C.Holds.is_list g.C.Holds.words g.R.Holds.words g.C.ReadWords.reads g.R.WriteWords.write_fails g.R.WriteWords.room g.R.WriteWords.makes_room
+    let d = decode_of number g.C.Holds g.C.ReadWords g.R.Holds g.R.WriteWords
     w s model c.in-Ok.symbol c.args.coder.now c.decode_symbol.new.self g.met.C.WriteWords.knows_words step in
-    let e = encode_of number g.R.Holds.is_list g.C.Holds.words g.R.Holds.words g.R.ReadWords.reads g.C.WriteWords.prepare_fails g.C.WriteWords.write_fails g.C.WriteWords.room g.C.WriteWords.makes_room
+    let e = encode_of number g.C.Holds g.C.WriteWords g.R.Holds g.R.ReadWords
     w s _ model c.in-Ok.symbol c.decode_symbol.new.self c.encode_symbol.new.self g.met.R.WriteWords.knows_words c.in-Ok-encode_symbol.ensures.step in
     stays w s g.row.PRECISION model c.in-Ok.symbol c.args.coder.now.state c.decode_symbol.new.self.state c.encode_symbol.new.self.state
     step.3.before.sized at step.3.before.chain d e

@@ -11,7 +11,7 @@ returns-in-Ok-decode_symbol-clause-encoded g c =
     let number = g.Word.BitArray.number in
     let table = g.M.EntropyModel.table c.args.model.now in
     let model : Model g.row.M-Symbol.Denot = record { precision = P; table = table } in
-    let e = encode_of number g.R.Holds.is_list g.C.Holds.words g.R.Holds.words g.R.ReadWords.reads g.C.WriteWords.prepare_fails g.C.WriteWords.write_fails g.C.WriteWords.room g.C.WriteWords.makes_room
+    let e = encode_of number g.C.Holds g.C.WriteWords g.R.Holds g.R.ReadWords
     w s _ model c.args.symbol.now c.args.coder.now c.encode_symbol.new.self g.met.R.WriteWords.knows_words c.in-Ok.ensures.step in
     (c.encode_symbol.new.self.state, e)
 
@@ -24,9 +24,9 @@ returns-in-Ok-decode_symbol-clause-back g c =
     let sized = g.met.M.EntropyModel.sized c.args.model.now in
     let table = g.M.EntropyModel.table c.args.model.now in
     let model : Model g.row.M-Symbol.Denot = record { precision = P; table = table } in
-    let e = encode_of number g.R.Holds.is_list g.C.Holds.words g.R.Holds.words g.R.ReadWords.reads g.C.WriteWords.prepare_fails g.C.WriteWords.write_fails g.C.WriteWords.room g.C.WriteWords.makes_room
+    let e = encode_of number g.C.Holds g.C.WriteWords g.R.Holds g.R.ReadWords
     w s _ model c.args.symbol.now c.args.coder.now c.encode_symbol.new.self g.met.R.WriteWords.knows_words c.in-Ok.ensures.step in
-    let d = decode_of number g.C.Holds.is_list g.C.Holds.words g.R.Holds.words g.C.ReadWords.reads g.R.WriteWords.write_fails g.R.WriteWords.room g.R.WriteWords.makes_room
+    let d = decode_of number g.C.Holds g.C.ReadWords g.R.Holds g.R.WriteWords
     w s model c.in-Ok-decode_symbol.again c.encode_symbol.new.self c.decode_symbol.new.self g.met.C.WriteWords.knows_words c.in-Ok-decode_symbol.ensures.step in
     let both = c.steps_undo.ensures.encoded w s table (record { precision = P; left = e.0; p = e.1 }) (record { precision = P; left = d.0; p = d.1 }) c.args.symbol.now c.in-Ok-decode_symbol.again
     c.args.coder.now.state c.encode_symbol.new.self.state c.decode_symbol.new.self.state
