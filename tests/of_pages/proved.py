@@ -27,10 +27,11 @@ def parts_of(crates):
         for (start, name), (end, _) in zip(starts, starts[1:]):
             parts.setdefault(name, set()).update(re.findall(r"\bensures (\w+) \{", text[start:end]))
     for text in sources(crates, ["specs"]):
-        for record in re.split(r"(?=^(?:pub record|abbrev|--))", text, flags=re.M):
-            named = re.match(r"pub record (\w+)", record)
+        for record in re.split(r"(?=^ *(?:pub record|abbrev)|^--)", text, flags=re.M):
+            named = re.match(r"( *)pub record (\w+)", record)
             if named:
-                parts.setdefault(named[1], set()).update(re.findall(r"^  pub (\w+) :", record, flags=re.M))
+                fields = re.findall(rf"^{named[1]}  pub (\w+) :", record, flags=re.M)
+                parts.setdefault(named[2], set()).update(fields)
     return parts
 
 
