@@ -1,7 +1,7 @@
 -- What a call did to the numbers that a C function took out of a caller's struct, and put into it again; and models of a family, by the numbers
 -- that a struct holds for them.
 use Rattle.std.proofs.Common.{◌≡◌, ℕ, ℤ, List, Result, refl, sym}
-use Rattle.constriction_c.specs.Codes.{Told, answer_of, needed_by}
+use Rattle.constriction_c.specs.Codes.{Told, answer_by_code, needed_by}
 use Rattle.constriction_inputs.specs.Coded.{Coded, InFamily, in_family}
 use Rattle.constriction_calls.specs.AnsCalls.{AnsKept, AnsPuts, AnsTakes}
 use Rattle.constriction_calls.specs.ChainCalls.{ChainPuts, ChainTakes, keeps}
@@ -24,14 +24,14 @@ pub ans_takes : {Word State : Type 0} {number : Word → ℕ} {state : State →
 ans_takes is answer_is call = rw (sym is, answer_is) call
 
 pub ans_puts : {Word State : Type 0} {number : Word → ℕ} {state : State → ℕ} {w s precision : ℕ} {coded other : Coded} {old new : AnsKept Word State} {answer : Result (Unit {0}) Refusal}
-    (code old_needed needed : ℕ) → coded ≡ other → answer_of code needed ≡ answer → needed ≡ needed_by answer old_needed
+    (code old_needed needed : ℕ) → coded ≡ other → answer_by_code code needed ≡ answer → needed ≡ needed_by answer old_needed
     → AnsPuts number state w s precision coded old new answer → Told code old_needed needed (AnsPuts number state w s precision other old new)
 ans_puts code old_needed needed is answer_is needed_is call = (rw (sym is, answer_is) call, rw answer_is needed_is)
 
 -- ---- the range coder
 pub puts_told : {Word State : Type 0} {number : Word → ℕ} {state : State → ℕ} {w s precision : ℕ} {coded other : List ℕ → Coded} {symbols : List ℕ}
     {old kept new put : EncoderParts Word State} {words new_words : List Word} {len new_len : ℕ} {answer : Result (Unit {0}) Refusal} (code old_needed needed : ℕ)
-    → coded ≡ other → old ≡ kept → put ≡ new → answer_of code needed ≡ answer → needed ≡ needed_by answer old_needed
+    → coded ≡ other → old ≡ kept → put ≡ new → answer_by_code code needed ≡ answer → needed ≡ needed_by answer old_needed
     → RangePuts number state w s precision coded symbols (kept_in old words len) (kept_in new new_words new_len) answer
     → Told code old_needed needed (RangePuts number state w s precision other symbols (kept_in kept words len) (kept_in put new_words new_len))
 puts_told code old_needed needed is old_is new_is answer_is needed_is call = (rw (sym is, sym old_is, new_is, answer_is) call, rw answer_is needed_is)
@@ -44,14 +44,14 @@ takes_told is old_is new_is answer_is call = rw (sym is, sym old_is, new_is, ans
 -- ---- the chain coder
 pub chain_puts : {Word State : Type 0} {number : Word → ℕ} {state : State → ℕ} {w s precision : ℕ} {coded other : Coded} {old kept new put : ChainHeads Word State}
     {compressed new_compressed remainders new_remainders : List Word} {count new_count rest new_rest : ℕ} {answer : Result (Unit {0}) Refusal} (code old_needed needed : ℕ)
-    → coded ≡ other → old ≡ kept → put ≡ new → answer_of code needed ≡ answer → needed ≡ needed_by answer old_needed
+    → coded ≡ other → old ≡ kept → put ≡ new → answer_by_code code needed ≡ answer → needed ≡ needed_by answer old_needed
     → ChainPuts number state w s precision coded (keeps old compressed count remainders rest) (keeps new new_compressed new_count new_remainders new_rest) answer
     → Told code old_needed needed (ChainPuts number state w s precision other (keeps kept compressed count remainders rest) (keeps put new_compressed new_count new_remainders new_rest))
 chain_puts code old_needed needed is old_is new_is answer_is needed_is call = (rw (sym is, sym old_is, new_is, answer_is) call, rw answer_is needed_is)
 
 pub chain_takes : {Word State : Type 0} {number : Word → ℕ} {state : State → ℕ} {w s precision : ℕ} {coded other : List ℕ → Coded} {old kept new put : ChainHeads Word State}
     {compressed new_compressed remainders new_remainders : List Word} {count new_count rest new_rest : ℕ} {symbols new_symbols : List ℕ} {answer : Result (Unit {0}) Refusal}
-    (code old_needed needed : ℕ) → coded ≡ other → old ≡ kept → put ≡ new → answer_of code needed ≡ answer → needed ≡ needed_by answer old_needed
+    (code old_needed needed : ℕ) → coded ≡ other → old ≡ kept → put ≡ new → answer_by_code code needed ≡ answer → needed ≡ needed_by answer old_needed
     → ChainTakes number state w s precision coded (keeps old compressed count remainders rest) (keeps new new_compressed new_count new_remainders new_rest) symbols new_symbols answer
     → Told code old_needed needed
     (λ told. ChainTakes number state w s precision other (keeps kept compressed count remainders rest) (keeps put new_compressed new_count new_remainders new_rest) symbols new_symbols told)

@@ -4,18 +4,18 @@ use Rattle.constriction_inputs.specs.declared.refusal.Refusal.{Refusal}
 use Rattle.constriction_inputs.specs.declared.refusal.Refusal.TheVariants.{ImpossibleSymbol, WrongWeights, WrongInterval, WrongLength, NoSpace, NoMemory, InvalidData, OutOfData}
 
 -- the answer that a code stands for, with the number of words that are needed where there is no space for them
-abbrev pub answer_of : ℕ → ℕ → Result (Unit {0}) Refusal
-answer_of zero needed = Ok tt
-answer_of (suc zero) needed = Err ImpossibleSymbol
-answer_of (suc (suc zero)) needed = Err WrongWeights
-answer_of (suc (suc (suc zero))) needed = Err WrongInterval
-answer_of (suc (suc (suc (suc zero)))) needed = Err WrongLength
-answer_of (suc (suc (suc (suc (suc zero))))) needed = Err (NoSpace needed)
-answer_of (suc (suc (suc (suc (suc (suc zero)))))) needed = Err NoMemory
-answer_of (suc (suc (suc (suc (suc (suc (suc zero))))))) needed = Err InvalidData
-answer_of (suc (suc (suc (suc (suc (suc (suc (suc zero)))))))) needed = Err OutOfData
+abbrev pub answer_by_code : ℕ → ℕ → Result (Unit {0}) Refusal
+answer_by_code zero needed = Ok tt
+answer_by_code (suc zero) needed = Err ImpossibleSymbol
+answer_by_code (suc (suc zero)) needed = Err WrongWeights
+answer_by_code (suc (suc (suc zero))) needed = Err WrongInterval
+answer_by_code (suc (suc (suc (suc zero)))) needed = Err WrongLength
+answer_by_code (suc (suc (suc (suc (suc zero))))) needed = Err (NoSpace needed)
+answer_by_code (suc (suc (suc (suc (suc (suc zero)))))) needed = Err NoMemory
+answer_by_code (suc (suc (suc (suc (suc (suc (suc zero))))))) needed = Err InvalidData
+answer_by_code (suc (suc (suc (suc (suc (suc (suc (suc zero)))))))) needed = Err OutOfData
 -- no other code is one: that there is no space for no words is no call's answer
-answer_of (suc (suc (suc (suc (suc (suc (suc (suc (suc code))))))))) needed = Err (NoSpace zero)
+answer_by_code (suc (suc (suc (suc (suc (suc (suc (suc (suc code))))))))) needed = Err (NoSpace zero)
 
 -- the number of words that are needed: where that is not why a call was refused, as it was before
 abbrev pub needed_by : Result (Unit {0}) Refusal → ℕ → ℕ
@@ -24,7 +24,7 @@ needed_by answer old = old
 
 -- a C function returned this code, and left so many words as needed, for a call of whose answer this holds
 abbrev pub Told : ℕ → ℕ → ℕ → (Result (Unit {0}) Refusal → Type 0) → Type 0
-Told code old_needed needed call = call (answer_of code needed) × (needed ≡ needed_by (answer_of code needed) old_needed)
+Told code old_needed needed call = call (answer_by_code code needed) × (needed ≡ needed_by (answer_by_code code needed) old_needed)
 
 -- a version as a number
 abbrev pub version_number : ℕ → ℕ → ℕ → ℕ

@@ -12,18 +12,18 @@ use Rattle.constriction_c.specs.declared.range.large.RangeEncoderU32.{RangeEncod
 use Rattle.constriction_inputs.specs.Coded.{Coded}
 use Rattle.constriction_inputs.specs.declared.refusal.Refusal.{Refusal}
 
-abbrev pub word : ℕ → ℕ
-word x = x % 2 ^ 32
+abbrev pub large_word : ℕ → ℕ
+large_word x = x % 2 ^ 32
 
-abbrev pub state : ℕ → ℕ
-state x = x % 2 ^ 64
+abbrev pub large_state : ℕ → ℕ
+large_state x = x % 2 ^ 64
 
 -- ---- the stack coder
 abbrev pub LargeAnsPuts : Coded → AnsKept ℕ ℕ → AnsKept ℕ ℕ → Result (Unit {0}) Refusal → Type 0
-LargeAnsPuts coded old new answer = AnsPuts word state 32 64 24 coded old new answer
+LargeAnsPuts coded old new answer = AnsPuts large_word large_state 32 64 24 coded old new answer
 
 abbrev pub LargeAnsTakes : (List ℕ → Coded) → AnsKept ℕ ℕ → AnsKept ℕ ℕ → List ℕ → List ℕ → Result (Unit {0}) Refusal → Type 0
-LargeAnsTakes coded old new old_symbols new_symbols answer = AnsTakes word state 32 64 24 coded old new old_symbols new_symbols answer
+LargeAnsTakes coded old new old_symbols new_symbols answer = AnsTakes large_word large_state 32 64 24 coded old new old_symbols new_symbols answer
 
 -- ---- the range coder
 -- an encoder, and a buffer of which so many words are in use
@@ -31,10 +31,10 @@ abbrev pub large_kept : RangeEncoderU32 → List ℕ → ℕ → RangeKept ℕ �
 large_kept encoder words len = kept_in (large_encoder encoder) words len
 
 abbrev pub LargeRangePuts : (List ℕ → Coded) → List ℕ → RangeKept ℕ ℕ → RangeKept ℕ ℕ → Result (Unit {0}) Refusal → Type 0
-LargeRangePuts coded symbols old new answer = RangePuts word state 32 64 24 coded symbols old new answer
+LargeRangePuts coded symbols old new answer = RangePuts large_word large_state 32 64 24 coded symbols old new answer
 
 abbrev pub LargeRangeTakes : (List ℕ → Coded) → List ℕ → DecoderParts ℕ → DecoderParts ℕ → List ℕ → List ℕ → Result (Unit {0}) Refusal → Type 0
-LargeRangeTakes coded words old new old_symbols new_symbols answer = RangeTakes state 32 64 24 coded (map word words) old new old_symbols new_symbols answer
+LargeRangeTakes coded words old new old_symbols new_symbols answer = RangeTakes large_state 32 64 24 coded (map large_word words) old new old_symbols new_symbols answer
 
 -- ---- the chain coder
 -- heads, and two buffers of which so many words are in use
@@ -42,15 +42,15 @@ abbrev pub large_chain : ChainHeadsU32 → List ℕ → ℕ → List ℕ → ℕ
 large_chain heads compressed count remainders rest = keeps (large_heads heads) compressed count remainders rest
 
 abbrev pub LargeChainPuts : Coded → ChainKept ℕ ℕ → ChainKept ℕ ℕ → Result (Unit {0}) Refusal → Type 0
-LargeChainPuts coded old new answer = ChainPuts word state 32 64 24 coded old new answer
+LargeChainPuts coded old new answer = ChainPuts large_word large_state 32 64 24 coded old new answer
 
 abbrev pub LargeChainTakes : (List ℕ → Coded) → ChainKept ℕ ℕ → ChainKept ℕ ℕ → List ℕ → List ℕ → Result (Unit {0}) Refusal → Type 0
-LargeChainTakes coded old new old_symbols new_symbols answer = ChainTakes word state 32 64 24 coded old new old_symbols new_symbols answer
+LargeChainTakes coded old new old_symbols new_symbols answer = ChainTakes large_word large_state 32 64 24 coded old new old_symbols new_symbols answer
 
 abbrev pub LargeChainBegins : Form → List ℕ → ChainHeadsU32 → ℕ → ChainHeadsU32 → ℕ → Result (Unit {0}) Refusal → Type 0
 LargeChainBegins form words old old_len new new_len answer =
-    ChainBegins word state 32 64 24 form words (record { heads = large_heads old; len = old_len }) (record { heads = large_heads new; len = new_len }) answer
+    ChainBegins large_word large_state 32 64 24 form words (record { heads = large_heads old; len = old_len }) (record { heads = large_heads new; len = new_len }) answer
 
 abbrev pub LargeChainEnds : Form → ChainHeadsU32 → List ℕ → ℕ → List ℕ → ℕ → Result (Unit {0}) Refusal → Type 0
 LargeChainEnds form heads old old_len new new_len answer =
-    ChainEnds word state 32 64 24 form (large_heads heads) (record { words = old; len = old_len }) (record { words = new; len = new_len }) answer
+    ChainEnds large_word large_state 32 64 24 form (large_heads heads) (record { words = old; len = old_len }) (record { words = new; len = new_len }) answer

@@ -12,18 +12,18 @@ use Rattle.constriction_c.specs.declared.range.small.RangeEncoderU16.{RangeEncod
 use Rattle.constriction_inputs.specs.Coded.{Coded}
 use Rattle.constriction_inputs.specs.declared.refusal.Refusal.{Refusal}
 
-abbrev pub word : ℕ → ℕ
-word x = x % 2 ^ 16
+abbrev pub small_word : ℕ → ℕ
+small_word x = x % 2 ^ 16
 
-abbrev pub state : ℕ → ℕ
-state x = x % 2 ^ 32
+abbrev pub small_state : ℕ → ℕ
+small_state x = x % 2 ^ 32
 
 -- ---- the stack coder
 abbrev pub SmallAnsPuts : Coded → AnsKept ℕ ℕ → AnsKept ℕ ℕ → Result (Unit {0}) Refusal → Type 0
-SmallAnsPuts coded old new answer = AnsPuts word state 16 32 12 coded old new answer
+SmallAnsPuts coded old new answer = AnsPuts small_word small_state 16 32 12 coded old new answer
 
 abbrev pub SmallAnsTakes : (List ℕ → Coded) → AnsKept ℕ ℕ → AnsKept ℕ ℕ → List ℕ → List ℕ → Result (Unit {0}) Refusal → Type 0
-SmallAnsTakes coded old new old_symbols new_symbols answer = AnsTakes word state 16 32 12 coded old new old_symbols new_symbols answer
+SmallAnsTakes coded old new old_symbols new_symbols answer = AnsTakes small_word small_state 16 32 12 coded old new old_symbols new_symbols answer
 
 -- ---- the range coder
 -- an encoder, and a buffer of which so many words are in use
@@ -31,10 +31,10 @@ abbrev pub small_kept : RangeEncoderU16 → List ℕ → ℕ → RangeKept ℕ �
 small_kept encoder words len = kept_in (small_encoder encoder) words len
 
 abbrev pub SmallRangePuts : (List ℕ → Coded) → List ℕ → RangeKept ℕ ℕ → RangeKept ℕ ℕ → Result (Unit {0}) Refusal → Type 0
-SmallRangePuts coded symbols old new answer = RangePuts word state 16 32 12 coded symbols old new answer
+SmallRangePuts coded symbols old new answer = RangePuts small_word small_state 16 32 12 coded symbols old new answer
 
 abbrev pub SmallRangeTakes : (List ℕ → Coded) → List ℕ → DecoderParts ℕ → DecoderParts ℕ → List ℕ → List ℕ → Result (Unit {0}) Refusal → Type 0
-SmallRangeTakes coded words old new old_symbols new_symbols answer = RangeTakes state 16 32 12 coded (map word words) old new old_symbols new_symbols answer
+SmallRangeTakes coded words old new old_symbols new_symbols answer = RangeTakes small_state 16 32 12 coded (map small_word words) old new old_symbols new_symbols answer
 
 -- ---- the chain coder
 -- heads, and two buffers of which so many words are in use
@@ -42,15 +42,15 @@ abbrev pub small_chain : ChainHeadsU16 → List ℕ → ℕ → List ℕ → ℕ
 small_chain heads compressed count remainders rest = keeps (small_heads heads) compressed count remainders rest
 
 abbrev pub SmallChainPuts : Coded → ChainKept ℕ ℕ → ChainKept ℕ ℕ → Result (Unit {0}) Refusal → Type 0
-SmallChainPuts coded old new answer = ChainPuts word state 16 32 12 coded old new answer
+SmallChainPuts coded old new answer = ChainPuts small_word small_state 16 32 12 coded old new answer
 
 abbrev pub SmallChainTakes : (List ℕ → Coded) → ChainKept ℕ ℕ → ChainKept ℕ ℕ → List ℕ → List ℕ → Result (Unit {0}) Refusal → Type 0
-SmallChainTakes coded old new old_symbols new_symbols answer = ChainTakes word state 16 32 12 coded old new old_symbols new_symbols answer
+SmallChainTakes coded old new old_symbols new_symbols answer = ChainTakes small_word small_state 16 32 12 coded old new old_symbols new_symbols answer
 
 abbrev pub SmallChainBegins : Form → List ℕ → ChainHeadsU16 → ℕ → ChainHeadsU16 → ℕ → Result (Unit {0}) Refusal → Type 0
 SmallChainBegins form words old old_len new new_len answer =
-    ChainBegins word state 16 32 12 form words (record { heads = small_heads old; len = old_len }) (record { heads = small_heads new; len = new_len }) answer
+    ChainBegins small_word small_state 16 32 12 form words (record { heads = small_heads old; len = old_len }) (record { heads = small_heads new; len = new_len }) answer
 
 abbrev pub SmallChainEnds : Form → ChainHeadsU16 → List ℕ → ℕ → List ℕ → ℕ → Result (Unit {0}) Refusal → Type 0
 SmallChainEnds form heads old old_len new new_len answer =
-    ChainEnds word state 16 32 12 form (small_heads heads) (record { words = old; len = old_len }) (record { words = new; len = new_len }) answer
+    ChainEnds small_word small_state 16 32 12 form (small_heads heads) (record { words = old; len = old_len }) (record { words = new; len = new_len }) answer

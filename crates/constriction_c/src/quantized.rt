@@ -1,7 +1,7 @@
 //! The intervals of models of families, and weights of counts, at both sizes.
 
 ghost use Rattle.std.specs.Prelude.{map};
-ghost use Rattle.constriction_c.specs.Codes.{answer_of};
+ghost use Rattle.constriction_c.specs.Codes.{answer_by_code};
 ghost use Rattle.constriction_inputs.specs.QuantizedCalls.{GivesIntervals, GivesWeightsOfCounts};
 
 use crate::codes::code_without_space;
@@ -25,7 +25,7 @@ pub extern "C" fn constriction_quantized_intervals_u32(
 ) -> u32
     ensures { GivesIntervals ⟦<u32 as BitArray>⟧.number 24
         record { family = family; min = min; max = max; locations = locations.now; scales = scales.now } symbols.now
-        record { lefts = lefts.old; ps = ps.old } record { lefts = lefts.new; ps = ps.new } (answer_of result 0) }
+        record { lefts = lefts.old; ps = ps.old } record { lefts = lefts.new; ps = ps.new } (answer_by_code result 0) }
 {
     let models = Families::new(family, min, max, locations, scales);
     code_without_space(intervals_of_quantized::<u32, 24>(&models, symbols, lefts, ps))
@@ -45,7 +45,7 @@ pub extern "C" fn constriction_quantized_intervals_u16(
 ) -> u32
     ensures { GivesIntervals ⟦<u16 as BitArray>⟧.number 12
         record { family = family; min = min; max = max; locations = locations.now; scales = scales.now } symbols.now
-        record { lefts = lefts.old; ps = ps.old } record { lefts = lefts.new; ps = ps.new } (answer_of result 0) }
+        record { lefts = lefts.old; ps = ps.old } record { lefts = lefts.new; ps = ps.new } (answer_by_code result 0) }
 {
     let models = Families::new(family, min, max, locations, scales);
     code_without_space(intervals_of_quantized::<u16, 12>(&models, symbols, lefts, ps))
@@ -58,8 +58,9 @@ pub extern "C" fn constriction_weights_of_counts_u32(
     counts: &[u64],
     weights: &mut [u32],
 ) -> u32
-    ensures { GivesWeightsOfCounts 24 counts.now (map ⟦<u32 as BitArray>⟧.number weights.old) (map ⟦<u32 as BitArray>⟧.number weights.new)
-        (answer_of result 0) }
+    ensures { GivesWeightsOfCounts 24 counts.now (map ⟦<u32 as BitArray>⟧.number weights.old)
+        (map ⟦<u32 as BitArray>⟧.number weights.new)
+        (answer_by_code result 0) }
 {
     code_without_space(put_weights_of_counts::<u32, 24>(alloc, counts, weights))
 }
@@ -71,8 +72,9 @@ pub extern "C" fn constriction_weights_of_counts_u16(
     counts: &[u64],
     weights: &mut [u16],
 ) -> u32
-    ensures { GivesWeightsOfCounts 12 counts.now (map ⟦<u16 as BitArray>⟧.number weights.old) (map ⟦<u16 as BitArray>⟧.number weights.new)
-        (answer_of result 0) }
+    ensures { GivesWeightsOfCounts 12 counts.now (map ⟦<u16 as BitArray>⟧.number weights.old)
+        (map ⟦<u16 as BitArray>⟧.number weights.new)
+        (answer_by_code result 0) }
 {
     code_without_space(put_weights_of_counts::<u16, 12>(alloc, counts, weights))
 }

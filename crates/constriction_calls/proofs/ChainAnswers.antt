@@ -7,7 +7,7 @@ use Rattle.constriction_base.specs.Models.{AreKnown, Item}
 use Rattle.constriction_base.specs.Tables.{Has, table_of}
 use Rattle.constriction_chain.specs.Symbols.{PutsBackAll, TakesOffAll}
 use Rattle.constriction_inputs.specs.Buffers.{Appended}
-use Rattle.constriction_calls.specs.ChainCalls.{AreInUse, AsksToPut, AsksToTake, ChainKept, ChainPuts, ChainTakes, EndsEarly, HeadsKept, LacksRemainders, NeedsRoom, NeedsSpace, chain_kept}
+use Rattle.constriction_calls.specs.ChainCalls.{AreInUse, AsksToPut, AsksToTake, ChainKept, ChainPuts, ChainTakes, LacksCompressed, HeadsKept, LacksRemainders, CompressedNeedRoom, RemaindersNeedRoom, chain_kept}
 use Rattle.constriction_inputs.specs.Coded.{AreFit, AsIntervals, AsksFit, Coded, items}
 use Rattle.constriction_inputs.specs.Intervals.{AreIntervals, interval_items}
 use Rattle.constriction_inputs.specs.Refusals.{Asks, DataOrRoom, Else}
@@ -48,7 +48,7 @@ module _ {Word State : Type 0} (number : Word → ℕ) (state : State → ℕ) (
     -- what is asked for behind the heads
     abbrev behind_heads : Result (Unit {0}) Refusal → Type 0
     behind_heads answer = Asks refusals.ImpossibleSymbol (AreKnown (items P coded)) (Else (DataOrRoom (LacksRemainders w s (reverse (items P coded)) (chain_kept number state old))
-        (NeedsRoom w s (reverse (items P coded)) (chain_kept number state old) (length old.compressed)))) answer
+        (CompressedNeedRoom w s (reverse (items P coded)) (chain_kept number state old) (length old.compressed)))) answer
 
     -- all of it
     asked_all : AreInUse old → AreFit P coded → HeadsKept number state w s P old.heads → (answer : Result (Unit {0}) Refusal) → behind_heads answer
@@ -80,8 +80,8 @@ module _ {Word State : Type 0} (number : Word → ℕ) (state : State → ℕ) (
   -- ---- decodes
   module _ (coded : List ℕ → Coded) (symbols : List ℕ) where
     abbrev behind_all : Result (Unit {0}) Refusal → Type 0
-    behind_all answer = Else (DataOrRoom (EndsEarly w s P (λ xs. items P (coded xs)) (length symbols) (chain_kept number state old))
-        (NeedsSpace w s (λ xs. items P (coded xs)) (length symbols) (chain_kept number state old) (length old.remainders))) answer
+    behind_all answer = Else (DataOrRoom (LacksCompressed w s P (λ xs. items P (coded xs)) (length symbols) (chain_kept number state old))
+        (RemaindersNeedRoom w s (λ xs. items P (coded xs)) (length symbols) (chain_kept number state old) (length old.remainders))) answer
 
     taken_all : AreInUse old → AreFit P (coded symbols) → HeadsKept number state w s P old.heads → (answer : Result (Unit {0}) Refusal) → behind_all answer
         → Asks refusals.WrongLength (AreInUse old) (AsksFit P (coded symbols) (AsksToTake number state w s P (λ xs. items P (coded xs)) (length symbols) old)) answer
@@ -171,14 +171,3 @@ module _ {T X : Type 0} (p : X → ℕ) (P : ℕ) (lefts ps : List X) (e : Refus
         | inl none ↦ absurd (other is no_interval (wrong_interval.1 (same, none)))
         | inr are ↦ (length-map lefts p ∙ (same ∙ sym (length-map ps p)), are, tt)
       ]
-
-  -- a refusal of lists
-  pub asked_intervals : (more : Result (Unit {0}) Refusal → Type 0) → (e ≡ refusals.NoMemory → more (Err e)) → (e ≡ refusals.WrongLength) ⊎ (e ≡ refusals.WrongInterval) ⊎ (e ≡ refusals.NoMemory)
-      → AsksFit P (AsIntervals (map p lefts) (map p ps)) more (Err e)
-  asked_intervals more memory (inl is) =
-      let differ = wrong_length.0 (ap (λ (x : Refusal). (let answer : Result T Refusal = Err x in answer)) is) in
-      inl (λ same. differ (sym (length-map lefts p) ∙ (same ∙ length-map ps p)), ap (λ (x : Refusal). (let answer : Result (Unit {0}) Refusal = Err x in answer)) is)
-  asked_intervals more memory (inr (inl is)) =
-      let both = wrong_interval.0 (ap (λ (x : Refusal). (let answer : Result T Refusal = Err x in answer)) is) in
-      inr (length-map lefts p ∙ (both.0 ∙ sym (length-map ps p)), inl (both.1, ap (λ (x : Refusal). (let answer : Result (Unit {0}) Refusal = Err x in answer)) is))
-  asked_intervals more memory (inr (inr is)) = fit_then P (AsIntervals (map p lefts) (map p ps)) more (Err e) (intervals_fit is) (memory is)

@@ -13,7 +13,7 @@ use Rattle.constriction_chain.proofs.Below.{decodes_part}
 use Rattle.constriction_chain.proofs.Chains.{decode_from, state, state_same}
 use Rattle.constriction_chain.proofs.Walks.{quantile_over}
 use Rattle.constriction_inputs.specs.Buffers.{Appended, stack_in}
-use Rattle.constriction_calls.specs.ChainCalls.{EndsEarly, LacksRemainders, NeedsRoom, NeedsSpace, chain_in}
+use Rattle.constriction_calls.specs.ChainCalls.{LacksCompressed, LacksRemainders, CompressedNeedRoom, RemaindersNeedRoom, chain_in}
 use Rattle.constriction_base.proofs.WordLists.{words-append, words_fit}
 
 -- ---- decodes
@@ -133,7 +133,7 @@ taken_in {W} number w s items h r h' r' compressed len len' remainders added rem
 
 -- so are those that end early
 pub ends_in : {W : Type 0} (number : W → ℕ) (w s P : ℕ) (items : List ℕ → List (Item ℕ)) (count h r : ℕ) (compressed : List W) (len : ℕ) (remainders : List W) (rlen : ℕ) (x : ChainState)
-    → x ≡ state h r (stack_in number compressed len) [] → EndsEarly w s P items count x → EndsEarly w s P items count (chain_in number h r compressed len remainders rlen)
+    → x ≡ state h r (stack_in number compressed len) [] → LacksCompressed w s P items count x → LacksCompressed w s P items count (chain_in number h r compressed len remainders rlen)
 ends_in {W} number w s P items count h r compressed len remainders rlen x is e =
     let below : List ℕ = stack_in number remainders rlen in
     let from : ChainState = state h r (stack_in number compressed len) [] in
@@ -154,7 +154,7 @@ ends_in {W} number w s P items count h r compressed len remainders rlen x is e =
 pub needs_space_in : {W : Type 0} (number : W → ℕ) (w s : ℕ) (items : List ℕ → List (Item ℕ)) (count h r : ℕ) (compressed : List W) (len : ℕ) (remainders : List W) (rlen n : ℕ) (symbols : List ℕ) (x y : ChainState)
     → rlen ≤ length remainders → x ≡ state h r (stack_in number compressed len) [] → length symbols ≡ count → TakesOffAll w s (items symbols) x y
     → n ≡ rlen + length y.remainders → length remainders < n
-    → NeedsSpace w s items count (chain_in number h r compressed len remainders rlen) (length remainders) n
+    → RemaindersNeedRoom w s items count (chain_in number h r compressed len remainders rlen) (length remainders) n
 needs_space_in {W} number w s items count h r compressed len remainders rlen n symbols x y within is counted all en past =
     let below : List ℕ = stack_in number remainders rlen in
     let from : ChainState = state h r (stack_in number compressed len) [] in
@@ -212,7 +212,7 @@ lacks_in {W} number w s law items h r remainders rlen compressed len x fine is e
 pub needs_room_in : {W : Type 0} (number : W → ℕ) (w s : ℕ) → ((x : W) → number x < 2 ^ w) → (items : List (Item ℕ)) (h r : ℕ) (remainders : List W) (rlen : ℕ) (compressed : List W) (len n : ℕ) (x y : ChainState)
     → AreWithin w items → len ≤ length compressed → x ≡ state h r [] (stack_in number remainders rlen) → PutsBackAll w s items x y
     → n ≡ len + length y.compressed → length compressed < n
-    → NeedsRoom w s items (chain_in number h r compressed len remainders rlen) (length compressed) n
+    → CompressedNeedRoom w s items (chain_in number h r compressed len remainders rlen) (length compressed) n
 needs_room_in {W} number w s law items h r remainders rlen compressed len n x y fine within is all en past =
     let below : List ℕ = stack_in number compressed len in
     let from : ChainState = state h r [] (stack_in number remainders rlen) in

@@ -8,7 +8,7 @@ use Rattle.constriction_base.proofs.Turns.{reverse_at, all-reverse}
 use Rattle.constriction_chain.specs.Chain.{ChainState}
 use Rattle.constriction_chain.specs.Symbols.{TakesOffAll}
 use Rattle.constriction_chain.specs.Walk.{NeedsWord}
-use Rattle.constriction_calls.specs.ChainCalls.{EndsEarly}
+use Rattle.constriction_calls.specs.ChainCalls.{LacksCompressed}
 use Rattle.constriction_inputs.specs.Coded.{AsIntervals, ByRows, ByWeights, Coded, InFamily, items}
 use Rattle.constriction_inputs.specs.Intervals.{interval_items}
 use Rattle.constriction_inputs.specs.Quantized.{family_tables}
@@ -113,7 +113,7 @@ pairs_begin precision table (x ∷ xs) ys (m ∷ ms) within =
 
 -- symbols that end early, with others behind them
 pub ends_pairs : {M : Type 0} (w s P : ℕ) (table : M → List (ℕ × ℕ × ℕ)) (xs : List ℕ) (ms : List M) (count k : ℕ) (x last : ChainState) → length xs ≡ k → k < count → length ms ≡ count
-    → TakesOffAll w s (pairs_of P table xs ms) x last → NeedsWord w P last.h → last.compressed ≡ [] → EndsEarly w s P (λ symbols. pairs_of P table symbols ms) count x
+    → TakesOffAll w s (pairs_of P table xs ms) x last → NeedsWord w P last.h → last.compressed ≡ [] → LacksCompressed w s P (λ symbols. pairs_of P table symbols ms) count x
 ends_pairs w s P table xs ms count k x last counted few many taken needs ended =
     record {
       symbols = xs ++ replicate (count - k) 0;
@@ -124,19 +124,4 @@ ends_pairs w s P table xs ms count k x last counted few many taken needs ended =
       taken = subst (λ (items : List (Item ℕ)). TakesOffAll w s items x last) (sym (pairs_begin P table xs (replicate (count - k) 0) ms (omega (arith, counted, few, many)))) taken;
       needs = needs;
       ended = ended;
-    }
-
--- items that are the same of as many symbols end as early, and need as much space
-pub ends_as : (w s P : ℕ) (items others : List ℕ → List (Item ℕ)) (count : ℕ) (x : ChainState) → ((symbols : List ℕ) → length symbols ≡ count → items symbols ≡ others symbols)
-    → EndsEarly w s P items count x → EndsEarly w s P others count x
-ends_as w s P items others count x same e =
-    record {
-      symbols = e.symbols;
-      done = e.done;
-      last = e.last;
-      count_is = e.count_is;
-      fewer = e.fewer;
-      taken = rw (same e.symbols e.count_is) at e.taken;
-      needs = e.needs;
-      ended = e.ended;
     }

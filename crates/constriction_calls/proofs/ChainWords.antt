@@ -16,7 +16,7 @@ use Rattle.constriction_chain.specs.Words.{NoHeads, NoStart, TooFew, remainder_w
 use Rattle.constriction_chain.proofs.Chains.{state, state_same}
 use Rattle.constriction_chain_laws.proofs.NoCoder as laws
 use Rattle.constriction_inputs.specs.Buffers.{Appended, stack_in}
-use Rattle.constriction_calls.specs.ChainWords.{AreWordsOf, Begins, ChainBegins, ChainEnds, Form, HaveWords, HeadsOver, NoRoomFor, WordsKept, heads_over}
+use Rattle.constriction_calls.specs.ChainWords.{AreWordsInForm, Begins, ChainBegins, ChainEnds, Form, HaveWords, HeadsOver, NoRoomFor, WordsKept, heads_over}
 use Rattle.constriction_inputs.specs.Refusals.{Room}
 use Rattle.constriction_calls.specs.declared.chain.ChainHeads.{ChainHeads}
 use Rattle.constriction_inputs.specs.declared.refusal.Refusal.{Refusal}
@@ -120,12 +120,12 @@ module _ {Word State : Type 0} (number : Word → ℕ) (state' : State → ℕ) 
   module _ (heads : ChainHeads Word State) (old new : WordsKept Word) (added : List Word) where
     -- words that were put behind a caller's, or found no room there
     pub ends_at : old.len ≤ length old.words → HaveWords number state' w s P form heads
-        → AreWordsOf form w (map number (reverse added) ++ stack_in number old.words old.len) (heads_over number state' form heads old.words old.len)
+        → AreWordsInForm form w (map number (reverse added) ++ stack_in number old.words old.len) (heads_over number state' form heads old.words old.len)
         → (r : Result (Unit {0}) Refusal) → OnOk r (Appended old.words old.len added new.words new.len) → OnErr r (length old.words < old.len + length added) → (past : Type 0)
         → IfErr r (λ e. (e ≡ refusals.NoSpace (old.len + length added)) ⊎ ((e ≡ refusals.NoMemory) × past)) → OnErr r ((new.words ≡ old.words) × (new.len ≡ old.len))
         → ChainEnds number state' w s P form heads old new r
     ends_at within have are (Ok u) appended full past why kept = record {
-      ended = subst (λ (ws : List ℕ). AreWordsOf form w ws (heads_over number state' form heads old.words old.len)) (sym (appended_in number old.words old.len added new.words new.len appended)) are;
+      ended = subst (λ (ws : List ℕ). AreWordsInForm form w ws (heads_over number state' form heads old.words old.len)) (sym (appended_in number old.words old.len added new.words new.len appended)) are;
       appended = (added, appended);
       asked = inr (within, inr (have, tt));
       kept = tt;
@@ -133,7 +133,7 @@ module _ {Word State : Type 0} (number : Word → ℕ) (state' : State → ℕ) 
     ends_at within have are (Err e) appended full past why kept =
         let count : length (map number (reverse added) ++ stack_in number old.words old.len) ≡ old.len + length added =
         omega (arith, length-append (map number (reverse added)) (stack_in number old.words old.len), length-map (reverse added) number, length-reverse added, length_in number old.words old.len within) in
-        let room : Room (NoRoomFor (length old.words) (λ words. AreWordsOf form w words (heads_over number state' form heads old.words old.len))) e = elim why [
+        let room : Room (NoRoomFor (length old.words) (λ words. AreWordsInForm form w words (heads_over number state' form heads old.words old.len))) e = elim why [
           | inl is ↦ rw is (record { past = full; words = map number (reverse added) ++ stack_in number old.words old.len; are = are; count = count })
           | inr more ↦ rw more.0 tt
         ] in

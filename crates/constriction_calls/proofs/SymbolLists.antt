@@ -12,11 +12,11 @@ use Rattle.constriction_symbol.specs.declared.codebooks.SymbolCodeError.TheVaria
 use Rattle.constriction_symbol.proofs.ReadBack.{gives_front}
 use Rattle.constriction_symbol_laws.specs.Lists.{AreCodewords}
 use Rattle.constriction_inputs.specs.declared.refusal.Refusal.{Refusal}
-use Rattle.constriction_calls.specs.SymbolCalls.{AsStack, GiveNone, HaveCodewords, IsToldAs, ReadsNone}
+use Rattle.constriction_calls.specs.SymbolCalls.{AsStack, GiveNone, AllHaveCodewords, IsToldAs, ReadsNone}
 use Rattle.constriction_symbol_laws.proofs.bit_coders.Codewords.{codewords_push}
 
 -- where every symbol has a codeword, those of a list have
-pub all_have : {S : Type 0} (codeword : S → Option (List Bool)) → ((s : S) → (bits : List Bool) × (codeword s ≡ Some bits)) → (symbols : List S) → HaveCodewords codeword symbols
+pub all_have : {S : Type 0} (codeword : S → Option (List Bool)) → ((s : S) → (bits : List Bool) × (codeword s ≡ Some bits)) → (symbols : List S) → AllHaveCodewords codeword symbols
 all_have codeword known [] = ([], refl)
 all_have codeword known (s ∷ symbols) =
     let first = known s in

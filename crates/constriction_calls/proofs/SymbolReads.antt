@@ -5,7 +5,7 @@ use Rattle.constriction_symbol_laws.proofs.bit_coders.Trees.{same_codewords}
 use Rattle.constriction_inputs.specs.Refusals.{Asks, Else, Memory}
 use Rattle.constriction_inputs.specs.declared.refusal.Refusal.{Refusal}
 use Rattle.constriction_inputs.specs.declared.refusal.Refusal.TheVariants.{ImpossibleSymbol, WrongWeights, WrongInterval, WrongLength, NoSpace, NoMemory, InvalidData, OutOfData}
-use Rattle.constriction_calls.specs.SymbolCalls.{BeginBits, Book, GiveBits, IsCut, IsWrong, MakesTree, Order, ReadsNone, TakesCodewords, codeword_in}
+use Rattle.constriction_calls.specs.SymbolCalls.{BeginBits, SymbolCode, GiveBits, IsCutOff, IsWrong, MakesCode, Order, ReadsNone, TakesCodewords, codeword_in}
 use Rattle.constriction_inputs.proofs.Asking.{ok_no_err}
 
 -- a codebook was made, so the weights make a tree
@@ -33,8 +33,8 @@ module _ {S : Type 0} (f g : S → Option (List Bool)) (same : (s : S) → f s �
     none_by amt bits WrongLength why = why
 
 -- symbols that were read by it from the bits of words, and why they weren't
-module _ {S V : Type 0} (symbol : S → ℕ) (w : ℕ) (order : Order) (book : Book) (words : List ℕ) (old : List S) (tree : MakesTree (2 ^ 63 - 1) book)
-    (f : S → Option (List Bool)) (same : (s : S) → f s ≡ codeword_in symbol book s) (cut : List Bool → Type 0) (cuts : (bits : List Bool) → cut bits → IsCut book bits)
+module _ {S V : Type 0} (symbol : S → ℕ) (w : ℕ) (order : Order) (book : SymbolCode) (words : List ℕ) (old : List S) (tree : MakesCode (2 ^ 63 - 1) book)
+    (f : S → Option (List Bool)) (same : (s : S) → f s ≡ codeword_in symbol book s) (cut : List Bool → Type 0) (cuts : (bits : List Bool) → cut bits → IsCutOff book bits)
     (invalid : List Bool → V → Type 0) (wrongs : (bits : List Bool) (v : V) → invalid bits v → IsWrong book bits) (bits : List Bool) (given : GiveBits order w words bits) where
   pub filled : (new : List S) (answer : Result (Unit {0}) Refusal) → length new ≡ length old → OnOk answer (BeginBits f new bits)
       → IfErr answer (ReadsNone f cut (λ bs. (v : V) × invalid bs v) (length old) bits) → OnErr answer (new ≡ old) → TakesCodewords symbol w order book words old new answer
@@ -47,6 +47,6 @@ module _ {S V : Type 0} (symbol : S → ℕ) (w : ℕ) (order : Order) (book : B
   filled new (Err e) count ok err kept = record {
     count = count;
     taken = tt;
-    asked = inr (tree, inr (inr (bits, given, none_by f (codeword_in symbol book) same cut (λ bs. (v : V) × invalid bs v) (IsCut book) (IsWrong book) cuts (λ bs h. wrongs bs h.0 h.1) (length old) bits e err)));
+    asked = inr (tree, inr (inr (bits, given, none_by f (codeword_in symbol book) same cut (λ bs. (v : V) × invalid bs v) (IsCutOff book) (IsWrong book) cuts (λ bs h. wrongs bs h.0 h.1) (length old) bits e err)));
     kept = kept;
   }

@@ -9,10 +9,10 @@ use Rattle.constriction_symbol.specs.Codewords.{NoneBegins}
 use Rattle.constriction_symbol.specs.Huffman.{ReadsOnIn, Tree, huffman, path}
 use Rattle.constriction_symbol.specs.HuffmanLaws.{inner_begins_none}
 use Rattle.constriction_symbol_laws.proofs.bit_coders.Trees.{known_symbol, unknown_symbol}
-use Rattle.constriction_calls.specs.SymbolCalls.{HaveCodewords}
+use Rattle.constriction_calls.specs.SymbolCalls.{AllHaveCodewords}
 
 -- ---- which symbols have codewords
-pub have_below : (weights symbols : List ℕ) → All (λ s. s < length weights) symbols → HaveCodewords (huffman weights) symbols
+pub have_below : (weights symbols : List ℕ) → All (λ s. s < length weights) symbols → AllHaveCodewords (huffman weights) symbols
 have_below weights [] all = ([], refl)
 have_below weights (s ∷ symbols) all =
     let first = known_symbol weights s (All-head (λ x. x < length weights) s symbols all) in
@@ -22,7 +22,7 @@ have_below weights (s ∷ symbols) all =
 none_some : {bits : List Bool} → ◌≡◌ {A = Option (List Bool)} None (Some bits) → ⊥
 none_some is = cc
 
-pub below_have : (weights symbols : List ℕ) → HaveCodewords (huffman weights) symbols → All (λ s. s < length weights) symbols
+pub below_have : (weights symbols : List ℕ) → AllHaveCodewords (huffman weights) symbols → All (λ s. s < length weights) symbols
 below_have weights [] all = All-nil (λ s. s < length weights)
 below_have weights (s ∷ symbols) (code, (first, rest, known, is, others)) =
     let here : s < length weights = elim (cases_lt s (length weights)) [
@@ -41,11 +41,6 @@ module _ {P : Type 0} (number : P → ℕ) where
   fit_numbers bits most weights fit =
       let count = length-map weights number in
       record { some = omega (arith, count, fit.some); few = omega (arith, count, fit.few); fits = subst (λ n. n < 2 ^ bits) (sym (sums weights)) fit.fits }
-
-  pub numbers_fit : (bits most : ℕ) (weights : List P) → FitTree (λ n. n) bits most (map number weights) → FitTree number bits most weights
-  numbers_fit bits most weights fit =
-      let count = length-map weights number in
-      record { some = omega (arith, count, fit.some); few = omega (arith, count, fit.few); fits = subst (λ n. n < 2 ^ bits) (sums weights) fit.fits }
 
 -- bits in which a tree that has the codewords of weights reads on
 pub cut_by : (tree : Tree) (weights : List ℕ) → ((s : ℕ) → path tree s ≡ huffman weights s) → (bits : List Bool) → ReadsOnIn tree bits → NoneBegins (huffman weights) bits

@@ -79,7 +79,7 @@ pub record AnsImports {Word State : Type 0} (number : Word → ℕ) (state : Sta
   pub kept : OnErr answer (new ≡ old)
 
 -- words are all those of a state, and a buffer is shorter: so many are needed
-pub record LacksRoom (are : AnsState → List ℕ → Type 0) (room : ℕ) (old : AnsState) (needed : ℕ) : Type 0 where
+pub record ExportLacksRoom (are : AnsState → List ℕ → Type 0) (room : ℕ) (old : AnsState) (needed : ℕ) : Type 0 where
   pub short : room < needed
   pub all : List ℕ
   pub is_all : are old all
@@ -91,7 +91,7 @@ pub record AnsExports {Word State : Type 0} (number : Word → ℕ) (state : Sta
   pub all : OnOk answer (are (state_kept number state old) (stack_in number new.words new.len))
   pub behind : OnOk answer (PutsBehind old new)
   pub asked : Asks WrongLength (IsWithin old) (Asks InvalidData (holds (state_kept number state old))
-      (Else (Room (LacksRoom are (length old.words) (state_kept number state old))))) answer
+      (Else (Room (ExportLacksRoom are (length old.words) (state_kept number state old))))) answer
   pub kept : OnErr answer (new ≡ old)
 
 -- the words of a state without leading zero words

@@ -53,7 +53,7 @@ HeadsKept number state w s P heads = AreHeads w s P (number heads.compressed) (s
 
 -- ---- ends
 -- the compressed words end before so many symbols: behind fewer of them a word is needed, and none is left
-pub record EndsEarly (w s P : ℕ) (items : List ℕ → List (Item ℕ)) (count : ℕ) (old : ChainState) : Type 0 where
+pub record LacksCompressed (w s P : ℕ) (items : List ℕ → List (Item ℕ)) (count : ℕ) (old : ChainState) : Type 0 where
   pub symbols : List ℕ
   pub done : ℕ
   pub last : ChainState
@@ -75,7 +75,7 @@ pub record LacksRemainders (w s : ℕ) (items : List (Item ℕ)) (old : ChainSta
   pub ended : last.remainders ≡ []
 
 -- a buffer is too short for the remainders of the state that decodes of so many symbols lead to: it would need n words
-pub record NeedsSpace (w s : ℕ) (items : List ℕ → List (Item ℕ)) (count : ℕ) (old : ChainState) (size n : ℕ) : Type 0 where
+pub record RemaindersNeedRoom (w s : ℕ) (items : List ℕ → List (Item ℕ)) (count : ℕ) (old : ChainState) (size n : ℕ) : Type 0 where
   pub symbols : List ℕ
   pub new : ChainState
   pub count_is : length symbols ≡ count
@@ -84,7 +84,7 @@ pub record NeedsSpace (w s : ℕ) (items : List ℕ → List (Item ℕ)) (count 
   pub past : size < n
 
 -- the same of the compressed words of the state that encodes lead to
-pub record NeedsRoom (w s : ℕ) (items : List (Item ℕ)) (old : ChainState) (size n : ℕ) : Type 0 where
+pub record CompressedNeedRoom (w s : ℕ) (items : List (Item ℕ)) (old : ChainState) (size n : ℕ) : Type 0 where
   pub new : ChainState
   pub put : PutsBackAll w s items old new
   pub is : n ≡ length new.compressed
@@ -94,7 +94,7 @@ pub record NeedsRoom (w s : ℕ) (items : List (Item ℕ)) (old : ChainState) (s
 -- what an encode asks for behind its lengths and its models, in this order
 abbrev pub AsksToPut : {Word State : Type 0} → (Word → ℕ) → (State → ℕ) → ℕ → ℕ → ℕ → List (Item ℕ) → ChainKept Word State → Result (Unit {0}) Refusal → Type 0
 AsksToPut number state w s P items old = Asks InvalidData (HeadsKept number state w s P old.heads) (Asks ImpossibleSymbol (AreKnown items)
-    (Else (DataOrRoom (LacksRemainders w s (reverse items) (chain_kept number state old)) (NeedsRoom w s (reverse items) (chain_kept number state old) (length old.compressed)))))
+    (Else (DataOrRoom (LacksRemainders w s (reverse items) (chain_kept number state old)) (CompressedNeedRoom w s (reverse items) (chain_kept number state old) (length old.compressed)))))
 
 -- an encode
 pub record ChainPuts {Word State : Type 0} (number : Word → ℕ) (state : State → ℕ) (w s P : ℕ) (coded : Coded) (old new : ChainKept Word State)
@@ -109,7 +109,7 @@ pub record ChainPuts {Word State : Type 0} (number : Word → ℕ) (state : Stat
 -- what a decode asks for
 abbrev pub AsksToTake : {Word State : Type 0} → (Word → ℕ) → (State → ℕ) → ℕ → ℕ → ℕ → (List ℕ → List (Item ℕ)) → ℕ → ChainKept Word State → Result (Unit {0}) Refusal → Type 0
 AsksToTake number state w s P items count old = Asks InvalidData (HeadsKept number state w s P old.heads)
-    (Else (DataOrRoom (EndsEarly w s P items count (chain_kept number state old)) (NeedsSpace w s items count (chain_kept number state old) (length old.remainders))))
+    (Else (DataOrRoom (LacksCompressed w s P items count (chain_kept number state old)) (RemaindersNeedRoom w s items count (chain_kept number state old) (length old.remainders))))
 
 -- a decode of as many symbols as there are places for them
 pub record ChainTakes {Word State : Type 0} (number : Word → ℕ) (state : State → ℕ) (w s P : ℕ) (coded : List ℕ → Coded) (old new : ChainKept Word State)

@@ -4,7 +4,7 @@ use Rattle.constriction_chain.specs.Chain.{ChainState}
 use Rattle.constriction_chain.specs.Imports.{AreBinaryWords, FromBinary, FromCompressed, FromRemainders, compressed_words}
 use Rattle.constriction_base.specs.Writing.{IsOneAbove}
 use Rattle.constriction_chain.specs.Words.{remainder_words}
-use Rattle.constriction_inputs.specs.Buffers.{Appended, stack_in}
+use Rattle.constriction_inputs.specs.Buffers.{Appended, WordsKept, stack_in}
 use Rattle.constriction_calls.specs.ChainCalls.{AreHeads}
 use Rattle.constriction_inputs.specs.Refusals.{Asks, Else, Never, Room}
 use Rattle.constriction_calls.specs.declared.chain.ChainHeads.{ChainHeads}
@@ -64,10 +64,10 @@ HaveWords number state w s P InBinary heads = AreBinaryHeads w s P (number heads
 HaveWords number state w s P InRemainders heads = AreHeads w s P (number heads.compressed) (state heads.remainders)
 
 -- the words of a coder
-abbrev pub AreWordsOf : Form → ℕ → List ℕ → ChainState → Type 0
-AreWordsOf InCompressed w words x = words ≡ compressed_words w x
-AreWordsOf InBinary w words x = AreBinaryWords w words x
-AreWordsOf InRemainders w words x = words ≡ remainder_words w x
+abbrev pub AreWordsInForm : Form → ℕ → List ℕ → ChainState → Type 0
+AreWordsInForm InCompressed w words x = words ≡ compressed_words w x
+AreWordsInForm InBinary w words x = AreBinaryWords w words x
+AreWordsInForm InRemainders w words x = words ≡ remainder_words w x
 
 -- a buffer is too short for the words of which this holds: it would need n
 pub record NoRoomFor (size : ℕ) (holds : List ℕ → Type 0) (n : ℕ) : Type 0 where
@@ -76,16 +76,11 @@ pub record NoRoomFor (size : ℕ) (holds : List ℕ → Type 0) (n : ℕ) : Type
   pub are : holds words
   pub count : length words ≡ n
 
--- a caller's buffer, of which so many words are in use
-pub record WordsKept (Word : Type 0) : Type 0 where
-  pub words : List Word
-  pub len : ℕ
-
 -- words of heads put behind a caller's
 pub record ChainEnds {Word State : Type 0} (number : Word → ℕ) (state : State → ℕ) (w s P : ℕ) (form : Form) (heads : ChainHeads Word State)
     (old new : WordsKept Word) (answer : Result (Unit {0}) Refusal) : Type 0 where
-  pub ended : OnOk answer (AreWordsOf form w (stack_in number new.words new.len) (heads_over number state form heads old.words old.len))
+  pub ended : OnOk answer (AreWordsInForm form w (stack_in number new.words new.len) (heads_over number state form heads old.words old.len))
   pub appended : OnOk answer ((added : List Word) × Appended old.words old.len added new.words new.len)
   pub asked : Asks WrongLength (old.len ≤ length old.words) (Asks InvalidData (HaveWords number state w s P form heads)
-      (Else (Room (NoRoomFor (length old.words) (λ words. AreWordsOf form w words (heads_over number state form heads old.words old.len)))))) answer
+      (Else (Room (NoRoomFor (length old.words) (λ words. AreWordsInForm form w words (heads_over number state form heads old.words old.len)))))) answer
   pub kept : OnErr answer (new ≡ old)

@@ -10,40 +10,40 @@ use Rattle.constriction_symbol.specs.Golomb.{IsInvalid, WantsBit, golomb}
 use Rattle.constriction_symbol.specs.Huffman.{huffman}
 use Rattle.constriction_symbol.specs.Merging.{FitTree}
 use Rattle.constriction_symbol_laws.specs.Lists.{AreCodewords}
-use Rattle.constriction_inputs.specs.Buffers.{Appended}
+use Rattle.constriction_inputs.specs.Buffers.{Appended, WordsKept}
 use Rattle.constriction_inputs.specs.Refusals.{Asks, Else, Memory, Room}
 use Rattle.constriction_inputs.specs.declared.refusal.Refusal.{Refusal}
 use Rattle.constriction_inputs.specs.declared.refusal.Refusal.TheVariants.{ImpossibleSymbol, InvalidData, NoMemory, OutOfData, WrongWeights}
 
 -- ---- codewords
 -- the Exp-Golomb codewords of numbers of so many bits; or those of the Huffman tree of weights, which are numbers of so many bits
-pub data Book : Type 0 where
-  OfNumbers : ℕ → Book
-  OfWeights : ℕ → List ℕ → Book
+pub data SymbolCode : Type 0 where
+  OfNumbers : ℕ → SymbolCode
+  OfWeights : ℕ → List ℕ → SymbolCode
 
 -- the codeword of a symbol, by its number
-abbrev pub codeword_in : {S : Type 0} → (S → ℕ) → Book → S → Option (List Bool)
+abbrev pub codeword_in : {S : Type 0} → (S → ℕ) → SymbolCode → S → Option (List Bool)
 codeword_in number (OfNumbers width) = λ symbol. Some (golomb (number symbol))
 codeword_in number (OfWeights width weights) = λ symbol. huffman weights (number symbol)
 
 -- the weights make a tree: there are some, at most so many, and their sum is a number of so many bits
-abbrev pub MakesTree : ℕ → Book → Type 0
-MakesTree most (OfNumbers width) = Unit {0}
-MakesTree most (OfWeights width weights) = FitTree (λ weight. weight) width most weights
+abbrev pub MakesCode : ℕ → SymbolCode → Type 0
+MakesCode most (OfNumbers width) = Unit {0}
+MakesCode most (OfWeights width weights) = FitTree (λ weight. weight) width most weights
 
 -- bits behind which a codeword may still be completed
-abbrev pub IsCut : Book → List Bool → Type 0
-IsCut (OfNumbers width) bits = WantsBit width bits
-IsCut (OfWeights width weights) bits = NoneBegins (huffman weights) bits
+abbrev pub IsCutOff : SymbolCode → List Bool → Type 0
+IsCutOff (OfNumbers width) bits = WantsBit width bits
+IsCutOff (OfWeights width weights) bits = NoneBegins (huffman weights) bits
 
 -- bits that are those of no codeword
-abbrev pub IsWrong : Book → List Bool → Type 0
+abbrev pub IsWrong : SymbolCode → List Bool → Type 0
 IsWrong (OfNumbers width) bits = IsInvalid width bits
 IsWrong (OfWeights width weights) bits = ⊥
 
 -- each symbol has a codeword
-abbrev pub HaveCodewords : {S : Type 0} → (S → Option (List Bool)) → List S → Type 0
-HaveCodewords codeword symbols = (code : List Bool) × AreCodewords codeword symbols code
+abbrev pub AllHaveCodewords : {S : Type 0} → (S → Option (List Bool)) → List S → Type 0
+AllHaveCodewords codeword symbols = (code : List Bool) × AreCodewords codeword symbols code
 
 -- ---- bits as words
 -- bits are read in the order in which they were written, or the last one first
@@ -52,9 +52,9 @@ pub data Order : Type 0 where
   AsStack : Order
 
 -- the words of just the bits that are read in this order
-abbrev pub AreWordsOf : Order → ℕ → List Bool → List ℕ → Type 0
-AreWordsOf AsQueue w bits words = IsQueueWords w bits words
-AreWordsOf AsStack w bits words = IsStackWords w (reverse bits) words
+abbrev pub AreWordsInOrder : Order → ℕ → List Bool → List ℕ → Type 0
+AreWordsInOrder AsQueue w bits words = IsQueueWords w bits words
+AreWordsInOrder AsStack w bits words = IsStackWords w (reverse bits) words
 
 -- the bits that these words give in this order
 abbrev pub GiveBits : Order → ℕ → List ℕ → List Bool → Type 0
@@ -69,22 +69,17 @@ GiveNone AsStack words = (front : List ℕ) × (words ≡ front ++ 0 ∷ [])
 -- ---- symbols as words
 -- the words of the codewords of the symbols, one behind another, and of no more
 abbrev pub AreSymbolWords : {S : Type 0} → Order → ℕ → (S → Option (List Bool)) → List S → List ℕ → Type 0
-AreSymbolWords order w codeword symbols words = (code : List Bool) × AreCodewords codeword symbols code × AreWordsOf order w code words
+AreSymbolWords order w codeword symbols words = (code : List Bool) × AreCodewords codeword symbols code × AreWordsInOrder order w code words
 
 -- so many words are those of the symbols, and there is room for fewer
 abbrev pub LackRoom : {S : Type 0} → Order → ℕ → (S → Option (List Bool)) → List S → ℕ → ℕ → Type 0
 LackRoom order w codeword symbols room needed = (words : List ℕ) × AreSymbolWords order w codeword symbols words × (needed ≡ length words) × (room < needed)
 
--- a caller's buffer, and how many words are in use
-pub record WordsKept (Word : Type 0) : Type 0 where
-  pub words : List Word
-  pub len : ℕ
-
 -- what a call does that puts the words of symbols at the beginning of a buffer, by the numbers of symbols and of words of w bits
-pub record PutsCodewords {S Word : Type 0} (symbol : S → ℕ) (number : Word → ℕ) (w : ℕ) (order : Order) (book : Book) (symbols : List S)
+pub record PutsCodewords {S Word : Type 0} (symbol : S → ℕ) (number : Word → ℕ) (w : ℕ) (order : Order) (book : SymbolCode) (symbols : List S)
     (old new : WordsKept Word) (answer : Result (Unit {0}) Refusal) : Type 0 where
   pub put : OnOk answer ((all : List Word) × AreSymbolWords order w (codeword_in symbol book) symbols (map number all) × Appended old.words 0 all new.words new.len)
-  pub asked : Asks WrongWeights (MakesTree (2 ^ 62 - 1) book) (Asks ImpossibleSymbol (HaveCodewords (codeword_in symbol book) symbols)
+  pub asked : Asks WrongWeights (MakesCode (2 ^ 62 - 1) book) (Asks ImpossibleSymbol (AllHaveCodewords (codeword_in symbol book) symbols)
       (Else (Room (LackRoom order w (codeword_in symbol book) symbols (length old.words))))) answer
   pub kept : OnErr answer (new ≡ old)
 
@@ -116,15 +111,15 @@ IsToldAs (Frontend (InvalidCodeword e)) refusal = refusal ≡ InvalidData
 IsToldAs (Backend e) refusal = refusal ≡ NoMemory
 
 -- why words don't: memory is missing; or they give no bits; or their bits don't give them
-abbrev pub TakesNone : {S : Type 0} → Order → ℕ → (S → ℕ) → Book → ℕ → List ℕ → Refusal → Type 0
+abbrev pub TakesNone : {S : Type 0} → Order → ℕ → (S → ℕ) → SymbolCode → ℕ → List ℕ → Refusal → Type 0
 TakesNone order w symbol book amt words e =
     Memory e
     ⊎ ((e ≡ InvalidData) × GiveNone order words)
-    ⊎ ((bits : List Bool) × GiveBits order w words bits × ReadsNone (codeword_in symbol book) (IsCut book) (IsWrong book) amt bits e)
+    ⊎ ((bits : List Bool) × GiveBits order w words bits × ReadsNone (codeword_in symbol book) (IsCutOff book) (IsWrong book) amt bits e)
 
 -- what a call does that fills a buffer with symbols from the beginning of the bits of words
-pub record TakesCodewords {S : Type 0} (symbol : S → ℕ) (w : ℕ) (order : Order) (book : Book) (words : List ℕ) (old new : List S) (answer : Result (Unit {0}) Refusal) : Type 0 where
+pub record TakesCodewords {S : Type 0} (symbol : S → ℕ) (w : ℕ) (order : Order) (book : SymbolCode) (words : List ℕ) (old new : List S) (answer : Result (Unit {0}) Refusal) : Type 0 where
   pub count : length new ≡ length old
   pub taken : OnOk answer ((bits : List Bool) × GiveBits order w words bits × BeginBits (codeword_in symbol book) new bits)
-  pub asked : Asks WrongWeights (MakesTree (2 ^ 63 - 1) book) (Else (TakesNone order w symbol book (length old) words)) answer
+  pub asked : Asks WrongWeights (MakesCode (2 ^ 63 - 1) book) (Else (TakesNone order w symbol book (length old) words)) answer
   pub kept : OnErr answer (new ≡ old)

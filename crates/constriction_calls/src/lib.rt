@@ -1,5 +1,5 @@
-//! The coders as calls over a caller's buffers: no value of ours outlives a call, so a caller in another language keeps the
-//! state itself, as words in a buffer with their number, and heads. `constriction_c` gives each call a C function.
+//! The coders as calls over a caller's buffers: no value of ours outlives a call, so a caller in another language keeps
+//! the state itself, as words in a buffer with their number, and heads. `constriction_c` gives each call a C function.
 //!
 //! - [`ans`]: the stack coder.
 //! - [`symbol`]: lists of symbols as words of bits, and back.

@@ -11,9 +11,10 @@
 //!
 //! Each call looks in this order, and where it answers one of these nothing changed:
 //! - `WrongLength` exactly where `len`, or a place or a position, is past the buffer's end.
-//! - `WrongLength`, `WrongInterval` and `WrongWeights` exactly where [`constriction_inputs::models::Models::check`] answers them.
-//! - `InvalidData` exactly where the numbers are those of no encoder, of one that can't count so many symbols more, or of
-//!   no decoder.
+//! - `WrongLength`, `WrongInterval` and `WrongWeights` exactly where [`constriction_inputs::models::Models::check`]
+//!   answers them.
+//! - `InvalidData` exactly where the numbers are those of no encoder, of one that can't count so many symbols more, or
+//!   of no decoder.
 //!
 //! Behind these stand its own.
 

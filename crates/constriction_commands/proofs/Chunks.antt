@@ -81,10 +81,6 @@ not_past count place refused not_so = elim (cases_lt place count) [
   | inr past ↦ absurd (not_so (refused.1 past))
 ]
 
--- a place past the chunks
-pub past_at : (count : ℕ) (places : List ℕ) (i : ℕ) → i < length places → count ≤ get_or places i 0 → Any (λ place. count ≤ place) places
-past_at count places i inside past = (i, get_or places i 0, inside, get_or_default places i (get_or places i 0) 0 inside, past)
-
 -- ---- faults
 
 -- where the lines are good, but the weights make no table

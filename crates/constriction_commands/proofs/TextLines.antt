@@ -1,5 +1,5 @@
 -- Reading a text line by line gives the lists of its lines.
-use Rattle.std.proofs.Common.{◌≡◌, ℕ, zero, suc, ◌+◌, ◌<◌, inl, inr, true, false, Option, None, Some, List, [], ◌∷◌, ◌++◌, length, length-drop, take, drop, refl, sym, ◌∙◌, ap, arith}
+use Rattle.std.proofs.Common.{◌≡◌, ℕ, zero, suc, ◌+◌, ◌<◌, inl, inr, true, false, Option, None, Some, List, [], ◌∷◌, ◌++◌, length, take, drop, refl, sym, ◌∙◌, ap, arith}
 use Rattle.std.proofs.lemmas.Bool.{cases_Bool}
 use Rattle.std.specs.Prelude.{◌==◌}
 use Rattle.std.specs.List.{onto_first, position_or_len}
@@ -34,10 +34,6 @@ lines-first (byte ∷ next ∷ bytes) some = elim (cases_Bool (is_line_feed byte
       ∙ ap (λ (line : List ℕ). line ∷ lines_of (drop (place + 1) (next ∷ bytes))) (sym (take-behind byte (next ∷ bytes) place))
       ∙ ap (λ (rest : List ℕ). take (1 + place) (byte ∷ next ∷ bytes) ∷ lines_of rest) (sym (drop-behind byte (next ∷ bytes) place)))
 ]
-
--- what follows a line is shorter than the text
-pub after_shorter : (text : List ℕ) → 0 < length text → length (after_line text) < length text
-after_shorter text some = omega (arith, length-drop (position_or_len is_line_feed text + 1) text)
 
 lists-first : (greatest : ℕ) (text : List ℕ) → 0 < length text → number_lists_of greatest text ≡ in_front (numbers_of greatest (first_line text)) (number_lists_of greatest (after_line text))
 lists-first greatest text some = ap (all_number_lists greatest) (lines-first text some)

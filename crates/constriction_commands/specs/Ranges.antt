@@ -8,12 +8,12 @@ use Rattle.constriction_commands.specs.declared.fault.Fault.{Fault}
 use Rattle.constriction_commands.specs.declared.fault.Fault.TheVariants.{InvalidData, OutOfMemory}
 
 -- the words hold no symbol at this moment: the quantile that is read is none of 24 bits
-abbrev pub HoldsNone : List ℕ → Run → Type 0
-HoldsNone words run = 2 ^ 24 ≤ offset 32 64 words run / (run.range / 2 ^ 24)
+abbrev pub HoldsNoQuantile : List ℕ → Run → Type 0
+HoldsNoQuantile words run = 2 ^ 24 ≤ offset 32 64 words run / (run.range / 2 ^ 24)
 
 -- why not so many symbols are read from words: behind fewer symbols they hold none
 abbrev pub ReadingFails : List ℕ → List (ℕ × ℕ × ℕ) → ℕ → Fault → Type 0
 ReadingFails words table count (InvalidData error) =
-    (symbols : List ℕ) × (run : Run) × FindsAll 32 64 words (items_of (of_24_bits table) symbols) (start 64) run × (length symbols < count) × HoldsNone words run
+    (symbols : List ℕ) × (run : Run) × FindsAll 32 64 words (items_of (of_24_bits table) symbols) (start 64) run × (length symbols < count) × HoldsNoQuantile words run
 ReadingFails words table count OutOfMemory = ⊤
 ReadingFails words table count fault = ⊥

@@ -1,6 +1,7 @@
 //! A whole run: the command's name, the bytes that it reads, what it writes, and the exit status.
 
-ghost use Rattle.std.specs.Prelude.{◌≡◌, ◌↔◌, ◌⊎◌, ◌≤◌, ◌≢◌, ℕ, List, [], map, string_bytes, IfErr, IfOk, IfSome, IsOk, OnOk};
+ghost use Rattle.std.specs.Prelude.{◌≡◌, ◌↔◌, ◌⊎◌, ◌≤◌, ◌≢◌, ℕ, List, [], map, string_bytes, IfErr, IfOk, IfSome, IsOk};
+ghost use Rattle.std.specs.Prelude.{OnOk};
 ghost use Rattle.std.specs.Io.KnownBytes.{Appends};
 ghost use Rattle.std.specs.IoError.{error_kind};
 ghost use Rattle.std.specs.Process.{exit_status};
@@ -91,13 +92,15 @@ pub fn run<R: Read, O: Write, E: Write>(
     faults: &mut E,
 ) -> u8
     ensures ok { result ≡ 0 → IfSome (R.remaining input.old) (λ text. (answer : List ℕ)
-        × IsAnswered (map string_bytes args.now) text answer × Appends (O.contents output.old) (O.contents output.new) answer) }
+        × IsAnswered (map string_bytes args.now) text answer
+        × Appends (O.contents output.old) (O.contents output.new) answer) }
     ensures quiet { result ≡ 0 → faults.new ≡ faults.old }
     ensures usage { (result ≡ 2) ↔ ((command : Command) → Names (map string_bytes args.now) command → ⊥) }
     ensures kept { result ≡ 2 → (output.new ≡ output.old) × (input.new ≡ input.old) }
     // Whatever the status, what was written is a beginning of the answer.
     ensures whole { (output.new ≡ output.old) ⊎ IfSome (R.remaining input.old) (λ text. (answer : List ℕ)
-        × IsAnswered (map string_bytes args.now) text answer × GrowsByBeginning (O.contents output.old) (O.contents output.new) answer) }
+        × IsAnswered (map string_bytes args.now) text answer
+        × GrowsByBeginning (O.contents output.old) (O.contents output.new) answer) }
     ensures err { result ≡ 1 → (fault : Fault) × Stops (map string_bytes args.now) (R.remaining input.old) fault
         × GrowsByBeginning (E.contents faults.old) (E.contents faults.new) (fault_line fault) }
     ensures usage_line { result ≡ 2 → GrowsByBeginning (E.contents faults.old) (E.contents faults.new) usage_line }
@@ -122,7 +125,8 @@ pub fn start<R: Read, O: Write, E: Write>(
     output: &mut O,
     faults: &mut E,
 ) -> ExitCode
-    ensures ok { exit_status result ≡ 0 → IfSome (R.remaining input.old) (λ text. (command : Command) × (answer : List ℕ)
+    ensures ok { exit_status result ≡ 0
+        → IfSome (R.remaining input.old) (λ text. (command : Command) × (answer : List ℕ)
         × Answers command text answer × Appends (O.contents output.old) (O.contents output.new) answer) }
     ensures quiet { exit_status result ≡ 0 → faults.new ≡ faults.old }
     ensures not_text { IfErr given (λ error. error_kind error ≢ kind.OutOfMemory → exit_status result ≡ 2) }

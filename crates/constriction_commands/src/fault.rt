@@ -55,7 +55,8 @@ impl Fault {
             Fault::WeightOverflow => b"sum of weights too large\n",
             Fault::Encoder(_) => b"Impossible symbol.\n",
             Fault::ZeroWord(_) =>
-                b"Tried to decode from compressed data that ends with a zero word, which is invalid for an ANS coder.\n",
+                b"Tried to decode from compressed data that ends with a zero word, \
+                  which is invalid for an ANS coder.\n",
             Fault::InvalidData(_) =>
                 b"Tried to decode from compressed data that is invalid for the employed entropy model.\n",
             Fault::NoChain => b"not enough words, or a zero word at the end\n",

@@ -1,7 +1,8 @@
 //! Reading: the whole input, its lines, and the numbers of a line.
 
 ghost use Rattle.std.specs.Prelude.{◌≡◌, ◌⊎◌, ℕ, ◌-◌, ◌^◌, ◌≤◌, Some, None, IfOk, IfErr, IfSome, IsErrOf, map};
-ghost use Rattle.constriction_commands.specs.Lines.{first_line, after_line, is_blank, with_digit, numbers_of, number_lists_of};
+ghost use Rattle.constriction_commands.specs.Lines.{first_line, after_line, is_blank, with_digit, numbers_of};
+ghost use Rattle.constriction_commands.specs.Lines.{number_lists_of};
 ghost use Rattle.constriction_commands.specs.declared.fault.Fault.TheVariants.{BadNumber, OutOfMemory, Unreadable};
 
 use crate::fault::Fault;
@@ -115,8 +116,8 @@ pub fn parse_numbers<N: Number>(alloc: Global, line: &[u8]) -> Result<Vec<N>, Fa
     Ok(numbers)
 }
 
-/// The lists of numbers that the lines of a text are, a list for each. `BadNumber` where one of them is no list of numbers
-/// up to the greatest of the type.
+/// The lists of numbers that the lines of a text are, a list for each. `BadNumber` where one of them is no list of
+/// numbers up to the greatest of the type.
 pub fn parse_lines<N: Number>(alloc: Global, text: &[u8]) -> Result<Vec<Vec<N>>, Fault>
     ensures ok { IfOk result (λ lists. number_lists_of N.GREATEST text.now
         ≡ Some (map (λ list. map N.number list.items) lists.items)) }

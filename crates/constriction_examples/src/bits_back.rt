@@ -48,7 +48,8 @@ fn take_off(coder: &mut Coder, table: &Table) -> usize
 
 /// Puts a symbol on a coder under a table.
 fn put_on(coder: &mut Coder, symbol: usize, table: &Table) -> Result<()>
-    ensures { IsValid 32 64 coder.old.state → OnOk result (Encodes 32 64 (model_of table.now) symbol coder.old.state coder.new.state) }
+    ensures { IsValid 32 64 coder.old.state
+        → OnOk result (Encodes 32 64 (model_of table.now) symbol coder.old.state coder.new.state) }
 {
     coder.encode_symbol(&symbol, table)?;
     Ok(())
@@ -87,7 +88,8 @@ impl Mixture {
 
     /// Puts a symbol on a coder. Its latent comes off first.
     fn hide(&self, coder: &mut Coder, symbol: usize) -> Result<()>
-        ensures hides { IsValid 32 64 coder.old.state → OnOk result (Hides self.now symbol coder.old.state coder.new.state) }
+        ensures hides { IsValid 32 64 coder.old.state
+            → OnOk result (Hides self.now symbol coder.old.state coder.new.state) }
         ensures valid { IsValid 32 64 coder.old.state → OnOk result (IsValid 32 64 coder.new.state) }
     {
         let posterior = self.posteriors.get(symbol).context("no such symbol")?;
@@ -101,7 +103,8 @@ impl Mixture {
 
     /// Takes a symbol off a coder: the steps of `hide` in reverse. Its latent goes back on last.
     fn reveal(&self, coder: &mut Coder) -> Result<usize>
-        ensures reveals { (hidden : ℕ) (before : AnsState) → IsValid 32 64 before → Hides self.now hidden before coder.old.state
+        ensures reveals { (hidden : ℕ) (before : AnsState) → IsValid 32 64 before
+            → Hides self.now hidden before coder.old.state
             → IfOk result (λ symbol. (symbol ≡ hidden) × (coder.new.state ≡ before)) }
     {
         let latent = take_off(coder, &self.prior);
@@ -116,7 +119,8 @@ impl Mixture {
 
     /// Hides symbols, one after the other.
     fn hide_all(&self, coder: &mut Coder, symbols: &[usize]) -> Result<()>
-        ensures hides { IsValid 32 64 coder.old.state → OnOk result (InTurn (Hides self.now) symbols.now coder.old.state coder.new.state) }
+        ensures hides { IsValid 32 64 coder.old.state
+            → OnOk result (InTurn (Hides self.now) symbols.now coder.old.state coder.new.state) }
     {
         'symbols: for symbol in symbols {
             self.hide(coder, *symbol)?;
@@ -126,7 +130,8 @@ impl Mixture {
 
     /// Reveals so many symbols. The one that was hidden last comes first.
     fn reveal_all(&self, alloc: Global, coder: &mut Coder, count: usize) -> Result<Vec<usize>>
-        ensures reveals { (hidden : List ℕ) (before : AnsState) → length hidden ≡ count → IsValid 32 64 before → InTurn (Hides self.now) hidden before coder.old.state
+        ensures reveals { (hidden : List ℕ) (before : AnsState) → length hidden ≡ count → IsValid 32 64 before
+            → InTurn (Hides self.now) hidden before coder.old.state
             → IfOk result (λ symbols. (symbols.items ≡ reverse hidden) × (coder.new.state ≡ before)) }
     {
         let mut symbols = Vec::new(alloc);

@@ -1,5 +1,6 @@
-//! One law of each coder, applied in contracts that name the definitions, and their constructors, through the facade alone.
-//! Nothing here is run: what a crate needs to state and use a law has to be passed on by the facade, or this doesn't check.
+//! One law of each coder, applied in contracts that name the definitions, and their constructors, through the facade
+//! alone. Nothing here is run: what a crate needs to state and use a law has to be passed on by the facade, or this
+//! doesn't check.
 //!
 //! - [`stack`]: what bits-back coding costs.
 //! - [`queue`]: sealed words are read as what they were made of.

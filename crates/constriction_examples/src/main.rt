@@ -1,6 +1,7 @@
 //! Worked examples, which list the facade alone: [`uses`] for a crate whose own contracts say that symbols come back,
-//! [`bits_back`] for bits-back coding, [`isolation`] for what the chain coder is for, and [`programs`] for each other coder a small
-//! one. The program runs them in turn. [`laws_of_each_coder`] applies one law of each coder, and is not run.
+//! [`bits_back`] for bits-back coding, [`isolation`] for what the chain coder is for, and [`programs`] for each other
+//! coder a small one. The program runs them in turn. [`laws_of_each_coder`] applies one law of each coder, and is not
+//! run.
 #![tactic(auto)]
 
 mod bits_back;

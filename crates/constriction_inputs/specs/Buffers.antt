@@ -1,6 +1,11 @@
 -- A caller's buffer, of which the first words are in use.
 use Rattle.std.specs.Prelude.{◌≡◌, ℕ, ◌+◌, List, ◌++◌, length, take, drop, map, reverse}
 
+-- a buffer, of which so many words are in use
+pub record WordsKept (Word : Type 0) : Type 0 where
+  pub words : List Word
+  pub len : ℕ
+
 -- words were put behind the first so many of a buffer, and nothing else of it changed
 pub record Appended {W : Type 0} (old : List W) (len : ℕ) (added : List W) (new : List W) (new_len : ℕ) : Type 0 where
   pub count : new_len ≡ len + length added

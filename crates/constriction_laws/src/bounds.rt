@@ -13,21 +13,24 @@ ghost use Rattle.constriction_base.specs.Steps.{Step, IsSizes, AreSteps, InTurn}
 ghost use Rattle.constriction_stack.specs.Ans.{AnsState, IsPush, IsValid, empty, exported};
 ghost use Rattle.constriction_queue.specs.Range.{run, sealed, start};
 ghost use Rattle.constriction_queue.specs.SelfDelimiting.{SelfDelimits};
-ghost use Rattle.constriction_laws.specs.Bounds.{Act, Acts, AreAllowed, net_share, net_whole, product, rounded_whole, share};
+ghost use Rattle.constriction_laws.specs.Bounds.{Act, Acts, AreAllowed, net_share, net_whole, product, rounded_whole};
+ghost use Rattle.constriction_laws.specs.Bounds.{share};
 
 /// The words of a stack coder after encodes alone, from the empty one.
 pub fn stack_bound()
     ensures { (w s : ℕ) (steps : List Step) (state : AnsState) → IsSizes w s → AreSteps w steps →
         InTurn (IsPush w s) steps empty state →
-        2 ^ (w * (length (exported w state) - 1)) * product (share w s) steps ≤ 2 ^ (s - w) * product (rounded_whole w s) steps }
+        2 ^ (w * (length (exported w state) - 1)) * product (share w s) steps
+        ≤ 2 ^ (s - w) * product (rounded_whole w s) steps }
 {}
 
-/// The same where all steps have one precision, so that the spare bits are the same for all: of `n` symbols, the words but
-/// one have at most `s - w` bits more than the information content and `n * log2(1 + 2^-k)`.
+/// The same where all steps have one precision, so that the spare bits are the same for all: of `n` symbols, the words
+/// but one have at most `s - w` bits more than the information content and `n * log2(1 + 2^-k)`.
 pub fn stack_bound_at_one_precision()
     ensures { (w s precision : ℕ) (steps : List Step) (state : AnsState) → IsSizes w s → AreSteps w steps →
         AllByRecursion (λ e. e.precision ≡ precision) steps → InTurn (IsPush w s) steps empty state →
-        2 ^ (w * (length (exported w state) - 1)) * (product (λ e. e.p) steps * (2 ^ (s - w - precision)) ^ length steps)
+        2 ^ (w * (length (exported w state) - 1))
+        * (product (λ e. e.p) steps * (2 ^ (s - w - precision)) ^ length steps)
         ≤ 2 ^ (s - w) * ((2 ^ precision) ^ length steps * (2 ^ (s - w - precision) + 1) ^ length steps) }
 {}
 

@@ -2,8 +2,8 @@
 
 ghost use Rattle.std.specs.Prelude.{map};
 ghost use Rattle.constriction_base.specs.Readings.{BeginsHigh};
-ghost use Rattle.constriction_c.specs.Large.{word, state, LargeAnsTakes, LargeAnsPuts};
-ghost use Rattle.constriction_c.specs.Codes.{Told, answer_of};
+ghost use Rattle.constriction_c.specs.Large.{large_word, large_state, LargeAnsTakes, LargeAnsPuts};
+ghost use Rattle.constriction_c.specs.Codes.{Told, answer_by_code};
 ghost use Rattle.constriction_calls.specs.AnsCalls.{AnsExports, AnsImports, coder_of};
 ghost use Rattle.constriction_calls.specs.AnsCalls.{AreBinary, AreCompressed, HasBinary};
 ghost use Rattle.constriction_inputs.specs.Coded.{AsIntervals, ByRows, ByWeights, in_family};
@@ -28,7 +28,7 @@ pub extern "C" fn constriction_ans_encode_reverse_u32(
     symbols: &[usize],
     needed: &mut usize,
 ) -> u32
-    ensures { Told result needed.old needed.new (LargeAnsPuts (ByWeights (map word weights.now) symbols.now)
+    ensures { Told result needed.old needed.new (LargeAnsPuts (ByWeights (map large_word weights.now) symbols.now)
         (coder_of head.old words.old len.old) (coder_of head.new words.new len.new)) }
 {
     let table = Weights { weights };
@@ -48,7 +48,7 @@ pub extern "C" fn constriction_ans_encode_each_reverse_u32(
     symbols: &[usize],
     needed: &mut usize,
 ) -> u32
-    ensures { Told result needed.old needed.new (LargeAnsPuts (ByRows width (map word weights.now) symbols.now)
+    ensures { Told result needed.old needed.new (LargeAnsPuts (ByRows width (map large_word weights.now) symbols.now)
         (coder_of head.old words.old len.old) (coder_of head.new words.new len.new)) }
 {
     let rows = Rows { weights, width };
@@ -67,7 +67,8 @@ pub extern "C" fn constriction_ans_encode_intervals_reverse_u32(
     ps: &[u32],
     needed: &mut usize,
 ) -> u32
-    ensures { Told result needed.old needed.new (LargeAnsPuts (AsIntervals (map word lefts.now) (map word ps.now))
+    ensures { Told result needed.old needed.new
+        (LargeAnsPuts (AsIntervals (map large_word lefts.now) (map large_word ps.now))
         (coder_of head.old words.old len.old) (coder_of head.new words.new len.new)) }
 {
     let answer = encode_intervals_reverse::<_, _, u32, 24>(alloc, head, words, len, lefts, ps);
@@ -108,8 +109,8 @@ pub extern "C" fn constriction_ans_decode_u32(
     weights: &[u32],
     symbols: &mut [usize],
 ) -> u32
-    ensures { LargeAnsTakes (ByWeights (map word weights.now)) (coder_of head.old words.now len.old)
-        (coder_of head.new words.now len.new) symbols.old symbols.new (answer_of result 0) }
+    ensures { LargeAnsTakes (ByWeights (map large_word weights.now)) (coder_of head.old words.now len.old)
+        (coder_of head.new words.now len.new) symbols.old symbols.new (answer_by_code result 0) }
 {
     let table = Weights { weights };
     code_without_space(decode::<_, _, u32, _, 24>(alloc, head, words, len, &table, symbols))
@@ -126,8 +127,8 @@ pub extern "C" fn constriction_ans_decode_each_u32(
     width: usize,
     symbols: &mut [usize],
 ) -> u32
-    ensures { LargeAnsTakes (ByRows width (map word weights.now)) (coder_of head.old words.now len.old)
-        (coder_of head.new words.now len.new) symbols.old symbols.new (answer_of result 0) }
+    ensures { LargeAnsTakes (ByRows width (map large_word weights.now)) (coder_of head.old words.now len.old)
+        (coder_of head.new words.now len.new) symbols.old symbols.new (answer_by_code result 0) }
 {
     let rows = Rows { weights, width };
     code_without_space(decode::<_, _, u32, _, 24>(alloc, head, words, len, &rows, symbols))
@@ -148,7 +149,7 @@ pub extern "C" fn constriction_ans_decode_quantized_u32(
     symbols: &mut [usize],
 ) -> u32
     ensures { LargeAnsTakes (in_family family min max locations.now scales.now) (coder_of head.old words.now len.old)
-        (coder_of head.new words.now len.new) symbols.old symbols.new (answer_of result 0) }
+        (coder_of head.new words.now len.new) symbols.old symbols.new (answer_by_code result 0) }
 {
     let models = Families::new(family, min, max, locations, scales);
     code_without_space(decode::<_, _, u32, _, 24>(alloc, head, words, len, &models, symbols))
@@ -161,8 +162,8 @@ pub extern "C" fn constriction_ans_from_compressed_u32(
     len: &mut usize,
     head: &mut u64,
 ) -> u32
-    ensures { AnsImports word state (filled 32 64 0) BeginsHigh (coder_of head.old words.now len.old)
-        (coder_of head.new words.now len.new) (answer_of result 0) }
+    ensures { AnsImports large_word large_state (filled 32 64 0) BeginsHigh (coder_of head.old words.now len.old)
+        (coder_of head.new words.now len.new) (answer_by_code result 0) }
 {
     code_without_space(from_compressed(words, len, head))
 }
@@ -174,8 +175,9 @@ pub extern "C" fn constriction_ans_from_binary_u32(
     len: &mut usize,
     head: &mut u64,
 ) -> u32
-    ensures { AnsImports word state (binary_state 32 64) (λ all. Unit {0}) (coder_of head.old words.now len.old)
-        (coder_of head.new words.now len.new) (answer_of result 0) }
+    ensures { AnsImports large_word large_state (binary_state 32 64) (λ all. Unit {0})
+        (coder_of head.old words.now len.old)
+        (coder_of head.new words.now len.new) (answer_by_code result 0) }
 {
     from_binary(words, len, head);
     code_without_space(Ok(()))
@@ -190,7 +192,8 @@ pub extern "C" fn constriction_ans_into_compressed_u32(
     len: &mut usize,
     needed: &mut usize,
 ) -> u32
-    ensures { Told result needed.old needed.new (AnsExports word state (AreCompressed 32) (λ state. Unit {0})
+    ensures { Told result needed.old needed.new
+        (AnsExports large_word large_state (AreCompressed 32) (λ state. Unit {0})
         (coder_of head words.old len.old) (coder_of head words.new len.new)) }
 {
     code_of(into_compressed(alloc, head, words, len), needed)
@@ -205,7 +208,7 @@ pub extern "C" fn constriction_ans_into_binary_u32(
     len: &mut usize,
     needed: &mut usize,
 ) -> u32
-    ensures { Told result needed.old needed.new (AnsExports word state (AreBinary 32) (HasBinary 32)
+    ensures { Told result needed.old needed.new (AnsExports large_word large_state (AreBinary 32) (HasBinary 32)
         (coder_of head words.old len.old) (coder_of head words.new len.new)) }
 {
     code_of(into_binary(alloc, head, words, len), needed)

@@ -1,8 +1,9 @@
 //! The chain coder at words of 32 bits, heads of 64 and 32, and a precision of 24.
 
 ghost use Rattle.std.specs.Prelude.{map};
-ghost use Rattle.constriction_c.specs.Large.{LargeChainBegins, LargeChainEnds, LargeChainPuts, LargeChainTakes, large_chain, word};
-ghost use Rattle.constriction_c.specs.Codes.{Told, answer_of};
+ghost use Rattle.constriction_c.specs.Large.{LargeChainBegins, LargeChainEnds, LargeChainPuts, LargeChainTakes};
+ghost use Rattle.constriction_c.specs.Large.{large_chain, large_word};
+ghost use Rattle.constriction_c.specs.Codes.{Told, answer_by_code};
 ghost use Rattle.constriction_calls.specs.ChainWords.{InBinary, InCompressed, InRemainders};
 ghost use Rattle.constriction_inputs.specs.Coded.{AsIntervals, ByRows, ByWeights, in_family};
 
@@ -28,7 +29,7 @@ pub extern "C" fn constriction_chain_decode_u32(
     symbols: &mut [usize],
     needed: &mut usize,
 ) -> u32
-    ensures { Told result needed.old needed.new (LargeChainTakes (ByWeights (map word weights.now))
+    ensures { Told result needed.old needed.new (LargeChainTakes (ByWeights (map large_word weights.now))
         (large_chain heads.old compressed.now count.old remainders.old rest.old)
         (large_chain heads.new compressed.now count.new remainders.new rest.new) symbols.old symbols.new) }
 {
@@ -55,7 +56,7 @@ pub extern "C" fn constriction_chain_decode_each_u32(
     symbols: &mut [usize],
     needed: &mut usize,
 ) -> u32
-    ensures { Told result needed.old needed.new (LargeChainTakes (ByRows width (map word weights.now))
+    ensures { Told result needed.old needed.new (LargeChainTakes (ByRows width (map large_word weights.now))
         (large_chain heads.old compressed.now count.old remainders.old rest.old)
         (large_chain heads.new compressed.now count.new remainders.new rest.new) symbols.old symbols.new) }
 {
@@ -111,7 +112,7 @@ pub extern "C" fn constriction_chain_encode_reverse_u32(
     symbols: &[usize],
     needed: &mut usize,
 ) -> u32
-    ensures { Told result needed.old needed.new (LargeChainPuts (ByWeights (map word weights.now) symbols.now)
+    ensures { Told result needed.old needed.new (LargeChainPuts (ByWeights (map large_word weights.now) symbols.now)
         (large_chain heads.old compressed.old count.old remainders.now rest.old)
         (large_chain heads.new compressed.new count.new remainders.now rest.new)) }
 {
@@ -138,7 +139,7 @@ pub extern "C" fn constriction_chain_encode_each_reverse_u32(
     symbols: &[usize],
     needed: &mut usize,
 ) -> u32
-    ensures { Told result needed.old needed.new (LargeChainPuts (ByRows width (map word weights.now) symbols.now)
+    ensures { Told result needed.old needed.new (LargeChainPuts (ByRows width (map large_word weights.now) symbols.now)
         (large_chain heads.old compressed.old count.old remainders.now rest.old)
         (large_chain heads.new compressed.new count.new remainders.now rest.new)) }
 {
@@ -195,7 +196,8 @@ pub extern "C" fn constriction_chain_encode_intervals_reverse_u32(
     ps: &[u32],
     needed: &mut usize,
 ) -> u32
-    ensures { Told result needed.old needed.new (LargeChainPuts (AsIntervals (map word lefts.now) (map word ps.now))
+    ensures { Told result needed.old needed.new
+        (LargeChainPuts (AsIntervals (map large_word lefts.now) (map large_word ps.now))
         (large_chain heads.old compressed.old count.old remainders.now rest.old)
         (large_chain heads.new compressed.new count.new remainders.now rest.new)) }
 {
@@ -215,7 +217,8 @@ pub extern "C" fn constriction_chain_from_compressed_u32(
     count: &mut usize,
     heads: &mut ChainHeadsU32,
 ) -> u32
-    ensures { LargeChainBegins InCompressed words.now heads.old count.old heads.new count.new (answer_of result 0) }
+    ensures { LargeChainBegins InCompressed words.now heads.old count.old heads.new count.new
+        (answer_by_code result 0) }
 {
     let mut both = heads.parts();
     let answer = from_compressed::<_, _, 24>(alloc, words, &mut both, count);
@@ -231,7 +234,7 @@ pub extern "C" fn constriction_chain_from_binary_u32(
     count: &mut usize,
     heads: &mut ChainHeadsU32,
 ) -> u32
-    ensures { LargeChainBegins InBinary words.now heads.old count.old heads.new count.new (answer_of result 0) }
+    ensures { LargeChainBegins InBinary words.now heads.old count.old heads.new count.new (answer_by_code result 0) }
 {
     let mut both = heads.parts();
     let answer = from_binary::<_, _, 24>(alloc, words, &mut both, count);
@@ -247,7 +250,7 @@ pub extern "C" fn constriction_chain_from_remainders_u32(
     rest: &mut usize,
     heads: &mut ChainHeadsU32,
 ) -> u32
-    ensures { LargeChainBegins InRemainders words.now heads.old rest.old heads.new rest.new (answer_of result 0) }
+    ensures { LargeChainBegins InRemainders words.now heads.old rest.old heads.new rest.new (answer_by_code result 0) }
 {
     let mut both = heads.parts();
     let answer = from_remainders::<_, _, 24>(alloc, words, &mut both, rest);

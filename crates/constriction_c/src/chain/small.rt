@@ -1,8 +1,9 @@
 //! The chain coder at words of 16 bits, heads of 32 and 16, and a precision of 12.
 
 ghost use Rattle.std.specs.Prelude.{map};
-ghost use Rattle.constriction_c.specs.Small.{SmallChainBegins, SmallChainEnds, SmallChainPuts, SmallChainTakes, small_chain, word};
-ghost use Rattle.constriction_c.specs.Codes.{Told, answer_of};
+ghost use Rattle.constriction_c.specs.Small.{SmallChainBegins, SmallChainEnds, SmallChainPuts, SmallChainTakes};
+ghost use Rattle.constriction_c.specs.Small.{small_chain, small_word};
+ghost use Rattle.constriction_c.specs.Codes.{Told, answer_by_code};
 ghost use Rattle.constriction_calls.specs.ChainWords.{InBinary, InCompressed, InRemainders};
 ghost use Rattle.constriction_inputs.specs.Coded.{AsIntervals, ByRows, ByWeights, in_family};
 
@@ -28,7 +29,7 @@ pub extern "C" fn constriction_chain_decode_u16(
     symbols: &mut [usize],
     needed: &mut usize,
 ) -> u32
-    ensures { Told result needed.old needed.new (SmallChainTakes (ByWeights (map word weights.now))
+    ensures { Told result needed.old needed.new (SmallChainTakes (ByWeights (map small_word weights.now))
         (small_chain heads.old compressed.now count.old remainders.old rest.old)
         (small_chain heads.new compressed.now count.new remainders.new rest.new) symbols.old symbols.new) }
 {
@@ -55,7 +56,7 @@ pub extern "C" fn constriction_chain_decode_each_u16(
     symbols: &mut [usize],
     needed: &mut usize,
 ) -> u32
-    ensures { Told result needed.old needed.new (SmallChainTakes (ByRows width (map word weights.now))
+    ensures { Told result needed.old needed.new (SmallChainTakes (ByRows width (map small_word weights.now))
         (small_chain heads.old compressed.now count.old remainders.old rest.old)
         (small_chain heads.new compressed.now count.new remainders.new rest.new) symbols.old symbols.new) }
 {
@@ -111,7 +112,7 @@ pub extern "C" fn constriction_chain_encode_reverse_u16(
     symbols: &[usize],
     needed: &mut usize,
 ) -> u32
-    ensures { Told result needed.old needed.new (SmallChainPuts (ByWeights (map word weights.now) symbols.now)
+    ensures { Told result needed.old needed.new (SmallChainPuts (ByWeights (map small_word weights.now) symbols.now)
         (small_chain heads.old compressed.old count.old remainders.now rest.old)
         (small_chain heads.new compressed.new count.new remainders.now rest.new)) }
 {
@@ -138,7 +139,7 @@ pub extern "C" fn constriction_chain_encode_each_reverse_u16(
     symbols: &[usize],
     needed: &mut usize,
 ) -> u32
-    ensures { Told result needed.old needed.new (SmallChainPuts (ByRows width (map word weights.now) symbols.now)
+    ensures { Told result needed.old needed.new (SmallChainPuts (ByRows width (map small_word weights.now) symbols.now)
         (small_chain heads.old compressed.old count.old remainders.now rest.old)
         (small_chain heads.new compressed.new count.new remainders.now rest.new)) }
 {
@@ -195,7 +196,8 @@ pub extern "C" fn constriction_chain_encode_intervals_reverse_u16(
     ps: &[u16],
     needed: &mut usize,
 ) -> u32
-    ensures { Told result needed.old needed.new (SmallChainPuts (AsIntervals (map word lefts.now) (map word ps.now))
+    ensures { Told result needed.old needed.new
+        (SmallChainPuts (AsIntervals (map small_word lefts.now) (map small_word ps.now))
         (small_chain heads.old compressed.old count.old remainders.now rest.old)
         (small_chain heads.new compressed.new count.new remainders.now rest.new)) }
 {
@@ -215,7 +217,8 @@ pub extern "C" fn constriction_chain_from_compressed_u16(
     count: &mut usize,
     heads: &mut ChainHeadsU16,
 ) -> u32
-    ensures { SmallChainBegins InCompressed words.now heads.old count.old heads.new count.new (answer_of result 0) }
+    ensures { SmallChainBegins InCompressed words.now heads.old count.old heads.new count.new
+        (answer_by_code result 0) }
 {
     let mut both = heads.parts();
     let answer = from_compressed::<_, _, 12>(alloc, words, &mut both, count);
@@ -231,7 +234,7 @@ pub extern "C" fn constriction_chain_from_binary_u16(
     count: &mut usize,
     heads: &mut ChainHeadsU16,
 ) -> u32
-    ensures { SmallChainBegins InBinary words.now heads.old count.old heads.new count.new (answer_of result 0) }
+    ensures { SmallChainBegins InBinary words.now heads.old count.old heads.new count.new (answer_by_code result 0) }
 {
     let mut both = heads.parts();
     let answer = from_binary::<_, _, 12>(alloc, words, &mut both, count);
@@ -247,7 +250,7 @@ pub extern "C" fn constriction_chain_from_remainders_u16(
     rest: &mut usize,
     heads: &mut ChainHeadsU16,
 ) -> u32
-    ensures { SmallChainBegins InRemainders words.now heads.old rest.old heads.new rest.new (answer_of result 0) }
+    ensures { SmallChainBegins InRemainders words.now heads.old rest.old heads.new rest.new (answer_by_code result 0) }
 {
     let mut both = heads.parts();
     let answer = from_remainders::<_, _, 12>(alloc, words, &mut both, rest);

@@ -1,11 +1,12 @@
 //! The range coder at words of 32 bits, states of 64 and a precision of 24.
 
 ghost use Rattle.std.specs.Prelude.{◌≡◌, map};
-ghost use Rattle.constriction_c.specs.Large.{word, state, large_kept, LargeRangeTakes, LargeRangePuts};
-ghost use Rattle.constriction_c.specs.Codes.{Told, answer_of};
+ghost use Rattle.constriction_c.specs.Large.{large_word, large_state, large_kept, LargeRangeTakes, LargeRangePuts};
+ghost use Rattle.constriction_c.specs.Codes.{Told, answer_by_code};
 ghost use Rattle.constriction_c.specs.Ranges.{large_decoder, large_encoder};
 ghost use Rattle.constriction_inputs.specs.Coded.{AsIntervals, ByRows, ByWeights, in_family};
-ghost use Rattle.constriction_calls.specs.RangeCalls.{IsNew, IsSealed, IsSelfSealed, RangeBegins, RangeMayEnd, RangeSeals, RangeSeeks};
+ghost use Rattle.constriction_calls.specs.RangeCalls.{IsNew, IsSealed, IsSelfSealed, RangeBegins, RangeMayEnd};
+ghost use Rattle.constriction_calls.specs.RangeCalls.{RangeSeals, RangeSeeks};
 
 use crate::codes::{code_of, code_without_space};
 use constriction_calls::range::decoding::decode;
@@ -96,7 +97,7 @@ impl RangeDecoderU32 {
 #[unsafe(no_mangle)]
 pub extern "C" fn constriction_range_encoder_u32(encoder: &mut RangeEncoderU32) -> u32
     ensures done { result ≡ 0 }
-    ensures call { IsNew word state 32 64 (large_encoder encoder.new) }
+    ensures call { IsNew large_word large_state 32 64 (large_encoder encoder.new) }
 {
     *encoder = RangeEncoderU32 {
         lower: 0,
@@ -118,7 +119,7 @@ pub extern "C" fn constriction_range_encode_u32(
     symbols: &[usize],
     needed: &mut usize,
 ) -> u32
-    ensures { Told result needed.old needed.new (LargeRangePuts (ByWeights (map word weights.now)) symbols.now
+    ensures { Told result needed.old needed.new (LargeRangePuts (ByWeights (map large_word weights.now)) symbols.now
         (large_kept encoder.old words.old len.old) (large_kept encoder.new words.new len.new)) }
 {
     let one = Weights { weights };
@@ -140,7 +141,7 @@ pub extern "C" fn constriction_range_encode_each_u32(
     symbols: &[usize],
     needed: &mut usize,
 ) -> u32
-    ensures { Told result needed.old needed.new (LargeRangePuts (ByRows width (map word weights.now)) symbols.now
+    ensures { Told result needed.old needed.new (LargeRangePuts (ByRows width (map large_word weights.now)) symbols.now
         (large_kept encoder.old words.old len.old) (large_kept encoder.new words.new len.new)) }
 {
     let rows = Rows { weights, width };
@@ -161,7 +162,8 @@ pub extern "C" fn constriction_range_encode_intervals_u32(
     ps: &[u32],
     needed: &mut usize,
 ) -> u32
-    ensures { Told result needed.old needed.new (LargeRangePuts (AsIntervals (map word lefts.now)) (map word ps.now)
+    ensures { Told result needed.old needed.new
+        (LargeRangePuts (AsIntervals (map large_word lefts.now)) (map large_word ps.now)
         (large_kept encoder.old words.old len.old) (large_kept encoder.new words.new len.new)) }
 {
     let mut parts = encoder.parts();
@@ -204,13 +206,14 @@ pub extern "C" fn constriction_range_into_compressed_u32(
     len: &mut usize,
     needed: &mut usize,
 ) -> u32
-    ensures { Told result needed.old needed.new (RangeSeals word state 32 64 (IsSealed 32 64)
+    ensures { Told result needed.old needed.new (RangeSeals large_word large_state 32 64 (IsSealed 32 64)
         (large_kept encoder.now words.old len.old) (large_kept encoder.now words.new len.new)) }
 {
     code_of(into_compressed(alloc, &encoder.parts(), words, len), needed)
 }
 
-/// `into_self_delimited`: the same with a seal that holds whatever words follow. It is the other seal, since a state is two words.
+/// `into_self_delimited`: the same with a seal that holds whatever words follow. It is the other seal, since a state is
+/// two words.
 #[unsafe(no_mangle)]
 pub extern "C" fn constriction_range_into_self_delimited_u32(
     alloc: Global,
@@ -219,7 +222,7 @@ pub extern "C" fn constriction_range_into_self_delimited_u32(
     len: &mut usize,
     needed: &mut usize,
 ) -> u32
-    ensures { Told result needed.old needed.new (RangeSeals word state 32 64 (IsSelfSealed 32 64)
+    ensures { Told result needed.old needed.new (RangeSeals large_word large_state 32 64 (IsSelfSealed 32 64)
         (large_kept encoder.now words.old len.old) (large_kept encoder.now words.new len.new)) }
 {
     let answer = into_self_delimited(alloc, &encoder.parts(), words, len);
@@ -233,7 +236,7 @@ pub extern "C" fn constriction_range_from_compressed_u32(
     decoder: &mut RangeDecoderU32,
 ) -> u32
     ensures done { result ≡ 0 }
-    ensures call { RangeBegins word state 32 64 words.now (large_decoder decoder.new) }
+    ensures call { RangeBegins large_word large_state 32 64 words.now (large_decoder decoder.new) }
 {
     *decoder = RangeDecoderU32::of(from_compressed(words));
     0
@@ -248,8 +251,8 @@ pub extern "C" fn constriction_range_decode_u32(
     weights: &[u32],
     symbols: &mut [usize],
 ) -> u32
-    ensures { LargeRangeTakes (ByWeights (map word weights.now)) words.now (large_decoder decoder.old)
-        (large_decoder decoder.new) symbols.old symbols.new (answer_of result 0) }
+    ensures { LargeRangeTakes (ByWeights (map large_word weights.now)) words.now (large_decoder decoder.old)
+        (large_decoder decoder.new) symbols.old symbols.new (answer_by_code result 0) }
 {
     let one = Weights { weights };
     let mut parts = decoder.parts();
@@ -268,8 +271,8 @@ pub extern "C" fn constriction_range_decode_each_u32(
     width: usize,
     symbols: &mut [usize],
 ) -> u32
-    ensures { LargeRangeTakes (ByRows width (map word weights.now)) words.now (large_decoder decoder.old)
-        (large_decoder decoder.new) symbols.old symbols.new (answer_of result 0) }
+    ensures { LargeRangeTakes (ByRows width (map large_word weights.now)) words.now (large_decoder decoder.old)
+        (large_decoder decoder.new) symbols.old symbols.new (answer_by_code result 0) }
 {
     let rows = Rows { weights, width };
     let mut parts = decoder.parts();
@@ -292,7 +295,7 @@ pub extern "C" fn constriction_range_decode_quantized_u32(
     symbols: &mut [usize],
 ) -> u32
     ensures { LargeRangeTakes (in_family family min max locations.now scales.now) words.now (large_decoder decoder.old)
-        (large_decoder decoder.new) symbols.old symbols.new (answer_of result 0) }
+        (large_decoder decoder.new) symbols.old symbols.new (answer_by_code result 0) }
 {
     let models = Families::new(family, min, max, locations, scales);
     let mut parts = decoder.parts();
@@ -310,8 +313,8 @@ pub extern "C" fn constriction_range_seek_u32(
     lower: u64,
     range: u64,
 ) -> u32
-    ensures { RangeSeeks word state 32 64 words.now pos lower range (large_decoder decoder.old)
-        (large_decoder decoder.new) (answer_of result 0) }
+    ensures { RangeSeeks large_word large_state 32 64 words.now pos lower range (large_decoder decoder.old)
+        (large_decoder decoder.new) (answer_by_code result 0) }
 {
     let mut parts = decoder.parts();
     let answer = seek(&mut parts, words, pos, lower, range);
@@ -326,8 +329,8 @@ pub extern "C" fn constriction_range_maybe_exhausted_u32(
     words: &[u32],
     maybe: &mut u32,
 ) -> u32
-    ensures { RangeMayEnd state 32 64 (map word words.now) (large_decoder decoder.now) maybe.old maybe.new
-        (answer_of result 0) }
+    ensures { RangeMayEnd large_state 32 64 (map large_word words.now) (large_decoder decoder.now) maybe.old maybe.new
+        (answer_by_code result 0) }
 {
     code_without_space(maybe_exhausted(&decoder.parts(), words, maybe))
 }

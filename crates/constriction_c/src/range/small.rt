@@ -1,11 +1,12 @@
 //! The range coder at words of 16 bits, states of 32 and a precision of 12.
 
 ghost use Rattle.std.specs.Prelude.{◌≡◌, map};
-ghost use Rattle.constriction_c.specs.Small.{word, state, small_kept, SmallRangeTakes, SmallRangePuts};
-ghost use Rattle.constriction_c.specs.Codes.{Told, answer_of};
+ghost use Rattle.constriction_c.specs.Small.{small_word, small_state, small_kept, SmallRangeTakes, SmallRangePuts};
+ghost use Rattle.constriction_c.specs.Codes.{Told, answer_by_code};
 ghost use Rattle.constriction_c.specs.Ranges.{small_decoder, small_encoder};
 ghost use Rattle.constriction_inputs.specs.Coded.{AsIntervals, ByRows, ByWeights, in_family};
-ghost use Rattle.constriction_calls.specs.RangeCalls.{IsNew, IsSealed, IsSelfSealed, RangeBegins, RangeMayEnd, RangeSeals, RangeSeeks};
+ghost use Rattle.constriction_calls.specs.RangeCalls.{IsNew, IsSealed, IsSelfSealed, RangeBegins, RangeMayEnd};
+ghost use Rattle.constriction_calls.specs.RangeCalls.{RangeSeals, RangeSeeks};
 
 use crate::codes::{code_of, code_without_space};
 use constriction_calls::range::decoding::decode;
@@ -96,7 +97,7 @@ impl RangeDecoderU16 {
 #[unsafe(no_mangle)]
 pub extern "C" fn constriction_range_encoder_u16(encoder: &mut RangeEncoderU16) -> u32
     ensures done { result ≡ 0 }
-    ensures call { IsNew word state 16 32 (small_encoder encoder.new) }
+    ensures call { IsNew small_word small_state 16 32 (small_encoder encoder.new) }
 {
     *encoder = RangeEncoderU16 {
         lower: 0,
@@ -118,7 +119,7 @@ pub extern "C" fn constriction_range_encode_u16(
     symbols: &[usize],
     needed: &mut usize,
 ) -> u32
-    ensures { Told result needed.old needed.new (SmallRangePuts (ByWeights (map word weights.now)) symbols.now
+    ensures { Told result needed.old needed.new (SmallRangePuts (ByWeights (map small_word weights.now)) symbols.now
         (small_kept encoder.old words.old len.old) (small_kept encoder.new words.new len.new)) }
 {
     let one = Weights { weights };
@@ -140,7 +141,7 @@ pub extern "C" fn constriction_range_encode_each_u16(
     symbols: &[usize],
     needed: &mut usize,
 ) -> u32
-    ensures { Told result needed.old needed.new (SmallRangePuts (ByRows width (map word weights.now)) symbols.now
+    ensures { Told result needed.old needed.new (SmallRangePuts (ByRows width (map small_word weights.now)) symbols.now
         (small_kept encoder.old words.old len.old) (small_kept encoder.new words.new len.new)) }
 {
     let rows = Rows { weights, width };
@@ -161,7 +162,8 @@ pub extern "C" fn constriction_range_encode_intervals_u16(
     ps: &[u16],
     needed: &mut usize,
 ) -> u32
-    ensures { Told result needed.old needed.new (SmallRangePuts (AsIntervals (map word lefts.now)) (map word ps.now)
+    ensures { Told result needed.old needed.new
+        (SmallRangePuts (AsIntervals (map small_word lefts.now)) (map small_word ps.now)
         (small_kept encoder.old words.old len.old) (small_kept encoder.new words.new len.new)) }
 {
     let mut parts = encoder.parts();
@@ -204,13 +206,14 @@ pub extern "C" fn constriction_range_into_compressed_u16(
     len: &mut usize,
     needed: &mut usize,
 ) -> u32
-    ensures { Told result needed.old needed.new (RangeSeals word state 16 32 (IsSealed 16 32)
+    ensures { Told result needed.old needed.new (RangeSeals small_word small_state 16 32 (IsSealed 16 32)
         (small_kept encoder.now words.old len.old) (small_kept encoder.now words.new len.new)) }
 {
     code_of(into_compressed(alloc, &encoder.parts(), words, len), needed)
 }
 
-/// `into_self_delimited`: the same with a seal that holds whatever words follow. It is the other seal, since a state is two words.
+/// `into_self_delimited`: the same with a seal that holds whatever words follow. It is the other seal, since a state is
+/// two words.
 #[unsafe(no_mangle)]
 pub extern "C" fn constriction_range_into_self_delimited_u16(
     alloc: Global,
@@ -219,7 +222,7 @@ pub extern "C" fn constriction_range_into_self_delimited_u16(
     len: &mut usize,
     needed: &mut usize,
 ) -> u32
-    ensures { Told result needed.old needed.new (RangeSeals word state 16 32 (IsSelfSealed 16 32)
+    ensures { Told result needed.old needed.new (RangeSeals small_word small_state 16 32 (IsSelfSealed 16 32)
         (small_kept encoder.now words.old len.old) (small_kept encoder.now words.new len.new)) }
 {
     let answer = into_self_delimited(alloc, &encoder.parts(), words, len);
@@ -233,7 +236,7 @@ pub extern "C" fn constriction_range_from_compressed_u16(
     decoder: &mut RangeDecoderU16,
 ) -> u32
     ensures done { result ≡ 0 }
-    ensures call { RangeBegins word state 16 32 words.now (small_decoder decoder.new) }
+    ensures call { RangeBegins small_word small_state 16 32 words.now (small_decoder decoder.new) }
 {
     *decoder = RangeDecoderU16::of(from_compressed(words));
     0
@@ -248,8 +251,8 @@ pub extern "C" fn constriction_range_decode_u16(
     weights: &[u16],
     symbols: &mut [usize],
 ) -> u32
-    ensures { SmallRangeTakes (ByWeights (map word weights.now)) words.now (small_decoder decoder.old)
-        (small_decoder decoder.new) symbols.old symbols.new (answer_of result 0) }
+    ensures { SmallRangeTakes (ByWeights (map small_word weights.now)) words.now (small_decoder decoder.old)
+        (small_decoder decoder.new) symbols.old symbols.new (answer_by_code result 0) }
 {
     let one = Weights { weights };
     let mut parts = decoder.parts();
@@ -268,8 +271,8 @@ pub extern "C" fn constriction_range_decode_each_u16(
     width: usize,
     symbols: &mut [usize],
 ) -> u32
-    ensures { SmallRangeTakes (ByRows width (map word weights.now)) words.now (small_decoder decoder.old)
-        (small_decoder decoder.new) symbols.old symbols.new (answer_of result 0) }
+    ensures { SmallRangeTakes (ByRows width (map small_word weights.now)) words.now (small_decoder decoder.old)
+        (small_decoder decoder.new) symbols.old symbols.new (answer_by_code result 0) }
 {
     let rows = Rows { weights, width };
     let mut parts = decoder.parts();
@@ -292,7 +295,7 @@ pub extern "C" fn constriction_range_decode_quantized_u16(
     symbols: &mut [usize],
 ) -> u32
     ensures { SmallRangeTakes (in_family family min max locations.now scales.now) words.now (small_decoder decoder.old)
-        (small_decoder decoder.new) symbols.old symbols.new (answer_of result 0) }
+        (small_decoder decoder.new) symbols.old symbols.new (answer_by_code result 0) }
 {
     let models = Families::new(family, min, max, locations, scales);
     let mut parts = decoder.parts();
@@ -310,8 +313,8 @@ pub extern "C" fn constriction_range_seek_u16(
     lower: u32,
     range: u32,
 ) -> u32
-    ensures { RangeSeeks word state 16 32 words.now pos lower range (small_decoder decoder.old)
-        (small_decoder decoder.new) (answer_of result 0) }
+    ensures { RangeSeeks small_word small_state 16 32 words.now pos lower range (small_decoder decoder.old)
+        (small_decoder decoder.new) (answer_by_code result 0) }
 {
     let mut parts = decoder.parts();
     let answer = seek(&mut parts, words, pos, lower, range);
@@ -326,8 +329,8 @@ pub extern "C" fn constriction_range_maybe_exhausted_u16(
     words: &[u16],
     maybe: &mut u32,
 ) -> u32
-    ensures { RangeMayEnd state 16 32 (map word words.now) (small_decoder decoder.now) maybe.old maybe.new
-        (answer_of result 0) }
+    ensures { RangeMayEnd small_state 16 32 (map small_word words.now) (small_decoder decoder.now) maybe.old maybe.new
+        (answer_by_code result 0) }
 {
     code_without_space(maybe_exhausted(&decoder.parts(), words, maybe))
 }

@@ -1,8 +1,8 @@
 //! Stores at words of 32 bits, states of 64 and a precision of 24.
 
 ghost use Rattle.std.specs.Prelude.{map};
-ghost use Rattle.constriction_c.specs.Large.{word, state};
-ghost use Rattle.constriction_c.specs.Codes.{Told, answer_of};
+ghost use Rattle.constriction_c.specs.Large.{large_word, large_state};
+ghost use Rattle.constriction_c.specs.Codes.{Told, answer_by_code};
 ghost use Rattle.constriction_calls.specs.StoreCalls.{StoreBuilds, StoreGives};
 
 use crate::codes::{code_of, code_without_space};
@@ -23,10 +23,17 @@ pub extern "C" fn constriction_store_build_u32(
     lengths: &[usize],
     needed: &mut usize,
 ) -> u32
-    ensures { Told result needed.old needed.new (StoreBuilds word state 32 64 24 (map word weights.now)
+    ensures { Told result needed.old needed.new
+        (StoreBuilds large_word large_state 32 64 24 (map large_word weights.now)
         symbols.now lengths.now
         record { positions = positions.old; lowers = lowers.old; ranges = ranges.old; words = words.old; len = len.old }
-        record { positions = positions.new; lowers = lowers.new; ranges = ranges.new; words = words.new; len = len.new }) }
+        record {
+          positions = positions.new;
+          lowers = lowers.new;
+          ranges = ranges.new;
+          words = words.new;
+          len = len.new;
+        }) }
 {
     code_of(
         build::<_, _, _, 24>(
@@ -47,8 +54,9 @@ pub extern "C" fn constriction_store_chunk_u32(
     weights: &[u32],
     symbols: &mut [usize],
 ) -> u32
-    ensures { StoreGives state 32 64 24 (map word weights.now) (map word words.now) pos lower range symbols.old
-        symbols.new (answer_of result 0) }
+    ensures { StoreGives large_state 32 64 24 (map large_word weights.now)
+        (map large_word words.now) pos lower range symbols.old
+        symbols.new (answer_by_code result 0) }
 {
     code_without_space(chunk::<u32, _, _, 24>(alloc, words, pos, lower, range, weights, symbols))
 }

@@ -1,8 +1,8 @@
 //! Stores at words of 16 bits, states of 32 and a precision of 12.
 
 ghost use Rattle.std.specs.Prelude.{map};
-ghost use Rattle.constriction_c.specs.Small.{word, state};
-ghost use Rattle.constriction_c.specs.Codes.{Told, answer_of};
+ghost use Rattle.constriction_c.specs.Small.{small_word, small_state};
+ghost use Rattle.constriction_c.specs.Codes.{Told, answer_by_code};
 ghost use Rattle.constriction_calls.specs.StoreCalls.{StoreBuilds, StoreGives};
 
 use crate::codes::{code_of, code_without_space};
@@ -23,10 +23,17 @@ pub extern "C" fn constriction_store_build_u16(
     lengths: &[usize],
     needed: &mut usize,
 ) -> u32
-    ensures { Told result needed.old needed.new (StoreBuilds word state 16 32 12 (map word weights.now)
+    ensures { Told result needed.old needed.new
+        (StoreBuilds small_word small_state 16 32 12 (map small_word weights.now)
         symbols.now lengths.now
         record { positions = positions.old; lowers = lowers.old; ranges = ranges.old; words = words.old; len = len.old }
-        record { positions = positions.new; lowers = lowers.new; ranges = ranges.new; words = words.new; len = len.new }) }
+        record {
+          positions = positions.new;
+          lowers = lowers.new;
+          ranges = ranges.new;
+          words = words.new;
+          len = len.new;
+        }) }
 {
     code_of(
         build::<_, _, _, 12>(
@@ -47,8 +54,9 @@ pub extern "C" fn constriction_store_chunk_u16(
     weights: &[u16],
     symbols: &mut [usize],
 ) -> u32
-    ensures { StoreGives state 16 32 12 (map word weights.now) (map word words.now) pos lower range symbols.old
-        symbols.new (answer_of result 0) }
+    ensures { StoreGives small_state 16 32 12 (map small_word weights.now)
+        (map small_word words.now) pos lower range symbols.old
+        symbols.new (answer_by_code result 0) }
 {
     code_without_space(chunk::<u16, _, _, 12>(alloc, words, pos, lower, range, weights, symbols))
 }

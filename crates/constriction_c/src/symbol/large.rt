@@ -1,9 +1,10 @@
 //! Lists of symbols as words of 32 bits, and back. `needed` is written only where there is no space.
 
 ghost use Rattle.std.specs.Prelude.{map};
-ghost use Rattle.constriction_c.specs.Large.{word};
-ghost use Rattle.constriction_c.specs.Codes.{Told, answer_of};
-ghost use Rattle.constriction_calls.specs.SymbolCalls.{AsQueue, AsStack, OfNumbers, OfWeights, PutsCodewords, TakesCodewords};
+ghost use Rattle.constriction_c.specs.Large.{large_word};
+ghost use Rattle.constriction_c.specs.Codes.{Told, answer_by_code};
+ghost use Rattle.constriction_calls.specs.SymbolCalls.{AsQueue, AsStack, OfNumbers, OfWeights, PutsCodewords};
+ghost use Rattle.constriction_calls.specs.SymbolCalls.{TakesCodewords};
 
 use crate::codes::{code_of, code_without_space};
 use constriction_calls::symbol::{Tree, decode_queue, decode_stack, encode_queue, encode_stack};
@@ -19,7 +20,8 @@ pub extern "C" fn constriction_exp_golomb_encode_queue_u32(
     len: &mut usize,
     needed: &mut usize,
 ) -> u32
-    ensures { Told result needed.old needed.new (PutsCodewords word word 32 AsQueue (OfNumbers 32) symbols.now
+    ensures { Told result needed.old needed.new
+        (PutsCodewords large_word large_word 32 AsQueue (OfNumbers 32) symbols.now
         record { words = words.old; len = len.old } record { words = words.new; len = len.new }) }
 {
     let answer = encode_queue(alloc, &ExpGolomb::<u32>::new(), symbols, words, len);
@@ -35,7 +37,8 @@ pub extern "C" fn constriction_exp_golomb_encode_stack_u32(
     len: &mut usize,
     needed: &mut usize,
 ) -> u32
-    ensures { Told result needed.old needed.new (PutsCodewords word word 32 AsStack (OfNumbers 32) symbols.now
+    ensures { Told result needed.old needed.new
+        (PutsCodewords large_word large_word 32 AsStack (OfNumbers 32) symbols.now
         record { words = words.old; len = len.old } record { words = words.new; len = len.new }) }
 {
     let answer = encode_stack(alloc, &ExpGolomb::<u32>::new(), symbols, words, len);
@@ -52,8 +55,8 @@ pub extern "C" fn constriction_huffman_encode_queue_u32(
     len: &mut usize,
     needed: &mut usize,
 ) -> u32
-    ensures { Told result needed.old needed.new (PutsCodewords (λ s. s) word 32 AsQueue
-        (OfWeights 32 (map word weights.now)) symbols.now record { words = words.old; len = len.old }
+    ensures { Told result needed.old needed.new (PutsCodewords (λ s. s) large_word 32 AsQueue
+        (OfWeights 32 (map large_word weights.now)) symbols.now record { words = words.old; len = len.old }
         record { words = words.new; len = len.new }) }
 {
     let answer = encode_queue(alloc, &Tree { weights }, symbols, words, len);
@@ -70,8 +73,8 @@ pub extern "C" fn constriction_huffman_encode_stack_u32(
     len: &mut usize,
     needed: &mut usize,
 ) -> u32
-    ensures { Told result needed.old needed.new (PutsCodewords (λ s. s) word 32 AsStack
-        (OfWeights 32 (map word weights.now)) symbols.now record { words = words.old; len = len.old }
+    ensures { Told result needed.old needed.new (PutsCodewords (λ s. s) large_word 32 AsStack
+        (OfWeights 32 (map large_word weights.now)) symbols.now record { words = words.old; len = len.old }
         record { words = words.new; len = len.new }) }
 {
     let answer = encode_stack(alloc, &Tree { weights }, symbols, words, len);
@@ -85,8 +88,8 @@ pub extern "C" fn constriction_exp_golomb_decode_queue_u32(
     words: &[u32],
     symbols: &mut [u32],
 ) -> u32
-    ensures { TakesCodewords word 32 AsQueue (OfNumbers 32) (map word words.now) symbols.old symbols.new
-        (answer_of result 0) }
+    ensures { TakesCodewords large_word 32 AsQueue (OfNumbers 32) (map large_word words.now) symbols.old symbols.new
+        (answer_by_code result 0) }
 {
     code_without_space(decode_queue(alloc, &ExpGolomb::<u32>::new(), words, symbols))
 }
@@ -98,8 +101,8 @@ pub extern "C" fn constriction_exp_golomb_decode_stack_u32(
     words: &[u32],
     symbols: &mut [u32],
 ) -> u32
-    ensures { TakesCodewords word 32 AsStack (OfNumbers 32) (map word words.now) symbols.old symbols.new
-        (answer_of result 0) }
+    ensures { TakesCodewords large_word 32 AsStack (OfNumbers 32) (map large_word words.now) symbols.old symbols.new
+        (answer_by_code result 0) }
 {
     code_without_space(decode_stack(alloc, &ExpGolomb::<u32>::new(), words, symbols))
 }
@@ -112,8 +115,9 @@ pub extern "C" fn constriction_huffman_decode_queue_u32(
     words: &[u32],
     symbols: &mut [usize],
 ) -> u32
-    ensures { TakesCodewords (λ s. s) 32 AsQueue (OfWeights 32 (map word weights.now)) (map word words.now) symbols.old
-        symbols.new (answer_of result 0) }
+    ensures { TakesCodewords (λ s. s) 32 AsQueue (OfWeights 32 (map large_word weights.now))
+        (map large_word words.now) symbols.old
+        symbols.new (answer_by_code result 0) }
 {
     code_without_space(decode_queue(alloc, &Tree { weights }, words, symbols))
 }
@@ -126,8 +130,9 @@ pub extern "C" fn constriction_huffman_decode_stack_u32(
     words: &[u32],
     symbols: &mut [usize],
 ) -> u32
-    ensures { TakesCodewords (λ s. s) 32 AsStack (OfWeights 32 (map word weights.now)) (map word words.now) symbols.old
-        symbols.new (answer_of result 0) }
+    ensures { TakesCodewords (λ s. s) 32 AsStack (OfWeights 32 (map large_word weights.now))
+        (map large_word words.now) symbols.old
+        symbols.new (answer_by_code result 0) }
 {
     code_without_space(decode_stack(alloc, &Tree { weights }, words, symbols))
 }

@@ -1,9 +1,10 @@
 //! Lists of symbols as words of 16 bits, and back. `needed` is written only where there is no space.
 
 ghost use Rattle.std.specs.Prelude.{map};
-ghost use Rattle.constriction_c.specs.Small.{word, state};
-ghost use Rattle.constriction_c.specs.Codes.{Told, answer_of};
-ghost use Rattle.constriction_calls.specs.SymbolCalls.{AsQueue, AsStack, OfNumbers, OfWeights, PutsCodewords, TakesCodewords};
+ghost use Rattle.constriction_c.specs.Small.{small_word, small_state};
+ghost use Rattle.constriction_c.specs.Codes.{Told, answer_by_code};
+ghost use Rattle.constriction_calls.specs.SymbolCalls.{AsQueue, AsStack, OfNumbers, OfWeights, PutsCodewords};
+ghost use Rattle.constriction_calls.specs.SymbolCalls.{TakesCodewords};
 
 use crate::codes::{code_of, code_without_space};
 use constriction_calls::symbol::{Tree, decode_queue, decode_stack, encode_queue, encode_stack};
@@ -19,7 +20,8 @@ pub extern "C" fn constriction_exp_golomb_encode_queue_u16(
     len: &mut usize,
     needed: &mut usize,
 ) -> u32
-    ensures { Told result needed.old needed.new (PutsCodewords word word 16 AsQueue (OfNumbers 16) symbols.now
+    ensures { Told result needed.old needed.new
+        (PutsCodewords small_word small_word 16 AsQueue (OfNumbers 16) symbols.now
         record { words = words.old; len = len.old } record { words = words.new; len = len.new }) }
 {
     let answer = encode_queue(alloc, &ExpGolomb::<u16>::new(), symbols, words, len);
@@ -35,7 +37,8 @@ pub extern "C" fn constriction_exp_golomb_encode_stack_u16(
     len: &mut usize,
     needed: &mut usize,
 ) -> u32
-    ensures { Told result needed.old needed.new (PutsCodewords word word 16 AsStack (OfNumbers 16) symbols.now
+    ensures { Told result needed.old needed.new
+        (PutsCodewords small_word small_word 16 AsStack (OfNumbers 16) symbols.now
         record { words = words.old; len = len.old } record { words = words.new; len = len.new }) }
 {
     let answer = encode_stack(alloc, &ExpGolomb::<u16>::new(), symbols, words, len);
@@ -52,8 +55,8 @@ pub extern "C" fn constriction_huffman_encode_queue_u16(
     len: &mut usize,
     needed: &mut usize,
 ) -> u32
-    ensures { Told result needed.old needed.new (PutsCodewords (λ s. s) word 16 AsQueue
-        (OfWeights 32 (map state weights.now)) symbols.now record { words = words.old; len = len.old }
+    ensures { Told result needed.old needed.new (PutsCodewords (λ s. s) small_word 16 AsQueue
+        (OfWeights 32 (map small_state weights.now)) symbols.now record { words = words.old; len = len.old }
         record { words = words.new; len = len.new }) }
 {
     let answer = encode_queue(alloc, &Tree { weights }, symbols, words, len);
@@ -70,8 +73,8 @@ pub extern "C" fn constriction_huffman_encode_stack_u16(
     len: &mut usize,
     needed: &mut usize,
 ) -> u32
-    ensures { Told result needed.old needed.new (PutsCodewords (λ s. s) word 16 AsStack
-        (OfWeights 32 (map state weights.now)) symbols.now record { words = words.old; len = len.old }
+    ensures { Told result needed.old needed.new (PutsCodewords (λ s. s) small_word 16 AsStack
+        (OfWeights 32 (map small_state weights.now)) symbols.now record { words = words.old; len = len.old }
         record { words = words.new; len = len.new }) }
 {
     let answer = encode_stack(alloc, &Tree { weights }, symbols, words, len);
@@ -85,8 +88,8 @@ pub extern "C" fn constriction_exp_golomb_decode_queue_u16(
     words: &[u16],
     symbols: &mut [u16],
 ) -> u32
-    ensures { TakesCodewords word 16 AsQueue (OfNumbers 16) (map word words.now) symbols.old symbols.new
-        (answer_of result 0) }
+    ensures { TakesCodewords small_word 16 AsQueue (OfNumbers 16) (map small_word words.now) symbols.old symbols.new
+        (answer_by_code result 0) }
 {
     code_without_space(decode_queue(alloc, &ExpGolomb::<u16>::new(), words, symbols))
 }
@@ -98,8 +101,8 @@ pub extern "C" fn constriction_exp_golomb_decode_stack_u16(
     words: &[u16],
     symbols: &mut [u16],
 ) -> u32
-    ensures { TakesCodewords word 16 AsStack (OfNumbers 16) (map word words.now) symbols.old symbols.new
-        (answer_of result 0) }
+    ensures { TakesCodewords small_word 16 AsStack (OfNumbers 16) (map small_word words.now) symbols.old symbols.new
+        (answer_by_code result 0) }
 {
     code_without_space(decode_stack(alloc, &ExpGolomb::<u16>::new(), words, symbols))
 }
@@ -112,8 +115,8 @@ pub extern "C" fn constriction_huffman_decode_queue_u16(
     words: &[u16],
     symbols: &mut [usize],
 ) -> u32
-    ensures { TakesCodewords (λ s. s) 16 AsQueue (OfWeights 32 (map state weights.now)) (map word words.now)
-        symbols.old symbols.new (answer_of result 0) }
+    ensures { TakesCodewords (λ s. s) 16 AsQueue (OfWeights 32 (map small_state weights.now)) (map small_word words.now)
+        symbols.old symbols.new (answer_by_code result 0) }
 {
     code_without_space(decode_queue(alloc, &Tree { weights }, words, symbols))
 }
@@ -126,8 +129,8 @@ pub extern "C" fn constriction_huffman_decode_stack_u16(
     words: &[u16],
     symbols: &mut [usize],
 ) -> u32
-    ensures { TakesCodewords (λ s. s) 16 AsStack (OfWeights 32 (map state weights.now)) (map word words.now)
-        symbols.old symbols.new (answer_of result 0) }
+    ensures { TakesCodewords (λ s. s) 16 AsStack (OfWeights 32 (map small_state weights.now)) (map small_word words.now)
+        symbols.old symbols.new (answer_by_code result 0) }
 {
     code_without_space(decode_stack(alloc, &Tree { weights }, words, symbols))
 }

@@ -5,7 +5,7 @@ ghost use Rattle.constriction_base.specs.Models.{pairs_of};
 ghost use Rattle.constriction_chain.specs.Chain.{IsSized};
 ghost use Rattle.constriction_chain.specs.Symbols.{TakesOffAll};
 ghost use Rattle.constriction_inputs.specs.Buffers.{Appended};
-ghost use Rattle.constriction_calls.specs.ChainCalls.{ChainTakes, EndsEarly, keeps};
+ghost use Rattle.constriction_calls.specs.ChainCalls.{ChainTakes, LacksCompressed, keeps};
 ghost use Rattle.constriction_calls.specs.ChainFits.{CoderFits};
 ghost use Rattle.constriction_inputs.specs.Coded.{AreFit, items};
 ghost use Rattle.constriction_inputs.specs.declared.refusal.Refusal.TheVariants as refusals;
@@ -109,7 +109,7 @@ fn take_by<
     ensures ok { IfOk result (λ symbols. TakesOffAll Word.BITS State.BITS
         (items PRECISION (G.coded models.now symbols.items)) coder.old.state coder.new.state) }
     ensures err { IfErr result (λ e. (e ≡ refusals.NoMemory) ⊎ ((e ≡ refusals.OutOfData)
-        × EndsEarly Word.BITS State.BITS PRECISION
+        × LacksCompressed Word.BITS State.BITS PRECISION
         (λ symbols. items PRECISION (G.coded models.now symbols)) (length places.now) coder.old.state)) }
 {
     match models.list(alloc, places, false) {
@@ -142,7 +142,7 @@ fn take_symbols<
     ensures ok { IfOk result (λ symbols. TakesOffAll Word.BITS State.BITS
         (pairs_of PRECISION (λ table. table) symbols.items (L.tables models.now)) coder.old.state coder.new.state) }
     ensures err { IfErr result (λ e. (e ≡ refusals.NoMemory) ⊎ ((e ≡ refusals.OutOfData)
-        × EndsEarly Word.BITS State.BITS PRECISION
+        × LacksCompressed Word.BITS State.BITS PRECISION
         (λ symbols. pairs_of PRECISION (λ table. table) symbols (L.tables models.now)) count coder.old.state)) }
 {
     let Ok(mut symbols) = Vec::with_capacity(alloc, count) else {

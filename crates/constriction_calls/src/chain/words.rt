@@ -1,8 +1,5 @@
 //! Coders from a caller's words, and the words of a caller's coder.
-
-ghost use Rattle.std.specs.Prelude.{◌≡◌, ◌↔◌, List, [], IfSome, IsSome};
-ghost use Rattle.constriction_chain.specs.Chain.{ChainState, IsSized};
-ghost use Rattle.constriction_calls.specs.ChainCalls.{AreHeads};
+ghost use Rattle.constriction_chain.specs.Chain.{IsSized};
 ghost use Rattle.constriction_calls.specs.ChainFits.{CoderFits};
 ghost use Rattle.constriction_calls.specs.ChainWords.{ChainBegins, ChainEnds, InBinary, InCompressed, InRemainders};
 

@@ -1,6 +1,6 @@
 //! Encodes behind the words of a caller's buffer.
 
-ghost use Rattle.std.specs.Prelude.{◌≡◌, ◌≤◌, ◌++◌, ℕ, List, length, map, IfSome};
+ghost use Rattle.std.specs.Prelude.{◌≡◌, ◌≤◌, List, length, map, IfSome};
 ghost use Rattle.constriction_base.specs.Models.{pairs_of};
 ghost use Rattle.constriction_base.specs.Steps.{IsSizes};
 ghost use Rattle.constriction_queue.specs.Encoder.{left_to_encode, run_by};
@@ -133,8 +133,8 @@ pub fn encode<
 ///
 /// # Errors
 ///
-/// As [`encode`]; `WrongLength` where the lists don't have one length, and `WrongInterval` where an interval is empty, or
-/// ends past two to the precision. No symbol is impossible.
+/// As [`encode`]; `WrongLength` where the lists don't have one length, and `WrongInterval` where an interval is empty,
+/// or ends past two to the precision. No symbol is impossible.
 pub fn encode_intervals<
     Word: WordOf<State>,
     State: BitArray,

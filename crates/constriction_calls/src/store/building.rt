@@ -1,6 +1,6 @@
 //! Chunks to words and an index.
 
-ghost use Rattle.std.specs.Prelude.{◌≡◌, ◌↔◌, ◌≤◌, length, map, sum, IfSome, IsTrue};
+ghost use Rattle.std.specs.Prelude.{◌↔◌, ◌≤◌, length, map, sum, IfSome, IsTrue};
 ghost use Rattle.constriction_base.specs.Steps.{IsSizes};
 ghost use Rattle.constriction_store.specs.Stores.{HoldsChunks, IsBuilt, entry_at};
 ghost use Rattle.constriction_calls.specs.StoreCalls.{FitStore, StoreBuilds, chunks_by};
@@ -30,7 +30,8 @@ fn fit(symbols: usize, lengths: &[usize], positions: usize, lowers: usize, range
     add_up(lengths, symbols)
 }
 
-/// The words and the index of the store of these chunks. `None` says that a symbol is impossible, or that memory is missing.
+/// The words and the index of the store of these chunks. `None` says that a symbol is impossible, or that memory is
+/// missing.
 fn stored<Word: WordOf<State>, State: BitArray, P: WordOf<Word>, const PRECISION: usize>(
     alloc: Global,
     weights: &[P],
@@ -40,9 +41,11 @@ fn stored<Word: WordOf<State>, State: BitArray, P: WordOf<Word>, const PRECISION
     requires sizes { IsSizes Word.BITS State.BITS }
     requires precision { (1 ≤ PRECISION) × (PRECISION ≤ P.BITS) }
     requires all { sum lengths.now ≤ length symbols.now }
-    ensures built { IfSome result (λ made. IsBuilt Word.BITS State.BITS (weights_model PRECISION (map P.number weights.now))
+    ensures built { IfSome result
+        (λ made. IsBuilt Word.BITS State.BITS (weights_model PRECISION (map P.number weights.now))
         (chunks_by symbols.now lengths.now) (map entry_at made.1.items) (map Word.number made.0.items)) }
-    ensures chunks { IfSome result (λ made. HoldsChunks Word.BITS State.BITS (weights_model PRECISION (map P.number weights.now))
+    ensures chunks { IfSome result
+        (λ made. HoldsChunks Word.BITS State.BITS (weights_model PRECISION (map P.number weights.now))
         (map Word.number made.0.items) (map entry_at made.1.items) (chunks_by symbols.now lengths.now)) }
 {
     let Some(table) = table_by::<P, PRECISION>(alloc, weights, false) else {
@@ -60,14 +63,15 @@ fn stored<Word: WordOf<State>, State: BitArray, P: WordOf<Word>, const PRECISION
     }
 }
 
-/// Puts the words of the store of chunks at the beginning of a buffer, their number into `len`, and its index into three lists: for
-/// each chunk where it begins, and its interval's lower end and length. The symbols of all chunks stand one behind another.
+/// Puts the words of the store of chunks at the beginning of a buffer, their number into `len`, and its index into
+/// three lists: for each chunk where it begins, and its interval's lower end and length. The symbols of all chunks
+/// stand one behind another.
 ///
 /// # Errors
 ///
 /// The first of these that holds, and nothing changed:
-/// - `WrongLength`: the lists of the index aren't as long as `lengths`, which don't add up to the number of symbols, or there are
-///   more of these than a store holds, 1048576.
+/// - `WrongLength`: the lists of the index aren't as long as `lengths`, which don't add up to the number of symbols, or
+///   there are more of these than a store holds, 1048576.
 /// - `WrongWeights`: the weights don't add up to two to the precision.
 /// - `ImpossibleSymbol`: the weight of a symbol is 0, or there is none.
 /// - `NoSpace`: the buffer ends before all words, and it tells how many there would be. Or `NoMemory`.
@@ -87,7 +91,13 @@ pub fn build<Word: WordOf<State>, State: BitArray, P: WordOf<Word>, const PRECIS
     ensures call { StoreBuilds Word.number State.number Word.BITS State.BITS PRECISION
         (map P.number weights.now) symbols.now lengths.now
         record { positions = positions.old; lowers = lowers.old; ranges = ranges.old; words = words.old; len = len.old }
-        record { positions = positions.new; lowers = lowers.new; ranges = ranges.new; words = words.new; len = len.new } result }
+        record {
+          positions = positions.new;
+          lowers = lowers.new;
+          ranges = ranges.new;
+          words = words.new;
+          len = len.new;
+        } result }
 {
     if !fit(
         symbols.len(),

@@ -1,6 +1,6 @@
 //! One chunk of a store.
 
-ghost use Rattle.std.specs.Prelude.{◌≡◌, ◌≤◌, length, map};
+ghost use Rattle.std.specs.Prelude.{◌≤◌, length, map};
 ghost use Rattle.constriction_base.specs.Steps.{IsSizes};
 ghost use Rattle.constriction_queue.specs.Decoder.{StandsAt};
 ghost use Rattle.constriction_queue.specs.States.{lower_of, range_of};
@@ -40,15 +40,17 @@ fn decoder_at<'a, Word: WordOf<State>, State: BitArray>(
     }
 }
 
-/// The chunk of words that begins at a position, in an interval of this lower end and length: as many symbols as the buffer has
-/// places. No other words are read than those of the chunk, and as many more as a state has. All may be a stranger's.
+/// The chunk of words that begins at a position, in an interval of this lower end and length: as many symbols as the
+/// buffer has places. No other words are read than those of the chunk, and as many more as a state has. All may be a
+/// stranger's.
 ///
 /// # Errors
 ///
 /// The first of these that holds, and nothing changed:
 /// - `WrongLength`: the position is past the words.
 /// - `WrongWeights`: the weights don't add up to two to the precision.
-/// - `InvalidData`: the interval is too short, or the words hold no such chunk, as those of a build do at its entries. Or `NoMemory`.
+/// - `InvalidData`: the interval is too short, or the words hold no such chunk, as those of a build do at its entries.
+///   Or `NoMemory`.
 pub fn chunk<Word: WordOf<State>, State: BitArray, P: WordOf<Word>, const PRECISION: usize>(
     alloc: Global,
     words: &[Word],

@@ -1,7 +1,8 @@
 //! Words as symbols.
 
 ghost use Rattle.std.specs.Prelude.{◌≡◌, IfErr, OnErr, OnOk, length, map};
-ghost use Rattle.constriction_calls.specs.SymbolCalls.{AsQueue, AsStack, BeginBits, IsToldAs, ReadsNone, TakesCodewords};
+ghost use Rattle.constriction_calls.specs.SymbolCalls.{AsQueue, AsStack, BeginBits, IsToldAs, ReadsNone};
+ghost use Rattle.constriction_calls.specs.SymbolCalls.{TakesCodewords};
 
 use crate::symbol::Codes;
 use constriction_base::backends::{Queue, Semantics, Stack};

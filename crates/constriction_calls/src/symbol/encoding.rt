@@ -2,7 +2,8 @@
 
 ghost use Rattle.std.specs.Prelude.{◌≡◌, ◌-◌, ◌<◌, ◌^◌, IfErr, IfSome, OnErr, OnOk, OnSome, length, map};
 ghost use Rattle.constriction_inputs.specs.Buffers.{Appended};
-ghost use Rattle.constriction_calls.specs.SymbolCalls.{AreSymbolWords, AsQueue, AsStack, MakesTree, PutsCodewords, codeword_in};
+ghost use Rattle.constriction_calls.specs.SymbolCalls.{AreSymbolWords, AsQueue, AsStack, MakesCode, PutsCodewords};
+ghost use Rattle.constriction_calls.specs.SymbolCalls.{codeword_in};
 ghost use Rattle.constriction_inputs.specs.declared.refusal.Refusal.TheVariants as refusals;
 
 use crate::symbol::Codes;
@@ -53,7 +54,7 @@ fn queue_words<Word: BitArray, C: Codes>(
     codes: &C,
     symbols: &[C::Symbol],
 ) -> Option<Vec<Word>>
-    ensures tree { OnSome result (MakesTree (2 ^ 62 - 1) (C.book codes.now)) }
+    ensures tree { OnSome result (MakesCode (2 ^ 62 - 1) (C.book codes.now)) }
     ensures words { IfSome result (λ words. AreSymbolWords AsQueue Word.BITS (codeword_in C.number (C.book codes.now))
         symbols.now (map Word.number words.items)) }
 {
@@ -75,7 +76,7 @@ fn stack_words<Word: BitArray, C: Codes>(
     codes: &C,
     symbols: &[C::Symbol],
 ) -> Option<Vec<Word>>
-    ensures tree { OnSome result (MakesTree (2 ^ 62 - 1) (C.book codes.now)) }
+    ensures tree { OnSome result (MakesCode (2 ^ 62 - 1) (C.book codes.now)) }
     ensures words { IfSome result (λ words. AreSymbolWords AsStack Word.BITS (codeword_in C.number (C.book codes.now))
         symbols.now (map Word.number words.items)) }
 {

@@ -1,7 +1,7 @@
 //! The codewords of trees of weights.
 
 ghost use Rattle.std.specs.Prelude.{◌↔◌, ◌<◌, All, IsTrue, map};
-ghost use Rattle.constriction_calls.specs.SymbolCalls.{MakesTree, OfWeights};
+ghost use Rattle.constriction_calls.specs.SymbolCalls.{MakesCode, OfWeights};
 
 use crate::symbol::Codes;
 use constriction_inputs::refusal::Refusal;
@@ -61,7 +61,7 @@ impl<'a, P: BitArray> Codes for Tree<'a, P> {
 
 /// Whether the weights make a tree, which has at most so many.
 fn make_tree<P: BitArray>(weights: &[P], most: usize) -> bool
-    ensures { IsTrue result ↔ MakesTree most (OfWeights P.BITS (map P.number weights.now)) }
+    ensures { IsTrue result ↔ MakesCode most (OfWeights P.BITS (map P.number weights.now)) }
 {
     !weights.is_empty() && weights.len() <= most && total_fits(weights)
 }

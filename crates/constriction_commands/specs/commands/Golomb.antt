@@ -11,8 +11,8 @@ use Rattle.constriction_commands.specs.declared.fault.Fault.{Fault}
 use Rattle.constriction_commands.specs.declared.fault.Fault.TheVariants.{BadNumber, OutOfMemory}
 
 -- the codewords of numbers with a space between each two, as a line
-abbrev pub codewords_line : List ℕ → List ℕ
-codewords_line numbers = join_with_byte 32 (map (λ n. digits (golomb n)) numbers) ++ 10 ∷ []
+abbrev pub golomb_line : List ℕ → List ℕ
+golomb_line numbers = join_with_byte 32 (map (λ n. digits (golomb n)) numbers) ++ 10 ∷ []
 
 -- the codewords of the numbers as a line, and as another the words of a queue of bits that holds them in order
 pub record IsGolomb (text answer : List ℕ) : Type 0 where
@@ -21,7 +21,7 @@ pub record IsGolomb (text answer : List ℕ) : Type 0 where
   pub numbers_line : numbers_of (2 ^ 32 - 1) (first_line text) ≡ Some numbers
   pub held : IsQueueWords 32 (flat_map golomb numbers) words
   pub fit : AreWords 32 words
-  pub printed : answer ≡ codewords_line numbers ++ line_of words
+  pub printed : answer ≡ golomb_line numbers ++ line_of words
 
 -- why there are none: the line is bad
 abbrev pub GolombFails : List ℕ → Fault → Type 0

@@ -2,7 +2,8 @@
 
 ghost use Rattle.std.specs.Prelude.{◌≡◌, ◌%◌, ◌^◌, ◌++◌, length, map, IfOk, IfErr};
 ghost use Rattle.constriction_commands.specs.Lines.{line_of};
-ghost use Rattle.constriction_commands.specs.commands.ChainSplit.{ChainDecodes, ChainFails, ChainSplitFails, IsChainOf, IsChainSplit, IsNoChain};
+ghost use Rattle.constriction_commands.specs.commands.ChainSplit.{ChainDecodes, ChainFails, ChainSplitFails, IsChainOf};
+ghost use Rattle.constriction_commands.specs.commands.ChainSplit.{IsChainSplit, IsNoChain};
 ghost use Rattle.constriction_commands.specs.declared.fault.Fault.TheVariants.{NoChain};
 
 use crate::fault::Fault;
@@ -34,7 +35,8 @@ fn decode<M: DecoderModel<PRECISION, Symbol = usize, Probability = u32>>(
     count: u32,
     coder: &mut DefaultChainCoder,
 ) -> Result<Vec<usize>, Fault>
-    ensures ok { IfOk result (λ symbols. ChainDecodes (M.table model.now) symbols.items coder.old.state coder.new.state) }
+    ensures ok { IfOk result
+        (λ symbols. ChainDecodes (M.table model.now) symbols.items coder.old.state coder.new.state) }
     ensures counted { IfOk result (λ symbols. length symbols.items ≡ count) }
     ensures err { IfErr result (ChainFails (M.table model.now) count coder.old.state) }
 {
@@ -57,7 +59,8 @@ fn three_lines(
     prefix: &[u32],
     suffix: &[u32],
 ) -> Result<Vec<u8>, AllocError>
-    ensures { IfOk result (λ lines. lines.items ≡ (line_of symbols.now ++ line_of (map (λ word. word % 2 ^ 32) prefix.now))
+    ensures { IfOk result
+        (λ lines. lines.items ≡ (line_of symbols.now ++ line_of (map (λ word. word % 2 ^ 32) prefix.now))
         ++ line_of (map (λ word. word % 2 ^ 32) suffix.now)) }
 {
     let mut lines = line_of_numbers(alloc, symbols)?;

@@ -4,7 +4,7 @@ ghost use Rattle.std.specs.Prelude.{◌≡◌, ◌%◌, ◌^◌, ◌++◌, map, 
 ghost use Rattle.constriction.specs.symbol.Bits.{IsQueueWords};
 ghost use Rattle.constriction.specs.symbol.Golomb.{golomb};
 ghost use Rattle.constriction_commands.specs.Codewords.{digits};
-ghost use Rattle.constriction_commands.specs.commands.Golomb.{GolombFails, IsGolomb, codewords_line};
+ghost use Rattle.constriction_commands.specs.commands.Golomb.{GolombFails, IsGolomb, golomb_line};
 
 use crate::codewords::{codeword, push_digits};
 use crate::fault::Fault;
@@ -24,7 +24,7 @@ fn push_codeword(alloc: Global, line: &mut Vec<u8>, number: u32) -> Result<(), A
 
 /// The codewords of numbers as a line.
 fn line_of_codewords(alloc: Global, numbers: &[u32]) -> Result<Vec<u8>, AllocError>
-    ensures { IfOk result (λ line. line.items ≡ codewords_line numbers.now) }
+    ensures { IfOk result (λ line. line.items ≡ golomb_line numbers.now) }
 {
     let mut line = Vec::new(alloc);
     for (place, number) in numbers.iter().enumerate() {
@@ -39,7 +39,8 @@ fn line_of_codewords(alloc: Global, numbers: &[u32]) -> Result<Vec<u8>, AllocErr
 
 /// The words of a queue of bits that holds the codewords of numbers in order.
 fn queue_of(alloc: Global, numbers: &[u32]) -> Result<Vec<u32>, AllocError>
-    ensures { IfOk result (λ words. IsQueueWords 32 (flat_map golomb numbers.now) (map (λ word. word % 2 ^ 32) words.items)) }
+    ensures { IfOk result
+        (λ words. IsQueueWords 32 (flat_map golomb numbers.now) (map (λ word. word % 2 ^ 32) words.items)) }
 {
     let mut coder = DefaultQueueEncoder::new(alloc);
     for number in numbers {

@@ -1,8 +1,9 @@
 //! `huffman`: weights to the codewords of their symbols, as texts.
 
-ghost use Rattle.std.specs.Prelude.{Bool, IfErr, IfOk, List, OnOk, Some, length, ◌++◌, ◌≡◌};
+ghost use Rattle.std.specs.Prelude.{IfErr, IfOk, OnOk, length, ◌++◌, ◌≡◌};
 ghost use Rattle.constriction.specs.symbol.Huffman.{IsHuffman, book_of, leaves, path};
-ghost use Rattle.constriction_commands.specs.commands.Huffman.{HuffmanFails, IsHuffmanLine, TreeFails, codeword_text, codewords_line};
+ghost use Rattle.constriction_commands.specs.commands.Huffman.{HuffmanFails, IsHuffmanLine, TreeFails, codeword_text};
+ghost use Rattle.constriction_commands.specs.commands.Huffman.{codewords_line};
 
 use crate::codewords::{codeword, push_digits};
 use crate::fault::Fault;

@@ -12,7 +12,8 @@ use std::alloc::Global;
 
 /// The table of the weights of line 1, and the symbols of line 2.
 pub fn table_and_symbols(alloc: Global, text: &[u8]) -> Result<(Table, Vec<usize>), Fault>
-    ensures ok { IfOk result (λ given. GivesSymbols text.now (⟦<Table as EntropyModel<PRECISION>>⟧.table given.0) given.1.items) }
+    ensures ok { IfOk result
+        (λ given. GivesSymbols text.now (⟦<Table as EntropyModel<PRECISION>>⟧.table given.0) given.1.items) }
     ensures err { IfErr result (NoSymbols text.now) }
 {
     let (first, second) = two_lines(text);

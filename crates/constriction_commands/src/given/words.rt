@@ -18,7 +18,8 @@ const MOST: u32 = 16_777_216;
 fn take_count(numbers: &mut Vec<u32>) -> Result<u32, Fault>
     ensures ok { IfOk result (λ count. (numbers.old.items ≡ count ∷ numbers.new.items) × (count ≤ most)) }
     ensures err { IfErr result (λ fault. ((fault ≡ NoCount) × (numbers.old.items ≡ []))
-        ⊎ ((fault ≡ BadNumber) × ((count : ℕ) × (words : List ℕ) × (numbers.old.items ≡ count ∷ words) × (most < count)))) }
+        ⊎ ((fault ≡ BadNumber)
+        × ((count : ℕ) × (words : List ℕ) × (numbers.old.items ≡ count ∷ words) × (most < count)))) }
 {
     if numbers.is_empty() {
         return Err(Fault::NoCount);
@@ -32,7 +33,8 @@ fn take_count(numbers: &mut Vec<u32>) -> Result<u32, Fault>
 
 /// The table of the weights of line 1, and the count and the words of line 2.
 pub fn table_and_words(alloc: Global, text: &[u8]) -> Result<(Table, u32, Vec<u32>), Fault>
-    ensures ok { IfOk result (λ given. GivesWords text.now (⟦<Table as EntropyModel<PRECISION>>⟧.table given.0) given.1 given.2.items) }
+    ensures ok { IfOk result
+        (λ given. GivesWords text.now (⟦<Table as EntropyModel<PRECISION>>⟧.table given.0) given.1 given.2.items) }
     ensures err { IfErr result (NoWords text.now) }
 {
     let (first, second) = two_lines(text);

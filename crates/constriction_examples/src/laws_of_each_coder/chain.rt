@@ -65,7 +65,8 @@ pub fn decode_to_the_end<
 where
     M::Probability: WordOf<u32>,
     ensures none_left { IfOk result (λ found. IfNone found (C.is_list → coder.old.state.compressed ≡ [])) }
-    ensures room_at_the_end { IfOk result (λ found. IfNone found (R.room coder.old.remainders ≤ R.room coder.new.remainders)) }
+    ensures room_at_the_end { IfOk result
+        (λ found. IfNone found (R.room coder.old.remainders ≤ R.room coder.new.remainders)) }
     ensures room_at_an_error { IfErr result (λ _. R.room coder.old.remainders ≤ R.room coder.new.remainders) }
 {
     match coder.decode_symbol(model) {
@@ -90,7 +91,8 @@ pub fn encode_to_the_end<
 where
     M::Probability: WordOf<u32>,
     ensures none_left { IfOk result (λ put. OnFalse put (R.is_list → coder.old.state.remainders ≡ [])) }
-    ensures room_at_the_end { IfOk result (λ put. OnFalse put (C.room coder.old.compressed ≤ C.room coder.new.compressed)) }
+    ensures room_at_the_end { IfOk result
+        (λ put. OnFalse put (C.room coder.old.compressed ≤ C.room coder.new.compressed)) }
     ensures room_at_an_error { IfErr result (λ _. C.room coder.old.compressed ≤ C.room coder.new.compressed) }
 {
     match coder.encode_symbol(symbol, model) {

@@ -54,7 +54,8 @@ where
         (items_of record { precision = PRECISION; table = M.table model.now } symbols.now) (start State.BITS) own
         × (map Word.number back.0.items ≡ own ++ map Word.number others.now)) }
     ensures back { IfOk result (λ back. back.1.items ≡ symbols.now) }
-    ensures err { IfErr result (NotCoded (HasImpossible (M.table model.now) symbols.now) (2 ^ 64 - 18 < length symbols.now)) }
+    ensures err { IfErr result
+        (NotCoded (HasImpossible (M.table model.now) symbols.now) (2 ^ 64 - 18 < length symbols.now)) }
 {
     let mut encoder: RangeEncoder<Word, State, Vec<Word>> = RangeEncoder::new(alloc);
     encode_list(&mut encoder, symbols, model)?;

@@ -1,6 +1,7 @@
 //! Words that are known to be few, from the public contracts of the coders and the bounds alone.
 
-ghost use Rattle.std.specs.Prelude.{◌≡◌, ◌-◌, ◌*◌, ◌<◌, ◌≤◌, ◌^◌, ◌⊎◌, List, [], ◌∷◌, length, map, reverse, IfOk, IfErr, MatchBool};
+ghost use Rattle.std.specs.Prelude.{◌≡◌, ◌-◌, ◌*◌, ◌<◌, ◌≤◌, ◌^◌, ◌⊎◌, List, [], ◌∷◌, length, map, reverse, IfOk};
+ghost use Rattle.std.specs.Prelude.{IfErr, MatchBool};
 ghost use Rattle.constriction_base.specs.Steps.{Step, IsSizes};
 ghost use Rattle.constriction_base.specs.Tables.{AtEntry, Impossible};
 ghost use Rattle.constriction_base.specs.Models.{items_of};
@@ -10,7 +11,8 @@ ghost use Rattle.constriction_queue.specs.Range.{start};
 ghost use Rattle.constriction_queue_laws.specs.Outcomes.{NotCoded, SealsAll};
 ghost use Rattle.constriction_stack_laws.specs.Exporting.{ExportsAll};
 ghost use Rattle.constriction_laws.specs.Exchanges.{StopsExchange};
-ghost use Rattle.constriction_laws.specs.Bounds.{AreEntries, Decode, Encode, net_share, net_whole, product, rounded_whole, share};
+ghost use Rattle.constriction_laws.specs.Bounds.{AreEntries, Decode, Encode, net_share, net_whole, product};
+ghost use Rattle.constriction_laws.specs.Bounds.{rounded_whole, share};
 
 use crate::bounds::{range_bound, stack_bound, stack_net_bound};
 use constriction_base::backends::{Holds, ReadWords, Stack, WriteWords};
@@ -78,7 +80,8 @@ where
         × (2 ≤ length words.items →
         2 ^ (Word.BITS * (length words.items - 2)) * (2 ^ State.BITS - 1) * product (share Word.BITS State.BITS) steps
         < 2 ^ State.BITS * product (rounded_whole Word.BITS State.BITS) steps)) }
-    ensures err { IfErr result (NotCoded (HasImpossible (M.table model.now) symbols.now) (2 ^ 64 - 18 < length symbols.now)) }
+    ensures err { IfErr result
+        (NotCoded (HasImpossible (M.table model.now) symbols.now) (2 ^ 64 - 18 < length symbols.now)) }
 {
     let mut encoder: RangeEncoder<Word, State, Vec<Word>> = RangeEncoder::new(alloc);
     encode_list(&mut encoder, symbols, model)?;
@@ -92,7 +95,8 @@ where
 /// Whether a head is low, so that a word moves in below it where one is left.
 fn is_low<Word: WordOf<State>, State: BitArray>(head: State) -> bool
     requires { IsSizes Word.BITS State.BITS }
-    ensures { MatchBool result (State.number head < 2 ^ (State.BITS - Word.BITS)) (2 ^ (State.BITS - Word.BITS) ≤ State.number head) }
+    ensures { MatchBool result (State.number head < 2 ^ (State.BITS - Word.BITS))
+        (2 ^ (State.BITS - Word.BITS) ≤ State.number head) }
 {
     head.shifted_right(State::BITS - Word::BITS).is_nothing()
 }
@@ -108,8 +112,8 @@ pub enum ExchangeError {
     Refused,
 }
 
-/// Takes a symbol off a coder and puts another one on, as bits-back coding does, where neither head is low. What the two
-/// symbols cost, net, is then bounded.
+/// Takes a symbol off a coder and puts another one on, as bits-back coding does, where neither head is low. What the
+/// two symbols cost, net, is then bounded.
 ///
 /// # Errors
 ///

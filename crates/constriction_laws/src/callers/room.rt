@@ -22,7 +22,8 @@ pub fn step_without_word<M: EncoderModel<8, Probability = u8>>(
     model: M,
 ) -> Result<(), DefaultEncoderError<AllocError>>
     requires { (left p : ℕ) → Has (M.table model) symbol.now left p → coder.old.state.head / 2 ^ 8 < p }
-    ensures step { EncodesSymbol (⟦<AnsCoder<u8, u16, Vec<u8>> as Encode<8>>⟧.encodes) (⟦<AnsCoder<u8, u16, Vec<u8>> as Encode<8>>⟧.is_impossible_symbol)
+    ensures step { EncodesSymbol (⟦<AnsCoder<u8, u16, Vec<u8>> as Encode<8>>⟧.encodes)
+        (⟦<AnsCoder<u8, u16, Vec<u8>> as Encode<8>>⟧.is_impossible_symbol)
         8 (M.table model) symbol.now coder.old result coder.new }
     ensures enough { (e : AllocError) → result ≡ Err (coder_error.Backend e) → ⊥ }
 {
@@ -36,7 +37,8 @@ pub fn step_with_room<M: EncoderModel<8, Probability = u8>>(
     model: M,
 ) -> Result<(), DefaultEncoderError<AllocError>>
     requires { vec_len coder.old.backend < vec_capacity coder.old.backend }
-    ensures step { EncodesSymbol (⟦<AnsCoder<u8, u16, Vec<u8>> as Encode<8>>⟧.encodes) (⟦<AnsCoder<u8, u16, Vec<u8>> as Encode<8>>⟧.is_impossible_symbol)
+    ensures step { EncodesSymbol (⟦<AnsCoder<u8, u16, Vec<u8>> as Encode<8>>⟧.encodes)
+        (⟦<AnsCoder<u8, u16, Vec<u8>> as Encode<8>>⟧.is_impossible_symbol)
         8 (M.table model) symbol.now coder.old result coder.new }
     ensures enough { (e : AllocError) → result ≡ Err (coder_error.Backend e) → ⊥ }
 {
@@ -50,7 +52,8 @@ pub fn step_on_cursor<M: EncoderModel<8, Probability = u8>>(
     model: M,
 ) -> Result<(), DefaultEncoderError<BoundedWriteError>>
     requires { coder.old.backend.pos < length coder.old.backend.buf.items }
-    ensures step { EncodesSymbol (⟦<AnsCoder<u8, u16, Cursor<u8, Vec<u8>>> as Encode<8>>⟧.encodes) (⟦<AnsCoder<u8, u16, Cursor<u8, Vec<u8>>> as Encode<8>>⟧.is_impossible_symbol)
+    ensures step { EncodesSymbol (⟦<AnsCoder<u8, u16, Cursor<u8, Vec<u8>>> as Encode<8>>⟧.encodes)
+        (⟦<AnsCoder<u8, u16, Cursor<u8, Vec<u8>>> as Encode<8>>⟧.is_impossible_symbol)
         8 (M.table model) symbol.now coder.old result coder.new }
     ensures enough { (e : BoundedWriteError) → result ≡ Err (coder_error.Backend e) → ⊥ }
 {
@@ -62,7 +65,8 @@ pub fn decode_on_cursor<M: DecoderModel<8, Probability = u8>>(
     coder: &mut AnsCoder<u8, u16, Cursor<u8, Vec<u8>>>,
     model: M,
 ) -> M::Symbol
-    ensures { DecodesSymbol (⟦<AnsCoder<u8, u16, Cursor<u8, Vec<u8>>> as Decode<8>>⟧.decodes) (⟦<AnsCoder<u8, u16, Cursor<u8, Vec<u8>>> as Decode<8>>⟧.halts)
+    ensures { DecodesSymbol (⟦<AnsCoder<u8, u16, Cursor<u8, Vec<u8>>> as Decode<8>>⟧.decodes)
+        (⟦<AnsCoder<u8, u16, Cursor<u8, Vec<u8>>> as Decode<8>>⟧.halts)
         8 (M.table model) coder.old (Ok result) coder.new }
 {
     match coder.decode_symbol(model) {
@@ -80,7 +84,8 @@ pub fn two_steps_on_cursor<M: EncoderModel<8, Probability = u8>>(
 ) -> Result<(), DefaultEncoderError<BoundedWriteError>>
     requires { coder.old.backend.pos + 2 ≤ length coder.old.backend.buf.items }
     ensures steps { StepsTwice (EncodesSymbol (⟦<AnsCoder<u8, u16, Cursor<u8, Vec<u8>>> as Encode<8>>⟧.encodes)
-        (⟦<AnsCoder<u8, u16, Cursor<u8, Vec<u8>>> as Encode<8>>⟧.is_impossible_symbol) 8 (M.table model.now) symbol.now) coder.old result coder.new }
+        (⟦<AnsCoder<u8, u16, Cursor<u8, Vec<u8>>> as Encode<8>>⟧.is_impossible_symbol) 8 (M.table model.now) symbol.now)
+        coder.old result coder.new }
     ensures enough { (e : BoundedWriteError) → result ≡ Err (coder_error.Backend e) → ⊥ }
 {
     match coder.encode_symbol(symbol, model) {

@@ -1,7 +1,7 @@
 use Rattle.std.proofs.Common.{ℕ, ◌-◌, ◌^◌, ◌%◌, Some, List, ◌++◌, map, sym, ◌∙◌, ap}
 use Rattle.std.proofs.lemmas.List.{map-id}
 use Rattle.constriction_commands.specs.Lines.{numbers_of, line_of}
-use Rattle.constriction_commands.specs.commands.Golomb.{codewords_line}
+use Rattle.constriction_commands.specs.commands.Golomb.{golomb_line}
 use Rattle.constriction_commands.proofs.CodewordTexts.{words_fit}
 use Rattle.constriction_commands.proofs.commands.golomb.answer.Goals as goal
 
@@ -15,6 +15,6 @@ returns-clause-ok c =
       fit = words_fit c.in_ok-words.words.items;
       printed =
           c.in_ok-push_words.ensures
-          ∙ ap (λ (front : List ℕ). front ++ line_of (map (λ word. word % 2 ^ 32) c.as_slice-3.result.now)) (c.in_ok-lines.ensures ∙ ap (λ (ns : List ℕ). codewords_line ns) c.as_slice.ensures.value)
-          ∙ ap (λ (words : List ℕ). codewords_line numbers ++ line_of (map (λ word. word % 2 ^ 32) words)) c.as_slice-3.ensures.value;
+          ∙ ap (λ (front : List ℕ). front ++ line_of (map (λ word. word % 2 ^ 32) c.as_slice-3.result.now)) (c.in_ok-lines.ensures ∙ ap (λ (ns : List ℕ). golomb_line ns) c.as_slice.ensures.value)
+          ∙ ap (λ (words : List ℕ). golomb_line numbers ++ line_of (map (λ word. word % 2 ^ 32) words)) c.as_slice-3.ensures.value;
     }

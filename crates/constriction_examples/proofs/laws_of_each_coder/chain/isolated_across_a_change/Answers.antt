@@ -1,4 +1,4 @@
-use Rattle.std.proofs.Common.{◌≡◌, ℕ, List, [], ◌∷◌, refl, arith}
+use Rattle.std.proofs.Common.{ℕ, List, [], ◌∷◌, refl, arith}
 use Rattle.constriction.specs.chain.Chain.{ChainState}
 use Rattle.constriction.specs.chain.Runs.{Event, Decode, Change, IsRun}
 use Rattle.constriction_examples.proofs.laws_of_each_coder.chain.isolated_across_a_change.Goals as goal
