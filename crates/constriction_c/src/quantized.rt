@@ -59,8 +59,7 @@ pub extern "C" fn constriction_weights_of_counts_u32(
     weights: &mut [u32],
 ) -> u32
     ensures { GivesWeightsOfCounts 24 counts.now (map ⟦<u32 as BitArray>⟧.number weights.old)
-        (map ⟦<u32 as BitArray>⟧.number weights.new)
-        (answer_by_code result 0) }
+        (map ⟦<u32 as BitArray>⟧.number weights.new) (answer_by_code result 0) }
 {
     code_without_space(put_weights_of_counts::<u32, 24>(alloc, counts, weights))
 }
@@ -73,8 +72,7 @@ pub extern "C" fn constriction_weights_of_counts_u16(
     weights: &mut [u16],
 ) -> u32
     ensures { GivesWeightsOfCounts 12 counts.now (map ⟦<u16 as BitArray>⟧.number weights.old)
-        (map ⟦<u16 as BitArray>⟧.number weights.new)
-        (answer_by_code result 0) }
+        (map ⟦<u16 as BitArray>⟧.number weights.new) (answer_by_code result 0) }
 {
     code_without_space(put_weights_of_counts::<u16, 12>(alloc, counts, weights))
 }

@@ -77,4 +77,3 @@ counted number buffer len added within =
     let below = length-map (reverse (take len buffer)) number ∙ (length-reverse (take len buffer) ∙ length-take-le len buffer within) in
     let both = length-append (map number (reverse added)) (stack_in number buffer len) in
     omega (arith, above, below, both)
-

@@ -51,9 +51,8 @@ pub trait Codes {
 
     /// Why these symbols weren't written. It takes no memory.
     fn refused(&self, symbols: &[Self::Symbol]) -> Refusal
-        ensures { Asks {T = Unit {0}} WrongWeights (MakesCode (2 ^ 62 - 1) (book self.now))
-            (Asks ImpossibleSymbol (AllHaveCodewords (codeword_in number (book self.now)) symbols.now) (Else Memory))
-            (Err result) };
+        ensures { Asks {T = Unit {0}} WrongWeights (MakesCode (2 ^ 62 - 1) (book self.now)) (Asks ImpossibleSymbol
+            (AllHaveCodewords (codeword_in number (book self.now)) symbols.now) (Else Memory)) (Err result) };
 
     /// The codebook for reading.
     fn decoder(&self, alloc: Global) -> Result<Self::Decoder, Refusal>

@@ -67,9 +67,8 @@ pub extern "C" fn constriction_ans_encode_intervals_reverse_u32(
     ps: &[u32],
     needed: &mut usize,
 ) -> u32
-    ensures { Told result needed.old needed.new
-        (LargeAnsPuts (AsIntervals (map large_word lefts.now) (map large_word ps.now))
-        (coder_of head.old words.old len.old) (coder_of head.new words.new len.new)) }
+    ensures { Told result needed.old needed.new (LargeAnsPuts (AsIntervals (map large_word lefts.now)
+        (map large_word ps.now)) (coder_of head.old words.old len.old) (coder_of head.new words.new len.new)) }
 {
     let answer = encode_intervals_reverse::<_, _, u32, 24>(alloc, head, words, len, lefts, ps);
     code_of(answer, needed)
@@ -90,9 +89,8 @@ pub extern "C" fn constriction_ans_encode_quantized_reverse_u32(
     symbols: &[usize],
     needed: &mut usize,
 ) -> u32
-    ensures { Told result needed.old needed.new (LargeAnsPuts
-        (in_family family min max locations.now scales.now symbols.now) (coder_of head.old words.old len.old)
-        (coder_of head.new words.new len.new)) }
+    ensures { Told result needed.old needed.new (LargeAnsPuts (in_family family min max locations.now scales.now
+        symbols.now) (coder_of head.old words.old len.old) (coder_of head.new words.new len.new)) }
 {
     let models = Families::new(family, min, max, locations, scales);
     let answer = encode_reverse::<_, _, u32, _, 24>(alloc, head, words, len, &models, symbols);
@@ -176,8 +174,7 @@ pub extern "C" fn constriction_ans_from_binary_u32(
     head: &mut u64,
 ) -> u32
     ensures { AnsImports large_word large_state (binary_state 32 64) (λ all. Unit {0})
-        (coder_of head.old words.now len.old)
-        (coder_of head.new words.now len.new) (answer_by_code result 0) }
+        (coder_of head.old words.now len.old) (coder_of head.new words.now len.new) (answer_by_code result 0) }
 {
     from_binary(words, len, head);
     code_without_space(Ok(()))
@@ -192,9 +189,8 @@ pub extern "C" fn constriction_ans_into_compressed_u32(
     len: &mut usize,
     needed: &mut usize,
 ) -> u32
-    ensures { Told result needed.old needed.new
-        (AnsExports large_word large_state (AreCompressed 32) (λ state. Unit {0})
-        (coder_of head words.old len.old) (coder_of head words.new len.new)) }
+    ensures { Told result needed.old needed.new (AnsExports large_word large_state (AreCompressed 32)
+        (λ state. Unit {0}) (coder_of head words.old len.old) (coder_of head words.new len.new)) }
 {
     code_of(into_compressed(alloc, head, words, len), needed)
 }

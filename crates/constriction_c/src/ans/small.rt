@@ -67,9 +67,8 @@ pub extern "C" fn constriction_ans_encode_intervals_reverse_u16(
     ps: &[u16],
     needed: &mut usize,
 ) -> u32
-    ensures { Told result needed.old needed.new
-        (SmallAnsPuts (AsIntervals (map small_word lefts.now) (map small_word ps.now))
-        (coder_of head.old words.old len.old) (coder_of head.new words.new len.new)) }
+    ensures { Told result needed.old needed.new (SmallAnsPuts (AsIntervals (map small_word lefts.now)
+        (map small_word ps.now)) (coder_of head.old words.old len.old) (coder_of head.new words.new len.new)) }
 {
     let answer = encode_intervals_reverse::<_, _, u16, 12>(alloc, head, words, len, lefts, ps);
     code_of(answer, needed)
@@ -90,9 +89,8 @@ pub extern "C" fn constriction_ans_encode_quantized_reverse_u16(
     symbols: &[usize],
     needed: &mut usize,
 ) -> u32
-    ensures { Told result needed.old needed.new (SmallAnsPuts
-        (in_family family min max locations.now scales.now symbols.now) (coder_of head.old words.old len.old)
-        (coder_of head.new words.new len.new)) }
+    ensures { Told result needed.old needed.new (SmallAnsPuts (in_family family min max locations.now scales.now
+        symbols.now) (coder_of head.old words.old len.old) (coder_of head.new words.new len.new)) }
 {
     let models = Families::new(family, min, max, locations, scales);
     let answer = encode_reverse::<_, _, u16, _, 12>(alloc, head, words, len, &models, symbols);
@@ -176,8 +174,7 @@ pub extern "C" fn constriction_ans_from_binary_u16(
     head: &mut u32,
 ) -> u32
     ensures { AnsImports small_word small_state (binary_state 16 32) (λ all. Unit {0})
-        (coder_of head.old words.now len.old)
-        (coder_of head.new words.now len.new) (answer_by_code result 0) }
+        (coder_of head.old words.now len.old) (coder_of head.new words.now len.new) (answer_by_code result 0) }
 {
     from_binary(words, len, head);
     code_without_space(Ok(()))
@@ -192,9 +189,8 @@ pub extern "C" fn constriction_ans_into_compressed_u16(
     len: &mut usize,
     needed: &mut usize,
 ) -> u32
-    ensures { Told result needed.old needed.new
-        (AnsExports small_word small_state (AreCompressed 16) (λ state. Unit {0})
-        (coder_of head words.old len.old) (coder_of head words.new len.new)) }
+    ensures { Told result needed.old needed.new (AnsExports small_word small_state (AreCompressed 16)
+        (λ state. Unit {0}) (coder_of head words.old len.old) (coder_of head words.new len.new)) }
 {
     code_of(into_compressed(alloc, head, words, len), needed)
 }

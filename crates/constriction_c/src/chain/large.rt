@@ -169,9 +169,8 @@ pub extern "C" fn constriction_chain_encode_quantized_reverse_u32(
     symbols: &[usize],
     needed: &mut usize,
 ) -> u32
-    ensures { Told result needed.old needed.new (LargeChainPuts
-        (in_family family min max locations.now scales.now symbols.now)
-        (large_chain heads.old compressed.old count.old remainders.now rest.old)
+    ensures { Told result needed.old needed.new (LargeChainPuts (in_family family min max locations.now scales.now
+        symbols.now) (large_chain heads.old compressed.old count.old remainders.now rest.old)
         (large_chain heads.new compressed.new count.new remainders.now rest.new)) }
 {
     let models = Families::new(family, min, max, locations, scales);
@@ -196,9 +195,8 @@ pub extern "C" fn constriction_chain_encode_intervals_reverse_u32(
     ps: &[u32],
     needed: &mut usize,
 ) -> u32
-    ensures { Told result needed.old needed.new
-        (LargeChainPuts (AsIntervals (map large_word lefts.now) (map large_word ps.now))
-        (large_chain heads.old compressed.old count.old remainders.now rest.old)
+    ensures { Told result needed.old needed.new (LargeChainPuts (AsIntervals (map large_word lefts.now)
+        (map large_word ps.now)) (large_chain heads.old compressed.old count.old remainders.now rest.old)
         (large_chain heads.new compressed.new count.new remainders.now rest.new)) }
 {
     let mut both = heads.parts();

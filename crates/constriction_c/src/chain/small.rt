@@ -169,9 +169,8 @@ pub extern "C" fn constriction_chain_encode_quantized_reverse_u16(
     symbols: &[usize],
     needed: &mut usize,
 ) -> u32
-    ensures { Told result needed.old needed.new (SmallChainPuts
-        (in_family family min max locations.now scales.now symbols.now)
-        (small_chain heads.old compressed.old count.old remainders.now rest.old)
+    ensures { Told result needed.old needed.new (SmallChainPuts (in_family family min max locations.now scales.now
+        symbols.now) (small_chain heads.old compressed.old count.old remainders.now rest.old)
         (small_chain heads.new compressed.new count.new remainders.now rest.new)) }
 {
     let models = Families::new(family, min, max, locations, scales);
@@ -196,9 +195,8 @@ pub extern "C" fn constriction_chain_encode_intervals_reverse_u16(
     ps: &[u16],
     needed: &mut usize,
 ) -> u32
-    ensures { Told result needed.old needed.new
-        (SmallChainPuts (AsIntervals (map small_word lefts.now) (map small_word ps.now))
-        (small_chain heads.old compressed.old count.old remainders.now rest.old)
+    ensures { Told result needed.old needed.new (SmallChainPuts (AsIntervals (map small_word lefts.now)
+        (map small_word ps.now)) (small_chain heads.old compressed.old count.old remainders.now rest.old)
         (small_chain heads.new compressed.new count.new remainders.now rest.new)) }
 {
     let mut both = heads.parts();

@@ -162,9 +162,8 @@ pub extern "C" fn constriction_range_encode_intervals_u32(
     ps: &[u32],
     needed: &mut usize,
 ) -> u32
-    ensures { Told result needed.old needed.new
-        (LargeRangePuts (AsIntervals (map large_word lefts.now)) (map large_word ps.now)
-        (large_kept encoder.old words.old len.old) (large_kept encoder.new words.new len.new)) }
+    ensures { Told result needed.old needed.new (LargeRangePuts (AsIntervals (map large_word lefts.now))
+        (map large_word ps.now) (large_kept encoder.old words.old len.old) (large_kept encoder.new words.new len.new)) }
 {
     let mut parts = encoder.parts();
     let answer = encode_intervals::<_, _, _, 24>(alloc, &mut parts, words, len, lefts, ps);

@@ -162,9 +162,8 @@ pub extern "C" fn constriction_range_encode_intervals_u16(
     ps: &[u16],
     needed: &mut usize,
 ) -> u32
-    ensures { Told result needed.old needed.new
-        (SmallRangePuts (AsIntervals (map small_word lefts.now)) (map small_word ps.now)
-        (small_kept encoder.old words.old len.old) (small_kept encoder.new words.new len.new)) }
+    ensures { Told result needed.old needed.new (SmallRangePuts (AsIntervals (map small_word lefts.now))
+        (map small_word ps.now) (small_kept encoder.old words.old len.old) (small_kept encoder.new words.new len.new)) }
 {
     let mut parts = encoder.parts();
     let answer = encode_intervals::<_, _, _, 12>(alloc, &mut parts, words, len, lefts, ps);

@@ -24,16 +24,9 @@ pub extern "C" fn constriction_store_build_u32(
     needed: &mut usize,
 ) -> u32
     ensures { Told result needed.old needed.new
-        (StoreBuilds large_word large_state 32 64 24 (map large_word weights.now)
-        symbols.now lengths.now
-        record { positions = positions.old; lowers = lowers.old; ranges = ranges.old; words = words.old; len = len.old }
-        record {
-          positions = positions.new;
-          lowers = lowers.new;
-          ranges = ranges.new;
-          words = words.new;
-          len = len.new;
-        }) }
+        (StoreBuilds large_word large_state 32 64 24 (map large_word weights.now) symbols.now lengths.now record
+        { positions = positions.old; lowers = lowers.old; ranges = ranges.old; words = words.old; len = len.old } record
+        { positions = positions.new; lowers = lowers.new; ranges = ranges.new; words = words.new; len = len.new }) }
 {
     code_of(
         build::<_, _, _, 24>(
@@ -55,8 +48,7 @@ pub extern "C" fn constriction_store_chunk_u32(
     symbols: &mut [usize],
 ) -> u32
     ensures { StoreGives large_state 32 64 24 (map large_word weights.now)
-        (map large_word words.now) pos lower range symbols.old
-        symbols.new (answer_by_code result 0) }
+        (map large_word words.now) pos lower range symbols.old symbols.new (answer_by_code result 0) }
 {
     code_without_space(chunk::<u32, _, _, 24>(alloc, words, pos, lower, range, weights, symbols))
 }

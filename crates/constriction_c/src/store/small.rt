@@ -24,16 +24,9 @@ pub extern "C" fn constriction_store_build_u16(
     needed: &mut usize,
 ) -> u32
     ensures { Told result needed.old needed.new
-        (StoreBuilds small_word small_state 16 32 12 (map small_word weights.now)
-        symbols.now lengths.now
-        record { positions = positions.old; lowers = lowers.old; ranges = ranges.old; words = words.old; len = len.old }
-        record {
-          positions = positions.new;
-          lowers = lowers.new;
-          ranges = ranges.new;
-          words = words.new;
-          len = len.new;
-        }) }
+        (StoreBuilds small_word small_state 16 32 12 (map small_word weights.now) symbols.now lengths.now record
+        { positions = positions.old; lowers = lowers.old; ranges = ranges.old; words = words.old; len = len.old } record
+        { positions = positions.new; lowers = lowers.new; ranges = ranges.new; words = words.new; len = len.new }) }
 {
     code_of(
         build::<_, _, _, 12>(
@@ -55,8 +48,7 @@ pub extern "C" fn constriction_store_chunk_u16(
     symbols: &mut [usize],
 ) -> u32
     ensures { StoreGives small_state 16 32 12 (map small_word weights.now)
-        (map small_word words.now) pos lower range symbols.old
-        symbols.new (answer_by_code result 0) }
+        (map small_word words.now) pos lower range symbols.old symbols.new (answer_by_code result 0) }
 {
     code_without_space(chunk::<u16, _, _, 12>(alloc, words, pos, lower, range, weights, symbols))
 }

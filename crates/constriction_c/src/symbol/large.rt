@@ -20,9 +20,8 @@ pub extern "C" fn constriction_exp_golomb_encode_queue_u32(
     len: &mut usize,
     needed: &mut usize,
 ) -> u32
-    ensures { Told result needed.old needed.new
-        (PutsCodewords large_word large_word 32 AsQueue (OfNumbers 32) symbols.now
-        record { words = words.old; len = len.old } record { words = words.new; len = len.new }) }
+    ensures { Told result needed.old needed.new (PutsCodewords large_word large_word 32 AsQueue (OfNumbers 32)
+        symbols.now record { words = words.old; len = len.old } record { words = words.new; len = len.new }) }
 {
     let answer = encode_queue(alloc, &ExpGolomb::<u32>::new(), symbols, words, len);
     code_of(answer, needed)
@@ -37,9 +36,8 @@ pub extern "C" fn constriction_exp_golomb_encode_stack_u32(
     len: &mut usize,
     needed: &mut usize,
 ) -> u32
-    ensures { Told result needed.old needed.new
-        (PutsCodewords large_word large_word 32 AsStack (OfNumbers 32) symbols.now
-        record { words = words.old; len = len.old } record { words = words.new; len = len.new }) }
+    ensures { Told result needed.old needed.new (PutsCodewords large_word large_word 32 AsStack (OfNumbers 32)
+        symbols.now record { words = words.old; len = len.old } record { words = words.new; len = len.new }) }
 {
     let answer = encode_stack(alloc, &ExpGolomb::<u32>::new(), symbols, words, len);
     code_of(answer, needed)
@@ -116,8 +114,7 @@ pub extern "C" fn constriction_huffman_decode_queue_u32(
     symbols: &mut [usize],
 ) -> u32
     ensures { TakesCodewords (λ s. s) 32 AsQueue (OfWeights 32 (map large_word weights.now))
-        (map large_word words.now) symbols.old
-        symbols.new (answer_by_code result 0) }
+        (map large_word words.now) symbols.old symbols.new (answer_by_code result 0) }
 {
     code_without_space(decode_queue(alloc, &Tree { weights }, words, symbols))
 }
@@ -131,8 +128,7 @@ pub extern "C" fn constriction_huffman_decode_stack_u32(
     symbols: &mut [usize],
 ) -> u32
     ensures { TakesCodewords (λ s. s) 32 AsStack (OfWeights 32 (map large_word weights.now))
-        (map large_word words.now) symbols.old
-        symbols.new (answer_by_code result 0) }
+        (map large_word words.now) symbols.old symbols.new (answer_by_code result 0) }
 {
     code_without_space(decode_stack(alloc, &Tree { weights }, words, symbols))
 }

@@ -20,9 +20,8 @@ pub extern "C" fn constriction_exp_golomb_encode_queue_u16(
     len: &mut usize,
     needed: &mut usize,
 ) -> u32
-    ensures { Told result needed.old needed.new
-        (PutsCodewords small_word small_word 16 AsQueue (OfNumbers 16) symbols.now
-        record { words = words.old; len = len.old } record { words = words.new; len = len.new }) }
+    ensures { Told result needed.old needed.new (PutsCodewords small_word small_word 16 AsQueue (OfNumbers 16)
+        symbols.now record { words = words.old; len = len.old } record { words = words.new; len = len.new }) }
 {
     let answer = encode_queue(alloc, &ExpGolomb::<u16>::new(), symbols, words, len);
     code_of(answer, needed)
@@ -37,9 +36,8 @@ pub extern "C" fn constriction_exp_golomb_encode_stack_u16(
     len: &mut usize,
     needed: &mut usize,
 ) -> u32
-    ensures { Told result needed.old needed.new
-        (PutsCodewords small_word small_word 16 AsStack (OfNumbers 16) symbols.now
-        record { words = words.old; len = len.old } record { words = words.new; len = len.new }) }
+    ensures { Told result needed.old needed.new (PutsCodewords small_word small_word 16 AsStack (OfNumbers 16)
+        symbols.now record { words = words.old; len = len.old } record { words = words.new; len = len.new }) }
 {
     let answer = encode_stack(alloc, &ExpGolomb::<u16>::new(), symbols, words, len);
     code_of(answer, needed)

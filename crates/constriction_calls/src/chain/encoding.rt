@@ -57,8 +57,7 @@ pub fn encode_reverse<
     requires sized { IsSized Word.BITS State.BITS PRECISION }
     requires within { PRECISION ≤ P.BITS }
     requires fits { CoderFits Word.row State.row }
-    ensures call { ChainPuts Word.number State.number Word.BITS State.BITS PRECISION
-        (G.coded models.now symbols.now)
+    ensures call { ChainPuts Word.number State.number Word.BITS State.BITS PRECISION (G.coded models.now symbols.now)
         (keeps heads.old compressed.old compressed_len.old remainders.now remainders_len.old)
         (keeps heads.new compressed.new compressed_len.new remainders.now remainders_len.new) result }
 {
@@ -169,9 +168,8 @@ fn put_by<
     requires fit { AreFit PRECISION (G.coded models.now symbols.now) }
     ensures ok { OnOk result (PutsBackAll Word.BITS State.BITS
         (reverse (items PRECISION (G.coded models.now symbols.now))) coder.old.state coder.new.state) }
-    ensures asked { Asks refusals.ImpossibleSymbol
-        (AreKnown (items PRECISION (G.coded models.now symbols.now))) (Else
-        (λ e. (e ≡ refusals.NoMemory) ⊎ ((e ≡ refusals.OutOfData) × LacksRemainders Word.BITS State.BITS
+    ensures asked { Asks refusals.ImpossibleSymbol (AreKnown (items PRECISION (G.coded models.now symbols.now)))
+        (Else (λ e. (e ≡ refusals.NoMemory) ⊎ ((e ≡ refusals.OutOfData) × LacksRemainders Word.BITS State.BITS
         (reverse (items PRECISION (G.coded models.now symbols.now))) coder.old.state))) result }
 {
     let refusal = match models.list(alloc, symbols, true) {
@@ -207,11 +205,9 @@ fn put_symbols<
     symbols: &[usize],
 ) -> Result<(), Refusal>
     requires { length (L.tables models.now) ≡ length symbols.now }
-    ensures ok { OnOk result (PutsBackAll Word.BITS State.BITS
-        (reverse (pairs_of PRECISION (λ table. table) symbols.now (L.tables models.now)))
-        coder.old.state coder.new.state) }
-    ensures err { IfErr result (λ e. (e ≡ refusals.NoMemory)
-        ⊎ ((e ≡ refusals.ImpossibleSymbol)
+    ensures ok { OnOk result (PutsBackAll Word.BITS State.BITS (reverse
+        (pairs_of PRECISION (λ table. table) symbols.now (L.tables models.now))) coder.old.state coder.new.state) }
+    ensures err { IfErr result (λ e. (e ≡ refusals.NoMemory) ⊎ ((e ≡ refusals.ImpossibleSymbol)
         × (AreKnown (pairs_of PRECISION (λ table. table) symbols.now (L.tables models.now)) → ⊥))
         ⊎ ((e ≡ refusals.OutOfData) × LacksRemainders Word.BITS State.BITS
         (reverse (pairs_of PRECISION (λ table. table) symbols.now (L.tables models.now))) coder.old.state)) }

@@ -71,9 +71,8 @@ where
     requires { R.is_list }
     ensures count { length symbols.new ≡ length symbols.old }
     ensures ok { OnOk result (BeginBits (C.codeword codebook.now) symbols.new (R.unread stream.old)) }
-    ensures err { IfErr result (ReadsNone (C.codeword codebook.now) (C.reads_on codebook.now)
-        (λ bits. (e : C.InvalidCodeword) × C.is_invalid codebook.now bits e)
-        (length symbols.old) (R.unread stream.old)) }
+    ensures err { IfErr result (ReadsNone (C.codeword codebook.now) (C.reads_on codebook.now) (λ bits.
+        (e : C.InvalidCodeword) × C.is_invalid codebook.now bits e) (length symbols.old) (R.unread stream.old)) }
     ensures kept { OnErr result (symbols.new ≡ symbols.old) }
 {
     let Ok(mut read) = Vec::with_capacity(alloc, symbols.len()) else {
