@@ -8,8 +8,7 @@ pub mod small;
 
 use constriction_calls::chain::ChainHeads;
 
-/// The two heads of a chain coder at words of 32 bits: the number of the remainders, and a 1 with the bits left over of
-/// the compressed words.
+/// The heads of a chain coder at words of 32 bits: the remainders' number, and a 1 with the compressed bits left over.
 #[repr(C)]
 #[derive(Drop, Clone, Copy)]
 pub struct ChainHeadsU32 {
@@ -41,8 +40,7 @@ impl ChainHeadsU32 {
     }
 }
 
-/// The two heads of a chain coder at words of 16 bits: the number of the remainders, and a 1 with the bits left over of
-/// the compressed words.
+/// The heads of a chain coder at words of 16 bits: the remainders' number, and a 1 with the compressed bits left over.
 #[repr(C)]
 #[derive(Drop, Clone, Copy)]
 pub struct ChainHeadsU16 {

@@ -1,7 +1,6 @@
 //! The calls of `constriction_calls` as C functions, at words of 32 bits (states of 64, a precision of 24) and of 16
 //! (32, 12). `include/constriction.h` describes them. Each export is its call and `codes::code_of` of the answer, and
-//! its contract is the record of the call, of the answer that its code stands for and of how many words are needed
-//! (`Told`).
+//! its contract is the call's record, of the answer that its code stands for and of how many words are needed (`Told`).
 #![tactic(auto)]
 
 pub mod ans;

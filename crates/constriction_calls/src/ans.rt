@@ -1,5 +1,4 @@
-//! The stack coder over a caller's buffer: the state is a head, and the first `len` words of the buffer, the last one
-//! on top.
+//! The stack coder over a caller's buffer: a head, and the first `len` words of the buffer, the last one on top.
 //!
 //! - [`encoding`]: symbols put on.
 //! - [`decoding`]: symbols taken off.

@@ -211,8 +211,7 @@ pub extern "C" fn constriction_range_into_compressed_u16(
     code_of(into_compressed(alloc, &encoder.parts(), words, len), needed)
 }
 
-/// `into_self_delimited`: the same with a seal that holds whatever words follow. It is the other seal, since a state is
-/// two words.
+/// `into_self_delimited`: the same with a seal that holds whatever follows, the same one where a state is two words.
 #[unsafe(no_mangle)]
 pub extern "C" fn constriction_range_into_self_delimited_u16(
     alloc: Global,

@@ -23,8 +23,7 @@ type Bare<Word, State, const PRECISION: usize> = ChainCoder<
     PRECISION,
 >;
 
-/// The coder that compressed words stand for, over no remainders: its heads, and how many of the words stay below
-/// them.
+/// The coder that compressed words stand for, over no remainders: its heads, and how many words stay below them.
 ///
 /// # Errors
 ///
@@ -57,8 +56,7 @@ pub fn from_compressed<Word: WordOf<State>, State: BitArray, const PRECISION: us
     }
 }
 
-/// The coder that words stand for in binary form, over no remainders: its heads, and how many of the words stay below
-/// them.
+/// The coder that words stand for in binary form, over no remainders: its heads, and how many words stay below them.
 ///
 /// # Errors
 ///
@@ -91,8 +89,7 @@ pub fn from_binary<Word: WordOf<State>, State: BitArray, const PRECISION: usize>
     }
 }
 
-/// The coder that remainders stand for, over no compressed words: its heads, and how many of the words stay below
-/// them.
+/// The coder that remainders stand for, over no compressed words: its heads, and how many words stay below them.
 ///
 /// # Errors
 ///

@@ -49,8 +49,7 @@ fn put_list<
     Some(parts_of(encoder))
 }
 
-/// The words that encodes write behind any others, and the encoder then. `None` says that a symbol isn't known, or that
-/// memory is missing.
+/// The words that encodes write behind any others, and the encoder then; `None` for an unknown symbol, or no memory.
 fn put_by<
     Word: WordOf<State>,
     State: BitArray,

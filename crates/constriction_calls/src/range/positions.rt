@@ -55,8 +55,7 @@ pub fn seek<Word: WordOf<State>, State: BitArray>(
     Ok(())
 }
 
-/// Whether the words may have ended where the decoder stands, as 1 or 0: none is left, and the point lies where a seal
-/// puts it.
+/// Whether the words may have ended where the decoder stands, as 1 or 0: none is left, and the point is a seal's.
 pub fn maybe_exhausted<Word: WordOf<State>, State: BitArray>(
     decoder: &DecoderParts<State>,
     words: &[Word],

@@ -30,8 +30,7 @@ fn fit(symbols: usize, lengths: &[usize], positions: usize, lowers: usize, range
     add_up(lengths, symbols)
 }
 
-/// The words and the index of the store of these chunks. `None` says that a symbol is impossible, or that memory is
-/// missing.
+/// The words and the index of the store of these chunks; `None` for an impossible symbol, or where memory is missing.
 fn stored<Word: WordOf<State>, State: BitArray, P: WordOf<Word>, const PRECISION: usize>(
     alloc: Global,
     weights: &[P],
