@@ -146,6 +146,10 @@ pub record IsCarried (w : ℕ) (carry : Bool) (old new : List ℕ) : Type 0 wher
   pub len : length new ≡ length old
   pub fit : AreWords w new
 
+-- the words held, with the carry, are those let go, whatever words stand before them
+abbrev pub LetsGo : {Word : Type 0} → (Word → ℕ) → ℕ → Bool → EncoderSituation Word → Option (HeldWords Word) → Type 0
+LetsGo number w carry situation released = (words : List ℕ) → AreWords w words → IsCarried w carry (held_of number w situation ++ words) (released_of number released ++ words)
+
 -- a carry needs held words, and the first of them can take it
 abbrev pub CanCarry : {Word : Type 0} → (Word → ℕ) → ℕ → EncoderSituation Word → Bool → Type 0
 CanCarry number w Normal carry = carry ≡ false

@@ -1,7 +1,8 @@
 -- What a guard holds, for those who read its contracts.
-use Rattle.std.specs.Prelude.{ℕ, List}
+use Rattle.std.specs.Prelude.{ℕ, ◌+◌, ◌<◌, List, length}
 use Rattle.std.specs.Borrow.{MutBor}
 use Rattle.std.specs.declared.vec.Vec.{Vec}
+use Rattle.constriction_queue.specs.Encoder.{Encoder, sealed_by}
 use Rattle.constriction_queue.specs.declared.encoder.RangeEncoder.{RangeEncoder}
 use Rattle.constriction_queue.specs.declared.encoder.guard.EncoderGuard.{EncoderGuard}
 
@@ -21,3 +22,7 @@ lent_by g = g.inner.now.bulk.items
 -- what a drop of a guard leaves behind its reference: the first of the fields that it gives back
 abbrev pub lent_back : {A B : Type 0} → A × B → A
 lent_back exit = exit.0
+
+-- why the sealed words aren't shown: the backend has no room for those that are missing
+abbrev pub SealLacksRoom : {B : Type 0} → (B → ℕ) → ℕ → ℕ → Encoder B → Type 0
+SealLacksRoom room w s e = room e.bulk + length e.words < length (sealed_by w s e)

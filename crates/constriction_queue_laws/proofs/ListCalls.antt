@@ -1,5 +1,5 @@
 -- What list calls of a range coder do, in the words of the laws.
-use Rattle.std.proofs.Common.{◌≡◌, ℕ, ◌+◌, ◌-◌, ◌*◌, ◌<◌, ◌^◌, ◌⊎◌, Option, List, [], ◌∷◌, Result, Ok, Err, inl, inr, length, map, refl, sym, ap, ◌∙◌, subst, arith}
+use Rattle.std.proofs.Common.{◌≡◌, ℕ, ◌+◌, ◌-◌, ◌*◌, ◌<◌, ◌^◌, ◌⊎◌, List, [], ◌∷◌, Ok, Err, inl, inr, length, map, refl, sym, ap, ◌∙◌, subst, arith}
 use Rattle.std.specs.Prelude.{Bool, IsTrue, reverse}
 use Rattle.constriction_base.specs.declared.backends.reading.Holds as holding
 use Rattle.constriction_base.specs.declared.backends.reading.ReadWords as reading
@@ -16,7 +16,7 @@ use Rattle.constriction_queue.specs.Decoder.{Decoder, distance, quantile_read, S
 use Rattle.constriction_queue.specs.Calls as calls
 use Rattle.constriction_queue.proofs.Pointing.{takes_is, mod_sum}
 use Rattle.constriction_queue.proofs.Showing.{queue_is}
-use Rattle.constriction_queue_laws.specs.Outcomes.{ReadsToEnd}
+use Rattle.constriction_queue_laws.specs.Outcomes.{ReadsToEnd, ReadTo}
 use Rattle.constriction_queue.specs.Symbols.{Narrows, Finds, NarrowsAll, FindsAll, MayEnd, NearsEnd}
 use Rattle.constriction_queue_laws.proofs.ComingBack.{decodes_unique}
 use Rattle.constriction_coder_laws.proofs.SameModel.{are_models, models-alike, symbols-items_of}
@@ -43,10 +43,6 @@ module _ {S W B E F Q : Type 0} (number : W → ℕ) (holds : holding.Ghosts B W
       (run_by w s all.0, first, encodes_of lent item xs all.0 new all.2)
 
 -- ---- decodes
--- what is left of a list of decodes
-abbrev pub ReadTo : {S B : Type 0} → ℕ → ℕ → List ℕ → List (Item S) → Run → Decoder B → Type 0
-ReadTo w s words items old new = (last : Run) × FindsAll w s words items old last × StandsAt w s words last new
-
 module _ {S W B E Q : Type 0} (F : Type 0) (number : W → ℕ) (holds : holding.Ghosts B W Q) (reads : reading.Ghosts B W Q E) (w s : ℕ) (words : List ℕ) (known : holds.is_list) where
   -- a step of the decoder that went well is a decode of the symbol
   abbrev pub Given : Model S → S → Decoder B → Decoder B → Type 0

@@ -5,7 +5,7 @@ use Rattle.std.specs.Iterator.Adapters.{zip_steps}
 use Rattle.std.specs.List.{zip}
 use Rattle.std.specs.declared.iter.Zip.{Zip}
 use Rattle.std.specs.Slice.Iter.{iter_rest, iter_steps}
-use Rattle.std.proofs.Common.{◌≡◌, ◌∙◌, ℕ, ◌<◌, ◌≤◌, ◌^◌, Bor, Iter, Option, Some, List, [], ◌∷◌, ◌++◌, Result, Ok, Err, inl, inr, map, append_assoc, length, drop, refl, sym, ap, subst, arith}
+use Rattle.std.proofs.Common.{◌≡◌, ◌∙◌, ℕ, ◌<◌, ◌≤◌, ◌^◌, Bor, Iter, Some, List, [], ◌∷◌, ◌++◌, Result, Ok, Err, inl, inr, map, append_assoc, length, drop, refl, sym, ap, subst, arith}
 use Rattle.std.specs.Prelude.{IfErr, IfOk, IsErrAnd}
 use Rattle.std.proofs.lemmas.List.{map-append}
 use Rattle.constriction_base.specs.declared.backends.reading.Holds as holding

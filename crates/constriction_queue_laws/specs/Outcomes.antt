@@ -27,6 +27,10 @@ NotRead none e = Reasons ⊥ ⊥ none (λ taken. ⊥) e
 abbrev pub NotBack : Type 0 → Type 0 → Type 0 → RoundTripError → Type 0
 NotBack impossible many new e = Reasons impossible many (new → ⊥) (λ taken. ⊥) e
 
+-- items are read from these words, from a run on, and a decoder stands behind them
+abbrev pub ReadTo : {S B : Type 0} → ℕ → ℕ → List ℕ → List (Item S) → Run → Decoder B → Type 0
+ReadTo w s words items old new = (last : Run) × FindsAll w s words items old last × StandsAt w s words last new
+
 -- no such list of so many symbols is read from these words, from that run on
 abbrev pub HoldNone : {S : Type 0} → ℕ → ℕ → List ℕ → (List S → List (Item S)) → ℕ → Run → Type 0
 HoldNone {S} w s words items amt old = (symbols : List S) (last : Run) → length symbols ≡ amt → FindsAll w s words (items symbols) old last → ⊥

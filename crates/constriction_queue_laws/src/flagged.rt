@@ -9,7 +9,7 @@ ghost use Rattle.constriction_queue.specs.Flagged.{flagged};
 ghost use Rattle.constriction_queue.specs.Range.{Run, start};
 ghost use Rattle.constriction_queue.specs.SelfDelimiting.{SelfDelimits};
 ghost use Rattle.constriction_queue_laws.specs.Concatenated.{DelimitsItems};
-ghost use Rattle.constriction_queue_laws.specs.Outcomes.{HoldNone, InvalidWhere, NotCoded};
+ghost use Rattle.constriction_queue_laws.specs.Outcomes.{HoldNone, InvalidWhere, NotCoded, ReadTo};
 ghost use Rattle.constriction_queue.specs.Symbols.{FindsAll, NarrowsAll};
 
 use crate::following::symbols_come_back_whatever_follows;
@@ -71,11 +71,10 @@ where
     M2::Probability: WordOf<Word>,
     ensures count { IfOk result (λ again. length again.items ≡ amt) }
     ensures decoded { Backend.is_list → switch.old.switched ≡ false → (words : List ℕ) (old : Run) →
-        StandsAt Word.BITS State.BITS words old switch.old.decoder → IfOk result (λ again. (last : Run)
-        × FindsAll Word.BITS State.BITS words (flagged switch.old.flag
+        StandsAt Word.BITS State.BITS words old switch.old.decoder → IfOk result (λ again.
+        ReadTo Word.BITS State.BITS words (flagged switch.old.flag
         record { precision = P1; table = M1.table first.now }
-        record { precision = P2; table = M2.table second.now } again.items) old last
-        × StandsAt Word.BITS State.BITS words last switch.new.decoder) }
+        record { precision = P2; table = M2.table second.now } again.items) old switch.new.decoder) }
     ensures err { Backend.is_list → switch.old.switched ≡ false → (words : List ℕ) (old : Run) →
         StandsAt Word.BITS State.BITS words old switch.old.decoder →
         IfErr result (InvalidWhere (HoldNone Word.BITS State.BITS words

@@ -1,11 +1,10 @@
 //! Words that hold whatever follows them, for states of any number of words.
 
-ghost use Rattle.std.specs.Prelude.{◌≡◌, ◌/◌, ◌<◌, ◌^◌, ◌++◌, ◌∷◌, suc, ℕ, List, replicate};
-ghost use Rattle.constriction_base.specs.Digits.{fixed_digits};
+ghost use Rattle.std.specs.Prelude.{◌≡◌, ◌/◌, ◌<◌, ◌++◌, ◌∷◌, ℕ, List};
 ghost use Rattle.constriction_base.specs.Models.{Item, AreModels};
 ghost use Rattle.constriction_base.specs.Steps.{Step, IsSizes, AreSteps, AreWords};
-ghost use Rattle.constriction_queue.specs.Range.{Run, ReadAs, run, seal_number, sealed, start};
-ghost use Rattle.constriction_queue.specs.SelfDelimiting.{AreLeast, SelfDelimits};
+ghost use Rattle.constriction_queue.specs.Range.{Run, ReadAs, run, sealed, start};
+ghost use Rattle.constriction_queue.specs.SelfDelimiting.{AreLeast, SelfDelimits, sealed_with_zeros};
 ghost use Rattle.constriction_queue.specs.Symbols.{NarrowsAll, FindsAll, MayEnd};
 
 use crate::lists::decodes_undo_encodes;
@@ -46,5 +45,5 @@ pub fn fewer_zero_words_hold_less<Symbol>()
         AreModels w (first ∷ others) → NarrowsAll w s (first ∷ others) (start s) last →
         AreLeast w s last count → fewer < count →
         (rest : List ℕ) × AreWords w rest × ((end : Run) →
-        FindsAll w s ((fixed_digits (2 ^ w) (suc last.moves) (seal_number w s last) ++ replicate fewer 0) ++ rest) (first ∷ others) (start s) end → ⊥) }
+        FindsAll w s (sealed_with_zeros w s last fewer ++ rest) (first ∷ others) (start s) end → ⊥) }
 {}

@@ -1,24 +1,23 @@
 -- Chunks that were encoded one after another, and the entries of their index.
 use Rattle.std.specs.Prelude.{reverse}
-use Rattle.std.proofs.Common.{◌≡◌, ◌∙◌, ℕ, zero, suc, ◌+◌, ◌-◌, ◌*◌, ◌/◌, ◌%◌, ◌^◌, ◌<◌, ◌≤◌, List, [], ◌∷◌, ◌++◌, append-nil, get_or, length, length-append, map, replicate, take, refl, sym, ap, ap₂, subst, arith, pow_pos, inl, inr}
+use Rattle.std.proofs.Common.{◌≡◌, ◌∙◌, ℕ, zero, suc, ◌+◌, ◌-◌, ◌*◌, ◌/◌, ◌%◌, ◌^◌, ◌<◌, ◌≤◌, List, [], ◌∷◌, ◌++◌, length, length-append, map, replicate, take, refl, sym, ap, subst, arith, pow_pos, inl, inr}
 use Rattle.std.proofs.Math.Nat.{mod-mod}
 use Rattle.std.proofs.lemmas.Bool.{cases_lt}
 use Rattle.std.proofs.lemmas.List.{length-reverse}
 use Rattle.std.proofs.lemmas.Nat.{mul-mod_first}
-use Rattle.constriction_base.specs.Models.{Model, Item, IsModel, AreModels, item_of, items_of}
-use Rattle.constriction_base.specs.Steps.{Step, InTurn, IsSizes, AreWords}
+use Rattle.constriction_base.specs.Models.{Model, Item, IsModel, AreModels, items_of}
+use Rattle.constriction_base.specs.Steps.{Step, InTurn, IsSizes}
 use Rattle.constriction_base.proofs.InTurn.{InTurn-append}
 use Rattle.constriction_base.specs.Digits.{fixed_digits}
 use Rattle.constriction_queue.specs.Range.{Run, Takes, cut, grown, narrow, offset, seal_number, start}
 use Rattle.constriction_queue.specs.SelfDelimiting.{SelfDelimits}
-use Rattle.constriction_queue.specs.States.{IsPosition}
 use Rattle.constriction_queue.proofs.Narrowing.{grown_large, grown_small}
 use Rattle.constriction_queue.proofs.Pointing.{mod_sum}
 use Rattle.constriction_queue.specs.Symbols.{Narrows, NarrowsAll, Finds, FindsAll}
 use Rattle.constriction_coder_laws.proofs.SameModel.{are_models}
 use Rattle.std.specs.List.{AllByRecursion}
 use Rattle.constriction_store.specs.Chunks.{AllKnown, chunk_in, count_of}
-use Rattle.constriction_store.specs.Stores.{ArePlaces, Entry, HoldsChunk, HoldsChunks, Indexes, IsIndex, StandsAtEntry, entry_in, run_at, total_of}
+use Rattle.constriction_store.specs.Stores.{ArePlaces, Entry, HoldsChunks, Indexes, IsIndex, StandsAtEntry, entry_in, run_at, total_of}
 use Rattle.constriction_store.proofs.Symbols.{moves_least, moves_most, narrows_known}
 use Rattle.constriction_base.proofs.Guards.{fixed-length}
 use Rattle.constriction_base.proofs.Turns.{all-append}

@@ -1,9 +1,8 @@
 -- Symbols of a chunk, as the range coder takes and gives them.
-use Rattle.std.proofs.Common.{◌≡◌, ◌∙◌, ℕ, zero, suc, ◌+◌, ◌-◌, ◌*◌, ◌/◌, ◌^◌, ◌<◌, ◌≤◌, List, [], ◌∷◌, ◌++◌, get_or, length, map, take, refl, sym, ap, subst, arith, pow_pos}
-use Rattle.std.specs.List.{AllByRecursion}
+use Rattle.std.proofs.Common.{◌≡◌, ◌∙◌, ℕ, ◌+◌, ◌/◌, ◌^◌, ◌<◌, ◌≤◌, List, [], ◌∷◌, ◌++◌, get_or, length, map, take, refl, sym, ap, subst, arith, pow_pos}
 use Rattle.std.proofs.lemmas.List.{take_more}
-use Rattle.constriction_base.specs.Models.{Model, Item, IsModel, Knows, item_of, items_of}
-use Rattle.constriction_base.specs.Steps.{Step, InTurn, IsStep}
+use Rattle.constriction_base.specs.Models.{Model, Item, IsModel, Knows, items_of}
+use Rattle.constriction_base.specs.Steps.{Step, IsStep}
 use Rattle.constriction_base.proofs.InTurn.{InTurn-symbol}
 use Rattle.constriction_queue.specs.Range.{Run, offset, narrow, cut}
 use Rattle.constriction_queue.proofs.Narrowing.{by_growth}

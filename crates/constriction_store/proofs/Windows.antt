@@ -1,11 +1,11 @@
 -- Reading takes no other words than those from a run on, as many as a state has.
 use Rattle.std.proofs.Common.{◌≡◌, ◌∙◌, ℕ, zero, suc, ◌+◌, ◌-◌, ◌*◌, ◌/◌, ◌%◌, ◌^◌, ◌<◌, ◌≤◌, List, [], ◌∷◌, drop, get_or, refl, sym, ap, ap₂, subst, arith, pow_pos}
-use Rattle.constriction_base.specs.Models.{Model, Item, items_of}
+use Rattle.constriction_base.specs.Models.{Model, items_of}
 use Rattle.constriction_base.specs.Steps.{Step, IsSizes, AreWords}
-use Rattle.constriction_queue.specs.Range.{Run, Takes, narrow, number_of_first, number_read, offset}
+use Rattle.constriction_queue.specs.Range.{Run, Takes, number_of_first, number_read, offset}
 use Rattle.constriction_queue.proofs.Pointing.{mod_sum}
 use Rattle.constriction_queue.proofs.Sought.{sought_is_at}
-use Rattle.constriction_queue.specs.Symbols.{Finds, FindsAll}
+use Rattle.constriction_queue.specs.Symbols.{FindsAll}
 use Rattle.constriction_store.proofs.Symbols.{narrow_keeps}
 
 -- the lists agree from a place up to another

@@ -1,5 +1,5 @@
 -- What a look-up answers.
-use Rattle.std.specs.Prelude.{◌≡◌, ℕ, ◌<◌, ◌≤◌, ⊤, List, Result, MatchResult, length, slice_index}
+use Rattle.std.specs.Prelude.{◌≡◌, ℕ, ◌<◌, ◌≤◌, List, Result, MatchResult, length, slice_index}
 use Rattle.std.specs.declared.vec.Vec.{Vec}
 use Rattle.constriction_base.specs.Models.{Model, items_of}
 use Rattle.constriction_queue.specs.Range.{Run}

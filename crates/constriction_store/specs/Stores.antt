@@ -1,5 +1,5 @@
 -- What a store holds, and which symbols its words are at an entry of its index.
-use Rattle.std.specs.Prelude.{◌≡◌, ℕ, ◌+◌, ◌/◌, ◌^◌, ◌<◌, ◌≤◌, List, [], ◌∷◌, ⊤, length, slice_index_or}
+use Rattle.std.specs.Prelude.{◌≡◌, ℕ, ◌+◌, ◌/◌, ◌^◌, ◌<◌, ◌≤◌, List, [], ◌∷◌, length, slice_index_or}
 use Rattle.std.specs.List.{AllByRecursion}
 use Rattle.constriction_base.specs.Models.{Model, items_of}
 use Rattle.constriction_queue.specs.Range.{Run, offset, start}

@@ -112,7 +112,8 @@ where
     ensures ok { IfOk result (λ index. Indexes Word.BITS State.BITS
         record { precision = PRECISION; table = M.table model.now } (lists_of chunks.now) (map entry_at index.items)
         (run_by Word.BITS State.BITS encoder.old) (run_by Word.BITS State.BITS encoder.new)) }
-    ensures err { IfErr result (BuildFails record { precision = PRECISION; table = M.table model.now } (lists_of chunks.now)) }
+    ensures err { IfErr result (BuildFails record { precision = PRECISION; table = M.table model.now }
+        (lists_of chunks.now)) }
 {
     let mut index = Vec::new(alloc);
     for (place, chunk) in chunks.iter().enumerate() {
@@ -164,7 +165,8 @@ where
             record { precision = PRECISION; table = M.table model } store.words store.index (lists_of chunks.now)) }
         ensures model { IfOk result (λ store. store.model ≡ model) }
         ensures too_long { (result ≡ Err BuildError.TooLong) ↔ (1048576 < count_of (lists_of chunks.now)) }
-        ensures err { IfErr result (BuildFails record { precision = PRECISION; table = M.table model } (lists_of chunks.now)) }
+        ensures err { IfErr result (BuildFails record { precision = PRECISION; table = M.table model }
+            (lists_of chunks.now)) }
     {
         if !are_few(chunks) {
             return Err(BuildError::TooLong);

@@ -23,8 +23,8 @@ pub fn one_chunk_at_entry()
         IsModel w model → HoldsChunk w s model words entry symbols → HoldsNoChunk w s model words entry → ⊥ }
 {}
 
-/// What is read at an entry stands in the words from its place on, up to as many words as a state has behind the place that
-/// reading has come to. Other words may be others.
+/// What is read at an entry stands in the words from its place on, up to as many words as a state has behind the place
+/// that reading has come to. Other words may be others.
 pub fn other_words_are_not_read()
     ensures { (w s : ℕ) (model : Model ℕ) (words others : List ℕ) (entry : Entry) (symbols : List ℕ) (last : Run) →
         IsSizes w s → AreWords w words → AreWords w others →
@@ -33,8 +33,8 @@ pub fn other_words_are_not_read()
         FindsAll w s others (items_of model symbols) (run_at entry) last }
 {}
 
-/// The chunks at these places of a store, in this order. Where the store holds chunks, as one that was built does, they are
-/// these.
+/// The chunks at these places of a store, in this order. Where the store holds chunks, as one that was built does, they
+/// are these.
 ///
 /// # Errors
 ///
@@ -53,7 +53,8 @@ where
     M::Probability: WordOf<Word>,
     ensures { (chunks : List (List ℕ)) → HoldsChunks Word.BITS State.BITS
         record { precision = PRECISION; table = M.table store.now.model } store.now.words store.now.index chunks →
-        MatchResult result (λ found. lists_of found.items ≡ map (chunk_in chunks) places.now) (CannotLookUp chunks places.now) }
+        MatchResult result (λ found. lists_of found.items ≡ map (chunk_in chunks) places.now)
+        (CannotLookUp chunks places.now) }
 {
     let mut found = Vec::new(alloc);
     for place in places {
@@ -97,7 +98,8 @@ where
     M::Probability: WordOf<Word>,
     requires { IsSizes Word.BITS State.BITS }
     ensures back { IfOk result (λ through. lists_of through.1.items ≡ map (chunk_in (lists_of chunks.now)) places.now) }
-    ensures err { IfErr result (HasNoChunks record { precision = PRECISION; table = M.table model } (lists_of chunks.now) places.now) }
+    ensures err { IfErr result (HasNoChunks record { precision = PRECISION; table = M.table model }
+        (lists_of chunks.now) places.now) }
 {
     let store = match Store::<Word, State, M, PRECISION>::build(alloc, chunks, model) {
         Ok(store) => store,
@@ -129,7 +131,8 @@ where
     M::Probability: WordOf<Word>,
     requires { IsSizes Word.BITS State.BITS }
     ensures back { IfOk result (λ through. lists_of through.1.items ≡ map (chunk_in (lists_of chunks.now)) places.now) }
-    ensures err { IfErr result (HasNoChunks record { precision = PRECISION; table = M.table model } (lists_of chunks.now) places.now) }
+    ensures err { IfErr result (HasNoChunks record { precision = PRECISION; table = M.table model }
+        (lists_of chunks.now) places.now) }
 {
     let built = match Store::<Word, State, M, PRECISION>::build(alloc, chunks, model) {
         Ok(store) => store,

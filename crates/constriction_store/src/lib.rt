@@ -61,7 +61,8 @@ impl<
       model = s.model;
     } };
 
-    ghost invariant = { λ s. IsSizes Word.BITS State.BITS × IsIndex (length s.words.items) (map entry_at s.index.items) };
+    ghost invariant = { λ s. IsSizes Word.BITS State.BITS
+        × IsIndex (length s.words.items) (map entry_at s.index.items) };
 }
 
 impl<

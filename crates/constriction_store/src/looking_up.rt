@@ -74,9 +74,11 @@ where
     M::Probability: WordOf<Word>,
     ensures count { IfOk result (λ symbols. length symbols.items ≡ len) }
     ensures ok { (words : List ℕ) (there : Run) → StandsAt Word.BITS State.BITS words there decoder.old →
-        IfOk result (λ symbols. (last : Run) × FindsAll Word.BITS State.BITS words (items_of record { precision = PRECISION; table = M.table model.now } symbols.items) there last) }
+        IfOk result (λ symbols. (last : Run) × FindsAll Word.BITS State.BITS words
+        (items_of record { precision = PRECISION; table = M.table model.now } symbols.items) there last) }
     ensures err { (words : List ℕ) (there : Run) → StandsAt Word.BITS State.BITS words there decoder.old →
-        IfErr result (ChunkFails Word.BITS State.BITS record { precision = PRECISION; table = M.table model.now } words there len) }
+        IfErr result (ChunkFails Word.BITS State.BITS
+        record { precision = PRECISION; table = M.table model.now } words there len) }
 {
     let mut symbols = Vec::new(alloc);
     'symbols: for _ in 0..len {
@@ -101,8 +103,8 @@ impl<
 where
     M::Probability: WordOf<Word>,
 {
-    /// The symbols of a chunk: a new decoder of the words goes to its position and takes as many as it has. No other words
-    /// are read than those of the chunk, and as many more as a state has.
+    /// The symbols of a chunk: a new decoder of the words goes to its position and takes as many as it has. No other
+    /// words are read than those of the chunk, and as many more as a state has.
     ///
     /// # Errors
     ///
@@ -119,11 +121,13 @@ where
     pub fn chunk(&self, alloc: Global, i: usize) -> Result<Vec<usize>, ChunkError>
         ensures none { (result ≡ Err ChunkError.NoSuchChunk) ↔ (length self.now.index ≤ i) }
         ensures ok { IfOk result (λ symbols. HoldsChunk Word.BITS State.BITS
-            record { precision = PRECISION; table = M.table self.now.model } self.now.words (entry_in self.now.index i) symbols.items) }
+            record { precision = PRECISION; table = M.table self.now.model } self.now.words
+            (entry_in self.now.index i) symbols.items) }
         ensures err { IfErr result (LookUpFails Word.BITS State.BITS
             record { precision = PRECISION; table = M.table self.now.model } self.now.words self.now.index i) }
         ensures back { i < length self.now.index → (symbols : List ℕ) → HoldsChunk Word.BITS State.BITS
-            record { precision = PRECISION; table = M.table self.now.model } self.now.words (entry_in self.now.index i) symbols →
+            record { precision = PRECISION; table = M.table self.now.model } self.now.words
+            (entry_in self.now.index i) symbols →
             IsChunk symbols result }
     {
         if i >= self.index.len() {

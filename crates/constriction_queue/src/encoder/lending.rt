@@ -3,6 +3,7 @@
 ghost use Rattle.std.specs.Prelude.{◌≡◌, ◌+◌, ◌<◌, List, length, map, IfOk, OnErr};
 ghost use Rattle.std.specs.Fn.{FnOnceReturnsAt, FnOnceTakesAt};
 ghost use Rattle.constriction_queue.specs.Encoder.{HasHeads, IsEncoder, sealed_by};
+ghost use Rattle.constriction_queue.specs.Guarded.{SealLacksRoom};
 
 use crate::encoder::RangeEncoder;
 use constriction_base::backends::{Holds, Stack, WriteWords, take_back};
@@ -33,8 +34,8 @@ impl<Word: WordOf<State>, State: BitArray, A: Allocator> RangeEncoder<Word, Stat
         ensures words { self.new.words ≡ self.old.words }
         ensures coder { IsEncoder Word.number ⟦<Vec<Word, A> as Holds<Word, Stack>>⟧
             Word.BITS State.BITS self.new }
-        ensures room { OnErr result (⟦<Vec<Word, A> as WriteWords<Word>>⟧.room self.old.bulk + length self.old.words
-            < length (sealed_by Word.BITS State.BITS self.old)) }
+        ensures room { OnErr result
+            (SealLacksRoom (⟦<Vec<Word, A> as WriteWords<Word>>⟧.room) Word.BITS State.BITS self.old) }
     {
         let count = match self.put_seal() {
             Ok(count) => count,

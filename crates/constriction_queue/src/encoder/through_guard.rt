@@ -60,7 +60,7 @@ impl<'a, Word: WordOf<State>, State: BitArray, A: Allocator> IntoSeekReadWords<W
 }
 
 impl<Word: WordOf<State>, State: BitArray, A: Allocator> RangeEncoder<Word, State, Vec<Word, A>> {
-    ghost use Rattle.constriction_queue.specs.Guarded.{lender, written};
+    ghost use Rattle.constriction_queue.specs.Guarded.{lender, written, SealLacksRoom};
 
     /// A decoder of the words that [`RangeEncoder::into_compressed`] would give, through a guard. When the
     /// decoder is dropped, the encoder is as before. No clause here says so, nor what is left where memory is
@@ -90,8 +90,8 @@ impl<Word: WordOf<State>, State: BitArray, A: Allocator> RangeEncoder<Word, Stat
             reverse (lender d.bulk.buf).now.words ≡ sealed_by Word.BITS State.BITS self.old) }
         ensures back { IfOk result (λ d. drop (written d.bulk.buf) (lender d.bulk.buf).now.words ≡ self.old.words) }
         ensures heads { IfOk result (λ d. HasHeads self.old (lender d.bulk.buf).now) }
-        ensures room { OnErr result (⟦<Vec<Word, A> as WriteWords<Word>>⟧.room self.old.bulk + length self.old.words
-            < length (sealed_by Word.BITS State.BITS self.old)) }
+        ensures room { OnErr result
+            (SealLacksRoom (⟦<Vec<Word, A> as WriteWords<Word>>⟧.room) Word.BITS State.BITS self.old) }
     {
         let count = self.put_seal()?;
         let mut bulk = Cursor::new_at_write_beginning(EncoderGuard { inner: self, count });

@@ -6,7 +6,7 @@ ghost use Rattle.constriction_coder_laws.specs.Outcomes.{HasImpossible, HasImpos
 ghost use Rattle.constriction_queue.specs.Decoder.{MayBeExhausted, StandsAt};
 ghost use Rattle.constriction_queue.specs.Encoder.{left_to_encode, run_by};
 ghost use Rattle.constriction_queue.specs.Range.{Run};
-ghost use Rattle.constriction_queue_laws.specs.Outcomes.{GivesNone, NotCoded, NotRead};
+ghost use Rattle.constriction_queue_laws.specs.Outcomes.{GivesNone, NotCoded, NotRead, ReadTo};
 ghost use Rattle.constriction_queue.specs.Symbols.{NarrowsAll, FindsAll, MayEnd};
 
 use constriction_base::backends::{BoundedReadWords, Holds, Queue, ReadWords, WriteWords};
@@ -125,10 +125,8 @@ where
     ensures count { IfOk result (λ again. length again.items ≡ amt) }
     ensures decoded { Backend.is_list → (words : List ℕ) (old : Run) →
         StandsAt Word.BITS State.BITS words old decoder.old →
-        IfOk result (λ again. (last : Run)
-        × FindsAll Word.BITS State.BITS words
-        (items_of record { precision = PRECISION; table = M.table model.now } again.items) old last
-        × StandsAt Word.BITS State.BITS words last decoder.new) }
+        IfOk result (λ again. ReadTo Word.BITS State.BITS words
+        (items_of record { precision = PRECISION; table = M.table model.now } again.items) old decoder.new) }
     ensures back { Backend.is_list → (words : List ℕ) (symbols : List M.Symbol) (old last : Run) →
         StandsAt Word.BITS State.BITS words old decoder.old →
         FindsAll Word.BITS State.BITS words
@@ -171,9 +169,8 @@ where
     ensures count { IfOk result (λ again. length again.items ≡ length models.now) }
     ensures decoded { Backend.is_list → (words : List ℕ) (old : Run) →
         StandsAt Word.BITS State.BITS words old decoder.old →
-        IfOk result (λ again. (last : Run)
-        × FindsAll Word.BITS State.BITS words (pairs_of PRECISION M.table again.items models.now) old last
-        × StandsAt Word.BITS State.BITS words last decoder.new) }
+        IfOk result (λ again. ReadTo Word.BITS State.BITS words
+        (pairs_of PRECISION M.table again.items models.now) old decoder.new) }
     ensures back { Backend.is_list → (words : List ℕ) (symbols : List M.Symbol) (old last : Run) →
         StandsAt Word.BITS State.BITS words old decoder.old →
         FindsAll Word.BITS State.BITS words (pairs_of PRECISION M.table symbols models.now) old last →

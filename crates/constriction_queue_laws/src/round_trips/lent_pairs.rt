@@ -21,9 +21,9 @@ use constriction_queue::{RangeDecoder, RangeEncoder};
 use constriction_words::{BitArray, WordOf};
 use std::alloc::{Allocator, Global};
 
-/// A symbol for each of the models from the words that an encoder lends by `get_compressed`: they are read from the words
-/// that it would export. Those that were put on it since it was new come back; and once the guard has gone, the encoder is
-/// as before, also where something is refused.
+/// A symbol for each of the models from the words that an encoder lends by `get_compressed`: they are read from the
+/// words that it would export. Those that were put on it since it was new come back; and once the guard has gone, the
+/// encoder is as before, also where something is refused.
 ///
 /// # Errors
 /// - `InvalidData`: the words that it would export hold no list of symbols of the models.
@@ -65,9 +65,9 @@ where
     decode_pairs(alloc, &mut decoder, models)
 }
 
-/// Symbols that are put on an encoder, which begins as a new one, each by its own model, come back from the words that it
-/// lends by `get_compressed`, and the encoder goes on behind them: [`encode_pairs`], [`decode_lent_words_by_models`].
-/// From any other encoder come as many symbols, those with which its words begin.
+/// Symbols that are put on an encoder, which begins as a new one, each by its own model, come back from the words that
+/// it lends by `get_compressed`, and the encoder goes on behind them: [`encode_pairs`],
+/// [`decode_lent_words_by_models`]. From any other encoder come as many symbols, those with which its words begin.
 ///
 /// # Errors
 /// - `ImpossibleSymbol`: a model has no entry for its symbol.
@@ -140,8 +140,8 @@ where
     decode_pairs(alloc, &mut own, models)
 }
 
-/// A symbol for each of the models from the decoder that an encoder lends by `decoder`: they are read from the words that it
-/// would export. Those that were put on it since it was new come back.
+/// A symbol for each of the models from the decoder that an encoder lends by `decoder`: they are read from the words
+/// that it would export. Those that were put on it since it was new come back.
 ///
 /// # Errors
 /// - `InvalidData`: the words that it would export hold no list of symbols of the models.
@@ -178,9 +178,9 @@ where
     decode_by_models_and_drop(alloc, decoder, models)
 }
 
-/// Symbols that are put on an encoder, which begins as a new one, each by its own model, come back from the decoder that it
-/// lends by `decoder`: [`encode_pairs`], [`decode_through_decoder_by_models`]. From any other encoder come as many
-/// symbols, those with which its words begin.
+/// Symbols that are put on an encoder, which begins as a new one, each by its own model, come back from the decoder
+/// that it lends by `decoder`: [`encode_pairs`], [`decode_through_decoder_by_models`]. From any other encoder come as
+/// many symbols, those with which its words begin.
 ///
 /// # Errors
 /// - `ImpossibleSymbol`: a model has no entry for its symbol.

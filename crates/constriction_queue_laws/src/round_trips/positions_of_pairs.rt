@@ -1,7 +1,7 @@
 //! Symbols that have a model each, and come back from a recorded position.
 //!
-//! [`words_and_position_of_pairs`] says what was recorded and what the words are, [`pairs_from_position`] takes any words
-//! and any position and says what is there, and [`pairs_after_a_position`] joins the two.
+//! [`words_and_position_of_pairs`] says what was recorded and what the words are, [`pairs_from_position`] takes any
+//! words and any position and says what is there, and [`pairs_after_a_position`] joins the two.
 
 ghost use Rattle.std.specs.Prelude.{◌≡◌, ◌+◌, ◌<◌, ◌≤◌, ◌++◌, ℕ, List, length, map, IfOk, IfErr};
 ghost use Rattle.constriction_base.specs.Models.{pairs_of};
@@ -24,8 +24,8 @@ use constriction_queue::{RangeCoderState, RangeDecoder, RangeEncoder};
 use constriction_words::{BitArray, WordOf};
 use std::alloc::Global;
 
-/// The words that an encoder exports behind two lists, each symbol by its own model, and the position between the lists:
-/// `encode_symbols`, `pos`, `encode_symbols`, `into_compressed`.
+/// The words that an encoder exports behind two lists, each symbol by its own model, and the position between the
+/// lists: `encode_symbols`, `pos`, `encode_symbols`, `into_compressed`.
 ///
 /// # Errors
 /// - `ImpossibleSymbol`: a model has no entry for its symbol.
@@ -48,12 +48,14 @@ where
     requires before { length before.now ≡ length before_models.now }
     requires since { length since.now ≡ length since_models.now }
     ensures words { IfOk result (λ both. RecordsPlace Word.BITS State.BITS
-        (pairs_of PRECISION M.table before.now before_models.now) (pairs_of PRECISION M.table since.now since_models.now)
+        (pairs_of PRECISION M.table before.now before_models.now)
+        (pairs_of PRECISION M.table since.now since_models.now)
         (run_by Word.BITS State.BITS encoder) (map Word.number both.0.items) both.1.0 (lower_of both.1.1)
         (range_of both.1.1)) }
     ensures sizes { IfOk result (λ _. IsSizes Word.BITS State.BITS) }
     ensures err { IfErr result (NotCoded
-        (HasImpossibleItem (pairs_of PRECISION M.table before.now before_models.now ++ pairs_of PRECISION M.table since.now since_models.now))
+        (HasImpossibleItem (pairs_of PRECISION M.table before.now before_models.now
+        ++ pairs_of PRECISION M.table since.now since_models.now))
         (left_to_encode encoder < length before.now + length since.now)) }
 {
     let mut encoder = encoder;
@@ -119,8 +121,8 @@ where
     }
 }
 
-/// Symbols that were put on after a position was recorded, each by its own model, come back from a decoder that seeks to
-/// it, over the words that the encoder exported later, whatever was written before: [`words_and_position_of_pairs`],
+/// Symbols that were put on after a position was recorded, each by its own model, come back from a decoder that seeks
+/// to it, over the words that the encoder exported later, whatever was written before: [`words_and_position_of_pairs`],
 /// [`pairs_from_position`].
 ///
 /// # Errors
@@ -149,7 +151,8 @@ where
         (pairs_of PRECISION M.table before.now before_models.now
         ++ pairs_of PRECISION M.table since.now since_models.now) → ⊥) }
     ensures err { IfErr result (NotCoded
-        (HasImpossibleItem (pairs_of PRECISION M.table before.now before_models.now ++ pairs_of PRECISION M.table since.now since_models.now))
+        (HasImpossibleItem (pairs_of PRECISION M.table before.now before_models.now
+        ++ pairs_of PRECISION M.table since.now since_models.now))
         (left_to_encode encoder < length before.now + length since.now)) }
 {
     run_of_any_encoder(&encoder);

@@ -1,5 +1,5 @@
 use Rattle.std.specs.Prelude.{reverse}
-use Rattle.std.proofs.Common.{◌≡◌, ◌∙◌, ◌<◌, ℕ, List, [], length, map, append-nil, refl, sym, subst, arith}
+use Rattle.std.proofs.Common.{◌≡◌, ℕ, List, [], map, append-nil, refl, sym, subst, arith}
 use Rattle.std.proofs.lemmas.List.{length-map, reverse-reverse}
 use Rattle.constriction_base.specs.Models.{Model, IsModel}
 use Rattle.constriction_queue.specs.Encoder.{run_by}
@@ -63,4 +63,4 @@ returns-in-Err-into_self_delimited-clause-err g c =
     let chunks : List (List ℕ) = lists_of c.args.chunks.now in
     let indexed : Indexes w s model chunks (map entry_at c.in-Ok.index.items) (start s) last = subst (λ (r : Run). Indexes w s model chunks (map entry_at c.in-Ok.index.items) r last) c.new-encoder.ensures.run c.in-Ok.ensures.ok in
     let refused = c.in-Err-into_self_delimited.ensures.err in
-    some_chunks w s model chunks (map entry_at c.in-Ok.index.items) last refused.owed _ _ indexed refused.is refused.short
+    some_chunks w s model chunks (map entry_at c.in-Ok.index.items) last refused.owed _ _ indexed refused.is refused.not_written.0

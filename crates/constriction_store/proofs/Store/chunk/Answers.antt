@@ -1,8 +1,8 @@
 use Rattle.constriction_queue.specs.Decoder.{StandsAt}
-use Rattle.std.proofs.Common.{◌≡◌, ◌∙◌, ◌<◌, ℕ, List, get_or, length, map, sym, ap, arith}
+use Rattle.std.proofs.Common.{◌≡◌, ◌∙◌, ◌<◌, ℕ, List, length, map, sym, ap, arith}
 use Rattle.std.proofs.lemmas.List.{get_or-map, length-map}
 use Rattle.constriction_base.specs.Models.{Model, IsModel}
-use Rattle.constriction_store.specs.Stores.{Entry, entry_at, entry_in, entry_of, run_at}
+use Rattle.constriction_store.specs.Stores.{entry_at, entry_in, entry_of, run_at}
 use Rattle.constriction_store.proofs.Counting.{place_at}
 use Rattle.constriction_store.proofs.LookedUp.{chunk_back, chunk_err, chunk_none, chunk_ok}
 use Rattle.constriction_store.proofs.Store.chunk.Goals as goal

@@ -1,10 +1,10 @@
-use Rattle.std.proofs.Common.{◌≡◌, ◌∙◌, ◌+◌, ◌-◌, ◌<◌, ◌≤◌, ◌^◌, ℕ, List, [], ◌∷◌, ◌++◌, get_or, length, map, take, refl, sym, ap, arith}
+use Rattle.std.proofs.Common.{◌≡◌, ◌∙◌, ◌+◌, ℕ, [], get_or, length, map, take, sym, ap, arith}
 use Rattle.std.proofs.lemmas.List.{get_or-map, length-map, map_push}
 use Rattle.constriction_base.specs.Models.{Model}
 use Rattle.constriction_queue.specs.Encoder.{run_by}
-use Rattle.constriction_queue.specs.Range.{Run, start}
-use Rattle.constriction_store.specs.Chunks.{IsFirstUnknown, count_of, lists_of}
-use Rattle.constriction_store.specs.Stores.{Indexes, entry_at}
+use Rattle.constriction_queue.specs.Range.{Run}
+use Rattle.constriction_store.specs.Chunks.{lists_of}
+use Rattle.constriction_store.specs.Stores.{entry_at}
 use Rattle.constriction_store.proofs.Counting.{counted_more, counted_le, taken_at}
 use Rattle.constriction_store.proofs.Indexed.{all_known, indexed_more, map_take, moves_within}
 use Rattle.constriction_store.proofs.building.encode_chunks.Goals as goal

@@ -1,5 +1,5 @@
-use Rattle.std.specs.Prelude.{Ok, Err}
-use Rattle.std.proofs.Common.{◌≡◌, ◌∙◌, ℕ, [], ◌∷◌, ◌++◌, length, length-append, refl, ap, arith}
+use Rattle.std.specs.Prelude.{Err}
+use Rattle.std.proofs.Common.{◌∙◌, ℕ, [], ◌∷◌, ◌++◌, length, length-append, refl, ap, arith}
 use Rattle.constriction_base.specs.Models.{Model}
 use Rattle.constriction_base.specs.Steps.{Step}
 use Rattle.constriction_queue.specs.Calls.{DecodeCall}

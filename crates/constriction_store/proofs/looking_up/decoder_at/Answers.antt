@@ -1,4 +1,4 @@
-use Rattle.std.proofs.Common.{◌≡◌, ◌∙◌, ◌⊎◌, inl, inr, drop, length, map, mod-eq_of_lt, refl, sym, ap, arith}
+use Rattle.std.proofs.Common.{◌≡◌, ◌∙◌, inl, inr, drop, length, map, mod-eq_of_lt, refl, sym, ap, arith}
 use Rattle.std.specs.declared.convert.Infallible.{Infallible}
 use Rattle.constriction_queue.specs.Range.{Run}
 use Rattle.constriction_queue.specs.States.{IsPosition, lower_of, range_of}

@@ -14,7 +14,7 @@ read_point-requires g c = c.requires
 
 pub returns-in-Ok-clause-ok : goal.returns-in-Ok-clause-ok
 returns-in-Ok-clause-ok g c = λ list.
-    at_start _ _ _ _ _ _ _ c.start.ensures.lower c.start.ensures.range (mod-lt _ (pow_pos g.State.BitArray.BITS)) (from_zero _ _ _ c.start.ensures.lower (g.met.State.BitArray.number_law _) ∙ c.in-Ok.ensures.point list) (c.in-Ok.ensures.rest list)
+    at_start _ _ _ _ _ _ _ c.start.ensures.lower c.start.ensures.range (mod-lt _ (pow_pos g.State.BitArray.BITS)) (from_zero _ _ _ c.start.ensures.lower (g.met.State.BitArray.number_law _) ∙ (c.in-Ok.ensures.list list).0) (c.in-Ok.ensures.list list).1
 
 pub returns-in-Ok-clause-reads : goal.returns-in-Ok-clause-reads
 returns-in-Ok-clause-reads g c = (c.start.ensures.lower, c.start.ensures.range, rw (from_zero (g.State.BitArray.number c.in-Ok.point) (lower_of c.start.result) (2 ^ g.State.BitArray.BITS) c.start.ensures.lower (g.met.State.BitArray.number_law _)) c.in-Ok.ensures.reads)

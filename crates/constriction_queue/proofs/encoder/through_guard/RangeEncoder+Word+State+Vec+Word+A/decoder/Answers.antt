@@ -22,8 +22,8 @@ returns-clause-ok g c =
     let items = c.put_seal.new.self.bulk.items in
     let sealed = rw c.put_seal.ensures.coder.words_are at c.in_ok-count.ensures.shows in
     let all = queue_is number (reverse items) (sym (reverse-reverse items)) sealed in
-    let point = rw c.new_at_write_beginning-bulk.ensures at (c.in-Ok.ensures.point tt) in
-    let rest = rw c.new_at_write_beginning-bulk.ensures at (c.in-Ok.ensures.rest tt) in
+    let point = rw c.new_at_write_beginning-bulk.ensures at ((c.in-Ok.ensures.list tt).0) in
+    let rest = rw c.new_at_write_beginning-bulk.ensures at ((c.in-Ok.ensures.list tt).1) in
     at_start _ _ _ _ _ _ _ c.start.ensures.lower c.start.ensures.range (mod-lt _ (pow_pos g.State.BitArray.BITS)) (from_zero _ _ _ c.start.ensures.lower (g.met.State.BitArray.number_law _) ∙ (rw all at point)) (rw all at rest)
 
 pub returns-clause-back : goal.returns-clause-back
