@@ -1,12 +1,12 @@
 -- How many words a list of steps takes at most, in whole numbers. With k = s - w - P the spare bits of a state beyond a word
 -- and a table of P bits, a step whose share of its table is p / 2 ^ P multiplies what a coder holds by no more than
 -- 2 ^ P / p times (2 ^ k + 1) / 2 ^ k: the information that it has, and a rounding.
-use Rattle.std.specs.Prelude.{◌≡◌, ℕ, ◌+◌, ◌-◌, ◌*◌, ◌≤◌, ◌^◌, List, [], ◌∷◌, ⊤}
+use Rattle.std.specs.Prelude.{◌≡◌, ℕ, ◌+◌, ◌-◌, ◌*◌, ◌<◌, ◌≤◌, ◌^◌, List, [], ◌∷◌, ⊤, length}
 use Rattle.std.specs.List.{AllByRecursion}
 use Rattle.constriction_base.specs.Steps.{Step, IsStep}
 use Rattle.constriction_base.specs.Tables.{AtEntry}
 use Rattle.constriction_base.specs.Models.{Item}
-use Rattle.constriction_stack.specs.Ans.{AnsState, IsPush, IsPop}
+use Rattle.constriction_stack.specs.Ans.{AnsState, IsPush, IsPop, exported}
 
 -- the product of a number of each item
 abbrev pub product : {E : Type 0} → (E → ℕ) → List E → ℕ
@@ -51,6 +51,11 @@ net_share w s (Decode e) = 2 ^ e.precision * spare w s e
 abbrev pub net_whole : ℕ → ℕ → Act → ℕ
 net_whole w s (Encode e) = rounded_whole w s e
 net_whole w s (Decode e) = e.p * (spare w s e + 1)
+
+-- what these acts cost, from one state to another: the words of the new one but the last, beside all those of the old one
+abbrev pub IsNetBounded : ℕ → ℕ → List Act → AnsState → AnsState → Type 0
+IsNetBounded w s acts old new =
+    2 ^ (w * (length (exported w new) - 1)) * product (net_share w s) acts < 2 ^ (w * length (exported w old)) * product (net_whole w s) acts
 
 -- the steps of these symbols, each an entry of its symbol's table
 abbrev pub AreEntries : {S : Type 0} → List (Item S) → List Step → Type 0

@@ -13,7 +13,7 @@ ghost use Rattle.constriction_base.specs.Steps.{Step, IsSizes, AreSteps, InTurn}
 ghost use Rattle.constriction_stack.specs.Ans.{AnsState, IsPush, IsValid, empty, exported};
 ghost use Rattle.constriction_queue.specs.Range.{run, sealed, start};
 ghost use Rattle.constriction_queue.specs.SelfDelimiting.{SelfDelimits};
-ghost use Rattle.constriction_laws.specs.Bounds.{Act, Acts, AreAllowed, net_share, net_whole, product, rounded_whole};
+ghost use Rattle.constriction_laws.specs.Bounds.{Act, Acts, AreAllowed, IsNetBounded, product, rounded_whole};
 ghost use Rattle.constriction_laws.specs.Bounds.{share};
 
 /// The words of a stack coder after encodes alone, from the empty one.
@@ -39,8 +39,7 @@ pub fn stack_bound_at_one_precision()
 pub fn stack_net_bound()
     ensures { (w s : ℕ) (acts : List Act) (old new : AnsState) → IsSizes w s → AreAllowed w acts → IsValid w s old →
         2 ^ (s - w) ≤ old.head → InTurn (Acts w s) acts old new →
-        2 ^ (w * (length (exported w new) - 1)) * product (net_share w s) acts
-        < 2 ^ (w * length (exported w old)) * product (net_whole w s) acts }
+        IsNetBounded w s acts old new }
 {}
 
 /// The sealed words of a new range encoder, of which there are two at least.

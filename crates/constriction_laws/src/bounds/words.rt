@@ -5,13 +5,13 @@ ghost use Rattle.std.specs.Prelude.{IfErr, MatchBool};
 ghost use Rattle.constriction_base.specs.Steps.{Step, IsSizes};
 ghost use Rattle.constriction_base.specs.Tables.{AtEntry, Impossible};
 ghost use Rattle.constriction_base.specs.Models.{items_of};
-ghost use Rattle.constriction_stack.specs.Ans.{IsValid, empty, exported};
+ghost use Rattle.constriction_stack.specs.Ans.{IsValid, empty};
 ghost use Rattle.constriction_coder_laws.specs.Outcomes.{HasImpossible, UnlessImpossible};
 ghost use Rattle.constriction_queue.specs.Range.{start};
 ghost use Rattle.constriction_queue_laws.specs.Outcomes.{NotCoded, SealsAll};
 ghost use Rattle.constriction_stack_laws.specs.Exporting.{ExportsAll};
 ghost use Rattle.constriction_laws.specs.Exchanges.{StopsExchange};
-ghost use Rattle.constriction_laws.specs.Bounds.{AreEntries, Decode, Encode, net_share, net_whole, product};
+ghost use Rattle.constriction_laws.specs.Bounds.{AreEntries, Decode, Encode, IsNetBounded, product};
 ghost use Rattle.constriction_laws.specs.Bounds.{rounded_whole, share};
 
 use crate::bounds::{range_bound, stack_bound, stack_net_bound};
@@ -139,10 +139,7 @@ where
     ensures net { IsValid Word.BITS State.BITS coder.old.state → IfOk result (λ taken. (out put : Step)
         × AtEntry PRECISION (D.table off.now) taken (λ step. step ≡ out)
         × AtEntry PRECISION (E.table on.now) symbol.now (λ step. step ≡ put)
-        × (2 ^ (Word.BITS * (length (exported Word.BITS coder.new.state) - 1))
-        * product (net_share Word.BITS State.BITS) (Decode out ∷ Encode put ∷ [])
-        < 2 ^ (Word.BITS * length (exported Word.BITS coder.old.state))
-        * product (net_whole Word.BITS State.BITS) (Decode out ∷ Encode put ∷ []))) }
+        × IsNetBounded Word.BITS State.BITS (Decode out ∷ Encode put ∷ []) coder.old.state coder.new.state) }
     ensures err { IfErr result (λ e. StopsExchange ((coder.old.state.head < 2 ^ (State.BITS - Word.BITS))
         ⊎ (coder.new.state.head < 2 ^ (State.BITS - Word.BITS))) (Impossible (E.table on.now) symbol.now) e) }
 {
