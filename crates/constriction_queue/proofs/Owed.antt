@@ -1,23 +1,17 @@
 -- What is owed at once, in its parts.
-use Rattle.std.specs.Prelude.{Option, Result, Ok, Err}
+use Rattle.std.specs.Prelude.{Result, Ok, Err}
 use Rattle.std.proofs.Common.{◌≡◌, ℕ, ◌+◌, ◌-◌, ◌<◌, ◌≤◌, List, [], ◌∷◌, ◌++◌, length, length-append, append_assoc, map, replicate, refl, sym, ap, subst, ◌∙◌, arith, inl, inr}
 use Rattle.std.proofs.lemmas.Bool.{cases_lt}
 use Rattle.constriction_base.specs.Writing.{WritesAll}
 use Rattle.constriction_base.specs.declared.backends.reading.Holds as holding
 use Rattle.constriction_base.specs.declared.backends.writing.WriteWords as writing
 use Rattle.constriction_base.proofs.Written.{begun_none}
-use Rattle.constriction_queue.specs.declared.situation.HeldWords.{HeldWords}
 use Rattle.constriction_queue.proofs.Begun.{held_more, held_part, length-words_held, more_begun, part_begun}
-use Rattle.constriction_queue.specs.Encoder.{owed_of, released_of, word_of, words_held}
+use Rattle.constriction_queue.specs.Encoder.{words_held}
 
 -- held words are some
 pub words_some : (x count first : ℕ) → 0 < length (words_held x count first)
 words_some x count first = omega (arith, length-append (replicate (count - 1) x) (first ∷ []))
-
-pub length-owed : {Word : Type 0} (number : Word → ℕ) (held : Option (HeldWords Word)) (top last : Option Word)
-    → length (owed_of number held top last) ≡ length (word_of number last) + (length (word_of number top) + length (released_of number held))
-length-owed number held top last =
-    length-append (word_of number last) (word_of number top ++ released_of number held) ∙ ap (λ n. length (word_of number last) + n) (length-append (word_of number top) (released_of number held))
 
 -- one more held word is one more
 pub held_one_more : (x count first : ℕ) → 0 < count → length (words_held x (count + 1) first) ≤ length (words_held x count first) + 1

@@ -55,13 +55,6 @@ at_short w s ws r lower range point lower' range' point' x rest rest' wide fits 
       rest_is = rw (next, rest_is, h.rest_is) (drop_one (r.moves + s / w) ws);
     }
 
--- the point has room for a word
-pub point_room : (w s h x : ℕ) → w ≤ s → x < 2 ^ w → h % 2 ^ (s - w) * 2 ^ w + x < 2 ^ s
-point_room w s h x wide fits =
-    let split = pow-split s w wide in
-    let row : suc (h % 2 ^ (s - w)) * 2 ^ w ≤ 2 ^ (s - w) * 2 ^ w = mul-le-mul_right (2 ^ w) (mod-lt h (pow_pos (s - w))) in
-    omega arith
-
 -- ---- a decode
 pub mod_sum : (a x m : ℕ) → 0 < m → (a % m + x) % m ≡ (a + x) % m
 mod_sum a x m hm =
