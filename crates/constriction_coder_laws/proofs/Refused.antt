@@ -78,7 +78,6 @@ module _ {C B : Type 0} (steps : C → Step → Result (Unit {0}) B → C → Ty
 
   -- the same of symbols that have a model each
   module _ {S M : Type 0} (table : M → List (S × ℕ × ℕ)) (symbols : List S) (models : List M) (i : Zip (Iter S) (Iter M)) (is : rest_of i ≡ zip symbols models) where
-
     pub pair_impossible_from_back : (coded : List (Bor S × Bor M)) (pair : Bor S × Bor M) (rest : Zip (Iter S) (Iter M)) (old new : C) (refusal : DefaultEncoderFrontendError)
         → SameLength i → YieldsThen (zip_steps_back iter_steps_back iter_steps_back left_in left_in) i coded (Some pair) rest
         → EncodesByBackend steps precision (table pair.1.now) pair.0.now old (Err (Frontend refusal)) new → HasImpossibleItem (pairs_of precision table symbols models)

@@ -160,4 +160,3 @@ pub words_within : (w n : ℕ) → 1 ≤ w → n ≤ w * n
 words_within w n some =
     let more : 1 * n ≤ w * n = mul-le-mul_right n some in
     omega (arith, more)
-

@@ -115,4 +115,3 @@ nears_of w s words r d some at (inr near) = inr (omega (arith, distance_is w s w
 pub none_mapped : {A B : Type 0} (f : A → B) (xs : List A) → map f xs ≡ [] → xs ≡ []
 none_mapped f [] is = refl
 none_mapped f (x ∷ xs) is = absurd cc
-
