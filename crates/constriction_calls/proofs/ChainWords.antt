@@ -15,8 +15,8 @@ use Rattle.constriction_chain.specs.Imports.{FromBinary, FromCompressed, FromRem
 use Rattle.constriction_chain.specs.Words.{NoHeads, NoStart, TooFew, remainder_words}
 use Rattle.constriction_chain.proofs.Chains.{state, state_same}
 use Rattle.constriction_chain_laws.proofs.NoCoder as laws
-use Rattle.constriction_inputs.specs.Buffers.{Appended, stack_in}
-use Rattle.constriction_calls.specs.ChainWords.{AreWordsInForm, Begins, ChainBegins, ChainEnds, Form, HaveWords, HeadsOver, NoRoomFor, WordsKept, heads_over}
+use Rattle.constriction_inputs.specs.Buffers.{Appended, WordsKept, stack_in}
+use Rattle.constriction_calls.specs.ChainWords.{AreWordsInForm, Begins, ChainBegins, ChainEnds, Form, HaveWords, HeadsOver, NoRoomFor, heads_over}
 use Rattle.constriction_inputs.specs.Refusals.{Room}
 use Rattle.constriction_calls.specs.declared.chain.ChainHeads.{ChainHeads}
 use Rattle.constriction_inputs.specs.declared.refusal.Refusal.{Refusal}

@@ -13,7 +13,7 @@ use Rattle.constriction_chain.specs.declared.errors.BackendError.{BackendError}
 use Rattle.constriction_chain.specs.declared.errors.BackendError.TheVariants.{Remainders}
 use Rattle.constriction_chain.specs.declared.errors.DecoderFrontendError.{DecoderFrontendError}
 use Rattle.constriction_chain.proofs.Chains.{coder_of, decode_of, state_same}
-use Rattle.constriction_base.proofs.Written.{none_left}
+use Rattle.constriction_base.proofs.Exporting.{no_room}
 
 -- what an answer tells
 pub told_ok : {T E : Type 0} (P P' : T → Type 0) (answer : Result T E) → ((x : T) → P x → P' x) → IfOk answer P → IfOk answer P'
@@ -106,7 +106,7 @@ module _ {W C R S E F : Type 0} (number : W → ℕ) (compressed_holds : holding
             | inl same ↦ state_same _ _ refl refl (ap (λ (x : ChainState). x.compressed) same) (words ∙ took.remainders)
             | inr some ↦ absurd (law other' error some lost.fails)
           ];
-          room_left = (let none = none_left (remainders_writes.room other') (λ some. law other' error some lost.fails) in omega (arith, none, took.room_left));
+          room_left = (let none = no_room (remainders_writes.room other') (λ some. law other' error some lost.fails) in omega (arith, none, took.room_left));
         };
       }
 

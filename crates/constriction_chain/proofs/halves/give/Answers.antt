@@ -3,7 +3,7 @@ use Rattle.std.proofs.lemmas.List.{length-map}
 use Rattle.constriction_base.specs.Windows.{IsInWindow}
 use Rattle.constriction_chain.specs.Chain.{least}
 use Rattle.constriction_chain.proofs.Chains.{coder_of, encode_of, state_same}
-use Rattle.constriction_base.proofs.Written.{none_left}
+use Rattle.constriction_base.proofs.Exporting.{no_room}
 use Rattle.constriction_chain.proofs.Sizes.{placed}
 use Rattle.constriction_chain.proofs.halves.give.Goals as goal
 
@@ -139,6 +139,6 @@ returns-in-Err-give_quantile-clause-err g c =
         r = refl;
         compressed = ap (λ (ws : List _). map number ws) (c.in-Err-give_quantile.ensures.kept ∙ c.prepare_for_quantile.ensures.words);
         why = inr (λ m. g.met.C.WriteWords.room_law _ _ (asked.made m refused.0) refused.1, asked.fails _ refused.1, (_, by));
-        room_left = (let none = none_left (g.C.WriteWords.room c.prepare_for_quantile.new.compressed) (λ some. g.met.C.WriteWords.room_law _ _ some refused.1) in omega (arith, none, asked.room_left));
+        room_left = (let none = no_room (g.C.WriteWords.room c.prepare_for_quantile.new.compressed) (λ some. g.met.C.WriteWords.room_law _ _ some refused.1) in omega (arith, none, asked.room_left));
       };
     })

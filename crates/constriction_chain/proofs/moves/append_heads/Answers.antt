@@ -2,9 +2,9 @@ use Rattle.std.specs.Prelude.{◌^◌, ◌+◌, ◌≡◌, ◌∷◌, List, leng
 use Rattle.std.proofs.Common.{arith, ap, sym, inl, inr}
 use Rattle.std.proofs.lemmas.Bool.{cases_lt}
 use Rattle.std.specs.Int.Digits.{digits_of}
-use Rattle.constriction_base.proofs.Exporting.{base_two, digits_within}
+use Rattle.constriction_base.proofs.Exporting.{base_two, digits_within, no_room}
 use Rattle.constriction_base.proofs.Guards.{all_digits}
-use Rattle.constriction_base.proofs.Written.{begun_below, last_missing, none_left}
+use Rattle.constriction_base.proofs.Written.{begun_below, last_missing}
 use Rattle.constriction_chain.proofs.moves.append_heads.Goals as goal
 
 pub returns-in-Err-clause-err : goal.returns-in-Err-clause-err
@@ -53,7 +53,7 @@ returns-in-Err-write-clause-err g c =
     let len : length (h ∷ digits) ≡ c.count_of_words-count.result + 1 = omega (arith, c.count_of_words-count.ensures) in
     let done = rw (all_digits (2 ^ w) c.count_of_words-count.result r (base_two w c.requires.some_bits) (sym c.count_of_words-count.ensures)) at c.in-Ok-write_words.ensures.written in
     let words = rw c.prepare.ensures.words at done.words in
-    let none = none_left _ (λ some. g.met.B.WriteWords.room_law c.write_words.new.bulk c.in-Err-write.last some c.in-Err-write.ensures.err) in
+    let none = no_room _ (λ some. g.met.B.WriteWords.room_law c.write_words.new.bulk c.in-Err-write.last some c.in-Err-write.ensures.err) in
     let room = c.in-Ok.ensures.room in (
       omega (arith, room, none, done.room_used),
       inr (
