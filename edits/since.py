@@ -10,12 +10,11 @@ import subprocess
 
 from items import implemented, is_of_trait, items, words_of
 from layout import said_by_definitions, without_comments
-from renames import WORD, Renames
+from renames import USE, WORD, module_of
 from repository import Crates, Stamps, files_below, read
 
 # A line that begins a definition, or gives one of its cases.
 DEFINED = re.compile(r"(?:(?:pub|abbrev|record|data|lemma|instance) )*([\w'-]+)")
-USE = re.compile(r"^ *(?:pub |ghost )*use ([^;{\n]*)(\{[^}]*)?", re.MULTILINE)
 LABEL = re.compile(r"\b(requires|ensures\*?) [\w']+ \{")
 # A ghost member that an impl chooses, its trait, and the impl's type.
 Member = collections.namedtuple("Member", "name trait type")
@@ -31,8 +30,8 @@ def checkout(root, revision, to):
 class Earlier:
     """A commit, in a folder of its own, by whose stamps edits that nothing has touched since are not tried again."""
 
-    def __init__(self, root, revision, version, renames):
-        self.revision, self.version, self.renames = revision, version, renames
+    def __init__(self, root, revision, version, renames, restated):
+        self.revision, self.version, self.renames, self.restated = revision, version, renames, restated
         self.crates, self.stamps = Crates(root), Stamps(f"{root}/edits/STAMPS")
 
     def due(self, crates, name, edits):
@@ -41,19 +40,26 @@ class Earlier:
         if name not in self.crates.said or self.stamps.fault(name, self.crates.stamp(name, self.version)):
             raise ValueError(f"the stamp of {name} did not hold at {self.revision}: try all its edits")
         read_too = {name} | crates.below(name) | self.crates.below(name)
-        touched = Touched(self.sources(name, read_too), Sources(texts_of(crates, read_too), name))
+        touched = Touched(self.sources(name, read_too), Sources(texts_of(crates, read_too), name), self.restated)
         return [it for it in edits if not self.is_as_before(it, name) or touched.touches(it)]
 
     def sources(self, name, read_too):
         """Returns what a crate and others said, in the new names."""
         texts = texts_of(self.crates, read_too)
-        if self.renames.new:
+        if self.renames.names():
             self.renames.refuse_taken(texts, Sources(texts, name).defined(), self.revision)
-        return Sources({file: self.renames.applied(text) for file, text in texts.items()}, name)
+        return Sources({file: self.renames.applied(text, file) for file, text in texts.items()}, name)
 
     def is_as_before(self, edit, name):
+        """Returns whether an edit has the text that it had, in the new names of the source that it changes."""
         path = f"{self.crates.folder(name)}/edits/{edit.name}.edit"
-        return os.path.isfile(path) and self.renames.applied(read(path)) == read(edit.path)
+        source = f"{self.crates.folder(name)}/{next(iter(edit.spans))}"
+        if not os.path.isfile(path) or not os.path.isfile(source):
+            return False
+        text = self.renames.applied(read(path))
+        for old, new in self.renames.meant_in("", read(source)).items():
+            text = re.sub(WORD.format(re.escape(old)), new, text)
+        return text == read(edit.path)
 
 
 def texts_of(crates, names):
@@ -149,23 +155,18 @@ def names_of(block):
     return names | {it.partition("'in'")[0] for it in names}
 
 
-def module_of(file):
-    """Returns the name that a file of specs/ has where it is used."""
-    return "Rattle." + os.path.splitext(file)[0].replace("/", ".")
-
-
 class Touched:
     """What differs between two commits."""
 
-    def __init__(self, before, now):
+    def __init__(self, before, now, restated):
         self.before, self.now = before, now
         doubled = before.doubled() | now.doubled()
         for sources in (before, now):
             sources.take_labels_out()
             sources.tell_apart(doubled)
-        self.names = touched_names(before.definitions(), now.definitions())
+        self.names = touched_names(before.definitions(), now.definitions(), restated)
         self.traits = touched_traits(before.traits(), now.traits(), self.names)
-        self.members = names_of_touched(before.members(), now.members(), self.names)
+        self.members = restated.out_of_members(names_of_touched(before.members(), now.members(), self.names))
         self.declared = {name: words_of(text) for text, names in now.traits().items() for name in names}
 
     def touches(self, edit):
@@ -189,11 +190,12 @@ class Touched:
         return any(told & {member.name, member.trait} and words & words_of(member.type) for member in self.members)
 
 
-def touched_names(old, new):
-    """Returns the names of definitions that differ, and of those that name one of these, by way of others too."""
-    names = names_of_touched(old, new, set())
+def touched_names(old, new, restated):
+    """Returns the names of definitions that differ, and of those that name one of these, by way of others too, but for those that only
+    say in other words what they said."""
+    names = restated.out_of(names_of_touched(old, new, set()))
     while True:
-        more = names_of_touched(new, new, names)
+        more = restated.out_of(names_of_touched(new, new, names))
         if more <= names:
             return names
         names |= more

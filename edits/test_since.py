@@ -7,7 +7,7 @@ import tempfile
 sys.dont_write_bytecode = True
 from edit import Edit
 from layout import said
-from renames import Renames
+from renames import Renames, Restated
 from repository import Crates, edit_files
 from since import Earlier
 
@@ -139,6 +139,18 @@ CASES = {
     "a rename onto a name of the same file": ([], "wide value\n", "upper/src/lib.rt has both names at HEAD"),
     "two renames onto one name": ([], "wide broad\nbelow broad\n", "names what another line names"),
     "a rename of three words": ([], "wide broad narrow\n", "is not a name and its new name"),
+    "a rename of a module's name": (RENAMED, "wide broad Rattle.upper.specs.Wide\n", []),
+    "a rename of another module's name": (RENAMED, "wide broad Rattle.lower.specs.Sizes\n", FIRST),
+    "a rename in a module onto a name of the same file": ([], "wide value Rattle.upper.specs.Wide\n", "upper/src/lib.rt has both names at HEAD"),
+}
+# The same with the lines of edits/restated in place of those of edits/renamed.
+CASES_OF_RESTATED = {
+    "a definition that says the same": ([(WIDE, "wide = suc size", "wide = size + 1")], "wide # one more\n", []),
+    "a definition that says the same, and another below": ([(WIDE, "wide = suc size", "wide = size + 1"), (SIZES, "size = 1", "size = 2")], "wide\n", []),
+    "another definition than that which says the same": ([(WIDE, "wide = suc size", "wide = size + 1")], "below\n", FIRST),
+    "a type that says the same": ([(UPPER, "elements pile.words", "reverse (reverse (elements pile.words))")], "Pile\n", []),
+    "a ghost member that says the same": ([(UPPER, "width = { 3 }", "width = { 1 + 2 }")], "Pile.width\n", []),
+    "a contract that only cites what says the same": ([(UPPER, "result ≡ wide", "result ≡ wide + 0")], "wide\n", FIRST),
 }
 # Names that two files of specs/ define with other texts: then it matters where a source has them from.
 OTHER, ALSO = "crates/upper/specs/Other.antt", "crates/upper/specs/All.antt"
@@ -183,23 +195,23 @@ def changed(files, changes):
     return files
 
 
-def due(files, changes, renamed):
+def due(files, changes, renamed, restated=""):
     """Returns the functions whose edits are due after changes of files."""
     with tempfile.TemporaryDirectory() as before, tempfile.TemporaryDirectory() as now:
         write(before, {**files, "edits/STAMPS": ""})
         write(before, {"edits/STAMPS": f"upper {' '.join(Crates(before).stamp('upper', VERSION))}\n"})
-        write(now, {**changed(files, changes), "edits/renamed": renamed})
+        write(now, {**changed(files, changes), "edits/renamed": renamed, "edits/restated": restated})
         crates = Crates(now)
         edits = [Edit(path, crates.folder("upper")) for path in edit_files(f"{crates.folder('upper')}/edits")]
-        earlier = Earlier(before, "HEAD", VERSION, Renames(f"{now}/edits/renamed"))
+        earlier = Earlier(before, "HEAD", VERSION, Renames(f"{now}/edits/renamed"), Restated(f"{now}/edits/restated"))
         return [it.name.split(".")[0] for it in earlier.due(crates, "upper", edits)]
 
 
-def fault(name, files, case):
+def fault(name, files, case, is_restated=False):
     """Returns what is wrong with a case's outcome, or ''."""
-    changes, renamed, wanted = case
+    changes, said_of_it, wanted = case
     try:
-        got = due(files, changes, renamed)
+        got = due(files, changes, *(("", said_of_it) if is_restated else (said_of_it,)))
     except ValueError as refused:
         got = str(refused)
     is_right = wanted in got if isinstance(wanted, str) and isinstance(got, str) else got == wanted
@@ -208,6 +220,7 @@ def fault(name, files, case):
 
 def main():
     faults = [fault(name, FILES, case) for name, case in CASES.items()]
+    faults += [fault(name, FILES, case, is_restated=True) for name, case in CASES_OF_RESTATED.items()]
     faults += [fault(name, {**FILES, **DOUBLED}, case) for name, case in CASES_OF_DOUBLED.items()]
     faults += [fault(name, {**FILES, **DOUBLED, **BY_ALL}, case) for name, case in CASES_OF_ALL.items()]
     faults += [f"{pair} don't say the same" for pair in SAME if said(pair[0]) != said(pair[1])]
