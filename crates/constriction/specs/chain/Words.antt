@@ -1,2 +1,4 @@
 -- What imports and exports of a chain coder may answer and leave.
 pub use Rattle.constriction_chain.specs.Words.{remainder_words, IsInBinary, BinaryNotWritten, IfFound, OnNone, BeginsNonzero, BeginsAndStops, TooFew, ReadsZero, NoStart, NoHeads, ReadsHeads, NotExported}
+pub use Rattle.constriction_base.specs.Writing.{IsOneAbove, NotWritten}
+pub use Rattle.constriction_base.specs.Readings.{ReadsAs, MovesIn, StopsAt}
