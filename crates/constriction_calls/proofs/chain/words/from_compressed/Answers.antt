@@ -1,5 +1,7 @@
-use Rattle.std.proofs.Common.{◌≡◌, ◌<◌, ◌-◌, ◌∙◌, arith, pow_pos, ap, map, reverse, take}
+use Rattle.std.proofs.Common.{◌≡◌, ◌==◌, ◌<◌, ◌-◌, ◌∙◌, arith, pow_pos, ap, map, reverse, take}
 use Rattle.std.specs.declared.convert.Infallible.{Infallible}
+use Rattle.constriction_base.specs.Backends.{Reads}
+use Rattle.constriction_base.specs.declared.backends.semantics.Stack.{Stack}
 use Rattle.constriction_base.proofs.Exporting.{base_two}
 use Rattle.constriction_calls.specs.ChainWords.{InCompressed}
 use Rattle.constriction_calls.proofs.ChainWords.{begins_at, begins_none, all_taken, no_start, of_compressed}
@@ -23,6 +25,6 @@ returns-in-Err g c = record {
       let n = g.Word.BitArray.number in
       let words : map n (reverse (take c.new_at_write_end-lent.result.pos c.new_at_write_end-lent.result.buf.now)) ≡ map n (reverse c.args.words.now) = rw c.new_at_write_end-lent.ensures (all_taken n c.args.words.now) in
       let some : 0 < from.0.r = omega (arith, from.1.0.chain.window.from, pow_pos (g.State.BitArray.BITS - g.Word.BitArray.BITS - g.row.PRECISION)) in
-      absurd (no_start {E = Infallible} n _ _ _ _ tt
-      (λ never. elim never [ ]) c.new_at_write_end-lent.result _ (base_two g.Word.BitArray.BITS c.requires.sized.sizes.some_bits) c.in-Err.ensures.err from.0.r from.0.compressed some from.1.0.chain.window.from (words ∙ from.1.1)));
+      absurd (no_start {O = Stack} {E = Infallible} n (record { words = λ cursor. reverse (take cursor.pos cursor.buf.now); is_list = Unit {0} })
+      (record { reads = λ old answer new. Reads (reverse (take old.pos old.buf.now)) answer (reverse (take new.pos new.buf.now)) × (new.buf ≡ old.buf); seems_exhausted = λ cursor. cursor.pos == 0 }) _ _ tt (λ never. elim never [ ]) c.new_at_write_end-lent.result _ (base_two g.Word.BitArray.BITS c.requires.sized.sizes.some_bits) c.in-Err.ensures.err from.0.r from.0.compressed some from.1.0.chain.window.from (words ∙ from.1.1)));
 }
