@@ -71,11 +71,12 @@
 //! - [`stream::model::LeakyQuantizer`]: cuts a distribution at half symbols, in whole numbers, so that the table
 //!   ([`stream::model::LeakilyQuantizedDistribution`]) is the same on every machine.
 //! - [`stream::model::Gaussian`], [`stream::model::Laplace`], [`stream::model::Logistic`]: distributions of a location
-//!   and a scale ([`stream::model::LocationScale`]); [`stream::model::CumulativeDistribution`] is what others have to be.
+//!   and a scale ([`stream::model::LocationScale`]); [`stream::model::CumulativeDistribution`] is what others have to
+//!   be.
 //! - [`stream::model::UniformModel`], [`stream::model::BernoulliModel`]: equal symbols, and two symbols;
 //!   [`stream::model::SupportError`] says why so many symbols make no model.
-//! - [`stream::model::weights_of_counts`]: the weights of a histogram; [`stream::model::CountsError`] says why counts make
-//!   none.
+//! - [`stream::model::weights_of_counts`]: the weights of a histogram; [`stream::model::CountsError`] says why counts
+//!   make none.
 //! - [`stream::model::ContiguousLookupDecoderModel`]: a model with the symbol of each quantile in a list;
 //!   [`stream::model::LookupError`] says why a model makes none.
 //!
@@ -97,7 +98,8 @@
 //!   the quantile that was read.
 //! - [`stream::queue::RangeCompressedIter`], [`stream::queue::EncoderGuard`]: the sealed words of an encoder
 //!   that stays as it is; [`stream::queue::LendsAsWritten`]: backends that lend their words as they were written.
-//! - [`stream::queue::encode_flagged`], [`stream::queue::FlagSwitch`]: two models in one stream, the second from behind a flag on.
+//! - [`stream::queue::encode_flagged`], [`stream::queue::FlagSwitch`]: two models in one stream, the second from
+//!   behind a flag on.
 //!
 //! ## [`stream::chain`]: symbols that don't depend on one another's models
 //!
@@ -110,8 +112,8 @@
 //! # [`store`]: many lists in one list of words, each found by itself
 //!
 //! - [`store::Store`]: chunks of symbols under one model, with an index of where each begins; at most
-//!   [`store::MOST_SYMBOLS`] of them. [`store::BuildError`], [`store::ChunkError`] and [`store::BadIndex`] say why there is
-//!   no store, or no chunk.
+//!   [`store::MOST_SYMBOLS`] of them. [`store::BuildError`], [`store::ChunkError`] and [`store::BadIndex`] say why
+//!   there is no store, or no chunk.
 //!
 //! # [`symbol`]: symbols as lists of bits
 //!
@@ -119,10 +121,10 @@
 //!   [`symbol::WriteBitStream`] and [`symbol::ReadBitStream`].
 //! - [`symbol::EncoderCodebook`], [`symbol::DecoderCodebook`]: a list of bits for each symbol;
 //!   [`symbol::exp_golomb::ExpGolomb`] is one for all numbers.
-//! - [`symbol::huffman::EncoderHuffmanTree`], [`symbol::huffman::DecoderHuffmanTree`]: the codebook of some weights, for either
-//!   side; [`symbol::huffman::HuffmanError`] says why weights make none.
-//! - [`symbol::reversed_codeword`]: a codeword that is found from its last bit on ([`symbol::SuffixCodebook`]), turned round in a
-//!   [`symbol::SmallBitStack`].
+//! - [`symbol::huffman::EncoderHuffmanTree`], [`symbol::huffman::DecoderHuffmanTree`]: the codebook of some weights,
+//!   for either side; [`symbol::huffman::HuffmanError`] says why weights make none.
+//! - [`symbol::reversed_codeword`]: a codeword that is found from its last bit on ([`symbol::SuffixCodebook`]),
+//!   turned round in a [`symbol::SmallBitStack`].
 //!
 //! # [`laws`]: what holds for a whole run
 //!

@@ -1,5 +1,5 @@
 -- Numbers that are a one above whole words.
-use Rattle.std.proofs.Common.{◌≡◌, ℕ, zero, suc, ◌+◌, ◌-◌, ◌*◌, ◌/◌, ◌%◌, ◌^◌, ◌<◌, ◌≤◌, ap, ◌∙◌, arith, inl, inr, pow_pos, pow-add, div-add-mod', div-lt_iff_lt-mul, le-div_iff_mul-le}
+use Rattle.std.proofs.Common.{◌≡◌, ℕ, zero, suc, ◌+◌, ◌-◌, ◌*◌, ◌/◌, ◌%◌, ◌^◌, ◌<◌, ◌≤◌, ap, ◌∙◌, arith, inl, inr, pow_pos, pow-add, div-add-mod', div-lt_iff_lt-mul, le-div_iff_mul-le, mul-le-mul_right}
 use Rattle.std.proofs.lemmas.Bool.{cases_lt}
 use Rattle.std.proofs.lemmas.Nat.{mod-mul-add}
 use Rattle.constriction_base.proofs.Sizes.{pow_le}
@@ -58,3 +58,19 @@ none_of_zero w m n none i = omega (arith, i.from, none, pow_pos (m * w))
 pub some_bits : (bits n : ℕ) → 0 < n → n < 2 ^ bits → 0 < bits
 some_bits zero n some below = let less : n < 1 = below in absurd (omega arith)
 some_bits (suc bits) n some below = omega arith
+
+-- no head is binary with fewer words and with more
+not_less : (w m n head : ℕ) → 1 ≤ w → m < n → head < 2 ^ (m * w + 1) → 2 ^ (n * w) ≤ head → ⊥
+not_less w m n head some less below from =
+    let part : suc m * w ≤ n * w = mul-le-mul_right w less in
+    let upto : 2 ^ (m * w + 1) ≤ 2 ^ (n * w) = pow_le (m * w + 1) (n * w) (omega (arith, part)) in
+    omega arith
+
+pub one_count : (w m n head : ℕ) → 1 ≤ w → IsOneAbove w m head → IsOneAbove w n head → m ≡ n
+one_count w m n head some i j = elim (cases_lt m n) [
+  | inl less ↦ absurd (not_less w m n head some less i.below j.from)
+  | inr more ↦ elim (cases_lt n m) [
+    | inl greater ↦ absurd (not_less w n m head some greater j.below i.from)
+    | inr same ↦ omega arith
+  ]
+]

@@ -1,6 +1,6 @@
 -- Clauses on answers that are known to be one or the other.
-use Rattle.std.proofs.Common.{Result, Ok, Err}
-use Rattle.std.specs.Prelude.{IsErr, IfErr, IfOk, MatchResult, OnOk}
+use Rattle.std.proofs.Common.{Result, Ok, Err, ◌≡◌, ℕ, ◌<◌, Option, None, Some, rules, arith}
+use Rattle.std.specs.Prelude.{IsErr, IfErr, IfOk, MatchResult, OnOk, MatchOption, IsSome}
 
 -- an error has made nothing
 pub none_made : {T E : Type 0} (P : T → Type 0) (answer : Result T E) → IsErr answer → IfOk answer P
@@ -22,3 +22,8 @@ mapped P P' Q Q' (Err e) f g m = g e m
 pub refused : {T E : Type 0} (P : T → Type 0) (Q Q' : E → Type 0) (answer : Result T E) → ((e : E) → Q e → Q' e) → MatchResult answer P Q → IfErr answer Q'
 refused P Q Q' (Ok x) f m = tt
 refused P Q Q' (Err e) f m = f e m
+
+-- a number above 0 has its form above 0
+pub some_above_zero : {N : Type 0} (o : Option N) (number : N → ℕ) (v : ℕ) → 0 < v → MatchOption o (v ≡ 0) (λ n. number n ≡ v) → IsSome o
+some_above_zero None number v some m = absurd (omega arith)
+some_above_zero (Some n) number v some m = search rules

@@ -1,10 +1,15 @@
 -- Powers of two at the sizes of words, states and tables.
-use Rattle.std.proofs.Common.{◌≡◌, ◌↔◌, ℕ, zero, suc, ◌+◌, ◌-◌, ◌*◌, ◌/◌, ◌^◌, ◌<◌, ◌≤◌, refl, sym, ap, ◌∙◌, arith, pow-add, pow_mono, zero-mul, div-add-mod', le-div_iff_mul-le}
+use Rattle.std.proofs.Common.{◌≡◌, ◌↔◌, ℕ, zero, suc, ◌+◌, ◌-◌, ◌*◌, ◌/◌, ◌^◌, ◌<◌, ◌≤◌, refl, sym, ap, ◌∙◌, arith, pow-add, pow_mono, zero-mul, div-add-mod', le-div_iff_mul-le, ◌%◌}
 use native.Mathlib.Nat.{pow-suc, pow-zero}
 use Rattle.constriction_base.specs.Steps.{Step, IsStep, IsSizes}
+use Rattle.std.proofs.Math.Nat.{mod-eq_of_lt}
 
 pub pow_le : (i j : ℕ) → i ≤ j → 2 ^ i ≤ 2 ^ j
 pow_le i j h = pow_mono h
+
+-- a number of few bits is the same among those of more
+pub same_number : (k bits most : ℕ) → k < 2 ^ bits → bits ≤ most → k % 2 ^ most ≡ k
+same_number k bits most below within = mod-eq_of_lt (omega (arith, pow_le bits most within))
 
 -- a power of a power
 pub pow-mul : (w j : ℕ) → (2 ^ w) ^ j ≡ 2 ^ (j * w)

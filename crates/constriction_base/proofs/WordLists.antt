@@ -1,8 +1,10 @@
 -- Lists of words, and that they fit.
-use Rattle.std.proofs.Common.{ℕ, zero, suc, ◌/◌, ◌%◌, ◌^◌, ◌<◌, List, [], ◌∷◌, ◌++◌, map, get_or, pow_pos}
+use Rattle.std.proofs.Common.{ℕ, zero, suc, ◌/◌, ◌%◌, ◌^◌, ◌<◌, List, [], ◌∷◌, ◌++◌, map, get_or, pow_pos, ◌≡◌, refl, sym, ap, ap₂, ◌∙◌, arith, length, sum, sum_by, mod-eq_of_lt}
 use Rattle.std.proofs.lemmas.Nat.{mod_below}
 use Rattle.constriction_base.specs.Digits.{fixed_digits}
 use Rattle.constriction_base.specs.Steps.{AreWords}
+use Rattle.std.specs.List.{zip}
+use Rattle.std.proofs.lemmas.List.Sums.{sum_by-cons}
 
 pub words-append : (w : ℕ) (xs ys : List ℕ) → AreWords w xs → AreWords w ys → AreWords w (xs ++ ys)
 words-append w [] ys h g = g
@@ -28,3 +30,22 @@ word_below w (x ∷ ws) (suc i) h = word_below w ws i h.1
 pub words-fixed_digits : (w k n : ℕ) → AreWords w (fixed_digits (2 ^ w) k n)
 words-fixed_digits w zero n = tt
 words-fixed_digits w (suc k) n = words-append w (fixed_digits (2 ^ w) k (n / 2 ^ w)) (n % 2 ^ w ∷ []) (words-fixed_digits w k (n / 2 ^ w)) (mod_below n (2 ^ w) (pow_pos w), tt)
+
+-- numbers of few bits are what is left of them
+pub own_remainders : (bits : ℕ) (xs : List ℕ) → ((i : ℕ) → get_or xs i 0 < 2 ^ bits) → map (λ x. x % 2 ^ bits) xs ≡ xs
+own_remainders bits [] fits = refl
+own_remainders bits (x ∷ xs) fits = ap₂ (λ (n : ℕ) (ns : List ℕ). n ∷ ns) (mod-eq_of_lt (fits 0)) (own_remainders bits xs (λ i. fits (suc i)))
+
+pub sum_of_remainders : (bits : ℕ) (xs : List ℕ) → ((i : ℕ) → get_or xs i 0 < 2 ^ bits) → sum_by (λ x. x % 2 ^ bits) xs ≡ sum xs
+sum_of_remainders bits [] fits = refl
+sum_of_remainders bits (x ∷ xs) fits =
+    let first : x % 2 ^ bits ≡ x = mod-eq_of_lt (fits 0) in
+    let rest = sum_of_remainders bits xs (λ i. fits (suc i)) in
+    sum_by-cons (λ n. n % 2 ^ bits) x xs ∙ rw (first, rest) (sym (sum_by-cons (λ n. n) x xs))
+
+-- pairs of two lists that each get one more at their end
+pub zip_push : {A B : Type 0} (xs : List A) (ys : List B) (x : A) (y : B) → length xs ≡ length ys → zip (xs ++ x ∷ []) (ys ++ y ∷ []) ≡ zip xs ys ++ (x, y) ∷ []
+zip_push [] [] x y same = refl
+zip_push [] (b ∷ ys) x y same = absurd (omega arith)
+zip_push (a ∷ xs) [] x y same = absurd (omega arith)
+zip_push {A} {B} (a ∷ xs) (b ∷ ys) x y same = ap (λ (pairs : List (A × B)). (a, b) ∷ pairs) (zip_push xs ys x y (omega arith))

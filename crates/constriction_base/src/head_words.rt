@@ -1,7 +1,7 @@
 //! The number that a coder holds above its words: how many words it has, and words that move between it and a backend.
 
 ghost use Rattle.std.specs.Prelude.{Err, IfErr, IfNone, IfOk, IfSome, MatchResult, Ok, drop, ℕ, ◌+◌, ◌<◌};
-ghost use Rattle.std.specs.Prelude.{◌^◌, ◌≡◌, ◌≤◌, ◌⊎◌};
+ghost use Rattle.std.specs.Prelude.{true, ◌^◌, ◌≡◌, ◌≤◌, ◌⊎◌};
 ghost use Rattle.constriction_base.specs.Digits.{count_of_words, fixed_digits};
 ghost use Rattle.constriction_base.specs.Readings.{Fills};
 ghost use Rattle.constriction_base.specs.Steps.{IsSizes};
@@ -30,7 +30,7 @@ pub fn count_of_words<Word: WordOf<State>, State: BitArray>(head: State) -> usiz
 /// How many words a head has below its leading one, if these are whole words.
 pub fn words_below_one<Word: WordOf<State>, State: BitArray>(head: State) -> Option<usize>
     requires { IsSizes Word.BITS State.BITS }
-    ensures some { IfSome result (λ m. IsOneAbove Word.BITS m (State.number head)) }
+    ensures value { IfSome result (λ m. IsOneAbove Word.BITS m (State.number head)) }
     ensures none { IfNone result ((m : ℕ) → IsOneAbove Word.BITS m (State.number head) → ⊥) }
 {
     if head.is_nothing() {
@@ -111,7 +111,7 @@ pub fn append_words<Word: WordOf<State>, State: BitArray, Backend: WriteWords<Wo
 }
 
 /// A head above 0, into which words move as long as it is below 2 to the `bits` and one is left; and whether it came
-/// that far.
+/// that far. Where it is that far already, the backend isn't called.
 ///
 /// # Errors
 ///
@@ -128,6 +128,7 @@ pub fn fill<Word: WordOf<State>, State: BitArray, Backend: ReadWords<Word, Stack
         bulk.old result bulk.new }
     ensures below { State.number head < 2 ^ (bits + Word.BITS)
         → IfOk result (λ found. State.number found.0 < 2 ^ (bits + Word.BITS)) }
+    ensures untouched { 2 ^ bits ≤ State.number head → (result ≡ Ok (head, true)) × (bulk.new ≡ bulk.old) }
 {
     let mut full = head;
     'words: while full.shifted_right(bits).is_nothing() {

@@ -1,7 +1,7 @@
 //! A model by the weights of its symbols.
 
 mod hints;
-mod starts;
+pub mod starts;
 
 ghost use Rattle.std.specs.Prelude.{◌≡◌, ◌≢◌, ◌+◌, ◌-◌, ◌*◌, ◌^◌, ◌<◌, ◌≤◌, ◌↔◌, [], length, map, sum_by, slice_index};
 ghost use Rattle.std.specs.Prelude.{OnOk, IfOk, IfSome, IfNone, IsErrOf};

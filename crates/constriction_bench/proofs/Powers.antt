@@ -1,9 +1,8 @@
 -- Numbers below powers of two.
-use Rattle.std.proofs.Common.{◌≡◌, ℕ, ◌+◌, ◌*◌, ◌/◌, ◌%◌, ◌^◌, ◌<◌, ◌≤◌, ap, ◌∙◌, inl, inr, arith}
-use Rattle.std.proofs.Math.Nat.{mod-eq_of_lt, div-eq_of_lt, div-mul-le_self, lt-div-mul-add, mul-lt-mul_of_pos_right, pow-le-pow_right}
+use Rattle.std.proofs.Common.{◌≡◌, ℕ, ◌+◌, ◌*◌, ◌/◌, ◌%◌, ◌^◌, ◌<◌, ◌≤◌, ap, ◌∙◌, arith}
+use Rattle.std.proofs.Math.Nat.{div-mul-le_self, lt-div-mul-add, mul-lt-mul_of_pos_right}
 use Rattle.std.proofs.lemmas.Nat.{pow-add, pow_pos}
-use Rattle.std.proofs.lemmas.Bool.{cases_lt}
-use Rattle.constriction_base.proofs.Sizes.{pow_le}
+use Rattle.constriction_base.proofs.Sizes.{pow_le, same_number}
 
 -- a number moved up fits
 pub moved_fits : (k bits shift most : ℕ) → k < 2 ^ bits → bits + shift ≤ most → k * 2 ^ shift < 2 ^ most
@@ -11,10 +10,6 @@ moved_fits k bits shift most below within =
     let moved : k * 2 ^ shift < 2 ^ bits * 2 ^ shift = mul-lt-mul_of_pos_right below (pow_pos shift) in
     let whole : 2 ^ (bits + shift) ≡ 2 ^ bits * 2 ^ shift = pow-add 2 bits shift in
     omega (arith, pow_le (bits + shift) most within)
-
--- a number of few bits is the same in a word that has more
-pub same_number : (k bits most : ℕ) → k < 2 ^ bits → bits ≤ most → k % 2 ^ most ≡ k
-same_number k bits most below within = mod-eq_of_lt (omega (arith, pow_le bits most within))
 
 -- a number lies in its part of the numbers
 pub covered : (q shift : ℕ) → (q / 2 ^ shift * 2 ^ shift ≤ q) × (q < q / 2 ^ shift * 2 ^ shift + 2 ^ shift)

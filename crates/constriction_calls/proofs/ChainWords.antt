@@ -1,99 +1,82 @@
 -- Words that stand for a chain coder, and words of heads behind a caller's.
-use Rattle.std.proofs.Common.{◌≡◌, ◌⊎◌, refl, ℕ, ◌+◌, ◌^◌, ◌<◌, ◌≤◌, List, [], ◌∷◌, ◌++◌, Result, Ok, Err, length, map, take, append-nil, sym, ap, ◌∙◌, subst, arith, inl, inr}
-use Rattle.std.specs.Prelude.{IfErr, OnErr, OnOk, reverse}
+use Rattle.std.proofs.Common.{◌≡◌, ◌⊎◌, refl, ℕ, ◌+◌, ◌^◌, ◌<◌, ◌≤◌, List, [], ◌∷◌, ◌++◌, Result, Ok, Err, length, map, reverse, take, append-nil, sym, ap, ◌∙◌, subst, arith, inl, inr}
+use Rattle.std.specs.Prelude.{IfErr, OnErr, OnOk}
 use Rattle.std.specs.Int.Digits.{digits_of}
 use Rattle.std.proofs.Math.Seq.{take-length}
-use Rattle.std.proofs.lemmas.List.{length-append, length-map, length-reverse, length-take-le}
 use Rattle.constriction_base.specs.Digits.{fixed_digits}
 use Rattle.constriction_base.specs.Writing.{IsOneAbove}
 use Rattle.constriction_base.specs.declared.backends.reading.Holds as holding
 use Rattle.constriction_base.specs.declared.backends.reading.ReadWords as reading
 use Rattle.constriction_base.specs.declared.errors.CoderError.{CoderError}
 use Rattle.constriction_base.specs.declared.errors.CoderError.TheVariants.{Backend, Frontend}
-use Rattle.constriction_chain.specs.Chain.{ChainState, IsChain}
-use Rattle.constriction_chain.specs.Imports.{FromBinary, FromCompressed, FromRemainders, IsWhole}
+use Rattle.constriction_chain.specs.Chain.{ChainState, IsChain, IsSized, least}
+use Rattle.constriction_chain.specs.Imports.{FromBinary, FromCompressed, FromRemainders}
 use Rattle.constriction_chain.specs.Words.{NoHeads, NoStart, TooFew, remainder_words}
 use Rattle.constriction_chain.proofs.Chains.{state, state_same}
 use Rattle.constriction_chain_laws.proofs.NoCoder as laws
 use Rattle.constriction_inputs.specs.Buffers.{Appended, WordsKept, stack_in}
 use Rattle.constriction_calls.specs.ChainWords.{AreWordsInForm, Begins, ChainBegins, ChainEnds, Form, HaveWords, HeadsOver, NoRoomFor, heads_over}
-use Rattle.constriction_inputs.specs.Refusals.{Room}
 use Rattle.constriction_calls.specs.declared.chain.ChainHeads.{ChainHeads}
 use Rattle.constriction_inputs.specs.declared.refusal.Refusal.{Refusal}
 use Rattle.constriction_inputs.specs.declared.refusal.Refusal.TheVariants as refusals
-use Rattle.constriction_calls.proofs.ChainFrame.{appended_in, length_in, rest_in}
+use Rattle.constriction_inputs.proofs.Asking.{room_of}
+use Rattle.constriction_calls.proofs.Stacked.{counted, length_in, rest_in, stacked}
 
 -- ---- words that begin no coder
+module _ {W B O E : Type 0} (number : W → ℕ) (holds : holding.Ghosts B W O) (reads : reading.Ghosts B W O E) (w s P : ℕ) (list : holds.is_list) (sized : IsSized w s P) (never : E → ⊥)
+    (old : B) where
+  pub no_compressed : (e : CoderError B E) → NoStart number holds reads w (least w s P) old e → (words : List ℕ) → map number (holds.words old) ≡ words → (x : ChainState) × FromCompressed w s P words x → ⊥
+  no_compressed (Backend e) stop words are from = never e
+  no_compressed (Frontend rest) stop words are from = laws.no_compressed number holds reads w s P list sized old rest stop from.0 (rw are from.1)
 
-module _ {W B O E : Type 0} (number : W → ℕ) (holds : holding.Ghosts B W O) (reads : reading.Ghosts B W O E) (w bound : ℕ) (list : holds.is_list) (never : E → ⊥) where
-  pub no_start : (old : B) (e : CoderError B E) → 2 ≤ 2 ^ w → NoStart number holds reads w bound old e
-      → (r : ℕ) (cs : List ℕ) → 0 < r → bound ≤ r → map number (holds.words old) ≡ digits_of (2 ^ w) r ++ cs → ⊥
-  no_start old (Backend e) two stop r cs pos le is = never e
-  no_start old (Frontend rest) two stop r cs pos le is = laws.no_start number holds reads w bound list old rest two stop r cs pos le is
+  pub no_binary : (e : CoderError B E) → TooFew number holds reads w (least w s P) 1 old e → (words : List ℕ) → map number (holds.words old) ≡ words → (x : ChainState) × FromBinary w s P words x → ⊥
+  no_binary (Backend e) stop words are from = never e
+  no_binary (Frontend rest) stop words are from = laws.no_binary number holds reads w s P list sized old rest stop from.0 (rw are from.1)
 
-  pub too_few : (old : B) (e : CoderError B E) → TooFew number holds reads w bound 1 old e
-      → (m r : ℕ) (cs : List ℕ) → IsOneAbove w m r → bound ≤ r → map number (holds.words old) ≡ fixed_digits (2 ^ w) m r ++ cs → ⊥
-  too_few old (Backend e) stop m r cs i le is = never e
-  too_few old (Frontend rest) stop m r cs i le is = laws.too_few number holds reads w bound list old rest stop m r cs i le is
-
-  pub no_heads : (old : B) (e : CoderError B E) → 2 ≤ 2 ^ w → NoHeads number holds reads w bound old e
-      → (h r : ℕ) (cs : List ℕ) → 0 < h → 0 < r → bound ≤ r → map number (holds.words old) ≡ h ∷ (digits_of (2 ^ w) r ++ cs) → ⊥
-  no_heads old (Backend e) two stop h r cs some pos le is = never e
-  no_heads old (Frontend rest) two stop h r cs some pos le is = laws.no_heads number holds reads w bound list old rest two stop h r cs some pos le is
+  pub no_remainders : (e : CoderError B E) → NoHeads number holds reads w (least w s P) old e → (words : List ℕ) → map number (holds.words old) ≡ words → (x : ChainState) × FromRemainders w s P words x → ⊥
+  no_remainders (Backend e) stop words are from = never e
+  no_remainders (Frontend rest) stop words are from = laws.no_remainders number holds reads w s P list sized old rest stop from.0 (rw are from.1)
 
 -- ---- coders of a caller's words
-
--- the states of heads over the words in use
-abbrev over_compressed : {W : Type 0} → (W → ℕ) → ℕ → ℕ → List W → ℕ → ChainState
-over_compressed number h r buffer len = state h r (stack_in number buffer len) []
-
-abbrev over_remainders : {W : Type 0} → (W → ℕ) → ℕ → ℕ → List W → ℕ → ChainState
-over_remainders number h r buffer len = state h r [] (stack_in number buffer len)
-
 -- the words that a cursor has left are the first of a buffer
 left_in : {W : Type 0} (number : W → ℕ) (words buf : List W) (pos : ℕ) (t cs : List ℕ) → cs ≡ map number (reverse (take pos buf)) → pos ≤ length buf
     → map number (reverse (take (length words) words)) ≡ t ++ cs → (pos ≤ length words) × (cs ≡ stack_in number words pos)
-left_in {W} number words buf pos t cs are within is =
+left_in number words buf pos t cs are within is =
     let rest = rest_in number words (length words) t cs (omega arith) is in
-    let count : length cs ≡ pos = ap length are ∙ (length-map (reverse (take pos buf)) number ∙ (length-reverse (take pos buf) ∙ length-take-le pos buf within)) in
+    let count : length cs ≡ pos = ap length are ∙ length_in number buf pos within in
     (omega (arith, rest.0, count), rest.1 ∙ ap (λ (n : ℕ). stack_in number words n) count)
 
 pub all_taken : {W : Type 0} (number : W → ℕ) (words : List W) → map number (reverse (take (length words) words)) ≡ map number (reverse words)
 all_taken {W} number words = ap (λ (ws : List W). map number (reverse ws)) (take-length words)
 
-pub of_compressed : {W : Type 0} (number : W → ℕ) (w s P : ℕ) (words buf others : List W) (h r pos : ℕ) (x : ChainState)
-    → x ≡ state h r (map number (reverse (take pos buf))) (map number (reverse others)) → pos ≤ length buf → IsChain w s P x → (x.h ≡ 1) → (x.remainders ≡ [])
-    → map number (reverse (take (length words) words)) ≡ digits_of (2 ^ w) x.r ++ x.compressed
-    → (pos ≤ length words) × FromCompressed w s P (map number (reverse words)) (over_compressed number h r words pos)
-of_compressed {W} number w s P words buf others h r pos x is within chain one none are =
-    let found = left_in number words buf pos (digits_of (2 ^ w) x.r) x.compressed (ap (λ (z : ChainState). z.compressed) is) within are in
-    let same : x ≡ over_compressed number h r words pos = state_same x _ (ap (λ (z : ChainState). z.h) is) (ap (λ (z : ChainState). z.r) is) found.1 none in
-    let whole : IsWhole w s P x = record { chain = chain; h = one; remainders = none } in
-    (found.0, subst (λ (z : ChainState). FromCompressed w s P (map number (reverse words)) z) same (whole, sym (all_taken number words) ∙ are))
+module _ {W : Type 0} (number : W → ℕ) (w s P : ℕ) (words buf others : List W) (h r pos : ℕ) (x : ChainState) (within : pos ≤ length buf) (chain : IsChain w s P x) where
+  -- no remainders, and no bits left over
+  module _ (is : x ≡ state h r (map number (reverse (take pos buf))) (map number (reverse others))) (one : x.h ≡ 1) (none : x.remainders ≡ []) where
+    whole_over : (t : List ℕ) → map number (reverse (take (length words) words)) ≡ t ++ x.compressed → (pos ≤ length words) × (x ≡ state h r (stack_in number words pos) [])
+    whole_over t are =
+        let found = left_in number words buf pos t x.compressed (ap (λ (z : ChainState). z.compressed) is) within are in
+        (found.0, state_same x _ (ap (λ (z : ChainState). z.h) is) (ap (λ (z : ChainState). z.r) is) found.1 none)
 
-pub of_binary : {W : Type 0} (number : W → ℕ) (w s P : ℕ) (words buf others : List W) (h r pos : ℕ) (x : ChainState)
-    → x ≡ state h r (map number (reverse (take pos buf))) (map number (reverse others)) → pos ≤ length buf → IsChain w s P x → (x.h ≡ 1) → (x.remainders ≡ [])
-    → ((m : ℕ) × IsOneAbove w m x.r × (map number (reverse (take (length words) words)) ≡ fixed_digits (2 ^ w) m x.r ++ x.compressed))
-    → (pos ≤ length words) × FromBinary w s P (map number (reverse words)) (over_compressed number h r words pos)
-of_binary {W} number w s P words buf others h r pos x is within chain one none (m, above, are) =
-    let found = left_in number words buf pos (fixed_digits (2 ^ w) m x.r) x.compressed (ap (λ (z : ChainState). z.compressed) is) within are in
-    let same : x ≡ over_compressed number h r words pos = state_same x _ (ap (λ (z : ChainState). z.h) is) (ap (λ (z : ChainState). z.r) is) found.1 none in
-    let whole : IsWhole w s P x = record { chain = chain; h = one; remainders = none } in
-    (found.0, subst (λ (z : ChainState). FromBinary w s P (map number (reverse words)) z) same (whole, (m, above, sym (all_taken number words) ∙ are)))
+    pub of_compressed : map number (reverse (take (length words) words)) ≡ digits_of (2 ^ w) x.r ++ x.compressed
+        → (pos ≤ length words) × FromCompressed w s P (map number (reverse words)) (state h r (stack_in number words pos) [])
+    of_compressed are =
+        let found = whole_over (digits_of (2 ^ w) x.r) are in
+        (found.0, subst (λ (z : ChainState). FromCompressed w s P (map number (reverse words)) z) found.1 (record { chain = chain; h = one; remainders = none }, sym (all_taken number words) ∙ are))
 
-pub of_remainders : {W : Type 0} (number : W → ℕ) (w s P : ℕ) (words buf others : List W) (h r pos : ℕ) (x : ChainState)
-    → x ≡ state h r (map number (reverse others)) (map number (reverse (take pos buf))) → pos ≤ length buf → IsChain w s P x → (x.compressed ≡ [])
-    → map number (reverse (take (length words) words)) ≡ remainder_words w x
-    → (pos ≤ length words) × FromRemainders w s P (map number (reverse words)) (over_remainders number h r words pos)
-of_remainders {W} number w s P words buf others h r pos x is within chain none are =
-    let found = left_in number words buf pos (x.h ∷ digits_of (2 ^ w) x.r) x.remainders (ap (λ (z : ChainState). z.remainders) is) within are in
-    let same : x ≡ over_remainders number h r words pos = state_same x _ (ap (λ (z : ChainState). z.h) is) (ap (λ (z : ChainState). z.r) is) none found.1 in
-    let from : FromRemainders w s P (map number (reverse words)) x = record { chain = chain; compressed = none; are = sym (all_taken number words) ∙ are } in
-    (found.0, subst (λ (z : ChainState). FromRemainders w s P (map number (reverse words)) z) same from)
+    pub of_binary : ((m : ℕ) × IsOneAbove w m x.r × (map number (reverse (take (length words) words)) ≡ fixed_digits (2 ^ w) m x.r ++ x.compressed))
+        → (pos ≤ length words) × FromBinary w s P (map number (reverse words)) (state h r (stack_in number words pos) [])
+    of_binary (m, above, are) =
+        let found = whole_over (fixed_digits (2 ^ w) m x.r) are in
+        (found.0, subst (λ (z : ChainState). FromBinary w s P (map number (reverse words)) z) found.1 (record { chain = chain; h = one; remainders = none }, (m, above, sym (all_taken number words) ∙ are)))
 
--- ---- words of heads
+  pub of_remainders : x ≡ state h r (map number (reverse others)) (map number (reverse (take pos buf))) → x.compressed ≡ [] → map number (reverse (take (length words) words)) ≡ remainder_words w x
+      → (pos ≤ length words) × FromRemainders w s P (map number (reverse words)) (state h r [] (stack_in number words pos))
+  of_remainders is none are =
+      let found = left_in number words buf pos (x.h ∷ digits_of (2 ^ w) x.r) x.remainders (ap (λ (z : ChainState). z.remainders) is) within are in
+      let same : x ≡ state h r [] (stack_in number words pos) = state_same x _ (ap (λ (z : ChainState). z.h) is) (ap (λ (z : ChainState). z.r) is) none found.1 in
+      (found.0, subst (λ (z : ChainState). FromRemainders w s P (map number (reverse words)) z) same (record { chain = chain; compressed = none; are = sym (all_taken number words) ∙ are }))
 
--- those of heads over no others, with a caller's below them
+-- ---- words of heads over no others, with a caller's below them
 pub binary_above : {W A : Type 0} (number : W → ℕ) (w h r : ℕ) (added : List W) (below : List ℕ) (x : ChainState) → x ≡ state h r [] []
     → (x.h ≡ 1) × A × ((m : ℕ) × IsOneAbove w m x.r × (map number (reverse added) ≡ fixed_digits (2 ^ w) m x.r ++ x.compressed))
     → (h ≡ 1) × ((m : ℕ) × IsOneAbove w m r × (map number (reverse added) ++ below ≡ fixed_digits (2 ^ w) m r ++ below))
@@ -103,9 +86,7 @@ binary_above number w h r added below x is words =
 
 pub heads_above : {W : Type 0} (number : W → ℕ) (w h r : ℕ) (added : List W) (below : List ℕ) (x : ChainState) → x ≡ state h r [] [] → map number (reverse added) ≡ remainder_words w x
     → map number (reverse added) ++ below ≡ h ∷ (digits_of (2 ^ w) r ++ below)
-heads_above number w h r added below x is words =
-    let found = rw is at words in
-    ap (λ (ys : List ℕ). ys ++ below) found ∙ ap (λ (ys : List ℕ). h ∷ (ys ++ below)) (append-nil (digits_of (2 ^ w) r))
+heads_above number w h r added below x is words = rw (words, is, append-nil (digits_of (2 ^ w) r)) refl
 
 -- ---- what calls say of each answer
 module _ {Word State : Type 0} (number : Word → ℕ) (state' : State → ℕ) (w s P : ℕ) (form : Form) where
@@ -125,16 +106,12 @@ module _ {Word State : Type 0} (number : Word → ℕ) (state' : State → ℕ) 
         → IfErr r (λ e. (e ≡ refusals.NoSpace (old.len + length added)) ⊎ ((e ≡ refusals.NoMemory) × past)) → OnErr r ((new.words ≡ old.words) × (new.len ≡ old.len))
         → ChainEnds number state' w s P form heads old new r
     ends_at within have are (Ok u) appended full past why kept = record {
-      ended = subst (λ (ws : List ℕ). AreWordsInForm form w ws (heads_over number state' form heads old.words old.len)) (sym (appended_in number old.words old.len added new.words new.len appended)) are;
+      ended = rw (stacked number old.words old.len added new.words new.len appended) are;
       appended = (added, appended);
       asked = inr (within, inr (have, tt));
       kept = tt;
     }
     ends_at within have are (Err e) appended full past why kept =
-        let count : length (map number (reverse added) ++ stack_in number old.words old.len) ≡ old.len + length added =
-        omega (arith, length-append (map number (reverse added)) (stack_in number old.words old.len), length-map (reverse added) number, length-reverse added, length_in number old.words old.len within) in
-        let room : Room (NoRoomFor (length old.words) (λ words. AreWordsInForm form w words (heads_over number state' form heads old.words old.len))) e = elim why [
-          | inl is ↦ rw is (record { past = full; words = map number (reverse added) ++ stack_in number old.words old.len; are = are; count = count })
-          | inr more ↦ rw more.0 tt
-        ] in
-        record { ended = tt; appended = tt; asked = inr (within, inr (have, room)); kept = rw (kept.0, kept.1) refl }
+        let lacks : NoRoomFor (length old.words) (λ words. AreWordsInForm form w words (heads_over number state' form heads old.words old.len)) (old.len + length added) =
+        record { past = full; words = map number (reverse added) ++ stack_in number old.words old.len; are = are; count = counted number old.words old.len added within } in
+        record { ended = tt; appended = tt; asked = inr (within, inr (have, room_of _ e (old.len + length added) why lacks)); kept = rw (kept.0, kept.1) refl }

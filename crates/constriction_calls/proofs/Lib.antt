@@ -1,17 +1,16 @@
 mod AnsAnswers
 mod AnsFrame
-mod AnsRows
 mod ChainAnswers
-pub mod ChainFrame
-pub mod ChainRows
-pub mod ChainSteps
-pub mod ChainWords
+mod ChainFrame
+mod ChainSteps
+mod ChainWords
+mod Intervals
+mod Known
 mod RangeAnswers
-pub mod RangeFrame
-mod RangeIntervals
-pub mod RangeKept
-pub mod RangeTaking
-pub mod Stacked
+mod RangeFrame
+mod RangeKept
+mod RangeTaking
+mod Stacked
 mod StoreAnswers
 mod StoreIndex
 mod SymbolLists

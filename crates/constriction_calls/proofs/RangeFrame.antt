@@ -1,18 +1,16 @@
 -- A range encoder over the words of a caller does the same as one over no words: the words below are a multiple that a
 -- step carries along. Lists of words have the last word first.
-use Rattle.std.proofs.Common.{map, ◌≡◌, ℕ, zero, suc, ◌+◌, ◌-◌, ◌*◌, ◌/◌, ◌%◌, ◌^◌, ◌<◌, ◌≤◌, ◌==◌, if◌then◌else◌, List, [], ◌∷◌, ◌++◌, length, refl, sym, ap, ◌∙◌, subst, inl, inr, arith, pow_pos, append_assoc, append-nil, length-append, eq-eqb, ne_eqb, div-lt_iff_lt-mul, mul-le-mul_right}
+use Rattle.std.proofs.Common.{◌≡◌, ℕ, zero, suc, ◌+◌, ◌-◌, ◌*◌, ◌/◌, ◌%◌, ◌^◌, ◌<◌, ◌≤◌, ◌==◌, if◌then◌else◌, List, [], ◌∷◌, ◌++◌, length, refl, sym, ap, ◌∙◌, inl, inr, arith, pow_pos, append_assoc, append-nil, length-append, eq-eqb, ne_eqb, div-lt_iff_lt-mul, mul-le-mul_right}
 use native.Mathlib.Nat.{pow-suc, pow-zero, add-mul-div_right, add-mul-mod_self_right}
 use Rattle.std.specs.Prelude.{reverse}
 use Rattle.std.proofs.lemmas.Bool.{cases_eq}
-use Rattle.constriction_base.specs.declared.backends.reading.Holds as holding
 use Rattle.constriction_base.specs.Steps.{Step, AreWords}
 use Rattle.constriction_base.specs.Digits.{fixed_digits}
-use Rattle.constriction_queue.specs.Range.{Run, cut, grown, narrow, sealed, seal_number}
-use Rattle.constriction_queue.specs.Encoder.{Encoder, encoder_of, held_of, number_of, run_by, run_of, words_held}
-use Rattle.constriction_queue.specs.declared.situation.EncoderSituation.{EncoderSituation}
+use Rattle.constriction_queue.specs.Range.{Run, cut, grown, narrowed_by, sealed, seal_number}
+use Rattle.constriction_queue.specs.Encoder.{number_of, run_of, words_held}
 use Rattle.constriction_base.specs.Models.{Item}
 use Rattle.constriction_queue.specs.Symbols.{NarrowsAll}
-use Rattle.constriction_queue.proofs.Fits.{pow-split}
+use Rattle.constriction_base.proofs.Heads.{pow-split}
 use Rattle.constriction_queue.proofs.Runs.{same_run}
 use Rattle.constriction_queue.proofs.Seals.{digits_of_words, words_held_fit}
 use Rattle.constriction_queue.proofs.Carry.{carry_held, length-held}
@@ -20,7 +18,7 @@ use Rattle.constriction_queue.proofs.Narrowing.{by_growth, moved, grown_small, g
 use Rattle.constriction_queue_laws.proofs.AnyEncoder.{number_below}
 
 -- the run behind k words more, whose number is n
-abbrev pub behind : ℕ → ℕ → ℕ → ℕ → Run → Run
+abbrev behind : ℕ → ℕ → ℕ → ℕ → Run → Run
 behind w s n k r = record { low = n * (2 ^ w) ^ r.moves * 2 ^ s + r.low; range = r.range; moves = r.moves + k }
 
 number_of-append : (b : ℕ) (ws rest : List ℕ) → number_of b (ws ++ rest) ≡ number_of b rest * b ^ length ws + number_of b ws
@@ -45,7 +43,7 @@ grown_behind w s n k r =
     (λ large. grown_large w s (behind w s n k r) large)
 
 -- a step behind words
-pub narrow_behind : (w s n k : ℕ) (e : Step) (r : Run) → narrow w s e (behind w s n k r) ≡ behind w s n k (narrow w s e r)
+narrow_behind : (w s n k : ℕ) (e : Step) (r : Run) → narrowed_by w s e (behind w s n k r) ≡ behind w s n k (narrowed_by w s e r)
 narrow_behind w s n k e r =
     let same : cut e (behind w s n k r) ≡ behind w s n k (cut e r) = same_run _ _ (omega arith) refl refl in
     ap (λ (c : Run). grown w s c) same ∙ grown_behind w s n k (cut e r)
@@ -71,6 +69,12 @@ digits_behind b (suc m) k n x some small =
     ∙ ap (λ (ds : List ℕ). ds ++ (x % b ∷ [])) (digits_behind b m k n (x / b) some below)
     ∙ append_assoc (fixed_digits b k n) (fixed_digits b m (x / b)) (x % b ∷ [])
 
+-- the digits of a number above words are those of the words and its own
+digits_above : (w m : ℕ) (rest : List ℕ) (x : ℕ) → AreWords w rest → x < (2 ^ w) ^ m
+    → fixed_digits (2 ^ w) (m + length rest) (number_of (2 ^ w) rest * (2 ^ w) ^ m + x) ≡ reverse rest ++ fixed_digits (2 ^ w) m x
+digits_above w m rest x words small =
+    digits_behind (2 ^ w) m (length rest) (number_of (2 ^ w) rest) x (pow_pos w) small ∙ ap (λ (ds : List ℕ). ds ++ fixed_digits (2 ^ w) m x) (digits_of_words w rest words)
+
 same_test : (a u v : ℕ) → ((a + u) == (a + v)) ≡ (u == v)
 same_test a u v = elim (cases_eq u v) [
   | inl e ↦ eq-eqb (a + u) (a + v) (omega (arith, e)) ∙ sym (eq-eqb u v e)
@@ -89,45 +93,38 @@ parts_behind w s n r x wide =
     let carried : n * b ^ m * 2 ^ s + x ≡ x + n * b ^ suc m * q = ap (λ y. n * b ^ m * y + x) (sym split) ∙ rw power (omega arith) in
     ap (λ y. y / q) carried ∙ add-mul-div_right x (n * b ^ suc m) (pow_pos (s - w)) ∙ omega arith
 
-pub seal_number_behind : (w s n k : ℕ) (r : Run) → w ≤ s → seal_number w s (behind w s n k r) ≡ n * (2 ^ w) ^ suc r.moves + seal_number w s r
+seal_number_behind : (w s n k : ℕ) (r : Run) → w ≤ s → seal_number w s (behind w s n k r) ≡ n * (2 ^ w) ^ suc r.moves + seal_number w s r
 seal_number_behind w s n k r wide =
     let q : ℕ = 2 ^ (s - w) in
     let turn : n * (2 ^ w) ^ r.moves * 2 ^ s + r.low + (q - 1) ≡ n * (2 ^ w) ^ r.moves * 2 ^ s + (r.low + (q - 1)) = omega arith in
     ap (λ y. y / q) turn ∙ parts_behind w s n r (r.low + (q - 1)) wide
 
 -- the digits of a run without symbols
-pub start_digits_behind : (w s : ℕ) (rest : List ℕ) (r : Run) → AreWords w rest → r.low < 2 ^ s * (2 ^ w) ^ r.moves
+start_digits_behind : (w s : ℕ) (rest : List ℕ) (r : Run) → AreWords w rest → r.low < 2 ^ s * (2 ^ w) ^ r.moves
     → fixed_digits (2 ^ w) (r.moves + length rest) ((number_of (2 ^ w) rest * (2 ^ w) ^ r.moves * 2 ^ s + r.low) / 2 ^ s) ≡ reverse rest ++ fixed_digits (2 ^ w) r.moves (r.low / 2 ^ s)
 start_digits_behind w s rest r words inside =
     let b : ℕ = 2 ^ w in
     let n : ℕ = number_of b rest in
     let m : ℕ = r.moves in
-    let digits : fixed_digits b (length rest) n ≡ reverse rest = digits_of_words w rest words in
     let number : (n * b ^ m * 2 ^ s + r.low) / 2 ^ s ≡ n * b ^ m + r.low / 2 ^ s =
     ap (λ y. y / 2 ^ s) (let turn : n * b ^ m * 2 ^ s + r.low ≡ r.low + n * b ^ m * 2 ^ s = omega arith in turn)
     ∙ add-mul-div_right r.low (n * b ^ m) (pow_pos s) ∙ omega arith in
-    let below : r.low / 2 ^ s < b ^ m = (div-lt_iff_lt-mul (pow_pos s)).1 (omega (arith, inside)) in
-    rw number (digits_behind b m (length rest) n (r.low / 2 ^ s) (pow_pos w) below ∙ ap (λ (ds : List ℕ). ds ++ fixed_digits b m (r.low / 2 ^ s)) digits)
+    rw number (digits_above w m rest (r.low / 2 ^ s) words ((div-lt_iff_lt-mul (pow_pos s)).1 (omega (arith, inside))))
 
 -- those of a seal's number
-pub seal_digits_behind : (w s : ℕ) (rest : List ℕ) (r : Run) → w ≤ s → AreWords w rest → 2 ^ (s - w) ≤ r.range → r.low + r.range < 2 ^ s * (2 ^ w) ^ r.moves
+seal_digits_behind : (w s : ℕ) (rest : List ℕ) (r : Run) → w ≤ s → AreWords w rest → 2 ^ (s - w) ≤ r.range → r.low + r.range < 2 ^ s * (2 ^ w) ^ r.moves
     → fixed_digits (2 ^ w) (suc (r.moves + length rest)) (number_of (2 ^ w) rest * (2 ^ w) ^ suc r.moves + seal_number w s r) ≡ reverse rest ++ fixed_digits (2 ^ w) (suc r.moves) (seal_number w s r)
 seal_digits_behind w s rest r wide words least inside =
     let b : ℕ = 2 ^ w in
     let q : ℕ = 2 ^ (s - w) in
-    let n : ℕ = number_of b rest in
-    let k : ℕ = length rest in
     let m : ℕ = r.moves in
     let c : ℕ = seal_number w s r in
     let split : q * b ≡ 2 ^ s = pow-split s w wide in
-    let digits : fixed_digits b k n ≡ reverse rest = digits_of_words w rest words in
     let power : b ^ suc m ≡ b ^ m * b = pow-suc b m in
     let room : 2 ^ s * b ^ m ≡ b ^ suc m * q = ap (λ y. y * b ^ m) (sym split) ∙ rw power (omega arith) in
-    let some : 0 < q = pow_pos (s - w) in
-    let below : c < b ^ suc m = (div-lt_iff_lt-mul some).1 (omega (arith, inside, least, room)) in
-    let count : suc (m + k) ≡ suc m + k = omega arith in
-    ap (λ j. fixed_digits b j (n * b ^ suc m + c)) count ∙ digits_behind b (suc m) k n c (pow_pos w) below
-    ∙ ap (λ (ds : List ℕ). ds ++ fixed_digits b (suc m) c) digits
+    let below : c < b ^ suc m = (div-lt_iff_lt-mul (pow_pos (s - w))).1 (omega (arith, inside, least, room)) in
+    let count : suc (m + length rest) ≡ suc m + length rest = omega arith in
+    ap (λ j. fixed_digits b j (number_of b rest * b ^ suc m + c)) count ∙ digits_above w (suc m) rest c words below
 
 -- a run of which the words have room for its interval
 pub sealed_behind : (w s : ℕ) (rest : List ℕ) (r : Run) → w ≤ s → AreWords w rest
@@ -161,19 +158,15 @@ pub held_inside : (w s count first lower range : ℕ) → first + 1 < 2 ^ w → 
 held_inside w s count first lower range less lower_fits range_fits =
     let b : ℕ = 2 ^ w in
     let ones : List ℕ = words_held (b - 1) count first in
-    let zeros : List ℕ = words_held 0 count (first + 1) in
-    let plain : (ws : List ℕ) → ws ++ [] ≡ ws = λ ws. append-nil ws in
-    let carried : number_of b zeros ≡ number_of b ones + 1 = rw (append-nil zeros, append-nil ones) at (carry_held b count first [] (pow_pos w)) in
-    let long : length zeros ≡ length ones = rw (append-nil zeros, append-nil ones) at (length-held 0 (b - 1) count (first + 1) first []) in
-    let fit : AreWords w zeros = rw (append-nil zeros) at (words_held_fit w 0 count (first + 1) [] (pow_pos w) less tt) in
-    let below : number_of b zeros < b ^ length zeros = number_below w zeros fit in
-    let power : b ^ length zeros ≡ b ^ length ones = ap (λ j. b ^ j) long in
-    let room : number_of b ones + 2 ≤ b ^ length ones = omega (arith, carried, below, power) in
+    let zeros : List ℕ = words_held 0 count (first + 1) ++ [] in
+    let below : number_of b zeros < b ^ length zeros = number_below w zeros (words_held_fit w 0 count (first + 1) [] (pow_pos w) less tt) in
+    let more : number_of b (ones ++ []) + 1 < b ^ length (ones ++ []) = rw (← carry_held b count first [] (pow_pos w), ← length-held 0 (b - 1) count (first + 1) first []) below in
+    let room : number_of b ones + 2 ≤ b ^ length ones = omega (arith, rw (append-nil ones) at more) in
     let times : (number_of b ones + 2) * 2 ^ s ≤ b ^ length ones * 2 ^ s = mul-le-mul_right (2 ^ s) room in
     omega (arith, times, lower_fits, range_fits)
 
 -- ---- encodes behind words
-pub narrows_behind : {S : Type 0} (w s n k : ℕ) (items : List (Item S)) (old new : Run) → NarrowsAll w s items old new → NarrowsAll w s items (behind w s n k old) (behind w s n k new)
+narrows_behind : {S : Type 0} (w s n k : ℕ) (items : List (Item S)) (old new : Run) → NarrowsAll w s items old new → NarrowsAll w s items (behind w s n k old) (behind w s n k new)
 narrows_behind w s n k [] old new all = ap (behind w s n k) all
 narrows_behind w s n k (item ∷ items) old new (between, (left, p, has, is), all) =
     let e : Step = record { precision = item.model.precision; left = left; p = p } in
@@ -184,26 +177,5 @@ pub narrows_above : {S : Type 0} (w s : ℕ) (items : List (Item S)) (held kept 
     → NarrowsAll w s items (run_of w s held lower range) (run_of w s (kept ++ written) new_lower new_range)
     → NarrowsAll w s items (run_of w s (held ++ below) lower range) (run_of w s (kept ++ (written ++ below)) new_lower new_range)
 narrows_above w s items held kept written below lower range new_lower new_range all =
-    let n : ℕ = number_of (2 ^ w) below in
-    let k : ℕ = length below in
-    let last : run_of w s (kept ++ (written ++ below)) new_lower new_range ≡ behind w s n k (run_of w s (kept ++ written) new_lower new_range) =
-    ap (λ ws. run_of w s ws new_lower new_range) (sym (append_assoc kept written below)) ∙ run_behind w s (kept ++ written) below new_lower new_range in
-    subst (λ (r : Run). NarrowsAll w s items r (run_of w s (kept ++ (written ++ below)) new_lower new_range)) (sym (run_behind w s held below lower range))
-    (subst (λ (r : Run). NarrowsAll w s items (behind w s n k (run_of w s held lower range)) r) (sym last)
-    (narrows_behind w s n k items (run_of w s held lower range) (run_of w s (kept ++ written) new_lower new_range) all))
-
--- the same by the parts of an encoder, taken out of it
-pub put_above : {Word B S Q : Type 0} (number : Word → ℕ) (holds : holding.Ghosts B Word Q) (w s : ℕ) (items : List (Item S)) (old new : Encoder B)
-    (lower range last_lower last_range new_lower new_range : ℕ) (bulk new_bulk : B) (situation last : EncoderSituation Word) (kept : List ℕ)
-    → old ≡ encoder_of number holds w lower range bulk situation → holds.words bulk ≡ []
-    → new ≡ encoder_of number holds w last_lower last_range new_bulk last → kept ≡ held_of number w last → new_lower ≡ last_lower → new_range ≡ last_range
-    → NarrowsAll w s items (run_by w s old) (run_by w s new)
-    → (below : List ℕ) → NarrowsAll w s items (run_of w s (held_of number w situation ++ below) lower range) (run_of w s (kept ++ (map number (holds.words new_bulk) ++ below)) new_lower new_range)
-put_above number holds w s items old new lower range last_lower last_range new_lower new_range bulk new_bulk situation last kept old_is none new_is kept_is lower_is range_is all below =
-    let held : List ℕ = held_of number w situation in
-    let alone : held ++ map number (holds.words bulk) ≡ held = ap (λ xs. held ++ map number xs) none ∙ append-nil held in
-    let first : run_by w s old ≡ run_of w s held lower range = ap (λ e. run_by w s e) old_is ∙ ap (λ ws. run_of w s ws lower range) alone in
-    let end : run_by w s new ≡ run_of w s (kept ++ map number (holds.words new_bulk)) new_lower new_range = ap (λ e. run_by w s e) new_is ∙ rw (kept_is, lower_is, range_is) refl in
-    narrows_above w s items held kept (map number (holds.words new_bulk)) below lower range new_lower new_range
-    (subst (λ (r : Run). NarrowsAll w s items r (run_of w s (kept ++ map number (holds.words new_bulk)) new_lower new_range)) first
-    (subst (λ (r : Run). NarrowsAll w s items (run_by w s old) r) end all))
+    rw (run_behind w s held below lower range, ← append_assoc kept written below, run_behind w s (kept ++ written) below new_lower new_range)
+    (narrows_behind w s (number_of (2 ^ w) below) (length below) items (run_of w s held lower range) (run_of w s (kept ++ written) new_lower new_range) all)

@@ -1,11 +1,11 @@
 -- Encoders between calls: what one over no words does, said of the caller's whole encoder, behind any words.
-use Rattle.std.proofs.Common.{◌≡◌, ℕ, Option, zero, suc, ◌+◌, ◌-◌, ◌*◌, ◌/◌, ◌^◌, ◌<◌, ◌≤◌, List, [], ◌∷◌, ◌++◌, length, map, refl, sym, ap, ◌∙◌, subst, inl, inr, arith, append-nil, eq-eqb, ne_eqb, mul-le-mul_left, mul-le-mul_right, pow_pos, div-add-mod'}
+use Rattle.std.proofs.Common.{◌≡◌, ℕ, zero, suc, ◌+◌, ◌-◌, ◌*◌, ◌/◌, ◌^◌, ◌<◌, ◌≤◌, List, [], ◌++◌, length, map, refl, sym, ap, ◌∙◌, subst, inl, inr, arith, append-nil, eq-eqb, ne_eqb, mul-le-mul_left, mul-le-mul_right, pow_pos, div-add-mod'}
 use native.Mathlib.Nat.{pow-zero}
-use Rattle.std.specs.Prelude.{IfSome, reverse}
+use Rattle.std.specs.Prelude.{reverse}
 use Rattle.std.proofs.lemmas.Bool.{cases_eq, cases_lt}
-use Rattle.std.proofs.lemmas.List.{reverse-append, reverse-reverse}
+use Rattle.std.proofs.lemmas.List.{reverse-reverse}
 use Rattle.std.proofs.lemmas.Nat.{pow-add}
-use Rattle.constriction_base.specs.Models.{Item, AreKnown}
+use Rattle.constriction_base.specs.Models.{Item}
 use Rattle.constriction_base.specs.Steps.{IsSizes}
 use Rattle.constriction_queue.specs.Encoder.{number_of, run_of}
 use Rattle.constriction_queue.specs.Range.{IsInterval, Run, seal_number, sealed}
@@ -18,20 +18,8 @@ use Rattle.constriction_queue.specs.Symbols.{NarrowsAll}
 use Rattle.constriction_calls.specs.RangeCalls.{IsEncoderKept, KeptFit, kept_words, run_kept}
 use Rattle.constriction_calls.specs.declared.range.parts.EncoderParts.{EncoderParts}
 use Rattle.constriction_calls.proofs.RangeFrame.{held_inside, narrows_above, run_behind, sealed_behind}
+use Rattle.constriction_calls.proofs.Stacked.{turned_words}
 use Rattle.constriction_queue_laws.proofs.AnyEncoder.{number_below}
-
--- symbols that were encoded are known
-pub known_of : {S : Type 0} (w s : ℕ) (items : List (Item S)) (old new : Run) → NarrowsAll w s items old new → AreKnown items
-known_of w s [] old new all = tt
-known_of w s (item ∷ items) old new (between, (left, p, has, is), all) = ((left, p, has), known_of w s items between new all)
-
--- ---- lists of words
-pub map-both : {Word : Type 0} (number : Word → ℕ) (xs ys : List Word) → map number (xs ++ ys) ≡ map number xs ++ map number ys
-map-both number [] ys = refl
-map-both number (x ∷ xs) ys = ap (λ ns. number x ∷ ns) (map-both number xs ys)
-
-turned_words : {Word : Type 0} (number : Word → ℕ) (old added : List Word) → map number (reverse (old ++ added)) ≡ map number (reverse added) ++ map number (reverse old)
-turned_words number old added = ap (map number) (reverse-append old added) ∙ map-both number (reverse added) (reverse old)
 
 -- numbers of a list that is turned twice
 pub turned : {Word : Type 0} (number : Word → ℕ) (xs : List Word) → reverse (map number (reverse xs)) ≡ map number xs
@@ -72,10 +60,8 @@ module _ {Word State : Type 0} (number : Word → ℕ) (state : State → ℕ) (
     narrows_kept items new added all old =
         let held : List ℕ = kept_words w e.held (number e.first) in
         let kept : List ℕ = kept_words w new.held (number new.first) in
-        subst (λ (ws : List ℕ). NarrowsAll w s items (run_kept number state w s e old) (run_of w s (kept ++ ws) (state new.lower) (state new.range)))
-        (sym (turned_words number old added))
-        (narrows_above w s items held kept (map number (reverse added)) (map number (reverse old)) (state e.lower) (state e.range) (state new.lower) (state new.range)
-        (subst (λ (r : Run). NarrowsAll w s items r (run_kept number state w s new added)) alone all))
+        rw (turned_words number old added)
+        (narrows_above w s items held kept (map number (reverse added)) (map number (reverse old)) (state e.lower) (state e.range) (state new.lower) (state new.range) (rw alone at all))
 
     -- it has an interval, behind any words
     pub interval_kept : ((x : Word) → number x < 2 ^ w) → ((x : State) → state x < 2 ^ s) → IsEncoderKept number state w s e → (old : List Word) → IsInterval w s (run_kept number state w s e old)
@@ -151,8 +137,3 @@ uncounted w n all never less =
       | inl fits ↦ absurd (never fits)
       | inr past ↦ omega (arith, past, more)
     ]
-
--- ---- the same of other names of the items
-pub narrows_same : {S M : Type 0} (w s : ℕ) (r : Option M) (items others : List (Item S)) (old : Run) (new : M → Run) → items ≡ others
-    → IfSome r (λ made. NarrowsAll w s items old (new made)) → IfSome r (λ made. NarrowsAll w s others old (new made))
-narrows_same {S} w s r items others old new same all = subst (λ (is : List (Item S)). IfSome r (λ made. NarrowsAll w s is old (new made))) same all

@@ -1,24 +1,15 @@
 -- What a build and a look-up say of their last answers: the others only say which of what is asked for isn't so.
 use Rattle.std.specs.Prelude.{Ok, Err}
-use Rattle.std.proofs.Common.{◌≡◌, ◌∙◌, ◌⊎◌, ℕ, ◌-◌, ◌<◌, ◌≤◌, ◌^◌, List, ap, drop, take, length, map, sym, subst, inl, inr, arith}
-use Rattle.std.proofs.lemmas.Bool.{cases_lt}
-use Rattle.std.proofs.lemmas.List.{length-append, length-take-le, take_all}
+use Rattle.std.proofs.Common.{◌≡◌, ◌∙◌, ◌⊎◌, ℕ, ◌-◌, ◌<◌, ◌≤◌, ◌^◌, List, drop, length, map, inr, arith}
 use Rattle.constriction_base.specs.Models.{AreKnown, items_of}
 use Rattle.constriction_store.specs.Stores.{Entry, HoldsChunk, HoldsChunks, IsBuilt, entry_of}
-use Rattle.constriction_calls.specs.StoreCalls.{FitKept, StoreBuilds, StoreGives, StoreKept, chunks_by, index_kept, words_kept}
-use Rattle.constriction_inputs.specs.Buffers.{Appended}
+use Rattle.constriction_calls.specs.StoreCalls.{FitKept, LacksStore, StoreBuilds, StoreGives, StoreKept, chunks_by, index_kept, words_kept}
+use Rattle.constriction_inputs.specs.Refusals.{Words}
 use Rattle.constriction_inputs.specs.Weights.{IsTotal, weights_model}
 use Rattle.constriction_inputs.specs.declared.refusal.Refusal.{Refusal}
 use Rattle.constriction_inputs.specs.declared.refusal.Refusal.TheVariants as refusals
+use Rattle.constriction_inputs.proofs.Asking.{room_of}
 use Rattle.constriction_calls.proofs.StoreIndex.{cut_lengths, entries_are, known_chunks, lens_of}
-
--- words that were put behind others lie within the buffer
-pub lie_within : {W : Type 0} (old added new : List W) (len new_len : ℕ) → len ≤ length old → Appended old len added new new_len → new_len ≤ length new
-lie_within old added new len new_len inside a = elim (cases_lt (length new) new_len) [
-  | inl past ↦ (let all = take_all new_len new (omega (arith, past)) in
-      absurd (omega (arith, past, a.count, ap length a.words, ap length all, length-append (take len old) added, length-take-le len old inside)))
-  | inr few ↦ omega (arith, few)
-]
 
 -- ---- builds: a store that was built, and is put where the caller keeps it
 module _ {Word State : Type 0} (number : Word → ℕ) (state : State → ℕ) (w s precision : ℕ) (weights symbols lengths : List ℕ) (old : StoreKept Word State)
@@ -28,24 +19,16 @@ module _ {Word State : Type 0} (number : Word → ℕ) (state : State → ℕ) (
 
   pub space_refused : (new : StoreKept Word State) → new ≡ old → (refusal : Refusal) (count : ℕ) → count ≡ length words → length old.words < count
       → (refusal ≡ refusals.NoSpace count) ⊎ ((refusal ≡ refusals.NoMemory) × (2 ^ 64 ≤ count)) → StoreBuilds number state w s precision weights symbols lengths old new (Err refusal)
-  space_refused new same refusal count is less (inl space) =
-      subst (λ (e : Refusal). StoreBuilds number state w s precision weights symbols lengths old new (Err e)) (sym space) (record {
+  space_refused new same refusal count is less why =
+      let lacks : LacksStore w s precision weights (chunks_by symbols lengths) (length old.words) count = record { less = less; index = index; words = words; built = built; count = is } in
+      record {
         built = tt;
         chunks = tt;
         within = tt;
         behind = tt;
-        asked = inr (fit, inr (total, inr (known, record { less = less; index = index; words = words; built = built; count = is })));
+        asked = inr (fit, inr (total, inr (known, room_of _ refusal count why lacks)));
         kept = same;
-      })
-  space_refused new same refusal count is less (inr memory) =
-      subst (λ (e : Refusal). StoreBuilds number state w s precision weights symbols lengths old new (Err e)) (sym memory.0) (record {
-        built = tt;
-        chunks = tt;
-        within = tt;
-        behind = tt;
-        asked = inr (fit, inr (total, inr (known, tt)));
-        kept = same;
-      })
+      }
 
   pub kept_store : (new : StoreKept Word State) → HoldsChunks w s (weights_model precision weights) words index (chunks_by symbols lengths)
       → new.positions ≡ map (λ e. e.place) index → map state new.lowers ≡ map (λ e. e.lower) index → map state new.ranges ≡ map (λ e. e.range) index
@@ -56,10 +39,8 @@ module _ {Word State : Type 0} (number : Word → ℕ) (state : State → ℕ) (
       let lens : map (λ e. e.len) index ≡ lengths = lens_of w s model (chunks_by symbols lengths) index _ built.0 built.1 ∙ cut_lengths symbols lengths (omega (arith, fit.all)) in
       let index_is : index_kept state lengths new ≡ index = entries_are index new.positions (map state new.lowers) (map state new.ranges) lengths places lowers ranges lens in
       record {
-        built = subst (λ (es : List Entry). IsBuilt w s model (chunks_by symbols lengths) es (words_kept number new)) (sym index_is)
-            (subst (λ (ws : List ℕ). IsBuilt w s model (chunks_by symbols lengths) index ws) (sym words_are) built);
-        chunks = subst (λ (es : List Entry). HoldsChunks w s model (words_kept number new) es (chunks_by symbols lengths)) (sym index_is)
-            (subst (λ (ws : List ℕ). HoldsChunks w s model ws index (chunks_by symbols lengths)) (sym words_are) holds);
+        built = rw (index_is, words_are) built;
+        chunks = rw (index_is, words_are) holds;
         within = inside;
         behind = behind;
         asked = inr (fit, inr (total, inr (known, tt)));
@@ -73,10 +54,7 @@ module _ {State : Type 0} (state : State → ℕ) (w s precision : ℕ) (weights
       → StoreGives state w s precision weights words place lower range old new (Ok tt)
   chunk_given new held = record { ok = held; asked = inr (within, inr (total, inr (least, tt))); kept = tt }
 
-  pub look_up_refused : (refusal : Refusal) → (refusal ≡ refusals.InvalidData) ⊎ (refusal ≡ refusals.NoMemory)
-      → (refusal ≡ refusals.InvalidData → (symbols : List ℕ) → HoldsChunk w s (weights_model precision weights) words (entry_of place (state lower) (state range) (length old)) symbols → ⊥)
+  pub look_up_refused : (refusal : Refusal)
+      → Words ((symbols : List ℕ) → HoldsChunk w s (weights_model precision weights) words (entry_of place (state lower) (state range) (length old)) symbols → ⊥) refusal
       → (new : List ℕ) → new ≡ old → StoreGives state w s precision weights words place lower range old new (Err refusal)
-  look_up_refused refusal (inl invalid) none new same =
-      subst (λ (e : Refusal). StoreGives state w s precision weights words place lower range old new (Err e)) (sym invalid) (record { ok = tt; asked = inr (within, inr (total, inr (least, none invalid))); kept = same })
-  look_up_refused refusal (inr memory) none new same =
-      subst (λ (e : Refusal). StoreGives state w s precision weights words place lower range old new (Err e)) (sym memory) (record { ok = tt; asked = inr (within, inr (total, inr (least, tt))); kept = same })
+  look_up_refused refusal why new same = record { ok = tt; asked = inr (within, inr (total, inr (least, why))); kept = same }

@@ -1,14 +1,14 @@
 -- Chunks that stand one behind another, and an index as lists.
-use Rattle.std.proofs.Common.{◌≡◌, ◌∙◌, ℕ, suc, ◌+◌, ◌-◌, ◌<◌, ◌≤◌, List, [], ◌∷◌, ◌++◌, get_or, length, map, take, drop, refl, sym, ap, ap₂, subst, arith}
+use Rattle.std.proofs.Common.{◌≡◌, ◌∙◌, ℕ, ◌+◌, ◌-◌, ◌<◌, ◌≤◌, List, [], ◌∷◌, ◌++◌, get_or, length, map, take, drop, refl, sym, ap, ap₂, subst, arith}
 use Rattle.std.specs.Prelude.{sum}
 use Rattle.std.proofs.lemmas.List.Sums.{sum_by-cons}
-use Rattle.std.proofs.lemmas.List.{append_assoc, drop_more, length-drop, length-take-le, take-append-drop}
-use Rattle.std.proofs.Math.Seq.{drop-drop}
-use Rattle.constriction_base.specs.Models.{Model, AreKnown, items_of}
-use Rattle.constriction_queue.specs.Range.{Run}
+use Rattle.std.proofs.lemmas.List.{append_assoc, drop-drop, drop_more, length-drop, length-map, length-take-le, map-append, take-append-drop}
+use Rattle.constriction_base.specs.Models.{Model, AreKnown, item_of, items_of}
+use Rattle.constriction_base.proofs.Turns.{all-append}
+use Rattle.constriction_queue.specs.Range.{Run, narrowed_by}
 use Rattle.constriction_store.specs.Stores.{Entry, Indexes, entry_of}
 use Rattle.constriction_calls.specs.StoreCalls.{chunks_by, entries_by}
-use Rattle.constriction_calls.proofs.RangeKept.{known_of}
+use Rattle.constriction_calls.proofs.Known.{known_by}
 
 -- ---- an index
 same_entries : (entries : List Entry) → entries_by (map (λ e. e.place) entries) (map (λ e. e.lower) entries) (map (λ e. e.range) entries) (map (λ e. e.len) entries) ≡ entries
@@ -28,14 +28,6 @@ lens_of w s model [] (e ∷ es) old new all = absurd all
 lens_of w s model (c ∷ cs) [] old new all = absurd all
 lens_of w s model (c ∷ cs) (e ∷ es) old new all = ap₂ (λ (x : ℕ) (xs : List ℕ). x ∷ xs) all.1 (lens_of w s model cs es all.2.0 new all.2.2)
 
--- as many entries as lengths
-pub as_many : (w s : ℕ) (model : Model ℕ) (symbols lengths : List ℕ) (entries : List Entry) (old new : Run) → Indexes w s model (chunks_by symbols lengths) entries old new
-    → length entries ≡ length lengths
-as_many w s model symbols [] [] old new all = refl
-as_many w s model symbols [] (e ∷ es) old new all = absurd all
-as_many w s model symbols (len ∷ lengths) [] old new all = absurd all
-as_many w s model symbols (len ∷ lengths) (e ∷ es) old new all = ap suc (as_many w s model (drop len symbols) lengths es all.2.0 new all.2.2)
-
 -- ---- chunks
 pub sum_cons : (x : ℕ) (xs : List ℕ) → sum (x ∷ xs) ≡ x + sum xs
 sum_cons x xs = sum_by-cons (λ n. n) x xs
@@ -51,9 +43,11 @@ cut_lengths symbols (len ∷ lengths) few =
     ap₂ (λ (x : ℕ) (xs : List ℕ). x ∷ xs) (length-take-le len symbols (omega (arith, few, sum_cons len lengths)))
     (cut_lengths (drop len symbols) lengths (omega (arith, few, sum_cons len lengths, length-drop len symbols)))
 
-known_joined : (model : Model ℕ) (xs ys : List ℕ) → AreKnown (items_of model xs) → AreKnown (items_of model ys) → AreKnown (items_of model (xs ++ ys))
-known_joined model [] ys all others = others
-known_joined model (x ∷ xs) ys all others = (all.0, known_joined model xs ys all.1 others)
+-- as many entries as lengths
+pub as_many : (w s : ℕ) (model : Model ℕ) (symbols lengths : List ℕ) (entries : List Entry) (old new : Run) → sum lengths ≤ length symbols → Indexes w s model (chunks_by symbols lengths) entries old new
+    → length entries ≡ length lengths
+as_many w s model symbols lengths entries old new few all =
+    sym (length-map entries (λ e. e.len)) ∙ ap length (lens_of w s model (chunks_by symbols lengths) entries old new all ∙ cut_lengths symbols lengths few)
 
 -- symbols that were encoded chunk by chunk are known
 pub known_chunks : (w s : ℕ) (model : Model ℕ) (symbols lengths : List ℕ) (entries : List Entry) (old new : Run) → sum lengths ≡ length symbols
@@ -62,9 +56,10 @@ known_chunks w s model [] [] entries old new is all = tt
 known_chunks w s model (x ∷ xs) [] entries old new is all = absurd (omega (arith, is))
 known_chunks w s model symbols (len ∷ lengths) [] old new is all = absurd all
 known_chunks w s model symbols (len ∷ lengths) (e ∷ es) old new is all =
+    let first = known_by (λ e a b. b ≡ narrowed_by w s e a) (items_of model (take len symbols)) old all.2.0 all.2.1 in
+    let others = known_chunks w s model (drop len symbols) lengths es all.2.0 new (omega (arith, is, sum_cons len lengths, length-drop len symbols)) all.2.2 in
     subst (λ (xs : List ℕ). AreKnown (items_of model xs)) (take-append-drop len symbols)
-    (known_joined model (take len symbols) (drop len symbols) (known_of w s (items_of model (take len symbols)) old all.2.0 all.2.1)
-    (known_chunks w s model (drop len symbols) lengths es all.2.0 new (omega (arith, is, sum_cons len lengths, length-drop len symbols)) all.2.2))
+    (rw (map-append (item_of model) (take len symbols) (drop len symbols)) (all-append _ (items_of model (take len symbols)) (items_of model (drop len symbols)) first others))
 
 -- one chunk more is cut
 pub cut_more : (symbols lengths : List ℕ) (i start end : ℕ) (made : List (List ℕ)) (chunk : List ℕ) (all : List (List ℕ)) → i < length lengths

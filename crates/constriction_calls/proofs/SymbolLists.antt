@@ -1,7 +1,7 @@
 -- Lists of symbols as codewords: where each has one, and as they are read one after the other.
-use Rattle.std.proofs.Common.{◌≡◌, ◌<◌, ◌≤◌, ◌-◌, ℕ, Global, Vec, vec_capacity, vec_len, Bool, List, [], ◌∷◌, ◌++◌, Option, Some, None, Result, Ok, Err, length, map, reverse, ap, sym, subst, refl, ◌∙◌, append-nil, append_assoc}
+use Rattle.std.proofs.Common.{◌≡◌, ◌<◌, ◌≤◌, ◌-◌, ℕ, suc, All, Global, Vec, vec_capacity, vec_len, Bool, List, [], ◌∷◌, ◌++◌, Option, Some, None, Result, Ok, Err, length, map, reverse, ap, sym, arith, refl, ◌∙◌, append-nil, append_assoc}
 use Rattle.std.specs.declared.alloc.AllocError.{AllocError}
-use Rattle.std.proofs.lemmas.List.{reverse-append, reverse-reverse}
+use Rattle.std.proofs.lemmas.List.{map_push, reverse-append, reverse-reverse}
 use Rattle.constriction_base.specs.declared.errors.CoderError.{CoderError}
 use Rattle.constriction_base.specs.declared.errors.CoderError.TheVariants.{Frontend, Backend}
 use Rattle.constriction_base.specs.Backends.{IsWrite, Writes}
@@ -15,12 +15,12 @@ use Rattle.constriction_inputs.specs.declared.refusal.Refusal.{Refusal}
 use Rattle.constriction_calls.specs.SymbolCalls.{AsStack, GiveNone, AllHaveCodewords, IsToldAs, ReadsNone}
 use Rattle.constriction_symbol_laws.proofs.bit_coders.Codewords.{codewords_push}
 
--- where every symbol has a codeword, those of a list have
-pub all_have : {S : Type 0} (codeword : S → Option (List Bool)) → ((s : S) → (bits : List Bool) × (codeword s ≡ Some bits)) → (symbols : List S) → AllHaveCodewords codeword symbols
-all_have codeword known [] = ([], refl)
-all_have codeword known (s ∷ symbols) =
-    let first = known s in
-    let rest = all_have codeword known symbols in
+-- where each symbol has a codeword, a list has those of its symbols
+pub all_have : {S : Type 0} (codeword : S → Option (List Bool)) (symbols : List S) → All (λ s. (bits : List Bool) × (codeword s ≡ Some bits)) symbols → AllHaveCodewords codeword symbols
+all_have codeword [] all = ([], refl)
+all_have codeword (s ∷ symbols) all =
+    let first = all 0 s (omega arith) in
+    let rest = all_have codeword symbols (λ k d inside. all (suc k) d (omega arith)) in
     (first.0 ++ rest.0, (first.0, rest.0, first.1, refl, rest.1))
 
 -- bits are the codewords of symbols, and then others
@@ -42,25 +42,21 @@ module _ {I S E : Type 0} (next : I → Option (Result Bool E) → I → Type 0)
   -- no symbol was read
   pub read_none : {V : Type 0} (is_invalid : List Bool → V → Type 0) (amt : ℕ) → length xs < amt → (error : CoderError (SymbolCodeError V) E) (refusal : Refusal)
       → ReadsSymbol {E = E} next codeword reads_on is_invalid old (Err error) new → IsToldAs error refusal → ReadsNone codeword reads_on (λ bits. (v : V) × is_invalid bits v) amt begun refusal
-  read_none {V} is_invalid amt fewer (Frontend OutOfCompressedData) refusal (bits, on, (last, given, none)) told =
+  read_none is_invalid amt fewer (Frontend OutOfCompressedData) refusal (bits, on, (last, given, none)) told =
       let here = gives_front next unread law old bits last given in
       let end = law last None new none in
       let all : unread old ≡ bits = here ∙ (ap (λ bs. bits ++ bs) end.0 ∙ append-nil bits) in
-      subst (λ r. ReadsNone codeword reads_on (λ bs. (v : V) × is_invalid bs v) amt begun r) (sym told) (xs, fewer, so_far.0, bits, so_far.1, so_far.2 ∙ ap (λ bs. so_far.0 ++ bs) all, on)
-  read_none {V} is_invalid amt fewer (Frontend (InvalidCodeword e)) refusal (bits, no_codeword, given) told =
+      rw told (xs, fewer, so_far.0, bits, so_far.1, so_far.2 ∙ ap (λ bs. so_far.0 ++ bs) all, on)
+  read_none is_invalid amt fewer (Frontend (InvalidCodeword e)) refusal (bits, no_codeword, given) told =
       let here = gives_front next unread law old bits new given in
-      subst (λ r. ReadsNone codeword reads_on (λ bs. (v : V) × is_invalid bs v) amt begun r) (sym told) (xs, fewer, so_far.0, unread old, so_far.1, so_far.2, (bits, unread new, here, (e, no_codeword)))
-  read_none {V} is_invalid amt fewer (Backend e) refusal reads told = subst (λ r. ReadsNone codeword reads_on (λ bs. (v : V) × is_invalid bs v) amt begun r) (sym told) tt
-
-map_last : {A B : Type 0} (f : A → B) (xs : List A) (x : A) → map f (xs ++ x ∷ []) ≡ map f xs ++ f x ∷ []
-map_last f [] x = refl
-map_last f (y ∷ ys) x = ap (λ zs. f y ∷ zs) (map_last f ys x)
+      rw told (xs, fewer, so_far.0, unread old, so_far.1, so_far.2, (bits, unread new, here, (e, no_codeword)))
+  read_none is_invalid amt fewer (Backend e) refusal reads told = rw told tt
 
 -- words of which the last is zero
 pub end_in_zero : {W : Type 0} (number : W → ℕ) (words : List W) (word : W) (rest : List W) → reverse words ≡ word ∷ rest → number word ≡ 0 → GiveNone AsStack (map number words)
 end_in_zero number words word rest is zero =
     let all : words ≡ reverse rest ++ word ∷ [] = sym (reverse-reverse words) ∙ (ap (λ ws. reverse ws) is ∙ reverse-append (word ∷ []) rest) in
-    (map number (reverse rest), ap (λ ws. map number ws) all ∙ (map_last number (reverse rest) word ∙ ap (λ n. map number (reverse rest) ++ n ∷ []) zero))
+    (map number (reverse rest), ap (λ ws. map number ws) all ∙ (map_push number (reverse rest) word ∙ ap (λ n. map number (reverse rest) ++ n ∷ []) zero))
 
 -- ---- words that a vector takes
 -- what puts a bit onto one

@@ -1,19 +1,10 @@
 -- Symbols that were read by a codebook, as a call that was handed its codewords tells of them.
-use Rattle.std.proofs.Common.{◌≡◌, ◌-◌, ◌^◌, ℕ, Bool, List, Option, Result, Ok, Err, inl, inr, length}
+use Rattle.std.proofs.Common.{◌≡◌, ◌-◌, ◌^◌, ℕ, Bool, List, Option, Result, Ok, Err, inr, length}
 use Rattle.std.specs.Prelude.{IfErr, OnErr, OnOk}
 use Rattle.constriction_symbol_laws.proofs.bit_coders.Trees.{same_codewords}
-use Rattle.constriction_inputs.specs.Refusals.{Asks, Else, Memory}
 use Rattle.constriction_inputs.specs.declared.refusal.Refusal.{Refusal}
-use Rattle.constriction_inputs.specs.declared.refusal.Refusal.TheVariants.{ImpossibleSymbol, WrongWeights, WrongInterval, WrongLength, NoSpace, NoMemory, InvalidData, OutOfData}
+use Rattle.constriction_inputs.specs.declared.refusal.Refusal.TheVariants.{InvalidData, OutOfData}
 use Rattle.constriction_calls.specs.SymbolCalls.{BeginBits, SymbolCode, GiveBits, IsCutOff, IsWrong, MakesCode, Order, ReadsNone, TakesCodewords, codeword_in}
-use Rattle.constriction_inputs.proofs.Asking.{ok_no_err}
-
--- a codebook was made, so the weights make a tree
-pub made_tree : {T : Type 0} (holds : Type 0) (x : T) → Asks WrongWeights holds (Else Memory) (Ok x) → holds
-made_tree holds x asks = elim asks [
-  | inl off ↦ absurd (ok_no_err off.1)
-  | inr on ↦ on.0
-]
 
 -- a codebook that has the codewords of a caller
 module _ {S : Type 0} (f g : S → Option (List Bool)) (same : (s : S) → f s ≡ g s) where
@@ -25,12 +16,7 @@ module _ {S : Type 0} (f g : S → Option (List Bool)) (same : (s : S) → f s �
     none_by amt bits OutOfData (symbols, fewer, code, rest, coded, is, on) = (symbols, fewer, code, rest, same_codewords f g same symbols code coded, is, cuts rest on)
     none_by amt bits InvalidData (symbols, fewer, code, rest, coded, is, (first, more, begins, bad)) =
         (symbols, fewer, code, rest, same_codewords f g same symbols code coded, is, (first, more, begins, wrongs first bad))
-    none_by amt bits NoMemory why = why
-    none_by amt bits ImpossibleSymbol why = why
-    none_by amt bits (NoSpace needed) why = why
-    none_by amt bits WrongWeights why = why
-    none_by amt bits WrongInterval why = why
-    none_by amt bits WrongLength why = why
+    none_by amt bits e why = why
 
 -- symbols that were read by it from the bits of words, and why they weren't
 module _ {S V : Type 0} (symbol : S → ℕ) (w : ℕ) (order : Order) (book : SymbolCode) (words : List ℕ) (old : List S) (tree : MakesCode (2 ^ 63 - 1) book)

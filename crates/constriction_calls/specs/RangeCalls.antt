@@ -4,7 +4,7 @@ use Rattle.std.specs.Prelude.{◌≡◌, ◌↔◌, ℕ, zero, suc, ◌+◌, ◌
 use Rattle.constriction_base.specs.Models.{Item, AreKnown}
 use Rattle.constriction_queue.specs.Decoder.{Decoder}
 use Rattle.constriction_queue.specs.Encoder.{run_of, words_held}
-use Rattle.constriction_queue.specs.Range.{IsAt, Run, sealed, start}
+use Rattle.constriction_queue.specs.Range.{IsAt, Run, sealed, initial}
 use Rattle.constriction_queue.specs.SelfDelimiting.{SelfDelimits}
 use Rattle.constriction_queue.specs.States.{IsPosition}
 use Rattle.constriction_queue.specs.Symbols.{FindsAll, MayEnd, NarrowsAll}
@@ -77,7 +77,7 @@ kept_in encoder words len = record { encoder = encoder; words = words; len = len
 
 -- one without symbols
 abbrev pub IsNew : {Word State : Type 0} → (Word → ℕ) → (State → ℕ) → ℕ → ℕ → EncoderParts Word State → Type 0
-IsNew number state w s e = IsEncoderKept number state w s e × (run_kept number state w s e [] ≡ start s)
+IsNew number state w s e = IsEncoderKept number state w s e × (run_kept number state w s e [] ≡ initial s)
 
 -- an encode of symbols
 pub record RangePuts {Word State : Type 0} (number : Word → ℕ) (state : State → ℕ) (w s precision : ℕ) (coded : List ℕ → Coded) (symbols : List ℕ)
@@ -158,7 +158,7 @@ pub record RangeTakes {State : Type 0} (state : State → ℕ) (w s precision : 
 
 -- a decoder of words, before its first symbol
 pub record RangeBegins {Word State : Type 0} (number : Word → ℕ) (state : State → ℕ) (w s : ℕ) (words : List Word) (new : DecoderParts State) : Type 0 where
-  pub stands : StandsKept number state w s words (start s) new
+  pub stands : StandsKept number state w s words (initial s) new
   pub within : new.pos ≤ length words
 
 -- a decoder at a position: how many words an encoder had written and held, and its interval

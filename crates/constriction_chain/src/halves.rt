@@ -78,7 +78,7 @@ fn divided<State: BitArray>(
     reciprocal: Option<Reciprocal>,
 ) -> (State, State)
     requires some { 0 < State.number p }
-    requires inverse { IfSome reciprocal (λ r. IsReciprocalOf r (State.number p)) }
+    requires reciprocal { IfSome reciprocal (λ r. IsReciprocalOf r (State.number p)) }
     ensures quotient { State.number result.0 ≡ State.number number / State.number p }
     ensures rest { State.number result.1 ≡ State.number number % State.number p }
 {
@@ -106,7 +106,7 @@ pub fn give<Word: WordOf<State>, State: BitArray, C: WriteWords<Word>, R: ReadWo
     requires head { 0 < Word.number heads.0 }
     requires window { IsRemaindersHead Word.BITS State.BITS precision (State.number heads.1) }
     requires some { 0 < Word.number p }
-    requires inverse { IfSome reciprocal (λ r. IsReciprocalOf r (Word.number p)) }
+    requires reciprocal { IfSome reciprocal (λ r. IsReciprocalOf r (Word.number p)) }
     requires total { Word.number left + Word.number p ≤ 2 ^ precision }
     ensures ok { IfOk result (λ new. EncodeCall Word.number C.Holds C.WriteWords.own R.Holds R.ReadWords.own
         Word.BITS State.BITS

@@ -28,7 +28,7 @@ pub fn begin_window<Word: WordOf<State>, State: BitArray, B: ReadWords<Word, Sta
     precision: u32,
 ) -> Result<Option<State>, B::ReadError>
     requires { IsSized Word.BITS State.BITS precision }
-    ensures some { IfFound result (λ x.
+    ensures ok { IfFound result (λ x.
         BeginsNonzero Word.number B.Holds B.ReadWords.own Word.BITS source.old (State.number x) source.new) }
     ensures window { IfFound result (λ x. IsRemaindersHead Word.BITS State.BITS precision (State.number x)) }
     ensures none { OnNone result (NoStart Word.number B.Holds B.ReadWords.own Word.BITS

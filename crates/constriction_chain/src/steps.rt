@@ -188,7 +188,7 @@ pub fn regain<Word: WordOf<State>, State: BitArray, R: ReadWords<Word, Stack>>(
     requires window { IsRemaindersHead Word.BITS State.BITS precision (State.number r) }
     requires some { 0 < State.number p }
     requires few { State.number p ≤ 2 ^ precision }
-    ensures some { IfFound result (λ v. Regained Word.number R.Holds R.ReadWords.own Word.BITS State.BITS precision
+    ensures ok { IfFound result (λ v. Regained Word.number R.Holds R.ReadWords.own Word.BITS State.BITS precision
         (State.number p) (State.number r) remainders.old (State.number v) remainders.new) }
     ensures none { OnNone result (Lacks R.Holds R.ReadWords.own
         (State.number p * least Word.BITS State.BITS precision) (State.number r) remainders.old

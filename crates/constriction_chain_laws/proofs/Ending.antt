@@ -17,10 +17,9 @@ use Rattle.constriction_chain.specs.declared.errors.BackendError.{BackendError}
 use Rattle.constriction_chain.specs.declared.errors.DecoderFrontendError.{DecoderFrontendError}
 use Rattle.constriction_chain.specs.declared.errors.EncoderFrontendError.{EncoderFrontendError}
 use Rattle.constriction_chain.specs.declared.errors.EncoderFrontendError.TheVariants.{OutOfRemainders, ImpossibleSymbol}
-use Rattle.constriction_coder_laws.specs.declared.errors.RoundTripError.{RoundTripError}
 use Rattle.constriction_coder_laws.specs.declared.errors.RoundTripError.TheVariants as trip
 use Rattle.constriction_coder_laws.specs.declared.errors.Stopped.TheVariants.{Refused}
-use Rattle.constriction_chain_laws.specs.Endings.{Ended, EndsEarly, IsImpossible, LacksWord, NotEncoded, StopsAfter, StopsAfterPairs, UnlessEnded}
+use Rattle.constriction_chain_laws.specs.Endings.{Ended, EndsEarly, IsImpossible, LacksWord, NotEncoded, StopsAfter, StopsAfterPairs}
 use Rattle.constriction_chain_laws.proofs.ListCalls.{decodes_of, encodes_of}
 
 -- ---- decodes
@@ -116,9 +115,3 @@ module _ {S W C R O E F : Type 0} (number : W → ℕ) (compressed_holds : holdi
       )
 
 -- ---- what is known of an end
-pub unless_weaker : (P Q : ℕ → Type 0) (e : RoundTripError) → ((n : ℕ) → P n → Q n) → UnlessEnded P e → UnlessEnded Q e
-unless_weaker P Q trip.ImpossibleSymbol k h = h
-unless_weaker P Q trip.TooManySymbols k h = h
-unless_weaker P Q trip.InvalidData k h = h
-unless_weaker P Q (trip.OutOfData taken) k h = k taken h
-unless_weaker P Q trip.Refused k h = tt

@@ -1,5 +1,5 @@
 -- Words are the binary form of one number in a window, and of the words below it.
-use Rattle.std.proofs.Common.{◌≡◌, ℕ, zero, suc, ◌+◌, ◌-◌, ◌*◌, ◌/◌, ◌%◌, ◌^◌, ◌<◌, ◌≤◌, List, [], ◌∷◌, ◌++◌, inl, inr, refl, sym, ap, ◌∙◌, subst, arith, append_assoc, div-add-mod', div-lt_iff_lt-mul, le-div_iff_mul-le, mul-le-mul_right, pow-add, pow_pos}
+use Rattle.std.proofs.Common.{◌≡◌, ℕ, zero, suc, ◌+◌, ◌-◌, ◌*◌, ◌/◌, ◌%◌, ◌^◌, ◌<◌, ◌≤◌, List, ◌∷◌, ◌++◌, inl, inr, refl, sym, ap, ◌∙◌, subst, arith, div-add-mod', mul-le-mul_right}
 use Rattle.std.proofs.lemmas.Bool.{cases_lt}
 use Rattle.constriction_base.specs.Digits.{fixed_digits}
 use Rattle.constriction_base.specs.Windows.{IsInWindow}
@@ -9,7 +9,7 @@ use Rattle.constriction_chain.specs.Imports.{FromBinary}
 use Rattle.constriction_base.specs.Writing.{IsOneAbove}
 use Rattle.constriction_chain.proofs.Chains.{state_same}
 use Rattle.constriction_chain.proofs.Walks.{cons_same}
-use Rattle.constriction_base.proofs.OneAbove.{power_more, limit_more, one_rest}
+use Rattle.constriction_base.proofs.OneAbove.{power_more, one_rest}
 use Rattle.constriction_base.proofs.Written.{fixed_next}
 
 -- the words below the leading one tell the number and the words that follow
@@ -61,19 +61,3 @@ one_binary w s P words x y sized (i, (m, above, are)) (j, (n, above', are')) =
     let again : words ≡ fixed_digits (2 ^ w) m y.r ++ y.compressed = are' ∙ ap (λ k. fixed_digits (2 ^ w) k y.r ++ y.compressed) count in
     let e = same_digits w m x.r y.r x.compressed y.compressed above.from above.below one.from one.below (sym are ∙ again) in
     state_same x y (i.h ∙ sym j.h) e.0 e.1 (i.remainders ∙ sym j.remainders)
-
--- of one number there is one form in words below its leading one
-pub one_form : (w m n r : ℕ) → 1 ≤ w → IsOneAbove w m r → IsOneAbove w n r → m ≡ n
-one_form w m n r some i j = elim (cases_lt m n) [
-  | inl less ↦ absurd (apart m n less i j)
-  | inr more ↦ elim (cases_lt n m) [
-    | inl greater ↦ absurd (apart n m greater j i)
-    | inr same ↦ omega arith
-  ]
-]
-  where
-    apart : (m n : ℕ) → m < n → IsOneAbove w m r → IsOneAbove w n r → ⊥
-    apart m n less i j =
-        let part : suc m * w ≤ n * w = mul-le-mul_right w less in
-        let top : 2 ^ (m * w + 1) ≤ 2 ^ (n * w) = pow_le (m * w + 1) (n * w) (omega (arith, part, some)) in
-        omega (arith, i.below, j.from, top)

@@ -11,9 +11,9 @@ use Rattle.constriction_base.specs.Digits.{fixed_digits}
 use Rattle.constriction_chain_laws.specs.Endings.{ComesBackOver}
 use Rattle.constriction_chain_laws.proofs.ComingBack.{come_back}
 use Rattle.constriction_chain_laws.proofs.ListCalls.{models_at}
-use Rattle.constriction_chain_laws.proofs.OneBinary.{one_form}
 use Rattle.constriction_chain_laws.proofs.Whole.{whole_way}
 use Rattle.constriction_base.proofs.Turns.{map-reverse}
+use Rattle.constriction_base.proofs.OneAbove.{one_count}
 
 -- symbols that are put back to the coder of the suffix, over these words
 pub comes_back : {S : Type 0} (w s P : ℕ) (model : Model S) (symbols given : List S) (below words : List ℕ) (x y z last : ChainState) → IsSized w s P → IsModelAt P model → IsWhole w s P x
@@ -41,5 +41,5 @@ pub binary_form_back : {W : Type 0} (number : W → ℕ) (words rest prefix : Li
     → IsOneAbove w n last.r → map number (reverse rest) ≡ fixed_digits (2 ^ w) n last.r ++ last.compressed
     → map number (prefix ++ rest) ≡ map number words
 binary_form_back number words rest prefix w m n below x last some back one was other is =
-    let same : n ≡ m = one_form w n m x.r some (subst (λ r. IsOneAbove w n r) back.1 other) one in
+    let same : n ≡ m = one_count w n m x.r some (subst (λ r. IsOneAbove w n r) back.1 other) one in
     form_back number words rest prefix (λ r. fixed_digits (2 ^ w) m r) below x last back was (is ∙ ap (λ k. fixed_digits (2 ^ w) k last.r ++ last.compressed) same)

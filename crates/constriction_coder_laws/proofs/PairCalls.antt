@@ -10,13 +10,9 @@ use Rattle.std.proofs.lemmas.Bool.{cases_lt}
 use Rattle.std.proofs.lemmas.List.{reverse-append, reverse-reverse, append-nil, length-append}
 use Rattle.constriction_base.specs.Models.{Model, Item, IsModel, pairs_of, models, AreModels}
 use Rattle.constriction_coder_laws.proofs.ListsGiven.{none_left}
+use Rattle.constriction_base.proofs.WordLists.{zip_push}
 
 -- ---- what an iterator over two slices gave from the back
-zip_push : {A B : Type 0} (xs : List A) (ys : List B) (x : A) (y : B) → length xs ≡ length ys → zip (xs ++ x ∷ []) (ys ++ y ∷ []) ≡ zip xs ys ++ (x, y) ∷ []
-zip_push [] [] x y same = refl
-zip_push [] (b ∷ ys) x y same = absurd (omega arith)
-zip_push (a ∷ xs) [] x y same = absurd (omega arith)
-zip_push {A} {B} (a ∷ xs) (b ∷ ys) x y same = ap (λ (ps : List (A × B)). (a, b) ∷ ps) (zip_push xs ys x y (omega arith))
 
 abbrev pub left_in : {A : Type 0} → Iter A → ℕ
 left_in s = length (iter_rest s)

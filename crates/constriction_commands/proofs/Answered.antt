@@ -4,7 +4,7 @@ use Rattle.constriction.specs.Models.{items_of}
 use Rattle.constriction.specs.Readings.{BeginsHigh}
 use Rattle.constriction.specs.stack.Ans.{AnsState, empty, exported, filled}
 use Rattle.constriction.specs.stack.Symbols.{EncodesAll, DecodesAll}
-use Rattle.constriction.specs.queue.Range.{Run, start, sealed}
+use Rattle.constriction.specs.queue.Range.{Run, initial, sealed}
 use Rattle.constriction_commands.specs.Lines.{line_of, second_line}
 use Rattle.constriction_commands.specs.Inputs.{GivesSymbols, GivesWords}
 use Rattle.constriction_commands.specs.Coding.{of_24_bits}
@@ -50,7 +50,7 @@ ans_decoded {text} {answer} {table} {count} {words} symbols state given high dec
 }
 
 pub range_encoded : {text answer : List ℕ} {table : List (ℕ × ℕ × ℕ)} {symbols : List ℕ} (run : Run)
-    → GivesSymbols text table symbols → NarrowsAll 32 64 (items_of (of_24_bits table) symbols) (start 64) run → answer ≡ line_of (sealed 32 64 run)
+    → GivesSymbols text table symbols → NarrowsAll 32 64 (items_of (of_24_bits table) symbols) (initial 64) run → answer ≡ line_of (sealed 32 64 run)
     → IsRangeEncoded text answer
 range_encoded {text} {answer} {table} {symbols} run given encoded printed = record {
   table = table;
@@ -62,7 +62,7 @@ range_encoded {text} {answer} {table} {symbols} run given encoded printed = reco
 }
 
 pub range_decoded : {text answer : List ℕ} {table : List (ℕ × ℕ × ℕ)} {count : ℕ} {words : List ℕ} (symbols : List ℕ) (run : Run)
-    → GivesWords text table count words → FindsAll 32 64 words (items_of (of_24_bits table) symbols) (start 64) run → length symbols ≡ count → answer ≡ line_of symbols
+    → GivesWords text table count words → FindsAll 32 64 words (items_of (of_24_bits table) symbols) (initial 64) run → length symbols ≡ count → answer ≡ line_of symbols
     → IsRangeDecoded text answer
 range_decoded {text} {answer} {table} {count} {words} symbols run given decoded counted printed = record {
   table = table;

@@ -12,8 +12,9 @@ use Rattle.constriction_commands.specs.Coding.{EndsWithZero}
 use Rattle.constriction_commands.specs.commands.ChainSplit.{IsChainOf, IsNoChain, ChainDecodes, ChainFails, ChainSplitFails, IsChainSplit}
 use Rattle.constriction_commands.specs.declared.fault.Fault.{Fault}
 use Rattle.constriction_commands.specs.declared.fault.Fault.TheVariants.{NoChain, OutOfData, OutOfMemory}
-use Rattle.constriction_commands.proofs.OwnNumbers.{own_numbers, map-reverse}
+use Rattle.constriction_commands.proofs.OwnNumbers.{own_numbers}
 use Rattle.constriction_commands.proofs.Answered.{words_fit}
+use Rattle.constriction.proofs.Lists.{map-reverse}
 
 -- a number grows by each digit behind it
 grows : (b from : ℕ) → 1 ≤ b → (vs : List ℕ) → from ≤ number_from_digits_after b from vs

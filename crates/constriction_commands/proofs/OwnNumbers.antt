@@ -1,29 +1,14 @@
 -- Weights of 32 bits are their own numbers.
-use Rattle.std.proofs.Common.{◌≡◌, ℕ, ◌%◌, ◌^◌, List, [], ◌∷◌, ◌++◌, map, reverse, sum, sum_by, get_or, suc, Fits, w32, refl, ap, sym, ◌∙◌, arith}
-use Rattle.std.proofs.lemmas.List.{map-append, reverse-append, reverse-reverse}
+use Rattle.std.proofs.Common.{◌≡◌, ℕ, ◌%◌, ◌^◌, List, [], ◌∷◌, ◌++◌, map, reverse, sum, sum_by, get_or, Fits, w32, ap, sym, ◌∙◌, arith}
+use Rattle.std.proofs.lemmas.List.{reverse-append, reverse-reverse}
 use Rattle.constriction_commands.specs.Coding.{EndsWithZero}
-use Rattle.std.proofs.lemmas.List.Sums.{sum_by-cons}
+use Rattle.constriction.proofs.Lists.{map-reverse, own_remainders, sum_of_remainders}
 
 pub own_numbers : (weights : List ℕ) → ((i : ℕ) → Fits w32 (get_or weights i 0)) → map (λ x. x % 2 ^ 32) weights ≡ weights
-own_numbers [] fits = refl
-own_numbers (weight ∷ weights) fits =
-    let first : weight % 2 ^ 32 ≡ weight = omega (arith, fits 0) in
-    let rest = own_numbers weights (λ i. fits (suc i)) in
-    cc
+own_numbers weights fits = own_remainders 32 weights (λ i. omega (arith, fits i))
 
 pub own_sum : (weights : List ℕ) → ((i : ℕ) → Fits w32 (get_or weights i 0)) → sum_by (λ x. x % 2 ^ 32) weights ≡ sum weights
-own_sum [] fits = refl
-own_sum (weight ∷ weights) fits =
-    let first : weight % 2 ^ 32 ≡ weight = omega (arith, fits 0) in
-    let rest = own_sum weights (λ i. fits (suc i)) in
-    sum_by-cons (λ x. x % 2 ^ 32) weight weights ∙ rw (first, rest) (sym (sum_by-cons (λ x. x) weight weights))
-
--- a list by its numbers and then turned round is the same the other way
-pub map-reverse : (f : ℕ → ℕ) (xs : List ℕ) → map f (reverse xs) ≡ reverse (map f xs)
-map-reverse f [] = refl
-map-reverse f (x ∷ xs) =
-    ap (map f) (reverse-append (x ∷ []) xs) ∙ map-append f (reverse xs) (x ∷ []) ∙ ap (λ (ys : List ℕ). ys ++ f x ∷ []) (map-reverse f xs)
-    ∙ sym (reverse-append (f x ∷ []) (map f xs))
+own_sum weights fits = sum_of_remainders 32 weights (λ i. omega (arith, fits i))
 
 pub own_reverse : (words : List ℕ) → ((i : ℕ) → Fits w32 (get_or words i 0)) → map (λ x. x % 2 ^ 32) (reverse words) ≡ reverse words
 own_reverse words fits = map-reverse (λ x. x % 2 ^ 32) words ∙ ap reverse (own_numbers words fits)

@@ -1,24 +1,22 @@
 -- Runs of a range coder, one more symbol at a time.
-use Rattle.std.proofs.Common.{◌≡◌, ℕ, ◌+◌, ◌-◌, ◌/◌, ◌%◌, ◌^◌, ◌<◌, List, get_or, length, map, reverse, take, refl, sym, subst, ◌∙◌, ap, arith}
+use Rattle.std.proofs.Common.{◌≡◌, ℕ, ◌+◌, ◌-◌, ◌/◌, ◌%◌, ◌^◌, ◌<◌, List, get_or, length, map, reverse, take, sym, subst, ◌∙◌, ap, arith}
 use Rattle.std.proofs.lemmas.List.{take_more, reverse-reverse}
 use Rattle.constriction.specs.Models.{Model, items_of}
-use Rattle.constriction.specs.declared.stream.queue.DecoderFrontendError.{DecoderFrontendError}
-use Rattle.constriction.specs.declared.stream.queue.DecoderFrontendError.TheVariants.{InvalidData}
-use Rattle.constriction.specs.queue.Range.{Run, start, offset, number_read, IsAt}
+use Rattle.constriction.specs.queue.Range.{Run, initial, offset, number_read, IsAt}
 use Rattle.constriction.specs.queue.Decoder.{Decoder, quantile_read}
 use Rattle.constriction.proofs.InTurn.{InTurn-symbol}
 use Rattle.constriction.specs.queue.Symbols.{Narrows, NarrowsAll}
-use Rattle.constriction_commands.proofs.OwnNumbers.{map-reverse}
+use Rattle.constriction.proofs.Lists.{map-reverse}
 
 -- ---- encoding
 
 -- the symbol behind those that were encoded
 pub narrowed-more : (model : Model ℕ) (symbols : List ℕ) (place : ℕ) (old new : Run) → place < length symbols
-    → NarrowsAll 32 64 (items_of model (take place symbols)) (start 64) old → Narrows 32 64 model (get_or symbols place 0) old new
-    → NarrowsAll 32 64 (items_of model (take (place + 1) symbols)) (start 64) new
+    → NarrowsAll 32 64 (items_of model (take place symbols)) (initial 64) old → Narrows 32 64 model (get_or symbols place 0) old new
+    → NarrowsAll 32 64 (items_of model (take (place + 1) symbols)) (initial 64) new
 narrowed-more model symbols place old new inside before one =
-    subst (λ (xs : List ℕ). NarrowsAll 32 64 (items_of model xs) (start 64) new) (sym (take_more symbols place 0 inside))
-    (InTurn-symbol (λ item. Narrows 32 64 item.model item.symbol) model (take place symbols) (get_or symbols place 0) (start 64) old new before one)
+    subst (λ (xs : List ℕ). NarrowsAll 32 64 (items_of model xs) (initial 64) new) (sym (take_more symbols place 0 inside))
+    (InTurn-symbol (λ item. Narrows 32 64 item.model item.symbol) model (take place symbols) (get_or symbols place 0) (initial 64) old new before one)
 
 -- words in the order in which they were written
 pub in_order : (f : ℕ → ℕ) (words : List ℕ) → map f words ≡ reverse (map f (reverse words))
@@ -35,7 +33,3 @@ pub quantile_is : {B : Type 0} (words : List ℕ) (run : Run) (d : Decoder B) �
 quantile_is words run d at =
     ap (λ (n : ℕ). n / (d.range / 2 ^ 24)) (point_offset (number_read 32 64 words run.moves) run.low d.point d.lower at.point_is at.lower_is)
     ∙ ap (λ (n : ℕ). offset 32 64 words run / (n / 2 ^ 24)) at.range_is
-
--- there is no other error of the decoder itself
-pub only_invalid : (error : DecoderFrontendError) → error ≡ InvalidData
-only_invalid InvalidData = refl

@@ -1,14 +1,10 @@
 -- Codewords of a tree's symbols on a line, one more at a time; weights of 64 bits are their own numbers.
-use Rattle.std.proofs.Common.{◌≡◌, ℕ, zero, suc, ◌+◌, ◌%◌, ◌^◌, List, [], ◌∷◌, ◌++◌, length, map, sum, sum_by, get_or, Bool, Option, Fits, w64, refl, ap, ap₂, sym, ◌∙◌, arith}
+use Rattle.std.proofs.Common.{◌≡◌, ℕ, zero, suc, ◌+◌, ◌%◌, ◌^◌, List, [], ◌∷◌, ◌++◌, map, sum, sum_by, get_or, Bool, Option, Fits, w64, refl, ap, ap₂, ◌∙◌, arith}
 use Rattle.std.proofs.lemmas.List.{map-append}
-use Rattle.std.proofs.lemmas.List.Sums.{sum_by-cons}
 use Rattle.std.specs.List.{join_with_byte}
 use Rattle.constriction.specs.symbol.Huffman.{symbols_from}
 use Rattle.constriction_commands.specs.commands.Huffman.{codeword_text, codewords_line}
-
-pub symbols_count : (from n : ℕ) → length (symbols_from from n) ≡ n
-symbols_count from zero = refl
-symbols_count from (suc n) = omega (arith, symbols_count (from + 1) n)
+use Rattle.constriction.proofs.Lists.{own_numbers, sum_of_remainders}
 
 -- one symbol more
 symbols_more : (from n : ℕ) → symbols_from from (suc n) ≡ symbols_from from n ++ (from + n) ∷ []
@@ -24,26 +20,12 @@ texts_more text n =
     ∙ ap (map text) (symbols_more 0 n ∙ ap (λ (s : ℕ). symbols_from 0 n ++ s ∷ []) same)
     ∙ map-append text (symbols_from 0 n) (n ∷ [])
 
-own : (weights : List ℕ) → ((i : ℕ) → Fits w64 (get_or weights i 0)) → map (λ x. x % 2 ^ 64) weights ≡ weights
-own [] fits = refl
-own (weight ∷ weights) fits =
-    let first : weight % 2 ^ 64 ≡ weight = omega (arith, fits 0) in
-    let rest = own weights (λ i. fits (suc i)) in
-    cc
-
-sum_is : (weights : List ℕ) → ((i : ℕ) → Fits w64 (get_or weights i 0)) → sum_by (λ x. x % 2 ^ 64) weights ≡ sum weights
-sum_is [] fits = refl
-sum_is (weight ∷ weights) fits =
-    let first : weight % 2 ^ 64 ≡ weight = omega (arith, fits 0) in
-    let rest = sum_is weights (λ i. fits (suc i)) in
-    sum_by-cons (λ x. x % 2 ^ 64) weight weights ∙ rw (first, rest) (sym (sum_by-cons (λ x. x) weight weights))
-
 -- the numbers of weights that were lent, and their sum
 pub own_weights : (lent weights : List ℕ) → lent ≡ weights → ((i : ℕ) → Fits w64 (get_or weights i 0)) → map (λ x. x % 2 ^ 64) lent ≡ weights
-own_weights lent weights is fits = ap (map (λ x. x % 2 ^ 64)) is ∙ own weights fits
+own_weights lent weights is fits = ap (map (λ x. x % 2 ^ 64)) is ∙ own_numbers weights fits
 
 pub own_total : (lent weights : List ℕ) → lent ≡ weights → ((i : ℕ) → Fits w64 (get_or weights i 0)) → sum_by (λ x. x % 2 ^ 64) lent ≡ sum weights
-own_total lent weights is fits = ap (sum_by (λ x. x % 2 ^ 64)) is ∙ sum_is weights fits
+own_total lent weights is fits = ap (sum_by (λ x. x % 2 ^ 64)) is ∙ sum_of_remainders 64 weights (λ i. omega (arith, fits i))
 
 -- the line of codewords that are the same, of as many symbols
 same_texts : (f g : ℕ → Option (List Bool)) → ((s : ℕ) → f s ≡ g s) → (symbols : List ℕ) → map (λ s. codeword_text (f s)) symbols ≡ map (λ s. codeword_text (g s)) symbols

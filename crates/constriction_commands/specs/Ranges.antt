@@ -1,7 +1,7 @@
 -- Why symbols are not read from words of 32 bits by a range coder whose states have 64.
 use Rattle.std.specs.Prelude.{ℕ, ◌/◌, ◌≤◌, ◌<◌, ◌^◌, List, length, ⊤}
 use Rattle.constriction.specs.Models.{items_of}
-use Rattle.constriction.specs.queue.Range.{Run, start, offset}
+use Rattle.constriction.specs.queue.Range.{Run, initial, offset}
 use Rattle.constriction.specs.queue.Symbols.{FindsAll}
 use Rattle.constriction_commands.specs.Coding.{of_24_bits}
 use Rattle.constriction_commands.specs.declared.fault.Fault.{Fault}
@@ -14,6 +14,6 @@ HoldsNoQuantile words run = 2 ^ 24 ≤ offset 32 64 words run / (run.range / 2 ^
 -- why not so many symbols are read from words: behind fewer symbols they hold none
 abbrev pub ReadingFails : List ℕ → List (ℕ × ℕ × ℕ) → ℕ → Fault → Type 0
 ReadingFails words table count (InvalidData error) =
-    (symbols : List ℕ) × (run : Run) × FindsAll 32 64 words (items_of (of_24_bits table) symbols) (start 64) run × (length symbols < count) × HoldsNoQuantile words run
+    (symbols : List ℕ) × (run : Run) × FindsAll 32 64 words (items_of (of_24_bits table) symbols) (initial 64) run × (length symbols < count) × HoldsNoQuantile words run
 ReadingFails words table count OutOfMemory = ⊤
 ReadingFails words table count fault = ⊥

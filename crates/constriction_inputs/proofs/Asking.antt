@@ -1,78 +1,41 @@
 -- Refusals in their order: what a check that went well or was refused says of the call that made it.
-use Rattle.std.proofs.Common.{◌≡◌, Ok, Err, inl, inr, ap}
-use Rattle.std.specs.Prelude.{ℕ, Result}
-use Rattle.constriction_inputs.specs.Coded.{Coded, AreFit, AsksFit, IntervalsFit, LengthsFit, WeightsFit}
-use Rattle.constriction_inputs.specs.Refusals.{Asks, Else, Never}
+use Rattle.std.proofs.Common.{◌≡◌, ◌⊎◌, ℕ, Ok, Err, Result, inl, inr}
+use Rattle.constriction_inputs.specs.Coded.{AreFit, AsksFit, Coded}
+use Rattle.constriction_inputs.specs.Refusals.{Asks, Room}
 use Rattle.constriction_inputs.specs.declared.refusal.Refusal.{Refusal}
-use Rattle.constriction_inputs.specs.declared.refusal.Refusal.TheVariants.{WrongInterval, WrongLength, WrongWeights}
-
--- equal answers have equal refusals, and none is both a success and a refusal
-pub err_is : {T : Type 0} {x y : Refusal} → ◌≡◌ {A = Result T Refusal} (Err x) (Err y) → x ≡ y
-err_is is = cc
-
-pub ok_no_err : {T : Type 0} {x : T} {e : Refusal} → ◌≡◌ {A = Result T Refusal} (Ok x) (Err e) → ⊥
-ok_no_err is = cc
-
--- the same refusal as an answer of another call
-pub err_of : {T U : Type 0} {x y : Refusal} → ◌≡◌ {A = Result T Refusal} (Err x) (Err y) → ◌≡◌ {A = Result U Refusal} (Err x) (Err y)
-err_of {T} {U} is = ap (λ (e : Refusal). (let answer : Result U Refusal = Err e in answer)) (err_is is)
+use Rattle.constriction_inputs.specs.declared.refusal.Refusal.TheVariants.{NoMemory, NoSpace}
 
 -- what a success says
-pub asked_ok : {T : Type 0} (refusal : Refusal) (holds : Type 0) (others : Result T Refusal → Type 0) (x : T) → Asks refusal holds others (Ok x) → holds × others (Ok x)
-asked_ok refusal holds others x asks = elim asks [
-  | inl fails ↦ absurd (ok_no_err fails.1)
-  | inr goes ↦ goes
-]
+pub asked_ok : {T A B : Type 0} {refusal : Refusal} {x : T} → ((A → ⊥) × (◌≡◌ {A = Result T Refusal} (Ok x) (Err refusal))) ⊎ (A × B) → A × B
+asked_ok (inl fails) = (let never = fails.1 in absurd cc)
+asked_ok (inr goes) = goes
 
 -- what is asked for next, where the first holds
-pub asked_next : {T : Type 0} (refusal : Refusal) (holds : Type 0) (others : Result T Refusal → Type 0) (answer : Result T Refusal) → holds → Asks refusal holds others answer → others answer
-asked_next refusal holds others answer h asks = elim asks [
-  | inl fails ↦ absurd (fails.0 h)
-  | inr goes ↦ goes.1
-]
+asked_next : {T A B : Type 0} {refusal : Refusal} {answer : Result T Refusal} → A → ((A → ⊥) × (answer ≡ Err refusal)) ⊎ (A × B) → B
+asked_next h (inl fails) = absurd (fails.0 h)
+asked_next h (inr goes) = goes.1
 
 -- the same of three
-pub three_ok : {T : Type 0} (a b c : Refusal) (first second third : Type 0) (others : Result T Refusal → Type 0) (x : T) → Asks a first (Asks b second (Asks c third others)) (Ok x) → first × second × third
-three_ok a b c first second third others x asks =
-    let one = asked_ok a first (Asks b second (Asks c third others)) x asks in
-    let two = asked_ok b second (Asks c third others) x one.1 in
-    let three = asked_ok c third others x two.1 in
-    (one.0, two.0, three.0)
-
--- a refusal of this or of the others, as that of another call that asks for the same
-pub asked_moved : {T U : Type 0} (refusal : Refusal) (holds : Type 0) (others : Result T Refusal → Type 0) (more : Result U Refusal → Type 0) (e : Refusal)
-    → (others (Err e) → more (Err e)) → Asks refusal holds others (Err e) → Asks refusal holds more (Err e)
-asked_moved refusal holds others more e move asks = elim asks [
-  | inl fails ↦ inl (fails.0, err_of fails.1)
-  | inr goes ↦ inr (goes.0, move goes.1)
-]
+pub three_ok : {T A B C D : Type 0} {a b c : Refusal} {x : T} → Asks a A (Asks b B (Asks c C (λ answer. D))) (Ok x) → A × B × C
+three_ok asks =
+    let one = asked_ok asks in
+    let two = asked_ok one.1 in
+    (one.0, two.0, (asked_ok two.1).0)
 
 module _ (precision : ℕ) (coded : Coded) where
-  -- what is asked for behind the lengths, and behind the intervals
-  abbrev behind_intervals : {T : Type 0} → (Result T Refusal → Type 0) → Result T Refusal → Type 0
-  behind_intervals others = Asks WrongWeights (WeightsFit precision coded) others
-
-  abbrev behind_lengths : {T : Type 0} → (Result T Refusal → Type 0) → Result T Refusal → Type 0
-  behind_lengths others = Asks WrongInterval (IntervalsFit precision coded) (behind_intervals others)
-
   -- a check that went well
-  pub fit_ok : {T : Type 0} (others : Result T Refusal → Type 0) (x : T) → AsksFit precision coded others (Ok x) → AreFit precision coded
-  fit_ok others x asks = three_ok WrongLength WrongInterval WrongWeights (LengthsFit coded) (IntervalsFit precision coded) (WeightsFit precision coded) others x asks
-
-  -- one that was refused
-  pub fit_refused : {T U : Type 0} (more : Result U Refusal → Type 0) (e : Refusal) → AsksFit {T = T} precision coded (Else Never) (Err e) → AsksFit precision coded more (Err e)
-  fit_refused {T} {U} more e asks =
-      asked_moved WrongLength (LengthsFit coded) (behind_lengths (Else {T = T} Never)) (behind_lengths more) e
-      (asked_moved WrongInterval (IntervalsFit precision coded) (behind_intervals (Else {T = T} Never)) (behind_intervals more) e
-      (asked_moved WrongWeights (WeightsFit precision coded) (Else {T = T} Never) more e (λ never. absurd never))) asks
+  pub fit_ok : {T A : Type 0} {x : T} → AsksFit precision coded (λ answer. A) (Ok x) → AreFit precision coded
+  fit_ok asks = three_ok asks
 
   -- what comes behind one that went well
-  pub fit_then : {T : Type 0} (others : Result T Refusal → Type 0) (answer : Result T Refusal) → AreFit precision coded → others answer → AsksFit precision coded others answer
-  fit_then others answer fit next = inr (fit.0, inr (fit.1, inr (fit.2, next)))
+  pub fit_then : {T A : Type 0} {answer : Result T Refusal} → AreFit precision coded → A → AsksFit precision coded (λ answer. A) answer
+  fit_then fit next = inr (fit.0, inr (fit.1, inr (fit.2, next)))
 
   -- and the other way round
-  pub fit_behind : {T : Type 0} (others : Result T Refusal → Type 0) (answer : Result T Refusal) → AreFit precision coded → AsksFit precision coded others answer → others answer
-  fit_behind others answer fit asks =
-      asked_next WrongWeights (WeightsFit precision coded) others answer fit.2
-      (asked_next WrongInterval (IntervalsFit precision coded) (behind_intervals others) answer fit.1
-      (asked_next WrongLength (LengthsFit coded) (behind_lengths others) answer fit.0 asks))
+  pub fit_behind : {T A : Type 0} {answer : Result T Refusal} → AreFit precision coded → AsksFit precision coded (λ answer. A) answer → A
+  fit_behind fit asks = asked_next fit.2 (asked_next fit.1 (asked_next fit.0 asks))
+
+-- want of room, or of memory
+pub room_of : {B : Type 0} (needs : ℕ → Type 0) (e : Refusal) (n : ℕ) → (e ≡ NoSpace n) ⊎ ((e ≡ NoMemory) × B) → needs n → Room needs e
+room_of needs e n (inl is) needed = rw is needed
+room_of needs e n (inr is) needed = rw is.0 tt

@@ -9,15 +9,12 @@ use Rattle.constriction_models.specs.declared.counts.CountsError.{CountsError}
 use Rattle.constriction_models.specs.declared.counts.CountsError.TheVariants as errors
 use Rattle.constriction_inputs.specs.QuantizedCalls.{AreCounts, GivesWeightsOfCounts}
 
-given_no_err : {T : Type 0} {x : T} {e : CountsError} → ◌≡◌ {A = Result T CountsError} (Ok x) (Err e) → ⊥
-given_no_err is = cc
-
 module _ {T P : Type 0} (number : P → ℕ) (precision : ℕ) (counts : List ℕ) (old new : List P) (x : T) where
   right_counts : (◌≡◌ {A = Result T CountsError} (Ok x) (Err errors.Empty) ↔ (sum_by positive counts ≡ 0))
       → (◌≡◌ {A = Result T CountsError} (Ok x) (Err errors.TooMany) ↔ (2 ^ precision < sum_by positive counts)) → AreCounts precision counts
   right_counts empty many = (
-    elim (cases_eq (sum_by positive counts) 0) [ inl none ↦ absurd (given_no_err (empty.1 none)) | inr some ↦ omega (arith, some) ],
-    elim (cases_lt (2 ^ precision) (sum_by positive counts)) [ inl more ↦ absurd (given_no_err (many.1 more)) | inr few ↦ omega (arith, few) ],
+    elim (cases_eq (sum_by positive counts) 0) [ inl none ↦ (let never = empty.1 none in absurd cc) | inr some ↦ omega (arith, some) ],
+    elim (cases_lt (2 ^ precision) (sum_by positive counts)) [ inl more ↦ (let never = many.1 more in absurd cc) | inr few ↦ omega (arith, few) ],
   )
 
   pub weights_put : (lent made : List ℕ) → lent ≡ made → map number new ≡ lent → length old ≡ length counts → length made ≡ length counts → sum made ≡ 2 ^ precision → AreWeights counts (2 ^ precision) made

@@ -4,6 +4,6 @@ pub mod FamilyTables
 pub mod IntervalRows
 pub mod KnownRows
 pub mod Listing
-pub mod RowItems
+pub mod Pairs
 pub mod RowTables
 pub mod RowWeights

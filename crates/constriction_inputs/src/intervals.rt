@@ -8,7 +8,7 @@ ghost use Rattle.constriction_inputs.specs.Intervals.{IsIntervalWithin, AreInter
 ghost use Rattle.constriction_inputs.specs.declared.refusal.Refusal.TheVariants as refusals;
 
 use crate::refusal::Refusal;
-use crate::rows::adding::ones;
+use constriction_base::weights::starts::ones;
 use constriction_words::BitArray;
 use std::alloc::{AllocError, Global};
 

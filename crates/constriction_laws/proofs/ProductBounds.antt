@@ -7,7 +7,7 @@ use Rattle.std.specs.Int.Digits.{digits_of, number_from_digits}
 use Rattle.constriction_base.specs.Steps.{Step, IsStep, AreSteps, InTurn, IsSizes, AreWords}
 use Rattle.constriction_base.specs.Digits.{fixed_digits}
 use Rattle.constriction_stack.specs.Ans.{AnsState, IsValid, refilled, popped_head, IsNext, pop, IsPush, empty, exported}
-use Rattle.constriction_queue.specs.Range.{Run, start, scale, cut, narrow, run, IsInterval, sealed, seal_number}
+use Rattle.constriction_queue.specs.Range.{Run, initial, scale, cut, narrowed_by, run, IsInterval, sealed, seal_number}
 use Rattle.constriction_laws.specs.Bounds.{product, spare, share, rounded_whole, Act, Encode, Decode, AreAllowed, Acts, net_share, net_whole}
 use Rattle.constriction_base.proofs.Sizes.{Facts, facts, table_divides, pow-mul}
 use Rattle.constriction_stack.proofs.Pushing.{only_push, written, kept, put_on, room, valid_pop}
@@ -139,7 +139,7 @@ ans_words w s es x z hs i =
 -- ---- range coding: the range over a base for each move
 module _ (w s : ℕ) (e : Step) (z : IsSizes w s) (h : IsStep w e) where
   narrow_step : (r : Run) → IsInterval w s r →
-      r.range * (2 ^ w) ^ (narrow w s e r).moves * share w s e ≤ (narrow w s e r).range * (2 ^ w) ^ r.moves * rounded_whole w s e
+      r.range * (2 ^ w) ^ (narrowed_by w s e r).moves * share w s e ≤ (narrowed_by w s e r).range * (2 ^ w) ^ r.moves * rounded_whole w s e
   narrow_step r v =
       let b : ℕ = 2 ^ w in
       let parts : r.range < scale e r * 2 ^ e.precision + 2 ^ e.precision = lt-div-mul-add (pow_pos e.precision) in
@@ -165,7 +165,7 @@ pub runs_bound : (w s : ℕ) (es : List Step) (r : Run) → IsSizes w s → AreS
 runs_bound w s [] r z hs v = omega arith
 runs_bound w s (e ∷ es) r z hs v =
     let b : ℕ = 2 ^ w in
-    let next : Run = narrow w s e r in
+    let next : Run = narrowed_by w s e r in
     let last : Run = run w s es next in
     range_chain r.range (b ^ r.moves) (b ^ next.moves) (share w s e) (b ^ last.moves) (product (share w s) es) (rounded_whole w s e) last.range next.range (product (rounded_whole w s) es)
     (base_pos w next.moves) (narrow_step w s e z hs.0 r v) (runs_bound w s es next z hs.1 (valid_cut w s e r z hs.0 v))
@@ -197,13 +197,13 @@ length-sealed w s r = elim (cases_eq r.range (2 ^ s - 1)) [
 ]
 
 -- so many words fewer than moves, or as many
-range_moves : (w s n : ℕ) (es : List Step) → IsSizes w s → AreSteps w es → n ≤ (run w s es (start s)).moves →
+range_moves : (w s n : ℕ) (es : List Step) → IsSizes w s → AreSteps w es → n ≤ (run w s es (initial s)).moves →
     2 ^ (w * n) * (2 ^ s - 1) * product (share w s) es < 2 ^ s * product (rounded_whole w s) es
 range_moves w s n es z hs within =
     let b : ℕ = 2 ^ w in
-    let r : Run = run w s es (start s) in
-    let v : IsInterval w s r = valid_run w s es (start s) z hs (valid_start w s z) in
-    let all : (2 ^ s - 1) * b ^ r.moves * product (share w s) es ≤ r.range * b ^ 0 * product (rounded_whole w s) es = runs_bound w s es (start s) z hs (valid_start w s z) in
+    let r : Run = run w s es (initial s) in
+    let v : IsInterval w s r = valid_run w s es (initial s) z hs (valid_start w s z) in
+    let all : (2 ^ s - 1) * b ^ r.moves * product (share w s) es ≤ r.range * b ^ 0 * product (rounded_whole w s) es = runs_bound w s es (initial s) z hs (valid_start w s z) in
     let fewer : b ^ n ≤ b ^ r.moves = base_le w n r.moves within in
     let left : b ^ n * ((2 ^ s - 1) * product (share w s) es) ≤ b ^ r.moves * ((2 ^ s - 1) * product (share w s) es) = mul-le-mul_right ((2 ^ s - 1) * product (share w s) es) fewer in
     let right : r.range * product (rounded_whole w s) es < 2 ^ s * product (rounded_whole w s) es = mul-lt-mul_of_pos_right v.fits (product_pos w s es) in
@@ -212,16 +212,16 @@ range_moves w s n es z hs within =
     let ends : b ^ n * (2 ^ s - 1) * product (share w s) es < 2 ^ s * product (rounded_whole w s) es = omega (arith, all, left, right, begin) in
     rw (mul_comm w n, ← pow-mul w n) ends
 
-pub range_words : (w s : ℕ) (es : List Step) → IsSizes w s → AreSteps w es → 2 ≤ length (sealed w s (run w s es (start s))) →
-    2 ^ (w * (length (sealed w s (run w s es (start s))) - 2)) * (2 ^ s - 1) * product (share w s) es < 2 ^ s * product (rounded_whole w s) es
+pub range_words : (w s : ℕ) (es : List Step) → IsSizes w s → AreSteps w es → 2 ≤ length (sealed w s (run w s es (initial s))) →
+    2 ^ (w * (length (sealed w s (run w s es (initial s))) - 2)) * (2 ^ s - 1) * product (share w s) es < 2 ^ s * product (rounded_whole w s) es
 range_words w s es z hs two =
-    let r : Run = run w s es (start s) in
+    let r : Run = run w s es (initial s) in
     range_moves w s (length (sealed w s r) - 2) es z hs (omega (arith, length-sealed w s r))
 
-pub self_delimiting_words : (w s : ℕ) (es : List Step) (words : List ℕ) → IsSizes w s → AreSteps w es → SelfDelimits w s (run w s es (start s)) words →
+pub self_delimiting_words : (w s : ℕ) (es : List Step) (words : List ℕ) → IsSizes w s → AreSteps w es → SelfDelimits w s (run w s es (initial s)) words →
     2 ^ (w * (length words - s / w)) * (2 ^ s - 1) * product (share w s) es < 2 ^ s * product (rounded_whole w s) es
 self_delimiting_words w s es words z hs h =
-    range_moves w s (length words - s / w) es z hs (omega (arith, length_self w s (run w s es (start s)) words z h))
+    range_moves w s (length words - s / w) es z hs (omega (arith, length_self w s (run w s es (initial s)) words z h))
 
 -- ---- decodes too
 pop_bound : (h a x f p n c : ℕ) → h ≤ suc a * p → a * n ≤ x → x ≤ f → c * n ≤ f → h * (n * c) ≤ f * (p * (c + 1))

@@ -11,7 +11,7 @@ ghost use Rattle.std.specs.Prelude.{◌≡◌, ℕ, ◌-◌, ◌*◌, ◌/◌, �
 ghost use Rattle.std.specs.List.{AllByRecursion};
 ghost use Rattle.constriction_base.specs.Steps.{Step, IsSizes, AreSteps, InTurn};
 ghost use Rattle.constriction_stack.specs.Ans.{AnsState, IsPush, IsValid, empty, exported};
-ghost use Rattle.constriction_queue.specs.Range.{run, sealed, start};
+ghost use Rattle.constriction_queue.specs.Range.{run, sealed, initial};
 ghost use Rattle.constriction_queue.specs.SelfDelimiting.{SelfDelimits};
 ghost use Rattle.constriction_laws.specs.Bounds.{Act, Acts, AreAllowed, IsNetBounded, product, rounded_whole};
 ghost use Rattle.constriction_laws.specs.Bounds.{share};
@@ -45,15 +45,15 @@ pub fn stack_net_bound()
 /// The sealed words of a new range encoder, of which there are two at least.
 pub fn range_bound()
     ensures { (w s : ℕ) (steps : List Step) → IsSizes w s → AreSteps w steps →
-        2 ≤ length (sealed w s (run w s steps (start s))) →
-        2 ^ (w * (length (sealed w s (run w s steps (start s))) - 2)) * (2 ^ s - 1) * product (share w s) steps
+        2 ≤ length (sealed w s (run w s steps (initial s))) →
+        2 ^ (w * (length (sealed w s (run w s steps (initial s))) - 2)) * (2 ^ s - 1) * product (share w s) steps
         < 2 ^ s * product (rounded_whole w s) steps }
 {}
 
 /// The words of a new range encoder that hold whatever follows, of which there are as many as a state has at least.
 pub fn self_delimiting_bound()
     ensures { (w s : ℕ) (steps : List Step) (words : List ℕ) → IsSizes w s → AreSteps w steps →
-        SelfDelimits w s (run w s steps (start s)) words → s / w ≤ length words →
+        SelfDelimits w s (run w s steps (initial s)) words → s / w ≤ length words →
         2 ^ (w * (length words - s / w)) * (2 ^ s - 1) * product (share w s) steps
         < 2 ^ s * product (rounded_whole w s) steps }
 {}

@@ -13,12 +13,12 @@ pub record AreValues (values : List ℕ) : Type 0 where
   pub last : slice_index values 2048 ≡ 4294967296
 
 -- so many 65536ths of the way from one value to the next
-unfoldable pub between : List ℕ → ℕ → ℕ → ℕ
-between values k part = slice_index values k + (slice_index values (k + 1) - slice_index values k) * part / 65536
+unfoldable pub interpolated : List ℕ → ℕ → ℕ → ℕ
+interpolated values k part = slice_index values k + (slice_index values (k + 1) - slice_index values k) * part / 65536
 
 -- the value at a place, in 65536ths of a step
 unfoldable pub value_at : List ℕ → ℕ → ℕ
-value_at values place = between values (place / 65536) (place % 65536)
+value_at values place = interpolated values (place / 65536) (place % 65536)
 
 -- the value so far above the table's beginning, where all of it is as wide as this and 2 ^ 36 times the rate is what a unit has in 65536ths of a step
 unfoldable pub value_above : List ℕ → ℕ → ℕ → ℕ → ℕ

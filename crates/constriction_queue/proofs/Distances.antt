@@ -1,7 +1,7 @@
 -- How far a point lies above an interval's low end, modulo the numbers of a state.
 use Rattle.std.proofs.Common.{◌≡◌, ◌∙◌, ℕ, suc, ◌+◌, ◌-◌, ◌*◌, ◌/◌, ◌%◌, ◌^◌, ◌<◌, ◌≤◌, refl, sym, ap, arith, pow_pos, mod-eq_of_lt, div-add-mod', le-div_iff_mul-le, div-lt_iff_lt-mul, mul-le-mul_right}
 use native.Mathlib.Nat.{add-mul-mod_self_right}
-use Rattle.constriction_queue.proofs.Fits.{pow-split}
+use Rattle.constriction_base.proofs.Heads.{pow-split}
 use Rattle.constriction_queue.proofs.Pointing.{minus_is, mod_sum, shifted_mod}
 
 -- the distance of the point that it makes with the low end

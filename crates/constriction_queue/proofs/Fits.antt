@@ -1,15 +1,10 @@
 -- What fits a state, over plain numbers.
 use Rattle.std.specs.Prelude.{◌≡◌, ℕ, ◌+◌, ◌-◌, ◌*◌, ◌/◌, ◌^◌, ◌≤◌, ◌<◌}
-use Rattle.std.proofs.Common.{arith, ◌∙◌, sym, ap, lit<}
+use Rattle.std.proofs.Common.{arith, lit<}
 use Rattle.std.proofs.Math.Nat.{pow-le-pow_right}
-use Rattle.std.proofs.lemmas.Nat.{pow_pos, pow-add, mul-le}
+use Rattle.std.proofs.lemmas.Nat.{pow_pos, mul-le}
 use Rattle.std.proofs.Common.{le-div_iff_mul-le}
-
--- a power of a sum of exponents, at a difference
-pub pow-split : (n k : ℕ) → k ≤ n → 2 ^ (n - k) * 2 ^ k ≡ 2 ^ n
-pow-split n k h =
-    let e : (n - k) + k ≡ n = omega arith in
-    sym (pow-add 2 (n - k) k) ∙ ap (λ m. 2 ^ m) e
+use Rattle.constriction_base.proofs.Heads.{pow-split}
 
 -- the greatest state is no less than the shortest range
 pub below_greatest : (s w x : ℕ) → w ≤ s → 0 < w → x + 1 ≡ 2 ^ s → 2 ^ (s - w) ≤ x

@@ -3,7 +3,7 @@ use Rattle.std.proofs.Common.{◌≡◌, ℕ, suc, ◌+◌, ◌-◌, ◌*◌, �
 use native.Mathlib.Nat.{pow-suc, pow-zero}
 use Rattle.std.proofs.lemmas.Bool.{cases_lt}
 use Rattle.constriction_base.specs.Steps.{Step, IsStep, AreSteps, IsSizes}
-use Rattle.constriction_queue.specs.Range.{Run, start, scale, cut, grown, narrow, run, IsInterval}
+use Rattle.constriction_queue.specs.Range.{Run, initial, scale, cut, grown, narrowed_by, run, IsInterval}
 use Rattle.constriction_base.proofs.Sizes.{Facts, facts, table_divides}
 use Rattle.constriction_queue.proofs.Runs.{part_inside}
 
@@ -37,7 +37,7 @@ cut_least w s e r z h least =
     let all : K * 1 * 2 ^ e.precision ≤ scale e r * e.p * 2 ^ w = mul-le-mul one wide in
     omega (arith, all, table_divides w s e z h)
 
-pub valid_cut : (w s : ℕ) (e : Step) (r : Run) → IsSizes w s → IsStep w e → IsInterval w s r → IsInterval w s (narrow w s e r)
+pub valid_cut : (w s : ℕ) (e : Step) (r : Run) → IsSizes w s → IsStep w e → IsInterval w s r → IsInterval w s (narrowed_by w s e r)
 valid_cut w s e r z h v =
     let f : Facts w s = facts w s z in
     let part : scale e r * e.left + scale e r * e.p ≤ r.range = part_inside r.range (2 ^ e.precision) e.left e.p h.inside in
@@ -57,9 +57,9 @@ valid_cut w s e r z h v =
 
 pub valid_run : (w s : ℕ) (es : List Step) (r : Run) → IsSizes w s → AreSteps w es → IsInterval w s r → IsInterval w s (run w s es r)
 valid_run w s [] r z hs v = v
-valid_run w s (e ∷ es) r z hs v = valid_run w s es (narrow w s e r) z hs.1 (valid_cut w s e r z hs.0 v)
+valid_run w s (e ∷ es) r z hs v = valid_run w s es (narrowed_by w s e r) z hs.1 (valid_cut w s e r z hs.0 v)
 
-pub valid_start : (w s : ℕ) → IsSizes w s → IsInterval w s (start s)
+pub valid_start : (w s : ℕ) → IsSizes w s → IsInterval w s (initial s)
 valid_start w s z =
     let f : Facts w s = facts w s z in
     let twice : 2 ^ (s - w) * 2 ≤ 2 ^ (s - w) * 2 ^ w = mul-le-mul_left (2 ^ (s - w)) f.base in

@@ -4,7 +4,7 @@ use Rattle.std.proofs.Math.Nat.{pow-le-pow_right}
 use Rattle.std.proofs.lemmas.Bool.{cases_lt}
 use Rattle.constriction_queue.specs.Range.{Run, cut, grown}
 use Rattle.constriction_queue.specs.Encoder.{number_of, words_held, run_of}
-use Rattle.constriction_queue.proofs.Fits.{pow-split}
+use Rattle.constriction_base.proofs.Heads.{pow-split}
 use Rattle.constriction_queue.proofs.Runs.{same_run, part_inside}
 use Rattle.constriction_queue.proofs.Carry.{inverted_stays, not_less, less, carry_held, length-held, one_more_held, shift_number, top_ones, shifted_below, not_greatest, over_stays, first_not_ones}
 

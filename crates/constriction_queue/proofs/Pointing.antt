@@ -6,7 +6,7 @@ use Rattle.constriction_queue.proofs.Carry.{wraps}
 use Rattle.constriction_queue.proofs.Runs.{part_inside}
 use Rattle.std.proofs.Math.Nat.{pow-le-pow_right}
 use Rattle.std.proofs.lemmas.Bool.{cases_lt}
-use Rattle.constriction_queue.proofs.Fits.{pow-split}
+use Rattle.constriction_base.proofs.Heads.{pow-split}
 
 -- a number without what passes the end, shifted by a word behind which another comes
 pub shifted_mod : (a q b x : ℕ) → 0 < q → x < b → a % (q * b) % q * b + x ≡ (a * b + x) % (q * b)

@@ -1,7 +1,7 @@
 -- A list of steps is read exactly if the number lies in the run's last interval.
 use Rattle.std.proofs.Common.{◌≡◌, ℕ, ◌+◌, ◌-◌, ◌*◌, ◌/◌, ◌^◌, ◌<◌, ◌≤◌, List, [], ◌∷◌, get_or, ◌↔◌, arith, pow_pos}
 use Rattle.constriction_base.specs.Steps.{Step, IsStep, AreSteps, IsSizes, AreWords}
-use Rattle.constriction_queue.specs.Range.{Run, start, scale, cut, grown, narrow, run, IsInterval, number_read, offset, Takes, ReadAs, Within}
+use Rattle.constriction_queue.specs.Range.{Run, initial, scale, cut, grown, narrowed_by, run, IsInterval, number_read, offset, Takes, ReadAs, Within}
 use Rattle.constriction_base.proofs.Sizes.{table_fits}
 use Rattle.constriction_queue.proofs.Cuts.{offset_is, from_quantile, to_quantile, from_quantile_below, to_quantile_below, more_from, less_from, more_below, less_below, scale_pos}
 use Rattle.constriction_queue.proofs.WordsRead.{point_more, first_point}
@@ -17,7 +17,7 @@ pub record Near (w s : ℕ) (ws : List ℕ) (r : Run) : Type 0 where
 near : (w s : ℕ) (ws : List ℕ) (r : Run) → IsInterval w s r → Within w s ws r → Near w s ws r
 near w s ws r v i = record { from = i.from; below = omega (arith, i.below, v.fits) }
 
-near_start : (w s : ℕ) (ws : List ℕ) → IsSizes w s → AreWords w ws → Near w s ws (start s)
+near_start : (w s : ℕ) (ws : List ℕ) → IsSizes w s → AreWords w ws → Near w s ws (initial s)
 near_start w s ws z h = record { from = omega arith; below = omega (arith, first_point w s ws z h) }
 
 -- a word more leaves the number in the interval, and comes from a number there
@@ -70,27 +70,27 @@ module _ (w s : ℕ) (ws : List ℕ) (z : IsSizes w s) (words : AreWords w ws) w
         record { from = from; below = below },
       )
 
-  within_narrow : (e : Step) (r : Run) → IsStep w e → IsInterval w s r → Near w s ws r → Takes w s ws e r → Within w s ws (narrow w s e r)
+  within_narrow : (e : Step) (r : Run) → IsStep w e → IsInterval w s r → Near w s ws r → Takes w s ws e r → Within w s ws (narrowed_by w s e r)
   within_narrow e r h v near t = grown_within w s ws (cut e r) words (within_cut e r h v near t)
 
-  pub takes_narrow : (e : Step) (r : Run) → IsStep w e → IsInterval w s r → Within w s ws (narrow w s e r) → Takes w s ws e r × Within w s ws r
+  pub takes_narrow : (e : Step) (r : Run) → IsStep w e → IsInterval w s r → Within w s ws (narrowed_by w s e r) → Takes w s ws e r × Within w s ws r
   takes_narrow e r h v i = takes_cut e r h v (within_grown w s ws (cut e r) words i)
 
   pub within_run : (es : List Step) (r : Run) → AreSteps w es → IsInterval w s r → Within w s ws r → ReadAs w s ws es r → Within w s ws (run w s es r)
   within_run [] r hs v i t = i
   within_run (e ∷ es) r hs v i t =
-      within_run es (narrow w s e r) hs.1 (valid_cut w s e r z hs.0 v) (within_narrow e r hs.0 v (near w s ws r v i) t.0) t.1
+      within_run es (narrowed_by w s e r) hs.1 (valid_cut w s e r z hs.0 v) (within_narrow e r hs.0 v (near w s ws r v i) t.0) t.1
 
   pub reads_run : (es : List Step) (r : Run) → AreSteps w es → IsInterval w s r → Within w s ws (run w s es r) → ReadAs w s ws es r × Within w s ws r
   reads_run [] r hs v i = (tt, i)
   reads_run (e ∷ es) r hs v i =
-      let rest = reads_run es (narrow w s e r) hs.1 (valid_cut w s e r z hs.0 v) i in
+      let rest = reads_run es (narrowed_by w s e r) hs.1 (valid_cut w s e r z hs.0 v) i in
       let point = takes_narrow e r hs.0 v rest.1 in
       ((point.0, rest.0), point.1)
 
-  pub law_reads : (e : Step) (es : List Step) → AreSteps w (e ∷ es) → ReadAs w s ws (e ∷ es) (start s) ↔ Within w s ws (run w s (e ∷ es) (start s))
+  pub law_reads : (e : Step) (es : List Step) → AreSteps w (e ∷ es) → ReadAs w s ws (e ∷ es) (initial s) ↔ Within w s ws (run w s (e ∷ es) (initial s))
   law_reads e es hs =
       let v = valid_start w s z in (
-        λ t. within_run es (narrow w s e (start s)) hs.1 (valid_cut w s e (start s) z hs.0 v) (within_narrow e (start s) hs.0 v (near_start w s ws z words) t.0) t.1,
-        λ i. (reads_run (e ∷ es) (start s) hs v i).0,
+        λ t. within_run es (narrowed_by w s e (initial s)) hs.1 (valid_cut w s e (initial s) z hs.0 v) (within_narrow e (initial s) hs.0 v (near_start w s ws z words) t.0) t.1,
+        λ i. (reads_run (e ∷ es) (initial s) hs v i).0,
       )

@@ -4,7 +4,7 @@ use Rattle.std.proofs.lemmas.Bool.{cases_lt}
 use Rattle.constriction_base.specs.Steps.{Step}
 use Rattle.constriction_base.specs.declared.backends.reading.Holds as holding
 use Rattle.constriction_base.specs.declared.backends.writing.WriteWords as writing
-use Rattle.constriction_queue.specs.Range.{Run, cut, grown, narrow}
+use Rattle.constriction_queue.specs.Range.{Run, cut, grown, narrowed_by}
 use Rattle.constriction_queue.specs.Encoder.{Encoder, Owes, held_of, run_by}
 use Rattle.constriction_queue.specs.Calls.{IsRefused}
 
@@ -20,8 +20,8 @@ pub owed_few : {Word B : Type 0} (number : Word → ℕ) (w s : ℕ) (step : Ste
     → length owed ≤ length old.held + 1
 owed_few number w s step old owed owes =
     let held : List ℕ = held_of number w owes.situation in
-    let moves : length (held ++ (owed ++ old.words)) ≡ (narrow w s step (run_by w s old)).moves = ap (λ (r : Run). r.moves) owes.is in
-    let step_moves : (narrow w s step (run_by w s old)).moves ≤ length (old.held ++ old.words) + 1 = grown_moves w s (cut step (run_by w s old)) in
+    let moves : length (held ++ (owed ++ old.words)) ≡ (narrowed_by w s step (run_by w s old)).moves = ap (λ (r : Run). r.moves) owes.is in
+    let step_moves : (narrowed_by w s step (run_by w s old)).moves ≤ length (old.held ++ old.words) + 1 = grown_moves w s (cut step (run_by w s old)) in
     omega (arith, moves, step_moves, length-append held (owed ++ old.words), length-append owed old.words, length-append old.held old.words)
 
 -- where a backend has room for so many, no step is refused, as over a cursor that is long enough

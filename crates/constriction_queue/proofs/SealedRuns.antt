@@ -5,7 +5,7 @@ use Rattle.std.proofs.lemmas.Bool.{cases_eq}
 use Rattle.std.proofs.Math.Seq.{get_or-append_seam, get_or-append-add}
 use Rattle.std.proofs.Math.ListN.{get_or-append}
 use Rattle.constriction_base.specs.Steps.{Step, IsStep, AreSteps, IsSizes, AreWords}
-use Rattle.constriction_queue.specs.Range.{Run, start, scale, cut, narrow, run, IsInterval, number_read, ReadAs, Within, number_of_first, seal_number, sealed}
+use Rattle.constriction_queue.specs.Range.{Run, initial, scale, cut, narrowed_by, run, IsInterval, number_read, ReadAs, Within, number_of_first, seal_number, sealed}
 use Rattle.constriction_base.specs.Digits.{fixed_digits}
 use Rattle.constriction_base.proofs.Sizes.{Facts, facts, pow_le, whole_divides}
 use Rattle.constriction_queue.proofs.WordsRead.{number_below}
@@ -14,7 +14,7 @@ use Rattle.constriction_queue.proofs.ReadingRuns.{reads_run}
 use Rattle.constriction_base.proofs.WordLists.{words-append, words-fixed_digits}
 use Rattle.constriction_base.proofs.Guards.{fixed-length}
 
-number_front : (b m : ℕ) (xs ys : List ℕ) → m ≤ length xs → number_of_first b m (xs ++ ys) ≡ number_of_first b m xs
+pub number_front : (b m : ℕ) (xs ys : List ℕ) → m ≤ length xs → number_of_first b m (xs ++ ys) ≡ number_of_first b m xs
 number_front b zero xs ys h = refl
 number_front b (suc m) xs ys h = rw (number_front b m xs ys (omega arith), get_or-append xs ys 0 m h) refl
 
@@ -60,7 +60,7 @@ room_above a r q h hr ne =
     (le-div_iff_mul-le h).0 next
 
 -- after a step the range is not the start's
-less_than_start : (w s : ℕ) (e : Step) (r : Run) → IsSizes w s → IsStep w e → IsInterval w s r → (narrow w s e r).range + 1 < 2 ^ s
+less_than_start : (w s : ℕ) (e : Step) (r : Run) → IsSizes w s → IsStep w e → IsInterval w s r → (narrowed_by w s e r).range + 1 < 2 ^ s
 less_than_start w s e r z h v =
     let f : Facts w s = facts w s z in
     by_growth w s (cut e r) (λ c. c.range + 1 < 2 ^ s)
@@ -160,20 +160,20 @@ words-sealed w s r = elim (cases_eq r.range (2 ^ s - 1)) [
 -- after one step and more the range stays below the start's
 pub less_after : (w s : ℕ) (e : Step) (es : List Step) (r : Run) → IsSizes w s → AreSteps w (e ∷ es) → IsInterval w s r → (run w s (e ∷ es) r).range + 1 < 2 ^ s
 less_after w s e [] r z hs v = less_than_start w s e r z hs.0 v
-less_after w s e (d ∷ es) r z hs v = less_after w s d es (narrow w s e r) z hs.1 (valid_cut w s e r z hs.0 v)
+less_after w s e (d ∷ es) r z hs v = less_after w s d es (narrowed_by w s e r) z hs.1 (valid_cut w s e r z hs.0 v)
 
 pub sealed_reads : (w s : ℕ) (es : List Step) (rest : List ℕ) → IsSizes w s → AreSteps w es → Follows w s rest →
-    ReadAs w s (sealed w s (run w s es (start s)) ++ rest) es (start s)
+    ReadAs w s (sealed w s (run w s es (initial s)) ++ rest) es (initial s)
 sealed_reads w s [] rest z hs o = tt
 sealed_reads w s (e ∷ es) rest z hs o =
-    let r : Run = run w s (e ∷ es) (start s) in
-    let v : IsInterval w s r = valid_run w s (e ∷ es) (start s) z hs (valid_start w s z) in
-    let i : Within w s (sealed w s r ++ rest) r = sealed_within w s r rest z v (less_after w s e es (start s) z hs (valid_start w s z)) o in
-    (reads_run w s (sealed w s r ++ rest) z (words-append w (sealed w s r) rest (words-sealed w s r) o.words) (e ∷ es) (start s) hs (valid_start w s z) i).0
+    let r : Run = run w s (e ∷ es) (initial s) in
+    let v : IsInterval w s r = valid_run w s (e ∷ es) (initial s) z hs (valid_start w s z) in
+    let i : Within w s (sealed w s r ++ rest) r = sealed_within w s r rest z v (less_after w s e es (initial s) z hs (valid_start w s z)) o in
+    (reads_run w s (sealed w s r ++ rest) z (words-append w (sealed w s r) rest (words-sealed w s r) o.words) (e ∷ es) (initial s) hs (valid_start w s z) i).0
 
-pub sealed_reads_alone : (w s : ℕ) (es : List Step) → IsSizes w s → AreSteps w es → ReadAs w s (sealed w s (run w s es (start s))) es (start s)
+pub sealed_reads_alone : (w s : ℕ) (es : List Step) → IsSizes w s → AreSteps w es → ReadAs w s (sealed w s (run w s es (initial s))) es (initial s)
 sealed_reads_alone w s es z hs = rw append-nil at (sealed_reads w s es [] z hs (record { words = tt; allowed = inl refl }))
 
 pub sealed_reads_followed : (w s : ℕ) (es : List Step) (rest : List ℕ) → IsSizes w s → s / w ≡ 2 → AreSteps w es → AreWords w rest →
-    ReadAs w s (sealed w s (run w s es (start s)) ++ rest) es (start s)
+    ReadAs w s (sealed w s (run w s es (initial s)) ++ rest) es (initial s)
 sealed_reads_followed w s es rest z two hs words = sealed_reads w s es rest z hs (record { words = words; allowed = inr two })

@@ -7,12 +7,10 @@ use Rattle.std.proofs.lemmas.Nat.{div-mul-add, mod-mul-add}
 use Rattle.constriction_base.specs.Steps.{AreWords}
 use Rattle.constriction_queue.specs.Range.{sealed}
 use Rattle.constriction_base.specs.Digits.{fixed_digits}
-use Rattle.std.specs.Int.NonZero.{non_zero_usize_get}
 use Rattle.constriction_queue.specs.declared.situation.EncoderSituation.{EncoderSituation}
 use Rattle.constriction_queue.specs.declared.situation.EncoderSituation.TheVariants.{Normal, Inverted}
 use Rattle.constriction_queue.specs.Encoder.{number_of, words_held, run_of, IsCarried, held_of, PartsFit, CanCarry}
-use Rattle.constriction_queue.proofs.Begun.{held_few}
-use Rattle.constriction_queue.proofs.Fits.{pow-split}
+use Rattle.constriction_base.proofs.Heads.{pow-split}
 use Rattle.constriction_queue.proofs.Carry.{carry_held, length-held, not_less, less, pred_times}
 
 -- ---- words below the base
@@ -41,10 +39,6 @@ carried_held w count first false held ws fits all is = record {
   len = rw is refl;
   fit = rw is (words_held_fit w (2 ^ w - 1) count first ws (omega (arith, pow_pos w)) (omega arith) all);
 }
-
-pub carried_none : (w : ℕ) (carry : Bool) (ws : List ℕ) → AreWords w ws → carry ≡ false → IsCarried w carry ws ws
-carried_none w true ws all off = absurd (cc)
-carried_none w false ws all off = record { number = omega arith; len = refl; fit = all }
 
 -- ---- digits
 pub digits_of_words : (w : ℕ) (ws : List ℕ) → AreWords w ws → fixed_digits (2 ^ w) (length ws) (number_of (2 ^ w) ws) ≡ reverse ws
@@ -126,11 +120,6 @@ can_carry number w s Normal l r point true fit long point_is wrapped =
     absurd (omega arith)
 can_carry number w s Normal l r point false fit long point_is wrapped = refl
 can_carry number w s (Inverted count first) l r point carry fit long point_is wrapped = fit.1
-
-pub held_few_of : {Word : Type 0} (number : Word → ℕ) (w s : ℕ) (situation : EncoderSituation Word) (l r : ℕ)
-    → PartsFit number w s situation l r → length (held_of number w situation) + 2 < 2 ^ 64
-held_few_of number w s Normal l r fit = omega arith
-held_few_of number w s (Inverted count first) l r fit = held_few (2 ^ w - 1) (non_zero_usize_get count) (number first) fit.3
 
 -- the greatest range: nothing is held
 pub held_start : {Word : Type 0} (number : Word → ℕ) (w s : ℕ) (situation : EncoderSituation Word) (l r : ℕ)

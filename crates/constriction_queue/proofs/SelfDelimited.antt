@@ -7,7 +7,7 @@ use Rattle.std.proofs.lemmas.List.{length-replicate}
 use Rattle.constriction_base.specs.Digits.{fixed_digits}
 use Rattle.constriction_base.specs.Steps.{Step, AreSteps, AreWords, IsSizes}
 use Rattle.constriction_base.proofs.Sizes.{pow-mul}
-use Rattle.constriction_queue.specs.Range.{Run, IsInterval, ReadAs, Within, number_of_first, number_read, run, seal_number, sealed, start}
+use Rattle.constriction_queue.specs.Range.{Run, IsInterval, ReadAs, Within, number_of_first, number_read, run, seal_number, sealed, initial}
 use Rattle.constriction_queue.specs.SelfDelimiting.{AreEnough, AreLeast, SelfDelimits}
 use Rattle.constriction_queue.proofs.Narrowing.{valid_run, valid_start}
 use Rattle.constriction_queue.proofs.ReadingRuns.{reads_run}
@@ -154,14 +154,14 @@ pub self_within : (w s : ℕ) (r : Run) (words rest : List ℕ) → IsSizes w s 
 self_within w s r words rest z v coded (inl (whole, is)) fit = absurd (omega (arith, coded, whole))
 self_within w s r words rest z v coded (inr (more, (t, least, is))) fit = rw is (enough_within w s t r rest z v least.few least.enough fit)
 
-pub self_reads : (w s : ℕ) (es : List Step) (words rest : List ℕ) → IsSizes w s → AreSteps w es → SelfDelimits w s (run w s es (start s)) words → AreWords w rest
-    → ReadAs w s (words ++ rest) es (start s)
+pub self_reads : (w s : ℕ) (es : List Step) (words rest : List ℕ) → IsSizes w s → AreSteps w es → SelfDelimits w s (run w s es (initial s)) words → AreWords w rest
+    → ReadAs w s (words ++ rest) es (initial s)
 self_reads w s [] words rest z hs h fit = tt
 self_reads w s (e ∷ es) words rest z hs h fit =
-    let r : Run = run w s (e ∷ es) (start s) in
-    let v : IsInterval w s r = valid_run w s (e ∷ es) (start s) z hs (valid_start w s z) in
-    let i : Within w s (words ++ rest) r = self_within w s r words rest z v (less_after w s e es (start s) z hs (valid_start w s z)) h fit in
-    (reads_run w s (words ++ rest) z (words-append w words rest (self_words w s r words h) fit) (e ∷ es) (start s) hs (valid_start w s z) i).0
+    let r : Run = run w s (e ∷ es) (initial s) in
+    let v : IsInterval w s r = valid_run w s (e ∷ es) (initial s) z hs (valid_start w s z) in
+    let i : Within w s (words ++ rest) r = self_within w s r words rest z v (less_after w s e es (initial s) z hs (valid_start w s z)) h fit in
+    (reads_run w s (words ++ rest) z (words-append w words rest (self_words w s r words h) fit) (e ∷ es) (initial s) hs (valid_start w s z) i).0
 
 -- where they are followed by nothing, the number that is read is a multiple of 2 ^ (s - w), the least in the interval
 pub number_at_end : (w s : ℕ) (r : Run) (words : List ℕ) → IsSizes w s → IsInterval w s r → r.range + 1 < 2 ^ s → SelfDelimits w s r words

@@ -9,7 +9,7 @@ use Rattle.constriction_base.proofs.Sizes.{pow_le}
 use Rattle.constriction_queue.specs.Range.{seal_number, sealed}
 use Rattle.constriction_queue.specs.SelfDelimiting.{SelfDelimits}
 use Rattle.constriction_queue.specs.Encoder.{number_of, run_of, IsCarried}
-use Rattle.constriction_queue.proofs.Fits.{pow-split}
+use Rattle.constriction_base.proofs.Heads.{pow-split}
 use Rattle.constriction_queue.proofs.Carry.{wraps}
 use Rattle.constriction_queue.proofs.Parts.{top_is}
 use Rattle.constriction_queue.proofs.Seals.{digits_of_words, seal_digits, seal_number_is, test_is, tail_is}

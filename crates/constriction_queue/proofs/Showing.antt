@@ -1,7 +1,7 @@
 -- The words of an encoder in the order in which they are shown, the first one first.
 use Rattle.std.specs.Prelude.{replicate}
-use Rattle.std.proofs.Common.{◌≡◌, ℕ, zero, suc, ◌-◌, ◌<◌, List, [], ◌∷◌, ◌++◌, Option, None, Some, map, reverse, drop, length, refl, sym, ap, ◌∙◌, arith, append_assoc}
-use Rattle.std.proofs.lemmas.List.{length-reverse, map-append, reverse-append, reverse-reverse}
+use Rattle.std.proofs.Common.{◌≡◌, ℕ, zero, suc, ◌-◌, List, [], ◌∷◌, ◌++◌, Option, None, Some, map, reverse, drop, length, refl, sym, ap, ◌∙◌, arith, append_assoc}
+use Rattle.std.proofs.lemmas.List.{length-reverse, reverse-append, reverse-reverse}
 use Rattle.std.specs.Int.NonZero.{non_zero_usize_get}
 use Rattle.constriction_queue.specs.declared.situation.HeldWords.{HeldWords}
 use Rattle.constriction_queue.specs.Encoder.{first_held, first_owed, owed_of, released_of, word_of}
@@ -51,22 +51,10 @@ shown_is number words lent held top last all is sealed_is =
     ∙ ap (λ ws. ws ++ reverse (owed_of number held top last)) (sym below)
     ∙ sym (reverse-append (owed_of number held top last) (map number words)) ∙ sealed_is
 
--- held words without the first of them
-pub others_are : {Word : Type 0} (number : Word → ℕ) (h rest : HeldWords Word) → non_zero_usize_get rest.count ≡ non_zero_usize_get h.count - 1 → 0 < non_zero_usize_get rest.count
-    → number rest.first ≡ number h.others → number rest.others ≡ number h.others
-    → first_held number (Some h) ≡ number h.first ∷ first_held number (Some rest)
-others_are number h rest count some first others =
-    let more : non_zero_usize_get h.count - 1 ≡ suc (non_zero_usize_get rest.count - 1) = omega arith in
-    rw (more, first, others) refl
-
 -- the word in front, where words that are read stand before it
 pub next_shown : {X : Type 0} (number : X → ℕ) (below : List X) (seal rest : List ℕ) (x : ℕ) → length below ≡ 0 → seal ≡ x ∷ rest → map number below ++ seal ≡ x ∷ (map number below ++ rest)
 next_shown number [] seal rest x none is = is
 next_shown number (y ∷ ys) seal rest x none is = absurd (omega (arith, none))
-
-pub none_shown : {X : Type 0} (number : X → ℕ) (below : List X) (seal : List ℕ) → length below ≡ 0 → seal ≡ [] → map number below ++ seal ≡ []
-none_shown number [] seal none is = is
-none_shown number (y ∷ ys) seal none is = absurd (omega (arith, none))
 
 -- what was written, as a queue
 pub queue_is : {Word : Type 0} (number : Word → ℕ) {queue : List Word} (stack : List Word) {all : List ℕ} → queue ≡ reverse stack → reverse (map number stack) ≡ all → map number queue ≡ all

@@ -1,25 +1,11 @@
 -- A decoder that went to a recorded position is at that moment of reading.
-use Rattle.std.proofs.Common.{◌≡◌, ℕ, zero, suc, ◌+◌, ◌*◌, ◌/◌, ◌%◌, ◌^◌, ◌<◌, ◌≤◌, List, [], ◌∷◌, drop, get_or, refl, sym, ap, ◌∙◌, arith, pow_pos, mod-eq_of_lt, mul-le-mul_right}
+use Rattle.std.proofs.Common.{◌≡◌, ℕ, zero, suc, ◌+◌, ◌*◌, ◌/◌, ◌%◌, ◌^◌, ◌<◌, ◌≤◌, List, drop, get_or, sym, ap, ◌∙◌, arith, mod-eq_of_lt, mul-le-mul_right, get_or-drop, drop-drop}
 use native.Mathlib.Nat.{add-mul-mod_self_right, pow-suc, pow-zero}
 use Rattle.constriction_base.specs.Steps.{IsSizes, AreWords}
 use Rattle.constriction_base.proofs.Sizes.{facts}
 use Rattle.constriction_queue.specs.Range.{Run, IsAt, number_of_first}
 use Rattle.constriction_queue.specs.States.{IsPosition}
 use Rattle.constriction_base.proofs.WordLists.{word_below}
-
-drop_nil : (n : ℕ) → ◌≡◌ {A = List ℕ} (drop n []) []
-drop_nil zero = refl
-drop_nil (suc n) = refl
-
-drop_more : (n k : ℕ) (ws : List ℕ) → drop k (drop n ws) ≡ drop (n + k) ws
-drop_more zero k ws = let same : 0 + k ≡ k = omega arith in rw same refl
-drop_more (suc n) k [] = drop_nil k ∙ sym (drop_nil (suc n + k))
-drop_more (suc n) k (x ∷ ws) = let same : suc n + k ≡ suc (n + k) = omega arith in rw same (drop_more n k ws)
-
-get_behind : (n k : ℕ) (ws : List ℕ) → get_or (drop n ws) k 0 ≡ get_or ws (n + k) 0
-get_behind zero k ws = let same : 0 + k ≡ k = omega arith in rw same refl
-get_behind (suc n) k [] = refl
-get_behind (suc n) k (x ∷ ws) = let same : suc n + k ≡ suc (n + k) = omega arith in rw same (get_behind n k ws)
 
 -- the first words are a number of so many digits
 first_below : (w n k : ℕ) (ws : List ℕ) → AreWords w ws → number_of_first (2 ^ w) k (drop n ws) < (2 ^ w) ^ k
@@ -28,7 +14,7 @@ first_below w n (suc k) ws all =
     let before = first_below w n k ws all in
     let row : (number_of_first (2 ^ w) k (drop n ws) + 1) * 2 ^ w ≤ (2 ^ w) ^ k * 2 ^ w = mul-le-mul_right (2 ^ w) (omega (arith, before)) in
     let all_of : (2 ^ w) ^ suc k ≡ (2 ^ w) ^ k * 2 ^ w = pow-suc (2 ^ w) k in
-    let word : get_or (drop n ws) k 0 < 2 ^ w = rw (get_behind n k ws) (word_below w ws (n + k) all) in
+    let word : get_or (drop n ws) k 0 < 2 ^ w = rw (get_or-drop n ws k 0) (word_below w ws (n + k) all) in
     omega (arith, row, all_of, word)
 
 -- and more words behind them
@@ -41,7 +27,7 @@ first_behind_all b n (suc k) ws =
     let same : n + suc k ≡ suc (n + k) = omega arith in
     let before = first_behind_all b n k ws in
     let up : b ^ suc k ≡ b ^ k * b = pow-suc b k in
-    rw (same, up, before, get_behind n k ws) (omega arith)
+    rw (same, up, before, get_or-drop n ws k 0) (omega arith)
 
 -- the words behind a position, as many as a state has, are the point there
 pub sought_is_at : (w s : ℕ) (ws : List ℕ) (r : Run) (place lower range point : ℕ) (rest : List ℕ) → IsSizes w s → AreWords w ws
@@ -56,5 +42,5 @@ sought_is_at w s ws r place lower range point rest sizes all position point_is r
       lower_is = position.lower_is;
       range_is = position.range_is;
       point_is = rw (← position.place_is) (sym (ap (λ n. n % 2 ^ s) read ∙ add-mul-mod_self_right point (number_of_first (2 ^ w) place ws) (2 ^ s) ∙ mod-eq_of_lt fits));
-      rest_is = rw (← position.place_is) (rest_is ∙ drop_more place (s / w) ws);
+      rest_is = rw (← position.place_is) (rest_is ∙ drop-drop (s / w) place ws);
     }

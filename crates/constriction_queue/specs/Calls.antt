@@ -9,7 +9,7 @@ use Rattle.constriction_base.specs.declared.backends.reading.ReadWords as readin
 use Rattle.constriction_base.specs.declared.backends.writing.WriteWords as writing
 use Rattle.constriction_base.specs.declared.errors.ReadWriteError.{ReadWriteError}
 use Rattle.constriction_base.specs.declared.errors.ReadWriteError.TheVariants.{Read, Write}
-use Rattle.constriction_queue.specs.Range.{narrow, start}
+use Rattle.constriction_queue.specs.Range.{narrowed_by, initial}
 use Rattle.constriction_queue.specs.Encoder.{Encoder, IsEncoder, HasHeads, Owes, run_by, sealed_by}
 use Rattle.constriction_queue.specs.Decoder.{Decoder, IsDecoder, StandsAt, Follows, BeginsOver, RefusesPoint, quantile_read, OwesRead, ReadsStep}
 use Rattle.constriction_queue.specs.SelfDelimiting.{SelfDelimits}
@@ -43,7 +43,7 @@ pub record EncodeCall {Word B E S : Type 0} (number : Word → ℕ) (holds : hol
   pub before : IsEncoder number holds w s old
   pub after : IsEncoder number holds w s new
   -- the run is narrowed by the step
-  pub narrowed : OnOk answer (run_by w s new ≡ narrow w s step (run_by w s old))
+  pub narrowed : OnOk answer (run_by w s new ≡ narrowed_by w s step (run_by w s old))
   -- the words that it owes are written, at once
   pub written : OnOk answer (IsWritten number writes w s old step new)
   -- one word more is held at most
@@ -57,6 +57,7 @@ pub record EncodeCall {Word B E S : Type 0} (number : Word → ℕ) (holds : hol
 -- a call of the backend was refused, for the words that an export owes: those held, and the seal. This holds of all the
 -- words that the export would have given
 pub record ExportRefused {Word B E S : Type 0} (number : Word → ℕ) (holds : holding.Ghosts B Word S) (writes : writing.Ghosts B Word E) (all : List ℕ → Type 0) (old : Encoder B) (e : E) : Type 0 where
+  pub words_are : old.words ≡ map number (holds.words old.bulk)
   pub owed : List ℕ
   pub is : all (reverse (owed ++ old.words))
   pub not_written : NotWritten number holds writes owed old.bulk e
@@ -86,7 +87,7 @@ abbrev pub DecodesSealed : {Word B S R Q F : Type 0} → (Word → ℕ) → hold
     → ℕ → ℕ → Encoder B → Decoder R → Type 0
 DecodesSealed number holds becomes read_holds reads w s encoder decoder =
     IsDecoder number read_holds w s decoder
-    × (read_holds.is_list → StandsAt w s (sealed_by w s encoder) (start s) decoder)
+    × (read_holds.is_list → StandsAt w s (sealed_by w s encoder) (initial s) decoder)
     × BeginsSealed number holds becomes reads w s encoder decoder
 
 -- a decoder of an encoder's sealed words didn't begin: a read of its first words was refused
@@ -109,7 +110,7 @@ pub record DecodeCall {Word B E S : Type 0} (number : Word → ℕ) (holds : hol
   pub from : step.left ≤ quantile_read s step.precision old
   pub below : quantile_read s step.precision old < step.left + step.p
   -- from each moment of reading words it goes to the next
-  pub read : OnOk answer (holds.is_list → Follows w s (narrow w s step) old new)
+  pub read : OnOk answer (holds.is_list → Follows w s (narrowed_by w s step) old new)
   -- and by the reads: one at most, and none where none is owed
   pub by_reads : OnOk answer (ReadsStep number reads w s step old new)
   -- an error leaves the heads and the words

@@ -4,7 +4,7 @@ use Rattle.constriction_base.specs.Steps.{Step, IsSizes}
 use Rattle.constriction_base.specs.declared.backends.reading.Holds as holding
 use Rattle.constriction_base.specs.declared.backends.reading.ReadWords as reading
 use Rattle.constriction_queue.specs.declared.reading.Placed.{Placed}
-use Rattle.constriction_queue.specs.Range.{Run, IsAt, narrow, number_of_first}
+use Rattle.constriction_queue.specs.Range.{Run, IsAt, narrowed_by, number_of_first}
 
 -- a decoder: its backend, the words that are left to read, its interval, and its point (the code value of range decoders:
 -- the words that were read last, as many as a state has)
@@ -111,7 +111,7 @@ ReadsOn number reads w s next owes old new =
 
 -- the same of a step
 abbrev pub ReadsStep : {Word E B S : Type 0} → (Word → ℕ) → reading.Ghosts B Word S E → ℕ → ℕ → Step → Decoder B → Decoder B → Type 0
-ReadsStep number reads w s step old new = ReadsOn number reads w s (narrow w s step) (OwesRead w s step old.range) old new
+ReadsStep number reads w s step old new = ReadsOn number reads w s (narrowed_by w s step) (OwesRead w s step old.range) old new
 
 -- the words may have ended: the backend says so of its own, and the point lies where a seal puts it, or no symbol
 -- was decoded

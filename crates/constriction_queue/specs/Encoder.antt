@@ -8,7 +8,7 @@ use Rattle.constriction_queue.specs.declared.situation.EncoderSituation.{Encoder
 use Rattle.constriction_queue.specs.declared.situation.EncoderSituation.TheVariants.{Normal, Inverted}
 use Rattle.constriction_queue.specs.declared.situation.HeldWords.{HeldWords}
 use Rattle.constriction_queue.specs.declared.step.Shifted.{Shifted}
-use Rattle.constriction_queue.specs.Range.{Run, narrow, sealed}
+use Rattle.constriction_queue.specs.Range.{Run, narrowed_by, sealed}
 
 -- the number of words as digits, the last word first
 abbrev pub number_of : ℕ → List ℕ → ℕ
@@ -138,7 +138,7 @@ pub record Owes {Word B : Type 0} (number : Word → ℕ) (w s : ℕ) (step : St
   pub range : ℕ
   pub lower_fits : lower < 2 ^ s
   pub fits : PartsFit number w s situation lower range
-  pub is : run_of w s (held_of number w situation ++ (owed ++ old.words)) lower range ≡ narrow w s step (run_by w s old)
+  pub is : run_of w s (held_of number w situation ++ (owed ++ old.words)) lower range ≡ narrowed_by w s step (run_by w s old)
 
 -- words to which one is added, or nothing
 pub record IsCarried (w : ℕ) (carry : Bool) (old new : List ℕ) : Type 0 where

@@ -17,8 +17,8 @@ abbrev pub step_of : ℕ → ℕ → ℕ → Step
 step_of precision left p = record { precision = precision; left = left; p = p }
 
 -- no step yet: all states but the last
-abbrev pub start : ℕ → Run
-start s = record { low = 0; range = 2 ^ s - 1; moves = 0 }
+abbrev pub initial : ℕ → Run
+initial s = record { low = 0; range = 2 ^ s - 1; moves = 0 }
 
 -- how many numbers stand for one of the model's 2 ^ precision
 abbrev pub scale : Step → Run → ℕ
@@ -33,13 +33,13 @@ abbrev pub grown : ℕ → ℕ → Run → Run
 grown w s r = if nat_lt r.range (2 ^ (s - w)) then record { low = r.low * 2 ^ w; range = r.range * 2 ^ w; moves = suc r.moves } else r
 
 -- a step
-abbrev pub narrow : ℕ → ℕ → Step → Run → Run
-narrow w s e r = grown w s (cut e r)
+abbrev pub narrowed_by : ℕ → ℕ → Step → Run → Run
+narrowed_by w s e r = grown w s (cut e r)
 
 -- steps, the first one first
 abbrev pub run : ℕ → ℕ → List Step → Run → Run
 run w s [] r = r
-run w s (e ∷ es) r = run w s es (narrow w s e r)
+run w s (e ∷ es) r = run w s es (narrowed_by w s e r)
 
 -- ---- sealing
 
@@ -78,14 +78,14 @@ pub record Takes (w s : ℕ) (ws : List ℕ) (e : Step) (r : Run) : Type 0 where
 -- the words are read as these steps
 abbrev pub ReadAs : ℕ → ℕ → List ℕ → List Step → Run → Type 0
 ReadAs w s ws [] r = ⊤
-ReadAs w s ws (e ∷ es) r = Takes w s ws e r × ReadAs w s ws es (narrow w s e r)
+ReadAs w s ws (e ∷ es) r = Takes w s ws e r × ReadAs w s ws es (narrowed_by w s e r)
 
 -- the words' number lies in the interval
 pub record Within (w s : ℕ) (ws : List ℕ) (r : Run) : Type 0 where
   pub from : r.low ≤ number_read w s ws r.moves
   pub below : number_read w s ws r.moves < r.low + r.range
 
--- what holds at each moment of a run from the start
+-- what holds at each moment of a run from its start
 pub record IsInterval (w s : ℕ) (r : Run) : Type 0 where
   pub least : 2 ^ (s - w) ≤ r.range
   pub fits : r.range < 2 ^ s

@@ -3,16 +3,16 @@ use Rattle.std.specs.Prelude.{◌≡◌, ℕ, ◌+◌, ◌-◌, ◌*◌, ◌/◌
 use Rattle.constriction_base.specs.Steps.{InTurn}
 use Rattle.constriction_base.specs.Tables.{AtEntry}
 use Rattle.constriction_base.specs.Models.{Model, Item}
-use Rattle.constriction_queue.specs.Range.{Run, Takes, narrow, offset}
+use Rattle.constriction_queue.specs.Range.{Run, Takes, narrowed_by, offset}
 
 -- an encode of the symbol leads from the old run to the new one: the run is narrowed to the symbol's entry
 abbrev pub Narrows : {S : Type 0} → ℕ → ℕ → Model S → S → Run → Run → Type 0
-Narrows w s model symbol old new = AtEntry model.precision model.table symbol (λ e. new ≡ narrow w s e old)
+Narrows w s model symbol old new = AtEntry model.precision model.table symbol (λ e. new ≡ narrowed_by w s e old)
 
 -- a decode of the symbol from these words leads from the old run to the new one: the symbol's entry holds the quantile that
 -- is read at the old run, which is narrowed to it
 abbrev pub Finds : {S : Type 0} → ℕ → ℕ → List ℕ → Model S → S → Run → Run → Type 0
-Finds w s words model symbol old new = AtEntry model.precision model.table symbol (λ e. Takes w s words e old × (new ≡ narrow w s e old))
+Finds w s words model symbol old new = AtEntry model.precision model.table symbol (λ e. Takes w s words e old × (new ≡ narrowed_by w s e old))
 
 -- encodes of the items, one after the other, lead from the old run to the new one
 abbrev pub NarrowsAll : {S : Type 0} → ℕ → ℕ → List (Item S) → Run → Run → Type 0

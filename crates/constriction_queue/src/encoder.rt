@@ -18,7 +18,7 @@ pub mod through_guard;
 
 ghost use Rattle.std.specs.Prelude.{◌≡◌, ◌↔◌, [], map, IsTrue};
 ghost use Rattle.constriction_base.specs.Steps.{IsSizes};
-ghost use Rattle.constriction_queue.specs.Range.{start};
+ghost use Rattle.constriction_queue.specs.Range.{initial};
 ghost use Rattle.constriction_queue.specs.States.{lower_of, range_of};
 ghost use Rattle.constriction_queue.specs.Encoder.{Encoder, IsEncoder, PartsFit, begun_over, encoder_of, run_by};
 
@@ -84,7 +84,7 @@ impl<Word: WordOf<State>, State: BitArray> RangeEncoder<Word, State, Vec<Word>> 
     #[inline]
     pub fn new(alloc: Global) -> Self
         requires { IsSizes Word.BITS State.BITS }
-        ensures run { run_by Word.BITS State.BITS result ≡ start State.BITS }
+        ensures run { run_by Word.BITS State.BITS result ≡ initial State.BITS }
         ensures held { result.held ≡ [] }
         ensures coder { IsEncoder Word.number ⟦<Vec<Word> as Holds<Word, Stack>>⟧ Word.BITS State.BITS result }
     {
@@ -95,7 +95,7 @@ impl<Word: WordOf<State>, State: BitArray> RangeEncoder<Word, State, Vec<Word>> 
 impl<Word: WordOf<State>, State: BitArray, A: Allocator> RangeEncoder<Word, State, Vec<Word, A>> {
     /// Takes everything out: the encoder is as a new one, but keeps its memory. No word stays held back.
     pub fn clear(&mut self)
-        ensures run { run_by Word.BITS State.BITS self.new ≡ start State.BITS }
+        ensures run { run_by Word.BITS State.BITS self.new ≡ initial State.BITS }
         ensures held { self.new.held ≡ [] }
         ensures coder { IsEncoder Word.number ⟦<Vec<Word, A> as Holds<Word, Stack>>⟧ Word.BITS State.BITS self.new }
     {
@@ -116,7 +116,7 @@ impl<Word: WordOf<State>, State: BitArray, Backend: Holds<Word, Stack>> RangeEnc
     pub fn with_write_backend(bulk: Backend) -> Self
         requires { IsSizes Word.BITS State.BITS }
         ensures parts { result ≡ begun_over Word.number Backend.Holds State.BITS bulk }
-        ensures run { Backend.words bulk ≡ [] → run_by Word.BITS State.BITS result ≡ start State.BITS }
+        ensures run { Backend.words bulk ≡ [] → run_by Word.BITS State.BITS result ≡ initial State.BITS }
         ensures coder { IsEncoder Word.number Backend.Holds Word.BITS State.BITS result }
     {
         RangeEncoder {
@@ -193,7 +193,7 @@ impl<Word: WordOf<State>, State: BitArray, Backend: Holds<Word, Stack>> RangeEnc
     /// The backend, with the words that were written so far. Words held back aren't among them.
     #[inline]
     pub fn bulk(&self) -> &Backend
-        ensures bulk { result.now ≡ self.now.bulk }
+        ensures backend { result.now ≡ self.now.bulk }
         ensures coder { IsEncoder Word.number Backend.Holds Word.BITS State.BITS self.now }
     {
         &self.bulk

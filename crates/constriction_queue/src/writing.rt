@@ -73,7 +73,7 @@ fn held_count<Word: BitArray>(held: &Option<HeldWords<Word>>) -> usize
 }
 
 #[inline]
-fn word_count<Word: BitArray>(word: &Option<Word>) -> usize
+fn count_in<Word: BitArray>(word: &Option<Word>) -> usize
     ensures count { result ≡ length (word_of Word.number word.now) }
     ensures few { result ≤ 1 }
 {
@@ -93,7 +93,7 @@ pub fn owed_count<Word: BitArray>(
     requires { length (released_of Word.number held.now) + 2 < 2 ^ 64 }
     ensures { result ≡ length (owed_of Word.number held.now top.now last.now) }
 {
-    held_count(held) + word_count(top) + word_count(last)
+    held_count(held) + count_in(top) + count_in(last)
 }
 
 /// Writes held words, then one, then another. No room is asked for.

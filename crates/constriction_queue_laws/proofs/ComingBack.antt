@@ -5,7 +5,7 @@ use Rattle.constriction_base.specs.Steps.{Step, IsSizes, InTurn}
 use Rattle.constriction_base.specs.Models.{Model, IsModel, Item, models, AreModels, AreKnown}
 use Rattle.constriction_base.proofs.Entries.{one_at, one_of}
 use Rattle.constriction_base.proofs.InTurn.{InTurn-turned}
-use Rattle.constriction_queue.specs.Range.{Run, IsInterval, narrow, offset}
+use Rattle.constriction_queue.specs.Range.{Run, IsInterval, narrowed_by, offset}
 use Rattle.constriction_queue.specs.Symbols.{Narrows, NarrowsAll, Finds, FindsAll}
 use Rattle.constriction_queue.proofs.Entries.{interval_after}
 use Rattle.constriction_queue_laws.specs.Undone.{TakesBack}
@@ -16,8 +16,8 @@ module _ {S : Type 0} (w s : ℕ) where
   encodes_exist [] old ks = (old, refl)
   encodes_exist (item ∷ items) old ks =
       let e : Step = record { precision = item.model.precision; left = ks.0.0; p = ks.0.1 } in
-      let rest = encodes_exist items (narrow w s e old) ks.1 in
-      (rest.0, (narrow w s e old, (ks.0.0, ks.0.1, ks.0.2, refl), rest.1))
+      let rest = encodes_exist items (narrowed_by w s e old) ks.1 in
+      (rest.0, (narrowed_by w s e old, (ks.0.0, ks.0.1, ks.0.2, refl), rest.1))
 
   one_encode : (model : Model S) (symbol : S) (old a b : Run) → IsModel w model → Narrows w s model symbol old a → Narrows w s model symbol old b → a ≡ b
   one_encode model symbol old a b m i j =

@@ -5,7 +5,7 @@ use Rattle.constriction_base.specs.Steps.{AreWords, IsSizes}
 use Rattle.constriction_base.specs.Models.{Item, IsModel, AreModels}
 use Rattle.constriction_base.proofs.InTurn.{InTurn-append}
 use Rattle.constriction_base.proofs.Sizes.{Facts, facts}
-use Rattle.constriction_queue.specs.Range.{Run, IsInterval, Within, number_read, offset, seal_number, sealed, start}
+use Rattle.constriction_queue.specs.Range.{Run, IsInterval, Within, number_read, offset, seal_number, sealed, initial}
 use Rattle.constriction_queue.specs.SelfDelimiting.{AreLeast, SelfDelimits}
 use Rattle.constriction_queue.proofs.Cuts.{offset_is}
 use Rattle.constriction_queue.proofs.Narrowing.{valid_start}
@@ -21,49 +21,49 @@ use Rattle.constriction_base.proofs.Turns.{all-append}
 
 module _ {S : Type 0} (w s : ℕ) (z : IsSizes w s) where
   -- they lie within the run of some symbols
-  within_all : (item : Item S) (items : List (Item S)) (last : Run) (words rest : List ℕ) → AreModels w (item ∷ items) → NarrowsAll w s (item ∷ items) (start s) last
+  within_all : (item : Item S) (items : List (Item S)) (last : Run) (words rest : List ℕ) → AreModels w (item ∷ items) → NarrowsAll w s (item ∷ items) (initial s) last
       → SelfDelimits w s last words → AreWords w rest → Within w s (words ++ rest) last
   within_all item items last words rest ms h are fit =
-      self_within w s last words rest z (intervals w s (item ∷ items) (start s) last z ms (valid_start w s z) h) (less_than_all w s z item items last ms h) are fit
+      self_within w s last words rest z (intervals w s (item ∷ items) (initial s) last z ms (valid_start w s z) h) (less_than_all w s z item items last ms h) are fit
 
   -- and so they do where some of them came before
   within_since : (before : List (Item S)) (item : Item S) (since : List (Item S)) (middle last : Run) (words rest : List ℕ) → AreModels w before → AreModels w (item ∷ since)
-      → NarrowsAll w s before (start s) middle → NarrowsAll w s (item ∷ since) middle last → SelfDelimits w s last words → AreWords w rest → Within w s (words ++ rest) last
+      → NarrowsAll w s before (initial s) middle → NarrowsAll w s (item ∷ since) middle last → SelfDelimits w s last words → AreWords w rest → Within w s (words ++ rest) last
   within_since [] item since middle last words rest bs ss h k are fit =
       within_all item since last words rest ss (subst (λ (r : Run). NarrowsAll w s (item ∷ since) r last) h k) are fit
   within_since (first ∷ before) item since middle last words rest bs ss h k are fit =
       within_all first (before ++ item ∷ since) last words rest (all-append (λ (i : Item S). IsModel w i.model) (first ∷ before) (item ∷ since) bs ss)
-      (InTurn-append (λ (i : Item S). Narrows w s i.model i.symbol) (first ∷ before) (item ∷ since) (start s) middle last h k) are fit
+      (InTurn-append (λ (i : Item S). Narrows w s i.model i.symbol) (first ∷ before) (item ∷ since) (initial s) middle last h k) are fit
 
   -- what holds of the decodes of symbols whose words lie within their run holds of these
   pub read_whatever_follows : (before since : List (Item S)) (middle last : Run) (words rest : List ℕ) → AreModels w before → AreModels w since
-      → NarrowsAll w s before (start s) middle → NarrowsAll w s since middle last → SelfDelimits w s last words → AreWords w rest
+      → NarrowsAll w s before (initial s) middle → NarrowsAll w s since middle last → SelfDelimits w s last words → AreWords w rest
       → (Within w s (words ++ rest) last → FindsAll w s (words ++ rest) since middle last)
       → FindsAll w s (words ++ rest) since middle last
   read_whatever_follows before [] middle last words rest bs ss h k are fit law = k
   read_whatever_follows before (item ∷ since) middle last words rest bs ss h k are fit law = law (within_since before item since middle last words rest bs ss h k are fit)
 
   -- fewer zero words
-  pub fewer_read : (count fewer : ℕ) (first : Item S) (others : List (Item S)) (last end : Run) → AreModels w (first ∷ others) → NarrowsAll w s (first ∷ others) (start s) last
+  pub fewer_read : (count fewer : ℕ) (first : Item S) (others : List (Item S)) (last end : Run) → AreModels w (first ∷ others) → NarrowsAll w s (first ∷ others) (initial s) last
       → AreLeast w s last count → fewer < count
-      → FindsAll w s ((fixed_digits (2 ^ w) (suc last.moves) (seal_number w s last) ++ replicate fewer 0) ++ ones_behind w s fewer) (first ∷ others) (start s) end → ⊥
+      → FindsAll w s ((fixed_digits (2 ^ w) (suc last.moves) (seal_number w s last) ++ replicate fewer 0) ++ ones_behind w s fewer) (first ∷ others) (initial s) end → ⊥
   fewer_read count fewer first others last end ms h least less found =
       let ds : List ℕ = fixed_digits (2 ^ w) (suc last.moves) (seal_number w s last) ++ replicate fewer 0 in
       let words : List ℕ = ds ++ ones_behind w s fewer in
       let are : AreWords w words = words-append w ds (ones_behind w s fewer) (words-append w (fixed_digits (2 ^ w) (suc last.moves) (seal_number w s last)) (replicate fewer 0) (words-fixed_digits w (suc last.moves) (seal_number w s last)) (words_same w fewer 0 (pow_pos w))) (words_ones w s fewer) in
-      let same : end ≡ last = encodes_unique w s (first ∷ others) (start s) end last ms (as_encodes w s words (first ∷ others) (start s) end found) h in
+      let same : end ≡ last = encodes_unique w s (first ∷ others) (initial s) end last ms (as_encodes w s words (first ∷ others) (initial s) end found) h in
       let within : Within w s words end = within_read w s words first others end z are ms found in
-      fewer_outside w s fewer last z (intervals w s (first ∷ others) (start s) last z ms (valid_start w s z) h) (omega (arith, less, least.few)) (least.least fewer less)
+      fewer_outside w s fewer last z (intervals w s (first ∷ others) (initial s) last z ms (valid_start w s z) h) (omega (arith, less, least.few)) (least.least fewer less)
       (subst (λ (r : Run). Within w s words r) same within)
 
   -- ---- where they end
-  pub self_end : (items : List (Item S)) (last : Run) (words : List ℕ) → AreModels w items → NarrowsAll w s items (start s) last → SelfDelimits w s last words → MayEnd w s words last
+  pub self_end : (items : List (Item S)) (last : Run) (words : List ℕ) → AreModels w items → NarrowsAll w s items (initial s) last → SelfDelimits w s last words → MayEnd w s words last
   self_end [] last words ms h are =
       let range : last.range + 1 ≡ 2 ^ s = ap (λ (r : Run). r.range + 1) h ∙ omega (arith, pow_pos s) in
       (drop_all (last.moves + s / w) words (length_self w s last words z are), inl range)
   self_end (item ∷ items) last words ms h are =
       let f : Facts w s = facts w s z in
-      let v : IsInterval w s last = intervals w s (item ∷ items) (start s) last z ms (valid_start w s z) h in
+      let v : IsInterval w s last = intervals w s (item ∷ items) (initial s) last z ms (valid_start w s z) h in
       let coded : last.range + 1 < 2 ^ s = less_than_all w s z item items last ms h in
       let q : ℕ = 2 ^ (s - w) in
       let c : ℕ = seal_number w s last in
@@ -75,5 +75,5 @@ module _ {S : Type 0} (w s : ℕ) (z : IsSizes w s) where
       offset_is last.low (number_read w s words last.moves) (2 ^ s) (pow_pos s) (omega (arith, read, from)) (omega (arith, read, below, v.least, v.fits)) in
       (drop_all (last.moves + s / w) words (length_self w s last words z are), inr (omega (arith, off, read, from, below, some)))
 
-  pub two_words_same : (items : List (Item S)) (last : Run) (words : List ℕ) → s / w ≡ 2 → AreModels w items → NarrowsAll w s items (start s) last → SelfDelimits w s last words → words ≡ sealed w s last
-  two_words_same items last words two ms h are = self_sealed w s last words two (intervals w s items (start s) last z ms (valid_start w s z) h) are
+  pub two_words_same : (items : List (Item S)) (last : Run) (words : List ℕ) → s / w ≡ 2 → AreModels w items → NarrowsAll w s items (initial s) last → SelfDelimits w s last words → words ≡ sealed w s last
+  two_words_same items last words two ms h are = self_sealed w s last words two (intervals w s items (initial s) last z ms (valid_start w s z) h) are

@@ -10,7 +10,7 @@ use Rattle.constriction_base.specs.Tables.{AtEntry}
 use Rattle.constriction_base.specs.Models.{Model, Item, IsModel, AreModels, items_of, pairs_of}
 use Rattle.constriction_stream.specs.Lists.{StepsAll}
 use Rattle.constriction_stream.specs.Symbols.{EncodesSymbol, ByBackend}
-use Rattle.constriction_queue.specs.Range.{Run, narrow, offset, start}
+use Rattle.constriction_queue.specs.Range.{Run, narrowed_by, offset, initial}
 use Rattle.constriction_queue.specs.Encoder.{Encoder, run_by}
 use Rattle.constriction_queue.specs.Decoder.{Decoder, distance, quantile_read, StandsAt}
 use Rattle.constriction_queue.specs.Calls as calls
@@ -53,7 +53,7 @@ module _ {S W B E Q : Type 0} (F : Type 0) (number : W → ℕ) (holds : holding
   decode_of model symbol r old new at (left, p, has, (Ok u, d, is)) =
       let e : Step = record { precision = model.precision; left = left; p = p } in
       let takes = takes_is w s model.precision left p words r old.lower old.range old.point (quantile_read s model.precision old) old.words refl d.from d.below at in
-      (narrow w s e r, (left, p, has, (takes, refl)), d.read known words r at)
+      (narrowed_by w s e r, (left, p, has, (takes, refl)), d.read known words r at)
   decode_of model symbol r old new at (left, p, has, (Err e, d, is)) = absurd cc
 
   -- so is a list of them, each at the item that stands for what was given
@@ -90,10 +90,10 @@ pairs_back {S} precision table w s words symbols again ms old last new lawful co
 
 -- what was read of a list's own words is the list, and they have ended there
 pub sealed_back : {S : Type 0} (w s : ℕ) (items : List S → List (Item S)) (symbols again : List S) (words : List ℕ) (last : Run) (ended : Bool) → AreModels w (items symbols)
-    → FindsAll w s words (items symbols) (start s) last → MayEnd w s words last → again ≡ symbols → ReadsToEnd w s words (items again) ended → (again ≡ symbols) × IsTrue ended
+    → FindsAll w s words (items symbols) (initial s) last → MayEnd w s words last → again ≡ symbols → ReadsToEnd w s words (items again) ended → (again ≡ symbols) × IsTrue ended
 sealed_back {S} w s items symbols again words last ended ms found may is read =
-    let here : FindsAll w s words (items symbols) (start s) read.0 = subst (λ (xs : List S). FindsAll w s words (items xs) (start s) read.0) is read.1 in
-    let same = decodes_unique w s words (items symbols) (items symbols) (start s) last read.0 ms refl found here in
+    let here : FindsAll w s words (items symbols) (initial s) read.0 = subst (λ (xs : List S). FindsAll w s words (items xs) (initial s) read.0) is read.1 in
+    let same = decodes_unique w s words (items symbols) (items symbols) (initial s) last read.0 ms refl found here in
     (is, read.2 (subst (λ (r : Run). MayEnd w s words r) (sym same.1) may))
 
 -- ---- where words may end

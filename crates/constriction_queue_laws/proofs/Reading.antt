@@ -2,7 +2,7 @@
 use Rattle.std.proofs.Common.{ℕ, List, [], ◌∷◌, subst}
 use Rattle.constriction_base.specs.Steps.{Step, IsSizes, AreWords}
 use Rattle.constriction_base.specs.Models.{Item, AreModels}
-use Rattle.constriction_queue.specs.Range.{Run, IsInterval, Within, sealed, start}
+use Rattle.constriction_queue.specs.Range.{Run, IsInterval, Within, sealed, initial}
 use Rattle.constriction_queue.proofs.ReadingRuns.{law_reads}
 use Rattle.constriction_queue.specs.Symbols.{NarrowsAll, FindsAll}
 use Rattle.constriction_queue.proofs.Entries.{entries, are_steps, run_is, intervals, as_encodes, reads_entries}
@@ -10,13 +10,13 @@ use Rattle.constriction_queue_laws.proofs.Sealing.{less_behind, sealed_within_in
 
 -- words that were read as some symbols lie within their run
 pub within_read : {S : Type 0} (w s : ℕ) (words : List ℕ) (item : Item S) (items : List (Item S)) (last : Run) → IsSizes w s → AreWords w words → AreModels w (item ∷ items)
-    → FindsAll w s words (item ∷ items) (start s) last → Within w s words last
+    → FindsAll w s words (item ∷ items) (initial s) last → Within w s words last
 within_read w s words item items last z are ms h =
-    let coded = as_encodes w s words (item ∷ items) (start s) last h in
+    let coded = as_encodes w s words (item ∷ items) (initial s) last h in
     let e : Step = record { precision = item.model.precision; left = h.1.0; p = h.1.1 } in
     let es : List Step = entries w s items h.0 last (as_encodes w s words items h.0 last h.2) in
-    subst (λ (r : Run). Within w s words r) (run_is w s (item ∷ items) (start s) last coded)
-    ((law_reads w s words z are e es (are_steps w s (item ∷ items) (start s) last coded ms)).0 (reads_entries w s words (item ∷ items) (start s) last h))
+    subst (λ (r : Run). Within w s words r) (run_is w s (item ∷ items) (initial s) last coded)
+    ((law_reads w s words z are e es (are_steps w s (item ∷ items) (initial s) last coded ms)).0 (reads_entries w s words (item ∷ items) (initial s) last h))
 
 -- what holds of the decodes of symbols whose words lie within their run holds of those behind any interval
 pub read_behind : {S : Type 0} (w s : ℕ) (since : List (Item S)) (middle last : Run)

@@ -5,7 +5,7 @@ use Rattle.constriction_base.specs.Digits.{fixed_digits}
 use Rattle.constriction_base.specs.Steps.{Step, IsSizes, AreWords}
 use Rattle.constriction_base.specs.Models.{Item, AreModels}
 use Rattle.constriction_base.proofs.Sizes.{Facts, facts}
-use Rattle.constriction_queue.specs.Range.{Run, IsInterval, Within, number_read, offset, seal_number, sealed, start}
+use Rattle.constriction_queue.specs.Range.{Run, IsInterval, Within, number_read, offset, seal_number, sealed, initial}
 use Rattle.constriction_queue.specs.Encoder.{Encoder, HasHeads, Without, run_by, run_of}
 use Rattle.constriction_queue.proofs.Cuts.{offset_is}
 use Rattle.constriction_queue.proofs.Narrowing.{valid_start}
@@ -48,8 +48,8 @@ module _ {S : Type 0} (w s : ℕ) (z : IsSizes w s) where
       subst (λ (r : Run). r.range + 1 < 2 ^ s) (run_is w s (item ∷ items) old last h)
       (less_after w s e es old z (are_steps w s (item ∷ items) old last h ms) v)
 
-  pub less_than_all : (item : Item S) (items : List (Item S)) (last : Run) → AreModels w (item ∷ items) → NarrowsAll w s (item ∷ items) (start s) last → last.range + 1 < 2 ^ s
-  less_than_all item items last ms h = less_behind item items (start s) last ms (valid_start w s z) h
+  pub less_than_all : (item : Item S) (items : List (Item S)) (last : Run) → AreModels w (item ∷ items) → NarrowsAll w s (item ∷ items) (initial s) last → last.range + 1 < 2 ^ s
+  less_than_all item items last ms h = less_behind item items (initial s) last ms (valid_start w s z) h
 
 -- ---- where reading ends
 pub drop_all : (n : ℕ) (ws : List ℕ) → length ws ≤ n → drop n ws ≡ []
@@ -103,15 +103,15 @@ end_of w s r z v h =
     (drop_all (r.moves + s / w) (sealed w s r) short, inr (omega (arith, off, read, from, below, some)))
 
 -- the sealed words of a list of symbols have ended where it is read
-pub sealed_end : {S : Type 0} (w s : ℕ) (items : List (Item S)) (last : Run) → IsSizes w s → AreModels w items → NarrowsAll w s items (start s) last → MayEnd w s (sealed w s last) last
+pub sealed_end : {S : Type 0} (w s : ℕ) (items : List (Item S)) (last : Run) → IsSizes w s → AreModels w items → NarrowsAll w s items (initial s) last → MayEnd w s (sealed w s last) last
 sealed_end w s [] last z ms h =
     let one : 0 < 2 ^ s = pow_pos s in
     subst (λ (r : Run). MayEnd w s (sealed w s r) r) (sym h)
-    (let none : sealed w s (start s) ≡ [] = sealed_none w s (start s) refl in
-    let all : (start s).range + 1 ≡ 2 ^ s = omega (arith, one) in
-    (drop_all (0 + s / w) (sealed w s (start s)) (omega (arith, ap length none)), inl all))
+    (let none : sealed w s (initial s) ≡ [] = sealed_none w s (initial s) refl in
+    let all : (initial s).range + 1 ≡ 2 ^ s = omega (arith, one) in
+    (drop_all (0 + s / w) (sealed w s (initial s)) (omega (arith, ap length none)), inl all))
 sealed_end w s (item ∷ items) last z ms h =
-    end_of w s last z (intervals w s (item ∷ items) (start s) last z ms (valid_start w s z) h) (less_than_all w s z item items last ms h)
+    end_of w s last z (intervals w s (item ∷ items) (initial s) last z ms (valid_start w s z) h) (less_than_all w s z item items last ms h)
 
 -- ---- an encoder that a guard has left
 -- with the heads and the words of before, its run is that of before

@@ -4,7 +4,7 @@ use Rattle.std.proofs.lemmas.Bool.{cases_lt}
 use Rattle.constriction_base.specs.Steps.{Step, IsSizes, AreWords}
 use Rattle.constriction_base.specs.Models.{Item}
 use Rattle.constriction_queue.specs.Decoder.{Decoder, StandsAt}
-use Rattle.constriction_queue.specs.Range.{Run, cut, grown, narrow, number_of_first, sealed}
+use Rattle.constriction_queue.specs.Range.{Run, cut, grown, narrowed_by, number_of_first, sealed}
 use Rattle.constriction_queue.specs.States.{IsPosition}
 use Rattle.constriction_queue.proofs.Sought.{sought_is_at}
 use Rattle.constriction_queue.specs.Symbols.{NarrowsAll}
@@ -33,7 +33,7 @@ moves_on : {S : Type 0} (w s : ℕ) (items : List (Item S)) (old new : Run) → 
 moves_on w s [] old new all = omega (arith, ap (λ (r : Run). r.moves) all)
 moves_on w s (item ∷ items) old new all =
     let e : Step = record { precision = item.model.precision; left = all.1.0; p = all.1.1 } in
-    let first : old.moves ≤ (narrow w s e old).moves = grown_on w s (cut e old) in
+    let first : old.moves ≤ (narrowed_by w s e old).moves = grown_on w s (cut e old) in
     omega (arith, first, ap (λ (r : Run). r.moves) all.1.3, moves_on w s items all.0 new all.2)
 
 pub place_within : {S : Type 0} (w s : ℕ) (items : List (Item S)) (middle last : Run) → NarrowsAll w s items middle last → middle.moves ≤ length (sealed w s last)

@@ -1,7 +1,7 @@
 -- Lists of symbols in words that stand one behind the other, and why a list is in none.
 use Rattle.std.specs.Prelude.{◌≡◌, ℕ, ◌<◌, ⊤, List, ◌++◌, length, drop}
 use Rattle.constriction_base.specs.Models.{Model, Item, items_of}
-use Rattle.constriction_queue.specs.Range.{Run, start}
+use Rattle.constriction_queue.specs.Range.{Run, initial}
 use Rattle.constriction_queue.specs.SelfDelimiting.{SelfDelimits}
 use Rattle.constriction_queue.specs.Symbols.{NarrowsAll, FindsAll}
 use Rattle.constriction_queue_laws.specs.declared.concatenated.DecodeError.{DecodeError}
@@ -9,7 +9,7 @@ use Rattle.constriction_queue_laws.specs.declared.concatenated.DecodeError.TheVa
 
 -- the words of symbols, each under its model: a new encoder was given them, and sealed so that any words may follow
 abbrev pub DelimitsItems : {S : Type 0} → ℕ → ℕ → List (Item S) → List ℕ → Type 0
-DelimitsItems w s items words = (last : Run) × NarrowsAll w s items (start s) last × SelfDelimits w s last words
+DelimitsItems w s items words = (last : Run) × NarrowsAll w s items (initial s) last × SelfDelimits w s last words
 
 -- the same of a list of symbols under one model
 abbrev pub DelimitsList : {S : Type 0} → ℕ → ℕ → Model S → List S → List ℕ → Type 0
@@ -22,7 +22,7 @@ JoinsLists w s model first other second words place =
 
 -- a new decoder of the words reads these items
 abbrev pub ReadsItems : {S : Type 0} → ℕ → ℕ → List ℕ → List (Item S) → Type 0
-ReadsItems w s words items = (last : Run) × FindsAll w s words items (start s) last
+ReadsItems w s words items = (last : Run) × FindsAll w s words items (initial s) last
 
 -- the same of symbols under one model
 abbrev pub ReadsList : {S : Type 0} → ℕ → ℕ → Model S → List ℕ → List S → Type 0

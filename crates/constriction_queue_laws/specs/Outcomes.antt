@@ -3,7 +3,7 @@ use Rattle.std.specs.Prelude.{◌≡◌, ◌<◌, ℕ, ⊤, List, Bool, IsTrue, 
 use Rattle.constriction_base.specs.Models.{Item}
 use Rattle.constriction_base.specs.declared.errors.CoderError.{CoderError}
 use Rattle.constriction_base.specs.declared.errors.CoderError.TheVariants.{Frontend}
-use Rattle.constriction_queue.specs.Range.{Run, Within, sealed, start}
+use Rattle.constriction_queue.specs.Range.{Run, Within, sealed, initial}
 use Rattle.constriction_queue.specs.Decoder.{Decoder, StandsAt}
 use Rattle.constriction_queue.specs.States.{IsPosition}
 use Rattle.constriction_coder_laws.specs.Outcomes.{Reasons}
@@ -45,12 +45,12 @@ SealsAll w s items old words = (last : Run) × NarrowsAll w s items old last × 
 
 -- a decoder stands at the beginning of the sealed words of the items, behind those of a run
 abbrev pub StandsBefore : {S B : Type 0} → ℕ → ℕ → List (Item S) → Run → Decoder B → Type 0
-StandsBefore w s items old decoder = (last : Run) × NarrowsAll w s items old last × StandsAt w s (sealed w s last) (start s) decoder
+StandsBefore w s items old decoder = (last : Run) × NarrowsAll w s items old last × StandsAt w s (sealed w s last) (initial s) decoder
 
 -- a new decoder of the words reads these items, and then says whether the words may have ended
 abbrev pub ReadsToEnd : {S : Type 0} → ℕ → ℕ → List ℕ → List (Item S) → Bool → Type 0
 ReadsToEnd w s words items ended =
-    (last : Run) × FindsAll w s words items (start s) last × (MayEnd w s words last → IsTrue ended) × (IsTrue ended → NearsEnd w s words last)
+    (last : Run) × FindsAll w s words items (initial s) last × (MayEnd w s words last → IsTrue ended) × (IsTrue ended → NearsEnd w s words last)
 
 -- as many symbols are read, by a new decoder, from the sealed words of these, which stand behind those of a run
 abbrev pub ReadsSealed : {S : Type 0} → ℕ → ℕ → (List S → List (Item S)) → Run → List S → List S → Type 0
@@ -68,17 +68,17 @@ ReadsAllSealed w s items old symbols again ended =
 abbrev pub NoneSealed : {S : Type 0} → ℕ → ℕ → (List S → List (Item S)) → Run → List S → RoundTripError → Type 0
 NoneSealed w s items old symbols e =
     Reasons ⊤ ⊤ ((words : List ℕ) × SealsAll w s (items symbols) old words
-    × HoldNone w s words items (length symbols) (start s)) (λ taken. ⊥) e
+    × HoldNone w s words items (length symbols) (initial s)) (λ taken. ⊥) e
 
 -- the same of words that an encoder lends, which is behind these symbols then
 abbrev pub NoneLent : {S : Type 0} → ℕ → ℕ → (List S → List (Item S)) → Run → Run → List S → RoundTripError → Type 0
 NoneLent w s items old new symbols e =
     Reasons ⊤ ⊤ (NarrowsAll w s (items symbols) old new
-    × HoldNone w s (sealed w s new) items (length symbols) (start s)) (λ taken. ⊥) e
+    × HoldNone w s (sealed w s new) items (length symbols) (initial s)) (λ taken. ⊥) e
 
 -- the words lie within the run of the items
 abbrev pub LieWithin : {S : Type 0} → ℕ → ℕ → List ℕ → List (Item S) → Type 0
-LieWithin w s words items = (last : Run) × NarrowsAll w s items (start s) last × Within w s words last
+LieWithin w s words items = (last : Run) × NarrowsAll w s items (initial s) last × Within w s words last
 
 -- and within the run of none of so many symbols
 abbrev pub NoneWithin : {S : Type 0} → ℕ → ℕ → List ℕ → (List S → List (Item S)) → ℕ → Type 0

@@ -6,7 +6,7 @@ ghost use Rattle.constriction_base.specs.Steps.{IsSizes, AreWords};
 ghost use Rattle.constriction_coder_laws.specs.Outcomes.{HasImpossibleItem};
 ghost use Rattle.constriction_queue.specs.Decoder.{StandsAt};
 ghost use Rattle.constriction_queue.specs.Flagged.{flagged};
-ghost use Rattle.constriction_queue.specs.Range.{Run, start};
+ghost use Rattle.constriction_queue.specs.Range.{Run, initial};
 ghost use Rattle.constriction_queue.specs.SelfDelimiting.{SelfDelimits};
 ghost use Rattle.constriction_queue_laws.specs.Concatenated.{DelimitsItems};
 ghost use Rattle.constriction_queue_laws.specs.Outcomes.{HoldNone, InvalidWhere, NotCoded, ReadTo};
@@ -38,8 +38,8 @@ pub fn one_list_of_flagged_symbols()
 pub fn flagged_symbols_come_back()
     ensures { (w s flag : ℕ) (first second : Model ℕ) (symbols words rest : List ℕ) (last : Run) → IsSizes w s →
         IsModel w first → IsModel w second → AreWords w rest →
-        NarrowsAll w s (flagged flag first second symbols) (start s) last → SelfDelimits w s last words →
-        FindsAll w s (words ++ rest) (flagged flag first second symbols) (start s) last }
+        NarrowsAll w s (flagged flag first second symbols) (initial s) last → SelfDelimits w s last words →
+        FindsAll w s (words ++ rest) (flagged flag first second symbols) (initial s) last }
 {
     symbols_come_back_whatever_follows::<usize>()
 }

@@ -3,7 +3,7 @@
 ghost use Rattle.std.specs.Prelude.{◌≡◌, ◌/◌, ◌<◌, ◌++◌, ◌∷◌, ℕ, List};
 ghost use Rattle.constriction_base.specs.Models.{Item, AreModels};
 ghost use Rattle.constriction_base.specs.Steps.{Step, IsSizes, AreSteps, AreWords};
-ghost use Rattle.constriction_queue.specs.Range.{Run, ReadAs, run, sealed, start};
+ghost use Rattle.constriction_queue.specs.Range.{Run, ReadAs, run, sealed, initial};
 ghost use Rattle.constriction_queue.specs.SelfDelimiting.{AreLeast, SelfDelimits, sealed_with_zeros};
 ghost use Rattle.constriction_queue.specs.Symbols.{NarrowsAll, FindsAll, MayEnd};
 
@@ -16,16 +16,17 @@ pub fn self_delimiting_words<Symbol>()
         SelfDelimits w s last others → others ≡ words }
     ensures words { (w s : ℕ) (last : Run) (words : List ℕ) → SelfDelimits w s last words → AreWords w words }
     ensures two_words { (w s : ℕ) (items : List (Item Symbol)) (last : Run) (words : List ℕ) → IsSizes w s → s / w ≡ 2 →
-        AreModels w items → NarrowsAll w s items (start s) last → SelfDelimits w s last words →
+        AreModels w items → NarrowsAll w s items (initial s) last → SelfDelimits w s last words →
         words ≡ sealed w s last }
     ensures exhausted { (w s : ℕ) (items : List (Item Symbol)) (last : Run) (words : List ℕ) → IsSizes w s →
-        AreModels w items → NarrowsAll w s items (start s) last → SelfDelimits w s last words → MayEnd w s words last }
+        AreModels w items → NarrowsAll w s items (initial s) last → SelfDelimits w s last words →
+        MayEnd w s words last }
 {}
 
 /// The words are read as the steps that they were made of, whatever words follow.
 pub fn self_delimiting_words_are_read()
     ensures { (w s : ℕ) (steps : List Step) (words rest : List ℕ) → IsSizes w s → AreSteps w steps → AreWords w rest →
-        SelfDelimits w s (run w s steps (start s)) words → ReadAs w s (words ++ rest) steps (start s) }
+        SelfDelimits w s (run w s steps (initial s)) words → ReadAs w s (words ++ rest) steps (initial s) }
 {}
 
 /// Symbols that a new encoder was given, all of them or those since a position, come back from the words, whatever
@@ -33,7 +34,7 @@ pub fn self_delimiting_words_are_read()
 pub fn symbols_come_back_whatever_follows<Symbol>()
     ensures { (w s : ℕ) (before since : List (Item Symbol)) (middle last : Run) (words rest : List ℕ) → IsSizes w s →
         AreModels w before → AreModels w since → AreWords w rest →
-        NarrowsAll w s before (start s) middle → NarrowsAll w s since middle last → SelfDelimits w s last words →
+        NarrowsAll w s before (initial s) middle → NarrowsAll w s since middle last → SelfDelimits w s last words →
         FindsAll w s (words ++ rest) since middle last }
 {
     decodes_undo_encodes::<Symbol>()
@@ -42,8 +43,8 @@ pub fn symbols_come_back_whatever_follows<Symbol>()
 /// With fewer zero words behind the digits there are words that may not follow: the symbols don't come back.
 pub fn fewer_zero_words_hold_less<Symbol>()
     ensures { (w s count fewer : ℕ) (first : Item Symbol) (others : List (Item Symbol)) (last : Run) → IsSizes w s →
-        AreModels w (first ∷ others) → NarrowsAll w s (first ∷ others) (start s) last →
+        AreModels w (first ∷ others) → NarrowsAll w s (first ∷ others) (initial s) last →
         AreLeast w s last count → fewer < count →
         (rest : List ℕ) × AreWords w rest × ((end : Run) →
-        FindsAll w s (sealed_with_zeros w s last fewer ++ rest) (first ∷ others) (start s) end → ⊥) }
+        FindsAll w s (sealed_with_zeros w s last fewer ++ rest) (first ∷ others) (initial s) end → ⊥) }
 {}

@@ -7,7 +7,7 @@
 ghost use Rattle.std.specs.Prelude.{◌≡◌, ◌↔◌, ◌∷◌, ℕ, List};
 ghost use Rattle.constriction_base.specs.Models.{Item, IsModel, models, AreModels, AreKnown};
 ghost use Rattle.constriction_base.specs.Steps.{IsSizes, AreWords};
-ghost use Rattle.constriction_queue.specs.Range.{Run, IsInterval, Within, sealed, start};
+ghost use Rattle.constriction_queue.specs.Range.{Run, IsInterval, Within, sealed, initial};
 ghost use Rattle.constriction_queue.specs.Symbols.{Finds, NarrowsAll, FindsAll, MayEnd};
 ghost use Rattle.constriction_queue_laws.specs.Undone.{Reading, TakesBack, read_back};
 
@@ -70,8 +70,8 @@ pub fn decodes_undo_encodes<Symbol>()
 pub fn symbols_of_any_words<Symbol>()
     ensures { (w s : ℕ) (words : List ℕ) (first : Item Symbol) (others : List (Item Symbol)) (last : Run) →
         IsSizes w s → AreWords w words → AreModels w (first ∷ others) →
-        NarrowsAll w s (first ∷ others) (start s) last →
-        (FindsAll w s words (first ∷ others) (start s) last ↔ Within w s words last) }
+        NarrowsAll w s (first ∷ others) (initial s) last →
+        (FindsAll w s words (first ∷ others) (initial s) last ↔ Within w s words last) }
 {
     decodes_undo_encodes::<Symbol>()
 }
@@ -83,13 +83,13 @@ pub fn symbols_of_any_words<Symbol>()
 /// exhausted.
 pub fn symbols_come_back<Symbol>()
     ensures decoded { (w s : ℕ) (items : List (Item Symbol)) (last : Run) → IsSizes w s → AreModels w items →
-        NarrowsAll w s items (start s) last → FindsAll w s (sealed w s last) items (start s) last }
+        NarrowsAll w s items (initial s) last → FindsAll w s (sealed w s last) items (initial s) last }
     ensures only { (w s : ℕ) (items others : List (Item Symbol)) (last end : Run) → IsSizes w s →
-        AreModels w items → NarrowsAll w s items (start s) last →
-        FindsAll w s (sealed w s last) others (start s) end → models others ≡ models items →
+        AreModels w items → NarrowsAll w s items (initial s) last →
+        FindsAll w s (sealed w s last) others (initial s) end → models others ≡ models items →
         (others ≡ items) × (end ≡ last) }
     ensures exhausted { (w s : ℕ) (items : List (Item Symbol)) (last : Run) → IsSizes w s → AreModels w items →
-        NarrowsAll w s items (start s) last → MayEnd w s (sealed w s last) last }
+        NarrowsAll w s items (initial s) last → MayEnd w s (sealed w s last) last }
 {
     decodes_undo_encodes::<Symbol>()
 }

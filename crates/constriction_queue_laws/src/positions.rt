@@ -7,7 +7,7 @@ ghost use Rattle.std.specs.Prelude.{◌≡◌, ◌/◌, ◌^◌, ℕ, List, drop
 ghost use Rattle.constriction_base.specs.Models.{Item, models, AreModels};
 ghost use Rattle.constriction_base.specs.Steps.{IsSizes, AreWords};
 ghost use Rattle.constriction_queue.specs.Encoder.{run_by};
-ghost use Rattle.constriction_queue.specs.Range.{Run, IsAt, IsInterval, number_of_first, sealed, start};
+ghost use Rattle.constriction_queue.specs.Range.{Run, IsAt, IsInterval, number_of_first, sealed, initial};
 ghost use Rattle.constriction_queue.specs.States.{IsPosition};
 ghost use Rattle.constriction_queue.specs.Symbols.{NarrowsAll, FindsAll};
 
@@ -30,11 +30,11 @@ pub fn position_leads_there()
 pub fn symbols_after_a_position<Symbol>()
     ensures decoded { (w s : ℕ) (before since : List (Item Symbol)) (middle last : Run) → IsSizes w s →
         AreModels w before → AreModels w since →
-        NarrowsAll w s before (start s) middle → NarrowsAll w s since middle last →
+        NarrowsAll w s before (initial s) middle → NarrowsAll w s since middle last →
         FindsAll w s (sealed w s last) since middle last }
     ensures only { (w s : ℕ) (before since others : List (Item Symbol)) (middle last end : Run) → IsSizes w s →
         AreModels w before → AreModels w since →
-        NarrowsAll w s before (start s) middle → NarrowsAll w s since middle last →
+        NarrowsAll w s before (initial s) middle → NarrowsAll w s since middle last →
         FindsAll w s (sealed w s last) others middle end → models others ≡ models since →
         (others ≡ since) × (end ≡ last) }
     ensures anywhere { (w s : ℕ) (since : List (Item Symbol)) (middle last : Run) → IsSizes w s → AreModels w since →

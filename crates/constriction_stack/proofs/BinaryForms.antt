@@ -21,22 +21,6 @@ binary_one w (suc m) n some from below =
     let large : 2 ^ 1 ≤ 2 ^ (suc m * w) = pow_le 1 (suc m * w) (omega (arith, bits)) in
     absurd (omega (arith, large))
 
--- no head is binary with fewer words and with more
-not_less : (w m n head : ℕ) → 1 ≤ w → m < n → head < 2 ^ (m * w + 1) → 2 ^ (n * w) ≤ head → ⊥
-not_less w m n head some less below from =
-    let part : suc m * w ≤ n * w = mul-le-mul_right w less in
-    let upto : 2 ^ (m * w + 1) ≤ 2 ^ (n * w) = pow_le (m * w + 1) (n * w) (omega (arith, part)) in
-    omega arith
-
-pub one_count : (w m n head : ℕ) → 1 ≤ w → IsOneAbove w m head → IsOneAbove w n head → m ≡ n
-one_count w m n head some i j = elim (cases_lt m n) [
-  | inl less ↦ absurd (not_less w m n head some less i.below j.from)
-  | inr more ↦ elim (cases_lt n m) [
-    | inl greater ↦ absurd (not_less w n m head some greater j.below i.from)
-    | inr same ↦ omega arith
-  ]
-]
-
 -- ---- words and states
 
 binary_filled : (w s m head : ℕ) (vs : List ℕ) → AreWords w vs → 2 ^ (m * w) ≤ head → head < 2 ^ (m * w + 1)

@@ -12,7 +12,7 @@ use constriction_words::{BitArray, Reciprocal, WordOf};
 #[inline]
 pub fn popped_head<State: BitArray>(head: State, left: State, p: State, precision: u32) -> State
     requires within { precision < State.BITS }
-    requires low { State.number left ≤ State.number head % 2 ^ precision }
+    requires above { State.number left ≤ State.number head % 2 ^ precision }
     requires total { State.number left + State.number p ≤ 2 ^ precision }
     ensures { State.number result
         ≡ State.number head / 2 ^ precision * State.number p
@@ -60,7 +60,7 @@ pub fn pushed_onto<Word: WordOf<State>, State: BitArray, Backend: WriteWords<Wor
     precision: u32,
 ) -> Result<State, Backend::WriteError>
     requires sizes { IsSizes Word.BITS State.BITS }
-    requires inverse { IfSome reciprocal (λ r. IsReciprocalOf r (State.number p)) }
+    requires reciprocal { IfSome reciprocal (λ r. IsReciprocalOf r (State.number p)) }
     requires step { IsStep Word.BITS record { precision = precision; left = State.number left; p = State.number p } }
     ensures { EncodesOnto Word.number Backend.Holds Backend.WriteWords.own Word.BITS State.BITS State.number
         head bulk.old record { precision = precision; left = State.number left; p = State.number p } result bulk.new }
@@ -99,7 +99,7 @@ fn pushed<State: BitArray>(
 ) -> State
     requires within { precision < State.BITS }
     requires some { 0 < State.number p }
-    requires inverse { IfSome reciprocal (λ r. IsReciprocalOf r (State.number p)) }
+    requires reciprocal { IfSome reciprocal (λ r. IsReciprocalOf r (State.number p)) }
     requires total { State.number left + State.number p ≤ 2 ^ precision }
     requires room { State.number head < State.number p * 2 ^ (State.BITS - precision) }
     ensures { State.number result

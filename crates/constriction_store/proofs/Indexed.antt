@@ -9,7 +9,7 @@ use Rattle.constriction_base.specs.Models.{Model, Item, IsModel, AreModels, item
 use Rattle.constriction_base.specs.Steps.{Step, InTurn, IsSizes}
 use Rattle.constriction_base.proofs.InTurn.{InTurn-append}
 use Rattle.constriction_base.specs.Digits.{fixed_digits}
-use Rattle.constriction_queue.specs.Range.{Run, Takes, cut, grown, narrow, offset, seal_number, start}
+use Rattle.constriction_queue.specs.Range.{Run, Takes, cut, grown, narrowed_by, offset, seal_number, initial}
 use Rattle.constriction_queue.specs.SelfDelimiting.{SelfDelimits}
 use Rattle.constriction_queue.proofs.Narrowing.{grown_large, grown_small}
 use Rattle.constriction_queue.proofs.Pointing.{mod_sum}
@@ -163,19 +163,19 @@ found_alike : (w s : ℕ) (words : List ℕ) (items : List (Item ℕ)) (a last b
 found_alike w s words [] a last b h all = (b, refl)
 found_alike w s words (item ∷ items) a last b h all =
     let e : Step = record { precision = item.model.precision; left = all.1.0; p = all.1.1 } in
-    let next : Alike s all.0 (narrow w s e b) = subst (λ (r : Run). Alike s r (narrow w s e b)) (sym all.1.3.1) (alike_grown w s (cut e a) (cut e b) (alike_cut s e a b h)) in
-    let rest = found_alike w s words items all.0 last (narrow w s e b) next all.2 in
-    (rest.0, (narrow w s e b, (all.1.0, all.1.1, all.1.2, (alike_taken w s words e a b h all.1.3.0, refl)), rest.1))
+    let next : Alike s all.0 (narrowed_by w s e b) = subst (λ (r : Run). Alike s r (narrowed_by w s e b)) (sym all.1.3.1) (alike_grown w s (cut e a) (cut e b) (alike_cut s e a b h)) in
+    let rest = found_alike w s words items all.0 last (narrowed_by w s e b) next all.2 in
+    (rest.0, (narrowed_by w s e b, (all.1.0, all.1.1, all.1.2, (alike_taken w s words e a b h all.1.3.0, refl)), rest.1))
 
 alike_entry : (s : ℕ) (entry : Entry) (a : Run) → StandsAtEntry s entry a → Alike s a (run_at entry)
 alike_entry s entry a h = record { low = sym (mod-mod a.low (2 ^ s)) ∙ ap (λ (n : ℕ). n % 2 ^ s) (sym h.lower_is); range = sym h.range_is; moves = sym h.place_is }
 
 -- ---- what the words of all chunks hold at each entry
 module _ (w s : ℕ) (model : Model ℕ) (words : List ℕ) (z : IsSizes w s) (m : IsModel w model)
-    (law : (before since : List (Item ℕ)) (middle last : Run) → AreModels w before → AreModels w since → NarrowsAll w s before (start s) middle → NarrowsAll w s since middle last
+    (law : (before since : List (Item ℕ)) (middle last : Run) → AreModels w before → AreModels w since → NarrowsAll w s before (initial s) middle → NarrowsAll w s since middle last
     → SelfDelimits w s last words → FindsAll w s words since middle last) where
   -- at the run before each
-  held_at : (chunks : List (List ℕ)) (entries : List Entry) (before : List (Item ℕ)) (old last : Run) → AreModels w before → NarrowsAll w s before (start s) old → SelfDelimits w s last words
+  held_at : (chunks : List (List ℕ)) (entries : List Entry) (before : List (Item ℕ)) (old last : Run) → AreModels w before → NarrowsAll w s before (initial s) old → SelfDelimits w s last words
       → Indexes w s model chunks entries old last → (i : ℕ) → i < length chunks
       → (there : Run) × StandsAtEntry s (entry_in entries i) there × ((entry_in entries i).len ≡ length (chunk_in chunks i))
       × ((end : Run) × FindsAll w s words (items_of model (chunk_in chunks i)) there end)
@@ -187,32 +187,32 @@ module _ (w s : ℕ) (model : Model ℕ) (words : List ℕ) (z : IsSizes w s) (m
       (old, all.0, all.1, first_part (λ (i : Item ℕ). Finds w s words i.model i.symbol) (items_of model c) (joined model cs) old last found)
   held_at (c ∷ cs) (e ∷ es) before old last bs coded are all (suc i) less =
       held_at cs es (before ++ items_of model c) all.2.0 last (all-append (λ (i : Item ℕ). IsModel w i.model) before (items_of model c) bs (are_models w model c m))
-      (InTurn-append (λ (i : Item ℕ). Narrows w s i.model i.symbol) before (items_of model c) (start s) old all.2.0 coded all.2.1) are all.2.2 i (omega arith)
+      (InTurn-append (λ (i : Item ℕ). Narrows w s i.model i.symbol) before (items_of model c) (initial s) old all.2.0 coded all.2.1) are all.2.2 i (omega arith)
 
   -- and so at each entry
-  pub held_chunks : (chunks : List (List ℕ)) (entries : List Entry) (last : Run) → SelfDelimits w s last words → Indexes w s model chunks entries (start s) last
+  pub held_chunks : (chunks : List (List ℕ)) (entries : List Entry) (last : Run) → SelfDelimits w s last words → Indexes w s model chunks entries (initial s) last
       → HoldsChunks w s model words entries chunks
   held_chunks chunks entries last are all = record {
-    count = as_many w s model chunks entries (start s) last all;
+    count = as_many w s model chunks entries (initial s) last all;
     each = λ i less.
-        let held = held_at chunks entries [] (start s) last tt refl are all i less in
+        let held = held_at chunks entries [] (initial s) last tt refl are all i less in
         (sym held.2, found_alike w s words (items_of model (chunk_in chunks i)) held.0 held.3.0 (run_at (entry_in entries i)) (alike_entry s (entry_in entries i) held.0 held.1) held.3.1);
   }
 
 -- ---- no chunks
 -- a new encoder owes nothing
-nothing_owed : (w s : ℕ) (model : Model ℕ) (entries : List Entry) (last : Run) (owed words : List ℕ) → Indexes w s model [] entries (start s) last
+nothing_owed : (w s : ℕ) (model : Model ℕ) (entries : List Entry) (last : Run) (owed words : List ℕ) → Indexes w s model [] entries (initial s) last
     → SelfDelimits w s last (reverse (owed ++ words)) → length owed ≡ 0
 nothing_owed w s model [] last owed words all are = subst (λ (r : Run). SelfDelimits w s r (reverse (owed ++ words)) → length owed ≡ 0) (sym all) by_cases are
   where
-    by_cases : SelfDelimits w s (start s) (reverse (owed ++ words)) → length owed ≡ 0
+    by_cases : SelfDelimits w s (initial s) (reverse (owed ++ words)) → length owed ≡ 0
     by_cases (inl (whole, is)) =
         omega (arith, length-append owed words, length-reverse (owed ++ words), ap length is, fixed-length (2 ^ w) 0 (0 / 2 ^ s))
     by_cases (inr (coded, least)) = absurd (omega (arith, coded, pow_pos s))
 nothing_owed w s model (e ∷ es) last owed words all are = absurd all
 
 -- so where room for what is owed was refused, there were chunks
-pub some_chunks : (w s : ℕ) (model : Model ℕ) (chunks : List (List ℕ)) (entries : List Entry) (last : Run) (owed words : List ℕ) (room : ℕ) → Indexes w s model chunks entries (start s) last
+pub some_chunks : (w s : ℕ) (model : Model ℕ) (chunks : List (List ℕ)) (entries : List Entry) (last : Run) (owed words : List ℕ) (room : ℕ) → Indexes w s model chunks entries (initial s) last
     → SelfDelimits w s last (reverse (owed ++ words)) → room < length owed → 0 < length chunks
 some_chunks w s model [] entries last owed words room all are short = absurd (omega (arith, nothing_owed w s model entries last owed words all are, short))
 some_chunks w s model (c ∷ cs) entries last owed words room all are short = omega arith

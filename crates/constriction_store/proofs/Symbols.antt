@@ -1,14 +1,12 @@
 -- Symbols of a chunk, as the range coder takes and gives them.
-use Rattle.std.proofs.Common.{◌≡◌, ◌∙◌, ℕ, ◌+◌, ◌/◌, ◌^◌, ◌<◌, ◌≤◌, List, [], ◌∷◌, ◌++◌, get_or, length, map, take, refl, sym, ap, subst, arith, pow_pos}
+use Rattle.std.proofs.Common.{◌≡◌, ◌∙◌, ℕ, ◌+◌, ◌/◌, ◌^◌, ◌<◌, ◌≤◌, List, [], ◌∷◌, ◌++◌, get_or, length, map, take, sym, ap, subst, arith, pow_pos}
 use Rattle.std.proofs.lemmas.List.{take_more}
 use Rattle.constriction_base.specs.Models.{Model, Item, IsModel, Knows, items_of}
 use Rattle.constriction_base.specs.Steps.{Step, IsStep}
 use Rattle.constriction_base.proofs.InTurn.{InTurn-symbol}
-use Rattle.constriction_queue.specs.Range.{Run, offset, narrow, cut}
+use Rattle.constriction_queue.specs.Range.{Run, offset, narrowed_by, cut}
 use Rattle.constriction_queue.proofs.Narrowing.{by_growth}
 use Rattle.constriction_queue.specs.Decoder.{Decoder, quantile_read, StandsAt}
-use Rattle.constriction_queue.specs.declared.decoder.symbols.DecoderFrontendError.{DecoderFrontendError}
-use Rattle.constriction_queue.specs.declared.decoder.symbols.DecoderFrontendError.TheVariants.{InvalidData}
 use Rattle.constriction_queue.specs.Symbols.{Narrows, NarrowsAll, Finds, FindsAll}
 use Rattle.constriction_queue_laws.proofs.ListCalls.{distance_is}
 use Rattle.constriction_queue_laws.proofs.ComingBack.{one_decode, decodes_unique}
@@ -36,10 +34,10 @@ narrows_known w s model [] old new all = tt
 narrows_known w s model (x ∷ xs) old new all = ((all.1.0, all.1.1, all.1.2), narrows_known w s model xs all.0 new all.2)
 
 -- a symbol moves one word out at most
-narrow_moves : (w s : ℕ) (e : Step) (r : Run) → (narrow w s e r).moves ≤ r.moves + 1
+narrow_moves : (w s : ℕ) (e : Step) (r : Run) → (narrowed_by w s e r).moves ≤ r.moves + 1
 narrow_moves w s e r = by_growth w s (cut e r) (λ c. c.moves ≤ r.moves + 1) (λ small. omega arith) (λ large. omega arith)
 
-pub narrow_keeps : (w s : ℕ) (e : Step) (r : Run) → r.moves ≤ (narrow w s e r).moves
+pub narrow_keeps : (w s : ℕ) (e : Step) (r : Run) → r.moves ≤ (narrowed_by w s e r).moves
 narrow_keeps w s e r = by_growth w s (cut e r) (λ c. r.moves ≤ c.moves) (λ small. omega arith) (λ large. omega arith)
 
 pub moves_least : (w s : ℕ) (model : Model ℕ) (symbols : List ℕ) (old new : Run) → NarrowsAll w s (items_of model symbols) old new → old.moves ≤ new.moves
@@ -86,6 +84,3 @@ another_behind w s words model (x ∷ xs) (y ∷ ys) old run last m less i j non
 pub quantile_is : {B : Type 0} (w s precision : ℕ) (words : List ℕ) (r : Run) (d : Decoder B) → StandsAt w s words r d → quantile_read s precision d ≡ offset w s words r / (r.range / 2 ^ precision)
 quantile_is w s precision words r d at =
     ap (λ (n : ℕ). n / (d.range / 2 ^ precision)) (distance_is w s words r d (pow_pos s) at) ∙ ap (λ (n : ℕ). offset w s words r / (n / 2 ^ precision)) at.range_is
-
-pub only_invalid : (error : DecoderFrontendError) → error ≡ InvalidData
-only_invalid InvalidData = refl

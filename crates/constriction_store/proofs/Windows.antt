@@ -1,5 +1,5 @@
 -- Reading takes no other words than those from a run on, as many as a state has.
-use Rattle.std.proofs.Common.{◌≡◌, ◌∙◌, ℕ, zero, suc, ◌+◌, ◌-◌, ◌*◌, ◌/◌, ◌%◌, ◌^◌, ◌<◌, ◌≤◌, List, [], ◌∷◌, drop, get_or, refl, sym, ap, ap₂, subst, arith, pow_pos}
+use Rattle.std.proofs.Common.{◌≡◌, ◌∙◌, ℕ, zero, suc, ◌+◌, ◌-◌, ◌*◌, ◌/◌, ◌%◌, ◌^◌, ◌<◌, ◌≤◌, List, [], ◌∷◌, drop, get_or, refl, sym, ap, ap₂, subst, arith, pow_pos, get_or-drop}
 use Rattle.constriction_base.specs.Models.{Model, items_of}
 use Rattle.constriction_base.specs.Steps.{Step, IsSizes, AreWords}
 use Rattle.constriction_queue.specs.Range.{Run, Takes, number_of_first, number_read, offset}
@@ -12,16 +12,11 @@ use Rattle.constriction_store.proofs.Symbols.{narrow_keeps}
 abbrev Agree : List ℕ → List ℕ → ℕ → ℕ → Type 0
 Agree words others from upto = (i : ℕ) → from ≤ i → i < upto → get_or others i 0 ≡ get_or words i 0
 
-get_behind : (n k : ℕ) (ws : List ℕ) → get_or (drop n ws) k 0 ≡ get_or ws (n + k) 0
-get_behind zero k ws = let same : 0 + k ≡ k = omega arith in rw same refl
-get_behind (suc n) k [] = refl
-get_behind (suc n) k (x ∷ ws) = let same : suc n + k ≡ suc (n + k) = omega arith in rw same (get_behind n k ws)
-
 first_alike : (b k n : ℕ) (words others : List ℕ) → Agree words others n (n + k) → number_of_first b k (drop n others) ≡ number_of_first b k (drop n words)
 first_alike b zero n words others agree = refl
 first_alike b (suc k) n words others agree =
     let before : number_of_first b k (drop n others) ≡ number_of_first b k (drop n words) = first_alike b k n words others (λ i from below. agree i from (omega (arith, below))) in
-    let word : get_or (drop n others) k 0 ≡ get_or (drop n words) k 0 = get_behind n k others ∙ agree (n + k) (omega arith) (omega arith) ∙ sym (get_behind n k words) in
+    let word : get_or (drop n others) k 0 ≡ get_or (drop n words) k 0 = get_or-drop n others k 0 ∙ agree (n + k) (omega arith) (omega arith) ∙ sym (get_or-drop n words k 0) in
     ap₂ (λ (m x : ℕ). m * b + x) before word
 
 -- what is read behind n words, as a state

@@ -2,7 +2,7 @@
 use Rattle.std.specs.Prelude.{◌≡◌, ℕ, ◌+◌, ◌/◌, ◌^◌, ◌<◌, ◌≤◌, List, [], ◌∷◌, length, slice_index_or}
 use Rattle.std.specs.List.{AllByRecursion}
 use Rattle.constriction_base.specs.Models.{Model, items_of}
-use Rattle.constriction_queue.specs.Range.{Run, offset, start}
+use Rattle.constriction_queue.specs.Range.{Run, offset, initial}
 use Rattle.constriction_queue.specs.SelfDelimiting.{SelfDelimits}
 use Rattle.constriction_queue.specs.States.{IsPosition, lower_of, range_of}
 use Rattle.constriction_queue.specs.declared.state.RangeCoderState.{RangeCoderState}
@@ -96,4 +96,4 @@ Indexes w s model (chunk ∷ chunks) (entry ∷ entries) old new =
 
 -- a new encoder took the chunks, and its words were sealed so that any may follow
 abbrev pub IsBuilt : ℕ → ℕ → Model ℕ → List (List ℕ) → List Entry → List ℕ → Type 0
-IsBuilt w s model chunks index words = (last : Run) × Indexes w s model chunks index (start s) last × SelfDelimits w s last words
+IsBuilt w s model chunks index words = (last : Run) × Indexes w s model chunks index (initial s) last × SelfDelimits w s last words

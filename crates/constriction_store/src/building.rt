@@ -4,7 +4,7 @@ ghost use Rattle.std.specs.Prelude.{◌≡◌, ◌↔◌, ◌+◌, ◌-◌, ◌^
 ghost use Rattle.constriction_base.specs.Models.{items_of};
 ghost use Rattle.constriction_base.specs.Steps.{IsSizes};
 ghost use Rattle.constriction_queue.specs.Encoder.{left_to_encode, run_by};
-ghost use Rattle.constriction_queue.specs.Range.{start};
+ghost use Rattle.constriction_queue.specs.Range.{initial};
 ghost use Rattle.constriction_queue.specs.Symbols.{NarrowsAll};
 ghost use Rattle.constriction_store.specs.Built.{BuildFails, EncodingFails};
 ghost use Rattle.constriction_store.specs.Chunks.{count_of, lists_of};
@@ -106,7 +106,7 @@ fn encode_chunks<
 where
     M::Probability: WordOf<Word>,
     requires sizes { IsSizes Word.BITS State.BITS }
-    requires begun { run_by Word.BITS State.BITS encoder.old ≡ start State.BITS }
+    requires begun { run_by Word.BITS State.BITS encoder.old ≡ initial State.BITS }
     requires left { 2 ^ 64 - 18 ≤ left_to_encode encoder.old }
     requires few { count_of (lists_of chunks.now) ≤ 1048576 }
     ensures ok { IfOk result (λ index. Indexes Word.BITS State.BITS

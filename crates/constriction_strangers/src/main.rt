@@ -1,9 +1,9 @@
 //! Words, positions and raw parts from strangers: what each decoder makes of lists of words.
 //!
-//! Words are all lists of at most two bytes, and each beginning and each rest of some exports. Raw parts and positions of other coders
-//! are tried over the lists of at most one byte and those of the exports. Each answer and each number that a coder shows goes
-//! into a sum that depends on their order, and the program prints a line for each kind: how many cases there were, and the sum.
-//! `tests/strangers` computes the same lines apart, from the definitions.
+//! Words are all lists of at most two bytes, and each beginning and each rest of some exports. Raw parts and positions
+//! of other coders are tried over the lists of at most one byte and those of the exports. Each answer and each number
+//! that a coder shows goes into a sum that depends on their order, and the program prints a line for each kind: how
+//! many cases there were, and the sum. `tests/strangers` computes the same lines apart, from the definitions.
 #![tactic(auto)]
 
 mod bits;

@@ -5,7 +5,7 @@ use Rattle.std.proofs.lemmas.Bool.{cond_both, cases_lt}
 use Rattle.std.proofs.lemmas.Bool.Decides.{eqb_tells}
 use Rattle.std.proofs.lemmas.List.Sums.{sum_by-cons}
 use Rattle.std.proofs.lemmas.List.Sorted.{IsPermutation-refl, IsPermutation-trans, IsPermutation-append_left, IsPermutation-append_right, IsPermutation-append_comm, sum_by-IsPermutation, length_permutation}
-use Rattle.constriction_symbol.specs.Huffman.{Tree, Weighed, comes_before, put_in, leaves_from, united, merged, merge, path, huffman, leaves, times, IsWithoutRepeats, symbols_from, book_of, IsHuffman}
+use Rattle.constriction_symbol.specs.Huffman.{Tree, Weighed, comes_before, put_in, leaves_from, united, merged, merge, path, huffman, leaves, occurrences, IsWithoutRepeats, symbols_from, book_of, IsHuffman}
 use Rattle.constriction_symbol.specs.Huffman.Tree.{Leaf}
 use Rattle.constriction_symbol.specs.HuffmanLaws.{path_prefix_free}
 use Rattle.constriction_symbol.proofs.HuffmanTrees.{path_none, path_some}
@@ -84,14 +84,14 @@ merge_leaves weights tree is =
     let one : flat_map leaves (merge weights) ≡ leaves tree = ap (flat_map leaves) is ∙ append-nil (leaves tree) in
     IsPermutation-trans _ _ _ (rw one at all) (gathered_leaves 0 weights)
 
-times_sum : (symbol : ℕ) (xs : List ℕ) → times symbol xs ≡ sum_by (λ s. if s == symbol then 1 else 0) xs
+times_sum : (symbol : ℕ) (xs : List ℕ) → occurrences symbol xs ≡ sum_by (λ s. if s == symbol then 1 else 0) xs
 times_sum symbol [] = refl
 times_sum symbol (x ∷ xs) = ap (λ k. (if x == symbol then 1 else 0) + k) (times_sum symbol xs) ∙ sym (sum_by-cons (λ s. if s == symbol then 1 else 0) x xs)
 
-pub times_permutation : (symbol : ℕ) (xs ys : List ℕ) → IsPermutation xs ys → times symbol ys ≡ times symbol xs
+pub times_permutation : (symbol : ℕ) (xs ys : List ℕ) → IsPermutation xs ys → occurrences symbol ys ≡ occurrences symbol xs
 times_permutation symbol xs ys is = times_sum symbol ys ∙ (sum_by-IsPermutation (λ s. if s == symbol then 1 else 0) xs ys is ∙ sym (times_sum symbol xs))
 
-times_below : (symbol from n : ℕ) → symbol < from → times symbol (symbols_from from n) ≡ 0
+times_below : (symbol from n : ℕ) → symbol < from → occurrences symbol (symbols_from from n) ≡ 0
 times_below symbol from zero low = refl
 times_below symbol from (suc n) low =
     let rest = times_below symbol (from + 1) n (omega (arith, low)) in
@@ -100,7 +100,7 @@ times_below symbol from (suc n) low =
       | inr other ↦ rw other.0 (omega (arith, rest))
     ]
 
-times_past : (symbol from n : ℕ) → from + n ≤ symbol → times symbol (symbols_from from n) ≡ 0
+times_past : (symbol from n : ℕ) → from + n ≤ symbol → occurrences symbol (symbols_from from n) ≡ 0
 times_past symbol from zero high = refl
 times_past symbol from (suc n) high =
     let rest = times_past symbol (from + 1) n (omega (arith, high)) in
@@ -109,7 +109,7 @@ times_past symbol from (suc n) high =
       | inr other ↦ rw other.0 (omega (arith, rest))
     ]
 
-times_within : (symbol from n : ℕ) → from ≤ symbol → symbol < from + n → times symbol (symbols_from from n) ≡ 1
+times_within : (symbol from n : ℕ) → from ≤ symbol → symbol < from + n → occurrences symbol (symbols_from from n) ≡ 1
 times_within symbol from zero low high = absurd (omega (arith, low, high))
 times_within symbol from (suc n) low high =
     elim (eqb_tells from symbol) [
@@ -118,11 +118,11 @@ times_within symbol from (suc n) low high =
     ]
 
 -- each symbol with a weight stands in the tree once
-pub merge_times : (weights : List ℕ) (tree : Tree) (symbol : ℕ) → merge weights ≡ tree ∷ [] → symbol < length weights → times symbol (leaves tree) ≡ 1
+pub merge_times : (weights : List ℕ) (tree : Tree) (symbol : ℕ) → merge weights ≡ tree ∷ [] → symbol < length weights → occurrences symbol (leaves tree) ≡ 1
 merge_times weights tree symbol is within =
     omega (arith, times_permutation symbol _ _ (merge_leaves weights tree is), times_within symbol 0 (length weights) (omega arith) (omega (arith, within)))
 
-merge_times_past : (weights : List ℕ) (tree : Tree) (symbol : ℕ) → merge weights ≡ tree ∷ [] → length weights ≤ symbol → times symbol (leaves tree) ≡ 0
+merge_times_past : (weights : List ℕ) (tree : Tree) (symbol : ℕ) → merge weights ≡ tree ∷ [] → length weights ≤ symbol → occurrences symbol (leaves tree) ≡ 0
 merge_times_past weights tree symbol is past =
     omega (arith, times_permutation symbol _ _ (merge_leaves weights tree is), times_past symbol 0 (length weights) (omega (arith, past)))
 

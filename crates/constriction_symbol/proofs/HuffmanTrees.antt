@@ -3,7 +3,7 @@ use Rattle.std.proofs.Common.{◌≡◌, ◌+◌, ◌-◌, ◌<◌, ◌≤◌, �
 use Rattle.std.proofs.lemmas.List.{get_or_append_left, length_push}
 use Rattle.std.proofs.lemmas.Bool.{cases_eq}
 use Rattle.std.proofs.lemmas.Bool.Decides.{eqb_tells}
-use Rattle.constriction_symbol.specs.Huffman.{Tree, path, subtree, ReadsOnIn, leaves, times, children, IsTreeAt, tree_at}
+use Rattle.constriction_symbol.specs.Huffman.{Tree, path, subtree, ReadsOnIn, leaves, occurrences, children, IsTreeAt, tree_at}
 use Rattle.constriction_symbol.specs.Huffman.Tree.{Leaf, Node}
 use Rattle.constriction_symbol.specs.HuffmanLaws.{below_leaf, subtree_append}
 
@@ -12,15 +12,15 @@ pub subtree_more : (t lesser other : Tree) (bits : List Bool) (bit : Bool) → s
 subtree_more t lesser other bits false is = subtree_append t (Node lesser other) bits (false ∷ []) is
 subtree_more t lesser other bits true is = subtree_append t (Node lesser other) bits (true ∷ []) is
 
-pub times_append : (s : ℕ) (xs ys : List ℕ) → times s (xs ++ ys) ≡ times s xs + times s ys
+pub times_append : (s : ℕ) (xs ys : List ℕ) → occurrences s (xs ++ ys) ≡ occurrences s xs + occurrences s ys
 times_append s [] ys = omega arith
 times_append s (x ∷ xs) ys = omega (arith, times_append s xs ys)
 
-pub times_node : (s : ℕ) (lesser other : Tree) → times s (leaves (Node lesser other)) ≡ times s (leaves lesser) + times s (leaves other)
+pub times_node : (s : ℕ) (lesser other : Tree) → occurrences s (leaves (Node lesser other)) ≡ occurrences s (leaves lesser) + occurrences s (leaves other)
 times_node s lesser other = times_append s (leaves lesser) (leaves other)
 
 -- a symbol that bits lead to stands in the tree
-pub subtree_times : (t : Tree) (s : ℕ) (bits : List Bool) → subtree t bits ≡ Some (Leaf s) → 0 < times s (leaves t)
+pub subtree_times : (t : Tree) (s : ℕ) (bits : List Bool) → subtree t bits ≡ Some (Leaf s) → 0 < occurrences s (leaves t)
 subtree_times (Leaf u) s bits is =
     let end : Leaf s ≡ Leaf u = (below_leaf u bits (Leaf s) is).1 in
     elim (eqb_tells u s) [
@@ -32,7 +32,7 @@ subtree_times (Node lesser other) s (false ∷ bits) is = omega (arith, times_no
 subtree_times (Node lesser other) s (true ∷ bits) is = omega (arith, times_node s lesser other, subtree_times other s bits is)
 
 -- a symbol that doesn't stand in the tree has no codeword
-pub path_none : (t : Tree) (s : ℕ) → times s (leaves t) ≡ 0 → path t s ≡ None
+pub path_none : (t : Tree) (s : ℕ) → occurrences s (leaves t) ≡ 0 → path t s ≡ None
 path_none (Leaf u) s none =
     elim (eqb_tells u s) [
       | inl same ↦ absurd (omega (arith, rw same.0 at none))
@@ -43,7 +43,7 @@ path_none (Node lesser other) s none =
     rw (path_none lesser s (omega (arith, both, none)), path_none other s (omega (arith, both, none))) refl
 
 -- a symbol that stands in the tree has a codeword
-pub path_some : (t : Tree) (s : ℕ) → 0 < times s (leaves t) → (bits : List Bool) × (path t s ≡ Some bits)
+pub path_some : (t : Tree) (s : ℕ) → 0 < occurrences s (leaves t) → (bits : List Bool) × (path t s ≡ Some bits)
 path_some (Leaf u) s some =
     elim (eqb_tells u s) [
       | inl same ↦ ([], rw same.0 refl)
@@ -51,13 +51,13 @@ path_some (Leaf u) s some =
     ]
 path_some (Node lesser other) s some =
     let both = times_node s lesser other in
-    elim (cases_eq (times s (leaves lesser)) 0) [
+    elim (cases_eq (occurrences s (leaves lesser)) 0) [
       | inl none ↦ let found = path_some other s (omega (arith, both, some, none)) in (true ∷ found.0, rw (path_none lesser s none, found.1) refl)
       | inr more ↦ let found = path_some lesser s (omega (arith, more)) in (false ∷ found.0, rw found.1 refl)
     ]
 
 -- where no symbol stands in the tree twice, bits that lead to one are its codeword
-pub subtree_is_path : (t : Tree) (s : ℕ) (bits : List Bool) → times s (leaves t) ≤ 1 → subtree t bits ≡ Some (Leaf s) → path t s ≡ Some bits
+pub subtree_is_path : (t : Tree) (s : ℕ) (bits : List Bool) → occurrences s (leaves t) ≤ 1 → subtree t bits ≡ Some (Leaf s) → path t s ≡ Some bits
 subtree_is_path (Leaf u) s bits once is =
     let end = below_leaf u bits (Leaf s) is in
     elim (eqb_tells u s) [

@@ -43,9 +43,9 @@ abbrev pub merge : List ℕ → List Tree
 merge weights = map (λ x. x.tree) (merged (length weights) (length weights) (leaves_from 0 weights))
 
 -- the codeword in a node of what is in a child
-abbrev pub below : Bool → Option (List Bool) → Option (List Bool)
-below bit None = None
-below bit (Some bits) = Some (bit ∷ bits)
+abbrev pub prefixed : Bool → Option (List Bool) → Option (List Bool)
+prefixed bit None = None
+prefixed bit (Some bits) = Some (bit ∷ bits)
 
 -- the first if there is one, else the second
 abbrev pub or_else : {A : Type 0} → Option A → Option A → Option A
@@ -55,7 +55,7 @@ or_else None y = y
 -- the path to a symbol from the root, if it is in the tree: bit 0 leads to the lesser child, and bit 1 to the other
 abbrev pub path : Tree → ℕ → Option (List Bool)
 path (Leaf s) symbol = if s == symbol then Some [] else None
-path (Node lesser other) symbol = or_else (below false (path lesser symbol)) (below true (path other symbol))
+path (Node lesser other) symbol = or_else (prefixed false (path lesser symbol)) (prefixed true (path other symbol))
 
 -- the codeword of a symbol under the tree of some weights
 abbrev pub huffman : List ℕ → ℕ → Option (List Bool)
@@ -82,13 +82,13 @@ leaves (Leaf s) = s ∷ []
 leaves (Node lesser other) = leaves lesser ++ leaves other
 
 -- how often a symbol stands in a list
-abbrev pub times : ℕ → List ℕ → ℕ
-times symbol [] = 0
-times symbol (s ∷ symbols) = (if s == symbol then 1 else 0) + times symbol symbols
+abbrev pub occurrences : ℕ → List ℕ → ℕ
+occurrences symbol [] = 0
+occurrences symbol (s ∷ symbols) = (if s == symbol then 1 else 0) + occurrences symbol symbols
 
 -- no symbol stands in the list twice
 abbrev pub IsWithoutRepeats : List ℕ → Type 0
-IsWithoutRepeats symbols = (symbol : ℕ) → times symbol symbols ≤ 1
+IsWithoutRepeats symbols = (symbol : ℕ) → occurrences symbol symbols ≤ 1
 
 -- so many symbols from one on
 abbrev pub symbols_from : ℕ → ℕ → List ℕ

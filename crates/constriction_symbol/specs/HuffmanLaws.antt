@@ -3,7 +3,7 @@
 use Rattle.std.proofs.Common.{◌≡◌, ◌==◌, ℕ, Bool, true, false, List, [], ◌∷◌, ◌++◌, Option, Some, None, ap, sym, inl, inr, refl, ◌∙◌, ◌⊎◌}
 use Rattle.std.proofs.lemmas.Bool.{eqb-true}
 use Rattle.std.proofs.lemmas.Option.{cond_some, same_Some}
-use Rattle.constriction_symbol.specs.Huffman.{Tree, path, below, or_else, subtree, ReadsOnIn}
+use Rattle.constriction_symbol.specs.Huffman.{Tree, path, prefixed, or_else, subtree, ReadsOnIn}
 use Rattle.constriction_symbol.specs.Huffman.Tree.{Leaf, Node}
 use Rattle.constriction_symbol.specs.Codewords.{NoneBegins}
 
@@ -12,7 +12,7 @@ pub leaf_path : (u s : ℕ) (bits : List Bool) → path (Leaf u) s ≡ Some bits
 leaf_path u s bits is = let known = cond_some (u == s) [] bits is in (eqb-true u s known.0, sym known.1)
 
 -- the codeword in a node is that of a child, behind the bit that leads there
-pub node_path : (x y : Option (List Bool)) (bits : List Bool) → or_else (below false x) (below true y) ≡ Some bits
+pub node_path : (x y : Option (List Bool)) (bits : List Bool) → or_else (prefixed false x) (prefixed true y) ≡ Some bits
     → ((rest : List Bool) × (x ≡ Some rest) × (bits ≡ false ∷ rest)) ⊎ ((rest : List Bool) × (x ≡ None) × (y ≡ Some rest) × (bits ≡ true ∷ rest))
 node_path (Some rest) y bits is = inl (rest, refl, cc)
 node_path None (Some rest) bits is = inr (rest, refl, refl, cc)

@@ -126,7 +126,7 @@ pub trait BitArray: Copy + Drop {
     /// The difference, plus `2 ^ BITS` where `other` is the greater.
     fn wrapping_minus(self, other: Self) -> Self
         ensures value { number result ≡ (number self + 2 ^ BITS - number other) % 2 ^ BITS }
-        ensures undoes { (number result + number other) % 2 ^ BITS ≡ number self };
+        ensures back { (number result + number other) % 2 ^ BITS ≡ number self };
 
     /// The same number as a `NonZero`; `None` for 0, and only for 0.
     fn to_nonzero(self) -> Option<Self::NonZero>

@@ -15,7 +15,7 @@ where
     Word: Drop,
     Backend: WriteWords<Word> + ReadWords<Word, Stack>,
     Backend::ReadError: Drop,
-    ensures none { count ≡ 0 → bulk.new ≡ bulk.old }
+    ensures untouched { count ≡ 0 → bulk.new ≡ bulk.old }
     ensures words { NeverRefused Backend.reads → Backend.words bulk.new ≡ drop count (Backend.words bulk.old) }
 {
     for _i in 0..count {

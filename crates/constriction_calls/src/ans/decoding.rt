@@ -62,8 +62,9 @@ fn decode_by<
     requires sizes { IsSizes Word.BITS State.BITS }
     requires within { len ≤ length words.now }
     requires count { length symbols.now ≡ length (L.tables models.now) }
-    ensures decoded { DecodesAll Word.BITS State.BITS (pairs_of PRECISION (λ table. table) symbols.new
-        (L.tables models.now)) (state_kept Word.number State.number (coder_of head words.now len))
+    ensures decoded { DecodesAll Word.BITS State.BITS
+        (pairs_of PRECISION (λ table. table) symbols.new (L.tables models.now))
+        (state_kept Word.number State.number (coder_of head words.now len))
         (state_kept Word.number State.number (coder_of result.0 words.now result.1)) }
     ensures left { result.1 ≤ len }
     ensures count { length symbols.new ≡ length symbols.old }

@@ -76,8 +76,9 @@ pub fn encode_intervals_reverse<
 ) -> Result<(), Refusal>
     requires sizes { IsSizes Word.BITS State.BITS }
     requires precision { (1 ≤ PRECISION) × (PRECISION ≤ P.BITS) }
-    ensures call { AnsPuts Word.number State.number Word.BITS State.BITS PRECISION (AsIntervals (map P.number lefts.now)
-        (map P.number ps.now)) (coder_of head.old words.old len.old) (coder_of head.new words.new len.new) result }
+    ensures call { AnsPuts Word.number State.number Word.BITS State.BITS PRECISION
+        (AsIntervals (map P.number lefts.now) (map P.number ps.now))
+        (coder_of head.old words.old len.old) (coder_of head.new words.new len.new) result }
 {
     if *len > words.len() {
         return Err(Refusal::WrongLength);
@@ -109,11 +110,9 @@ fn coded<
     ensures models { IfSome result (λ made. AreModels Word.BITS
         (pairs_of PRECISION (λ table. table) symbols.now (L.tables models.now))) }
     ensures coded { IfSome result (λ made. EncodesAll Word.BITS State.BITS
-        (reverse (pairs_of PRECISION (λ table. table) symbols.now (L.tables models.now))) record {
-          head = State.number
-              head;
-          words = [];
-        } record { head = State.number made.1; words = map Word.number (reverse made.0.items) }) }
+        (reverse (pairs_of PRECISION (λ table. table) symbols.now (L.tables models.now)))
+        record { head = State.number head; words = [] }
+        record { head = State.number made.1; words = map Word.number (reverse made.0.items) }) }
 {
     let mut coder: AnsCoder<Word, State, Vec<Word>> = AnsCoder::from_raw_parts(
         Vec::new(alloc),

@@ -57,8 +57,9 @@ pub fn decode<
     requires within { PRECISION ≤ P.BITS }
     requires fits { CoderFits Word.row State.row }
     ensures call { ChainTakes Word.number State.number Word.BITS State.BITS PRECISION (G.coded models.now)
-        (keeps heads.old compressed.now compressed_len.old remainders.old remainders_len.old) (keeps heads.new
-        compressed.now compressed_len.new remainders.new remainders_len.new) symbols.old symbols.new result }
+        (keeps heads.old compressed.now compressed_len.old remainders.old remainders_len.old)
+        (keeps heads.new compressed.now compressed_len.new remainders.new remainders_len.new)
+        symbols.old symbols.new result }
 {
     if *compressed_len > compressed.len() || *remainders_len > remainders.len() {
         return Err(Refusal::WrongLength);

@@ -205,8 +205,9 @@ fn put_symbols<
     symbols: &[usize],
 ) -> Result<(), Refusal>
     requires { length (L.tables models.now) ≡ length symbols.now }
-    ensures ok { OnOk result (PutsBackAll Word.BITS State.BITS (reverse
-        (pairs_of PRECISION (λ table. table) symbols.now (L.tables models.now))) coder.old.state coder.new.state) }
+    ensures ok { OnOk result (PutsBackAll Word.BITS State.BITS
+        (reverse (pairs_of PRECISION (λ table. table) symbols.now (L.tables models.now)))
+        coder.old.state coder.new.state) }
     ensures err { IfErr result (λ e. (e ≡ refusals.NoMemory) ⊎ ((e ≡ refusals.ImpossibleSymbol)
         × (AreKnown (pairs_of PRECISION (λ table. table) symbols.now (L.tables models.now)) → ⊥))
         ⊎ ((e ≡ refusals.OutOfData) × LacksRemainders Word.BITS State.BITS

@@ -174,11 +174,9 @@ pub fn into_binary<Word: WordOf<State>, State: BitArray, const PRECISION: usize>
 ) -> Result<(), Refusal>
     requires sized { IsSized Word.BITS State.BITS PRECISION }
     requires fits { CoderFits Word.row State.row }
-    ensures call { ChainEnds Word.number State.number Word.BITS State.BITS PRECISION InBinary heads.now record {
-      words =
-          compressed.old;
-      len = compressed_len.old;
-    } record { words = compressed.new; len = compressed_len.new } result }
+    ensures call { ChainEnds Word.number State.number Word.BITS State.BITS PRECISION InBinary heads.now
+        record { words = compressed.old; len = compressed_len.old }
+        record { words = compressed.new; len = compressed_len.new } result }
 {
     if *compressed_len > compressed.len() {
         return Err(Refusal::WrongLength);

@@ -39,8 +39,9 @@ pub(crate) fn take_list<
     requires { count ≡ length (L.tables list.now) }
     ensures count { IfOk result (λ taken. length taken.0.items ≡ count) }
     ensures decoded { (words : List ℕ) (old : Run) → StandsAt Word.BITS State.BITS words old decoder.entry → IfOk result
-        (λ taken. (last : Run) × FindsAll Word.BITS State.BITS words (pairs_of PRECISION (λ table. table) taken.0.items
-        (L.tables list.now)) old last × StandsAt Word.BITS State.BITS words last taken.1) }
+        (λ taken. (last : Run) × FindsAll Word.BITS State.BITS words
+        (pairs_of PRECISION (λ table. table) taken.0.items (L.tables list.now)) old last
+        × StandsAt Word.BITS State.BITS words last taken.1) }
     ensures err { IfErr result (Words ((words symbols : List ℕ) (old last : Run)
         → StandsAt Word.BITS State.BITS words old decoder.entry → FindsAll Word.BITS State.BITS words
         (pairs_of PRECISION (λ table. table) symbols (L.tables list.now)) old last → length symbols ≡ count → ⊥)) }

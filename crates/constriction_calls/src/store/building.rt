@@ -40,10 +40,12 @@ fn stored<Word: WordOf<State>, State: BitArray, P: WordOf<Word>, const PRECISION
     requires sizes { IsSizes Word.BITS State.BITS }
     requires precision { (1 ≤ PRECISION) × (PRECISION ≤ P.BITS) }
     requires all { sum lengths.now ≤ length symbols.now }
-    ensures built { IfSome result (λ made. IsBuilt Word.BITS State.BITS (weights_model PRECISION (map P.number
-        weights.now)) (chunks_by symbols.now lengths.now) (map entry_at made.1.items) (map Word.number made.0.items)) }
-    ensures chunks { IfSome result (λ made. HoldsChunks Word.BITS State.BITS (weights_model PRECISION (map P.number
-        weights.now)) (map Word.number made.0.items) (map entry_at made.1.items) (chunks_by symbols.now lengths.now)) }
+    ensures built { IfSome result (λ made. IsBuilt Word.BITS State.BITS
+        (weights_model PRECISION (map P.number weights.now)) (chunks_by symbols.now lengths.now)
+        (map entry_at made.1.items) (map Word.number made.0.items)) }
+    ensures chunks { IfSome result (λ made. HoldsChunks Word.BITS State.BITS
+        (weights_model PRECISION (map P.number weights.now)) (map Word.number made.0.items)
+        (map entry_at made.1.items) (chunks_by symbols.now lengths.now)) }
 {
     let Some(table) = table_by::<P, PRECISION>(alloc, weights, false) else {
         return None;
@@ -86,19 +88,10 @@ pub fn build<Word: WordOf<State>, State: BitArray, P: WordOf<Word>, const PRECIS
     requires sizes { IsSizes Word.BITS State.BITS }
     requires precision { (1 ≤ PRECISION) × (PRECISION ≤ P.BITS) }
     ensures call { StoreBuilds Word.number State.number Word.BITS State.BITS PRECISION
-        (map P.number weights.now) symbols.now lengths.now record {
-          positions = positions.old;
-          lowers = lowers.old;
-          ranges = ranges.old;
-          words = words.old;
-          len = len.old;
-        } record {
-          positions = positions.new;
-          lowers = lowers.new;
-          ranges = ranges.new;
-          words = words.new;
-          len = len.new;
-        } result }
+        (map P.number weights.now) symbols.now lengths.now
+        record { positions = positions.old; lowers = lowers.old; ranges = ranges.old; words = words.old; len = len.old }
+        record { positions = positions.new; lowers = lowers.new; ranges = ranges.new; words = words.new; len = len.new }
+        result }
 {
     if !fit(
         symbols.len(),

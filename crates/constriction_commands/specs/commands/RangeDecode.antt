@@ -1,7 +1,7 @@
 -- What `range-decode` answers a text, and when it gives which fault.
 use Rattle.std.specs.Prelude.{◌≡◌, ℕ, List, length}
 use Rattle.constriction.specs.Models.{items_of}
-use Rattle.constriction.specs.queue.Range.{Run, start}
+use Rattle.constriction.specs.queue.Range.{Run, initial}
 use Rattle.constriction_commands.specs.Lines.{line_of}
 use Rattle.constriction_commands.specs.Inputs.{GivesWords, NoWords}
 use Rattle.constriction_commands.specs.Coding.{of_24_bits}
@@ -18,7 +18,7 @@ pub record IsRangeDecoded (text answer : List ℕ) : Type 0 where
   pub symbols : List ℕ
   pub run : Run
   pub given : GivesWords text table count words
-  pub decoded : FindsAll 32 64 words (items_of (of_24_bits table) symbols) (start 64) run
+  pub decoded : FindsAll 32 64 words (items_of (of_24_bits table) symbols) (initial 64) run
   pub counted : length symbols ≡ count
   pub printed : answer ≡ line_of symbols
 

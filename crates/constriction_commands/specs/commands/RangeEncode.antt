@@ -1,7 +1,7 @@
 -- What `range-encode` answers a text.
 use Rattle.std.specs.Prelude.{◌≡◌, ℕ, List}
 use Rattle.constriction.specs.Models.{items_of}
-use Rattle.constriction.specs.queue.Range.{Run, start, sealed}
+use Rattle.constriction.specs.queue.Range.{Run, initial, sealed}
 use Rattle.constriction_commands.specs.Lines.{line_of}
 use Rattle.constriction_commands.specs.Inputs.{GivesSymbols}
 use Rattle.constriction_commands.specs.Coding.{of_24_bits}
@@ -13,5 +13,5 @@ pub record IsRangeEncoded (text answer : List ℕ) : Type 0 where
   pub symbols : List ℕ
   pub run : Run
   pub given : GivesSymbols text table symbols
-  pub encoded : NarrowsAll 32 64 (items_of (of_24_bits table) symbols) (start 64) run
+  pub encoded : NarrowsAll 32 64 (items_of (of_24_bits table) symbols) (initial 64) run
   pub printed : answer ≡ line_of (sealed 32 64 run)

@@ -3,7 +3,7 @@ use Rattle.std.specs.Prelude.{◌≡◌, ℕ, ◌<◌, ◌≤◌, List, ◌++◌
 use Rattle.std.specs.List.{AllByRecursion, Any}
 use Rattle.constriction.specs.Models.{items_of}
 use Rattle.constriction.specs.Tables.{Impossible}
-use Rattle.constriction.specs.queue.Range.{Run, start}
+use Rattle.constriction.specs.queue.Range.{Run, initial}
 use Rattle.constriction.specs.queue.SelfDelimiting.{SelfDelimits}
 use Rattle.constriction.specs.queue.Symbols.{NarrowsAll}
 use Rattle.constriction.specs.store.Chunks.{chunk_in, count_of}
@@ -25,7 +25,7 @@ joined chunks = flat_map (λ chunk. chunk) chunks
 pub record AreWordsOf (table : List (ℕ × ℕ × ℕ)) (chunks : List (List ℕ)) (words : List ℕ) : Type 0 where
   pub few : count_of chunks ≤ most_stored
   pub run : Run
-  pub encoded : NarrowsAll 32 64 (items_of (of_24_bits table) (joined chunks)) (start 64) run
+  pub encoded : NarrowsAll 32 64 (items_of (of_24_bits table) (joined chunks)) (initial 64) run
   pub delimited : SelfDelimits 32 64 run words
 
 -- the chunks at these places are there

@@ -2,7 +2,7 @@
 
 ghost use Rattle.std.specs.Prelude.{◌≡◌, length, IfOk, IfErr};
 ghost use Rattle.constriction.specs.Models.{items_of};
-ghost use Rattle.constriction.specs.queue.Range.{Run, start, IsAt};
+ghost use Rattle.constriction.specs.queue.Range.{Run, initial, IsAt};
 ghost use Rattle.constriction_commands.specs.Coding.{of_24_bits};
 ghost use Rattle.constriction.specs.queue.Symbols.{FindsAll};
 ghost use Rattle.constriction_commands.specs.Ranges.{ReadingFails};
@@ -24,7 +24,7 @@ type Decoder<'a> = DefaultRangeDecoder<Cursor<u32, &'a [u32]>>;
 
 /// A decoder of words.
 fn decoder_of(words: &[u32]) -> Decoder<'_>
-    ensures { IsAt 32 64 words.now (start 64) result.lower result.range result.point result.words }
+    ensures { IsAt 32 64 words.now (initial 64) result.lower result.range result.point result.words }
 {
     match Decoder::from_compressed(words) {
         Ok(decoder) => decoder,
@@ -40,7 +40,7 @@ fn decode<M: DecoderModel<PRECISION, Symbol = usize, Probability = u32>>(
     words: &[u32],
 ) -> Result<Vec<usize>, Fault>
     ensures ok { IfOk result (λ symbols. (run : Run)
-        × FindsAll 32 64 words.now (items_of (of_24_bits (M.table model.now)) symbols.items) (start 64) run) }
+        × FindsAll 32 64 words.now (items_of (of_24_bits (M.table model.now)) symbols.items) (initial 64) run) }
     ensures counted { IfOk result (λ symbols. length symbols.items ≡ count) }
     ensures err { IfErr result (ReadingFails words.now (M.table model.now) count) }
 {

@@ -2,7 +2,7 @@
 
 ghost use Rattle.std.specs.Prelude.{◌≡◌, ◌%◌, ◌^◌, map, IfOk, IfErr};
 ghost use Rattle.constriction.specs.Models.{items_of};
-ghost use Rattle.constriction.specs.queue.Range.{Run, start, sealed};
+ghost use Rattle.constriction.specs.queue.Range.{Run, initial, sealed};
 ghost use Rattle.constriction_commands.specs.Coding.{of_24_bits, CoderFails, EncodeFails};
 ghost use Rattle.constriction.specs.queue.Symbols.{NarrowsAll};
 ghost use Rattle.constriction_commands.specs.commands.RangeEncode.{IsRangeEncoded};
@@ -24,7 +24,7 @@ fn encode<M: EncoderModel<PRECISION, Symbol = usize, Probability = u32>>(
     symbols: &[usize],
 ) -> Result<Vec<u32>, Fault>
     ensures ok { IfOk result (λ words. (run : Run)
-        × NarrowsAll 32 64 (items_of (of_24_bits (M.table model.now)) symbols.now) (start 64) run
+        × NarrowsAll 32 64 (items_of (of_24_bits (M.table model.now)) symbols.now) (initial 64) run
         × (map (λ word. word % 2 ^ 32) words.items ≡ sealed 32 64 run)) }
     ensures err { IfErr result (CoderFails (M.table model.now) symbols.now) }
 {

@@ -1,7 +1,7 @@
 //! A law of the range coder.
 
 ghost use Rattle.constriction.specs.Steps.{IsStep, Step};
-ghost use Rattle.constriction.specs.queue.Range.{ReadAs, run, sealed, start};
+ghost use Rattle.constriction.specs.queue.Range.{ReadAs, run, sealed, initial};
 ghost use Rattle.std.specs.Prelude.{[], ◌∷◌};
 
 use constriction::laws::queue::words::sealed_words_are_read;
@@ -9,7 +9,7 @@ use constriction::laws::queue::words::sealed_words_are_read;
 /// The sealed words of two steps are read as these two.
 pub fn two_steps_are_read()
     ensures { (first second : Step) → IsStep 32 first → IsStep 32 second →
-        ReadAs 32 64 (sealed 32 64 (run 32 64 (first ∷ second ∷ []) (start 64))) (first ∷ second ∷ []) (start 64) }
+        ReadAs 32 64 (sealed 32 64 (run 32 64 (first ∷ second ∷ []) (initial 64))) (first ∷ second ∷ []) (initial 64) }
 {
     sealed_words_are_read()
 }

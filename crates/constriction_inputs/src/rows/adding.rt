@@ -3,15 +3,8 @@
 ghost use Rattle.std.specs.Prelude.{◌≡◌, ◌↔◌, ◌+◌, ◌*◌, ◌^◌, ◌<◌, ◌≤◌, length, map, sum_by, take, IsTrue};
 ghost use Rattle.constriction_inputs.specs.Weights.{IsTotal, AreTotals};
 
+use constriction_base::weights::starts::ones;
 use constriction_words::BitArray;
-
-/// The number of ones below a place.
-pub fn ones<P: BitArray>(count: usize) -> P
-    requires { (1 ≤ count) × (count ≤ P.BITS) }
-    ensures { P.number result + 1 ≡ 2 ^ count }
-{
-    P::greatest().shifted_right(P::BITS - count as u32)
-}
 
 /// Whether the weights add up to two to the precision. The sum is exact, whatever the width of `P`.
 pub fn is_total<P: BitArray, const PRECISION: usize>(weights: &[P]) -> bool

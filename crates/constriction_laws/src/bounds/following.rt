@@ -3,7 +3,7 @@
 ghost use Rattle.std.specs.Prelude.{◌≡◌, ◌-◌, ◌/◌, ◌<◌, ◌^◌, ◌++◌, ℕ, List, length, map, IfOk, IfErr};
 ghost use Rattle.constriction_base.specs.Models.{Item, AreModels, items_of};
 ghost use Rattle.constriction_base.specs.Steps.{IsSizes, AreWords};
-ghost use Rattle.constriction_queue.specs.Range.{Run, sealed, start};
+ghost use Rattle.constriction_queue.specs.Range.{Run, sealed, initial};
 ghost use Rattle.constriction_coder_laws.specs.Outcomes.{HasImpossible};
 ghost use Rattle.constriction_queue_laws.specs.Outcomes.{NotCoded, SealsAll};
 ghost use Rattle.constriction_queue.specs.Symbols.{NarrowsAll, FindsAll};
@@ -21,8 +21,8 @@ use std::alloc::Global;
 /// Symbols that a new encoder was given come back from its sealed words, whatever words follow them.
 pub fn symbols_come_back_before_others<Symbol>()
     ensures { (w s : ℕ) (items : List (Item Symbol)) (last : Run) (rest : List ℕ) → IsSizes w s → s / w ≡ 2 →
-        AreModels w items → AreWords w rest → NarrowsAll w s items (start s) last →
-        FindsAll w s (sealed w s last ++ rest) items (start s) last }
+        AreModels w items → AreWords w rest → NarrowsAll w s items (initial s) last →
+        FindsAll w s (sealed w s last ++ rest) items (initial s) last }
 {
     decodes_undo_encodes::<Symbol>()
 }
@@ -51,7 +51,7 @@ where
     requires sizes { IsSizes Word.BITS State.BITS }
     requires two { State.BITS / Word.BITS ≡ 2 }
     ensures words { IfOk result (λ back. (own : List ℕ) × SealsAll Word.BITS State.BITS
-        (items_of record { precision = PRECISION; table = M.table model.now } symbols.now) (start State.BITS) own
+        (items_of record { precision = PRECISION; table = M.table model.now } symbols.now) (initial State.BITS) own
         × (map Word.number back.0.items ≡ own ++ map Word.number others.now)) }
     ensures back { IfOk result (λ back. back.1.items ≡ symbols.now) }
     ensures err { IfErr result

@@ -7,7 +7,7 @@ ghost use Rattle.constriction_base.specs.Tables.{AtEntry, Impossible};
 ghost use Rattle.constriction_base.specs.Models.{items_of};
 ghost use Rattle.constriction_stack.specs.Ans.{IsValid, empty};
 ghost use Rattle.constriction_coder_laws.specs.Outcomes.{HasImpossible, UnlessImpossible};
-ghost use Rattle.constriction_queue.specs.Range.{start};
+ghost use Rattle.constriction_queue.specs.Range.{initial};
 ghost use Rattle.constriction_queue_laws.specs.Outcomes.{NotCoded, SealsAll};
 ghost use Rattle.constriction_stack_laws.specs.Exporting.{ExportsAll};
 ghost use Rattle.constriction_laws.specs.Exchanges.{StopsExchange};
@@ -74,7 +74,7 @@ where
     requires { IsSizes Word.BITS State.BITS }
     ensures words { IfOk result (λ words. SealsAll Word.BITS State.BITS
         (items_of record { precision = PRECISION; table = M.table model.now } symbols.now)
-        (start State.BITS) (map Word.number words.items)) }
+        (initial State.BITS) (map Word.number words.items)) }
     ensures few { IfOk result (λ words. (steps : List Step)
         × AreEntries (items_of record { precision = PRECISION; table = M.table model.now } symbols.now) steps
         × (2 ≤ length words.items →

@@ -5,7 +5,7 @@ use Rattle.std.proofs.Math.Nat.{mul-le-mul_left, mul-le-mul_right, mul-lt-mul_of
 use Rattle.std.proofs.lemmas.Bool.{cases_lt, and_parts}
 use Rattle.std.proofs.lemmas.Bool.Decides.{nat_tests}
 use Rattle.std.proofs.lemmas.Int.{ints}
-use Rattle.constriction_models.specs.Interpolation.{rises_from, AreValues, between, value_at, value_above, value_beyond, located, scaled}
+use Rattle.constriction_models.specs.Interpolation.{rises_from, AreValues, interpolated, value_at, value_above, value_beyond, located, scaled}
 use Rattle.constriction_models.specs.Quantized.{IsDistribution}
 
 -- no number of such a list is below what it rises from
@@ -39,15 +39,15 @@ pub part_grows : (long low high : ℕ) → low ≤ high → long * low / 65536 �
 part_grows long low high h = omega (arith, mul-le-mul_left long h)
 
 -- what lies between two values
-pub between_within : (values : List ℕ) (k part : ℕ) → AreValues values → k < 2048 → part < 65536 → (slice_index values k ≤ between values k part) × (between values k part ≤ slice_index values (k + 1))
-unfolding between
+pub between_within : (values : List ℕ) (k part : ℕ) → AreValues values → k < 2048 → part < 65536 → (slice_index values k ≤ interpolated values k part) × (interpolated values k part ≤ slice_index values (k + 1))
+unfolding interpolated
 between_within values k part is inside low =
     let up = rises_along 0 values k (k + 1) is.rises (omega arith) (omega (arith, is.len)) in
     let on = part_within (slice_index values (k + 1) - slice_index values k) part low in
     (omega arith, omega (arith, up, on))
 
-same_step : (values : List ℕ) (first second p q : ℕ) → first ≡ second → p ≤ q → between values first p ≤ between values second q
-unfolding between
+same_step : (values : List ℕ) (first second p q : ℕ) → first ≡ second → p ≤ q → interpolated values first p ≤ interpolated values second q
+unfolding interpolated
 same_step values first second p q e h = rw e (omega (arith, part_grows (slice_index values (second + 1) - slice_index values second) p q h))
 
 -- the value at a place never falls

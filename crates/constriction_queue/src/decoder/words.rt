@@ -2,7 +2,7 @@
 
 ghost use Rattle.std.specs.Prelude.{◌≡◌, ◌↔◌, ◌+◌, ◌-◌, ◌%◌, ◌<◌, ◌^◌, map, IfOk, IfErr, IsOk, IsTrue};
 ghost use Rattle.constriction_base.specs.Steps.{IsSizes};
-ghost use Rattle.constriction_queue.specs.Range.{start};
+ghost use Rattle.constriction_queue.specs.Range.{initial};
 ghost use Rattle.constriction_queue.specs.States.{lower_of, range_of};
 ghost use Rattle.constriction_queue.specs.Decoder.{BeginsOver, IsDecoder, MayBeExhausted, RefusesPoint, StandsAt};
 ghost use Rattle.constriction_queue.specs.Decoder.{decoder_of, distance};
@@ -30,7 +30,7 @@ impl<Word: WordOf<State>, State: BitArray, Backend: ReadWords<Word, Queue>> Rang
         Backend: Drop,
         requires { IsSizes Word.BITS State.BITS }
         ensures ok { Backend.is_list → IfOk result (λ d.
-            StandsAt Word.BITS State.BITS (map Word.number (Backend.words bulk)) (start State.BITS) d) }
+            StandsAt Word.BITS State.BITS (map Word.number (Backend.words bulk)) (initial State.BITS) d) }
         ensures reads { IfOk result (λ d. BeginsOver Word.number Backend.ReadWords.own Word.BITS State.BITS bulk d) }
         ensures err { IfErr result (λ e. (rest : Backend)
             × RefusesPoint Word.number Backend.ReadWords.own Word.BITS State.BITS bulk e rest) }
@@ -63,7 +63,7 @@ impl<Word: WordOf<State>, State: BitArray, Backend: ReadWords<Word, Queue>> Rang
         Backend: Drop,
         requires { IsSizes Word.BITS State.BITS }
         ensures ok { Backend.is_list → IfOk result (λ d.
-            StandsAt Word.BITS State.BITS (map Word.number (Buf.words compressed)) (start State.BITS) d) }
+            StandsAt Word.BITS State.BITS (map Word.number (Buf.words compressed)) (initial State.BITS) d) }
         ensures place { IfOk result (λ d. (first : Backend) × Buf.becomes compressed first
             × BeginsOver Word.number Backend.ReadWords.own Word.BITS State.BITS first d) }
         ensures err { IfErr result (λ e. (first rest : Backend) × Buf.becomes compressed first
@@ -85,7 +85,7 @@ impl<Word: WordOf<State>, State: BitArray, Backend: ReadWords<Word, Queue>> Rang
         Backend: Drop,
         requires { IsSizes Word.BITS State.BITS }
         ensures ok { Backend.is_list → IfOk result (λ d.
-            StandsAt Word.BITS State.BITS (map Word.number (Buf.words compressed.now)) (start State.BITS) d) }
+            StandsAt Word.BITS State.BITS (map Word.number (Buf.words compressed.now)) (initial State.BITS) d) }
         ensures place { IfOk result (λ d. (first : Backend) × Buf.becomes compressed.now first
             × BeginsOver Word.number Backend.ReadWords.own Word.BITS State.BITS first d) }
         ensures err { IfErr result (λ e. (first rest : Backend) × Buf.becomes compressed.now first
@@ -157,7 +157,7 @@ impl<Word: WordOf<State>, State: BitArray, Backend: Holds<Word, Queue>> RangeDec
     /// The backend, with the words that are left. Those of the point aren't among them.
     #[inline]
     pub fn bulk(&self) -> &Backend
-        ensures bulk { result.now ≡ self.now.bulk }
+        ensures backend { result.now ≡ self.now.bulk }
         ensures coder { IsDecoder Word.number Backend.Holds Word.BITS State.BITS self.now }
     {
         &self.bulk

@@ -1,7 +1,7 @@
 //! A decoder of what an encoder holds.
 
 ghost use Rattle.std.specs.Prelude.{IfOk, IfErr, MatchResult};
-ghost use Rattle.constriction_queue.specs.Range.{start};
+ghost use Rattle.constriction_queue.specs.Range.{initial};
 ghost use Rattle.constriction_queue.specs.Encoder.{sealed_by};
 ghost use Rattle.constriction_queue.specs.Decoder.{IsDecoder, StandsAt};
 ghost use Rattle.constriction_queue.specs.Calls.{BeginsSealed, DecodesSealed, NoDecoder, queue_reads};
@@ -36,7 +36,7 @@ impl<
         >,
     >
         ensures ok { ⟦<Backend::IntoReadWords as Holds<Word, Queue>>⟧.is_list → IfOk result (λ decoder.
-            StandsAt Word.BITS State.BITS (sealed_by Word.BITS State.BITS self) (start State.BITS) decoder) }
+            StandsAt Word.BITS State.BITS (sealed_by Word.BITS State.BITS self) (initial State.BITS) decoder) }
         ensures place { IfOk result (λ decoder.
             BeginsSealed Word.number ⟦<Backend as Holds<Word, Stack>>⟧ Backend.becomes
             (queue_reads ⟦<Backend::IntoReadWords as ReadWords<Word, Queue>>⟧) Word.BITS State.BITS self decoder) }

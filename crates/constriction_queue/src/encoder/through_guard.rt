@@ -3,7 +3,7 @@
 ghost use Rattle.std.specs.Prelude.{◌≡◌, ◌+◌, ◌<◌, drop, length, reverse, IfOk, OnErr};
 ghost use Rattle.constriction_queue.specs.Encoder.{HasHeads, sealed_by};
 ghost use Rattle.constriction_queue.specs.Decoder.{StandsAt};
-ghost use Rattle.constriction_queue.specs.Range.{start};
+ghost use Rattle.constriction_queue.specs.Range.{initial};
 
 use crate::decoder::RangeDecoder;
 use crate::encoder::RangeEncoder;
@@ -85,7 +85,7 @@ impl<Word: WordOf<State>, State: BitArray, A: Allocator> RangeEncoder<Word, Stat
     >
         ensures same_reference { IfOk result (λ d. (lender d.bulk.buf).ghost_name ≡ self.entry.ghost_name) }
         ensures ok { IfOk result (λ d.
-            StandsAt Word.BITS State.BITS (sealed_by Word.BITS State.BITS self.old) (start State.BITS) d) }
+            StandsAt Word.BITS State.BITS (sealed_by Word.BITS State.BITS self.old) (initial State.BITS) d) }
         ensures shows { IfOk result (λ d.
             reverse (lender d.bulk.buf).now.words ≡ sealed_by Word.BITS State.BITS self.old) }
         ensures back { IfOk result (λ d. drop (written d.bulk.buf) (lender d.bulk.buf).now.words ≡ self.old.words) }

@@ -4,7 +4,7 @@ ghost use Rattle.std.specs.Prelude.{◌≡◌, ◌<◌, ℕ, List, length, map, 
 ghost use Rattle.constriction_base.specs.Models.{items_of, pairs_of};
 ghost use Rattle.constriction_base.specs.Steps.{IsSizes};
 ghost use Rattle.constriction_queue_laws.specs.Outcomes.{HoldNone, LieWithin, NoneWithin, NotRead};
-ghost use Rattle.constriction_queue.specs.Range.{start};
+ghost use Rattle.constriction_queue.specs.Range.{initial};
 
 use crate::lists::symbols_of_any_words;
 use crate::round_trips::pairs::pairs_from_words;

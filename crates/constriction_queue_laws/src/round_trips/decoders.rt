@@ -7,7 +7,7 @@ ghost use Rattle.constriction_base.specs.Models.{items_of};
 ghost use Rattle.constriction_base.specs.Steps.{IsSizes};
 ghost use Rattle.constriction_coder_laws.specs.Outcomes.{HasImpossible};
 ghost use Rattle.constriction_queue.specs.Encoder.{left_to_encode, run_by};
-ghost use Rattle.constriction_queue.specs.Range.{start};
+ghost use Rattle.constriction_queue.specs.Range.{initial};
 ghost use Rattle.constriction_queue_laws.specs.Outcomes.{NoneSealed, NotBack, NotCoded, ReadsAllSealed, StandsBefore};
 
 use crate::lists::symbols_come_back;
@@ -85,7 +85,7 @@ where
     Backend::WriteError: Drop,
     Backend::IntoReadWords: BoundedReadWords<Word, Queue>,
     <Backend::IntoReadWords as ReadWords<Word, Queue>>::ReadError: Drop,
-    ensures back { run_by Word.BITS State.BITS encoder ≡ start State.BITS →
+    ensures back { run_by Word.BITS State.BITS encoder ≡ initial State.BITS →
         IfOk result (λ back. (back.0.items ≡ symbols.now) × IsTrue back.1) }
     ensures read { IfOk result (λ back. ReadsAllSealed Word.BITS State.BITS
         (items_of record { precision = PRECISION; table = M.table model.now })
@@ -95,7 +95,7 @@ where
         (run_by Word.BITS State.BITS encoder) symbols.now) }
     ensures err { IfErr result (NotBack (HasImpossible (M.table model.now) symbols.now)
         (left_to_encode encoder < length symbols.now)
-        (run_by Word.BITS State.BITS encoder ≡ start State.BITS)) }
+        (run_by Word.BITS State.BITS encoder ≡ initial State.BITS)) }
 {
     let mut decoder = decoder_of_list(encoder, symbols, model)?;
     symbols_come_back::<M::Symbol>();

@@ -5,7 +5,7 @@ ghost use Rattle.constriction_base.specs.Models.{pairs_of};
 ghost use Rattle.constriction_coder_laws.specs.Outcomes.{HasImpossibleItem};
 ghost use Rattle.constriction_queue.specs.Decoder.{StandsAt};
 ghost use Rattle.constriction_queue.specs.Encoder.{left_to_encode, run_by, sealed_by, HasHeads};
-ghost use Rattle.constriction_queue.specs.Range.{Run, start};
+ghost use Rattle.constriction_queue.specs.Range.{Run, initial};
 ghost use Rattle.constriction_queue_laws.specs.Concatenated.{ReadsItems};
 ghost use Rattle.constriction_queue_laws.specs.Outcomes.{GivesNone, HoldNone, NoneLent, NoneSealed};
 ghost use Rattle.constriction_queue_laws.specs.Outcomes.{NotBack, NotRead, ReadsSealed};
@@ -46,12 +46,12 @@ where
         (pairs_of PRECISION M.table again.items models.now)) }
     ensures back { (symbols : List M.Symbol) →
         NarrowsAll Word.BITS State.BITS (pairs_of PRECISION M.table symbols models.now)
-        (start State.BITS) (run_by Word.BITS State.BITS encoder.old) → length symbols ≡ length models.now →
+        (initial State.BITS) (run_by Word.BITS State.BITS encoder.old) → length symbols ≡ length models.now →
         IfOk result (λ again. again.items ≡ symbols) }
     ensures heads { HasHeads encoder.old encoder.new }
     ensures kept { encoder.new.words ≡ encoder.old.words }
     ensures err { IfErr result (NotRead (HoldNone Word.BITS State.BITS (sealed_by Word.BITS State.BITS encoder.old)
-        (λ symbols. pairs_of PRECISION M.table symbols models.now) (length models.now) (start State.BITS))) }
+        (λ symbols. pairs_of PRECISION M.table symbols models.now) (length models.now) (initial State.BITS))) }
 {
     let Ok(guard) = encoder.get_compressed() else {
         return Err(RoundTripError::Refused);
@@ -89,7 +89,7 @@ pub fn pairs_from_lent_words<
 where
     M::Probability: WordOf<Word>,
     requires { length symbols.now ≡ length models.now }
-    ensures back { run_by Word.BITS State.BITS encoder.old ≡ start State.BITS →
+    ensures back { run_by Word.BITS State.BITS encoder.old ≡ initial State.BITS →
         IfOk result (λ again. again.items ≡ symbols.now) }
     ensures on { IfOk result (λ _. NarrowsAll Word.BITS State.BITS (pairs_of PRECISION M.table symbols.now models.now)
         (run_by Word.BITS State.BITS encoder.old) (run_by Word.BITS State.BITS encoder.new)) }
@@ -101,7 +101,7 @@ where
         (run_by Word.BITS State.BITS encoder.old) (run_by Word.BITS State.BITS encoder.new) symbols.now) }
     ensures err { IfErr result (NotBack (HasImpossibleItem (pairs_of PRECISION M.table symbols.now models.now))
         (left_to_encode encoder.old < length symbols.now)
-        (run_by Word.BITS State.BITS encoder.old ≡ start State.BITS)) }
+        (run_by Word.BITS State.BITS encoder.old ≡ initial State.BITS)) }
 {
     encode_pairs(encoder, symbols, models)?;
     // What an encoder lends says that its sizes are allowed.
@@ -164,10 +164,10 @@ where
         (pairs_of PRECISION M.table again.items models.now)) }
     ensures back { (symbols : List M.Symbol) →
         NarrowsAll Word.BITS State.BITS (pairs_of PRECISION M.table symbols models.now)
-        (start State.BITS) (run_by Word.BITS State.BITS encoder.old) → length symbols ≡ length models.now →
+        (initial State.BITS) (run_by Word.BITS State.BITS encoder.old) → length symbols ≡ length models.now →
         IfOk result (λ again. again.items ≡ symbols) }
     ensures err { IfErr result (NotRead (HoldNone Word.BITS State.BITS (sealed_by Word.BITS State.BITS encoder.old)
-        (λ symbols. pairs_of PRECISION M.table symbols models.now) (length models.now) (start State.BITS))) }
+        (λ symbols. pairs_of PRECISION M.table symbols models.now) (length models.now) (initial State.BITS))) }
 {
     // What an encoder lends says that its sizes are allowed.
     let _ = encoder.bulk();
@@ -202,7 +202,7 @@ pub fn pairs_through_decoder<
 where
     M::Probability: WordOf<Word>,
     requires { length symbols.now ≡ length models.now }
-    ensures back { run_by Word.BITS State.BITS encoder.old ≡ start State.BITS →
+    ensures back { run_by Word.BITS State.BITS encoder.old ≡ initial State.BITS →
         IfOk result (λ again. again.items ≡ symbols.now) }
     ensures read { IfOk result (λ again. ReadsSealed Word.BITS State.BITS
         (λ symbols. pairs_of PRECISION M.table symbols models.now)
@@ -212,7 +212,7 @@ where
         (run_by Word.BITS State.BITS encoder.old) symbols.now) }
     ensures err { IfErr result (NotBack (HasImpossibleItem (pairs_of PRECISION M.table symbols.now models.now))
         (left_to_encode encoder.old < length symbols.now)
-        (run_by Word.BITS State.BITS encoder.old ≡ start State.BITS)) }
+        (run_by Word.BITS State.BITS encoder.old ≡ initial State.BITS)) }
 {
     encode_pairs(encoder, symbols, models)?;
     // What an encoder lends says that its sizes are allowed.

@@ -6,7 +6,7 @@ ghost use Rattle.constriction_base.specs.Models.{items_of};
 ghost use Rattle.constriction_coder_laws.specs.Outcomes.{HasImpossible};
 ghost use Rattle.constriction_queue.specs.Decoder.{StandsAt};
 ghost use Rattle.constriction_queue.specs.Encoder.{left_to_encode, run_by, sealed_by, HasHeads};
-ghost use Rattle.constriction_queue.specs.Range.{Run, start};
+ghost use Rattle.constriction_queue.specs.Range.{Run, initial};
 ghost use Rattle.constriction_queue_laws.specs.Concatenated.{ReadsList};
 ghost use Rattle.constriction_queue_laws.specs.Outcomes.{GivesNone, HoldNone, NoneLent, NoneSealed};
 ghost use Rattle.constriction_queue_laws.specs.Outcomes.{NotBack, NotRead, ReadsSealed};
@@ -49,12 +49,12 @@ where
         (sealed_by Word.BITS State.BITS encoder.old) again.items) }
     ensures back { (symbols : List M.Symbol) →
         NarrowsAll Word.BITS State.BITS (items_of record { precision = PRECISION; table = M.table model.now } symbols)
-        (start State.BITS) (run_by Word.BITS State.BITS encoder.old) → length symbols ≡ amt →
+        (initial State.BITS) (run_by Word.BITS State.BITS encoder.old) → length symbols ≡ amt →
         IfOk result (λ again. again.items ≡ symbols) }
     ensures heads { HasHeads encoder.old encoder.new }
     ensures kept { encoder.new.words ≡ encoder.old.words }
     ensures err { IfErr result (NotRead (HoldNone Word.BITS State.BITS (sealed_by Word.BITS State.BITS encoder.old)
-        (items_of record { precision = PRECISION; table = M.table model.now }) amt (start State.BITS))) }
+        (items_of record { precision = PRECISION; table = M.table model.now }) amt (initial State.BITS))) }
 {
     let Ok(guard) = encoder.get_compressed() else {
         return Err(RoundTripError::Refused);
@@ -91,7 +91,7 @@ pub fn list_from_lent_words<
 ) -> Result<Vec<M::Symbol>, RoundTripError>
 where
     M::Probability: WordOf<Word>,
-    ensures back { run_by Word.BITS State.BITS encoder.old ≡ start State.BITS →
+    ensures back { run_by Word.BITS State.BITS encoder.old ≡ initial State.BITS →
         IfOk result (λ again. again.items ≡ symbols.now) }
     ensures on { IfOk result (λ _. NarrowsAll Word.BITS State.BITS
         (items_of record { precision = PRECISION; table = M.table model.now } symbols.now)
@@ -105,7 +105,7 @@ where
         (run_by Word.BITS State.BITS encoder.old) (run_by Word.BITS State.BITS encoder.new) symbols.now) }
     ensures err { IfErr result (NotBack (HasImpossible (M.table model.now) symbols.now)
         (left_to_encode encoder.old < length symbols.now)
-        (run_by Word.BITS State.BITS encoder.old ≡ start State.BITS)) }
+        (run_by Word.BITS State.BITS encoder.old ≡ initial State.BITS)) }
 {
     encode_list(encoder, symbols, model)?;
     // What an encoder lends says that its sizes are allowed.
@@ -173,10 +173,10 @@ where
         (sealed_by Word.BITS State.BITS encoder.old) again.items) }
     ensures back { (symbols : List M.Symbol) →
         NarrowsAll Word.BITS State.BITS (items_of record { precision = PRECISION; table = M.table model.now } symbols)
-        (start State.BITS) (run_by Word.BITS State.BITS encoder.old) → length symbols ≡ amt →
+        (initial State.BITS) (run_by Word.BITS State.BITS encoder.old) → length symbols ≡ amt →
         IfOk result (λ again. again.items ≡ symbols) }
     ensures err { IfErr result (NotRead (HoldNone Word.BITS State.BITS (sealed_by Word.BITS State.BITS encoder.old)
-        (items_of record { precision = PRECISION; table = M.table model.now }) amt (start State.BITS))) }
+        (items_of record { precision = PRECISION; table = M.table model.now }) amt (initial State.BITS))) }
 {
     // What an encoder lends says that its sizes are allowed.
     let _ = encoder.bulk();
@@ -210,7 +210,7 @@ pub fn list_through_decoder<
 ) -> Result<Vec<M::Symbol>, RoundTripError>
 where
     M::Probability: WordOf<Word>,
-    ensures back { run_by Word.BITS State.BITS encoder.old ≡ start State.BITS →
+    ensures back { run_by Word.BITS State.BITS encoder.old ≡ initial State.BITS →
         IfOk result (λ again. again.items ≡ symbols.now) }
     ensures read { IfOk result (λ again. ReadsSealed Word.BITS State.BITS
         (items_of record { precision = PRECISION; table = M.table model.now })
@@ -220,7 +220,7 @@ where
         (run_by Word.BITS State.BITS encoder.old) symbols.now) }
     ensures err { IfErr result (NotBack (HasImpossible (M.table model.now) symbols.now)
         (left_to_encode encoder.old < length symbols.now)
-        (run_by Word.BITS State.BITS encoder.old ≡ start State.BITS)) }
+        (run_by Word.BITS State.BITS encoder.old ≡ initial State.BITS)) }
 {
     encode_list(encoder, symbols, model)?;
     // What an encoder lends says that its sizes are allowed.

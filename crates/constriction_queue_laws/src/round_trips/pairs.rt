@@ -8,7 +8,7 @@ ghost use Rattle.constriction_base.specs.Models.{pairs_of};
 ghost use Rattle.constriction_base.specs.Steps.{IsSizes};
 ghost use Rattle.constriction_coder_laws.specs.Outcomes.{HasImpossibleItem};
 ghost use Rattle.constriction_queue.specs.Encoder.{left_to_encode, run_by};
-ghost use Rattle.constriction_queue.specs.Range.{Run, start};
+ghost use Rattle.constriction_queue.specs.Range.{Run, initial};
 ghost use Rattle.constriction_queue_laws.specs.Outcomes.{HoldNone, NoneSealed, NotBack, NotCoded};
 ghost use Rattle.constriction_queue_laws.specs.Outcomes.{NotRead, ReadsToEnd, ReadsAllSealed, SealsAll};
 ghost use Rattle.constriction_queue.specs.Symbols.{FindsAll};
@@ -83,10 +83,10 @@ where
         (pairs_of PRECISION M.table back.0.items models.now) back.1) }
     ensures back { (symbols : List M.Symbol) (last : Run) →
         FindsAll Word.BITS State.BITS (map Word.number (Words.words words))
-        (pairs_of PRECISION M.table symbols models.now) (start State.BITS) last →
+        (pairs_of PRECISION M.table symbols models.now) (initial State.BITS) last →
         length symbols ≡ length models.now → IfOk result (λ back. back.0.items ≡ symbols) }
     ensures err { IfErr result (NotRead (HoldNone Word.BITS State.BITS (map Word.number (Words.words words))
-        (λ symbols. pairs_of PRECISION M.table symbols models.now) (length models.now) (start State.BITS))) }
+        (λ symbols. pairs_of PRECISION M.table symbols models.now) (length models.now) (initial State.BITS))) }
 {
     let Ok(mut decoder) = RangeDecoder::<Word, State, Words::IntoReadWords>::from_compressed(words)
     else {
@@ -124,7 +124,7 @@ where
     Backend::IntoReadWords: BoundedReadWords<Word, Queue>,
     <Backend::IntoReadWords as ReadWords<Word, Queue>>::ReadError: Drop,
     requires { length symbols.now ≡ length models.now }
-    ensures back { run_by Word.BITS State.BITS encoder ≡ start State.BITS →
+    ensures back { run_by Word.BITS State.BITS encoder ≡ initial State.BITS →
         IfOk result (λ back. (back.0.items ≡ symbols.now) × IsTrue back.1) }
     ensures read { IfOk result (λ back. ReadsAllSealed Word.BITS State.BITS
         (λ symbols. pairs_of PRECISION M.table symbols models.now)
@@ -133,7 +133,7 @@ where
         (λ symbols. pairs_of PRECISION M.table symbols models.now)
         (run_by Word.BITS State.BITS encoder) symbols.now) }
     ensures err { IfErr result (NotBack (HasImpossibleItem (pairs_of PRECISION M.table symbols.now models.now))
-        (left_to_encode encoder < length symbols.now) (run_by Word.BITS State.BITS encoder ≡ start State.BITS)) }
+        (left_to_encode encoder < length symbols.now) (run_by Word.BITS State.BITS encoder ≡ initial State.BITS)) }
 {
     let words = compressed_words_of_pairs(encoder, symbols, models)?;
     symbols_come_back::<M::Symbol>();

@@ -8,7 +8,7 @@ ghost use Rattle.constriction_base.specs.Models.{items_of};
 ghost use Rattle.constriction_base.specs.Steps.{IsSizes};
 ghost use Rattle.constriction_coder_laws.specs.Outcomes.{HasImpossible};
 ghost use Rattle.constriction_queue.specs.Encoder.{left_to_encode, run_by};
-ghost use Rattle.constriction_queue.specs.Range.{Run, start};
+ghost use Rattle.constriction_queue.specs.Range.{Run, initial};
 ghost use Rattle.constriction_queue_laws.specs.Outcomes.{HoldNone, NoneSealed, NotBack, NotCoded};
 ghost use Rattle.constriction_queue_laws.specs.Outcomes.{NotRead, ReadsToEnd, ReadsAllSealed, SealsAll};
 ghost use Rattle.constriction_queue.specs.Symbols.{FindsAll};
@@ -87,10 +87,10 @@ where
         (items_of record { precision = PRECISION; table = M.table model.now } back.0.items) back.1) }
     ensures back { (symbols : List M.Symbol) (last : Run) →
         FindsAll Word.BITS State.BITS (map Word.number (Words.words words))
-        (items_of record { precision = PRECISION; table = M.table model.now } symbols) (start State.BITS) last →
+        (items_of record { precision = PRECISION; table = M.table model.now } symbols) (initial State.BITS) last →
         length symbols ≡ amt → IfOk result (λ back. back.0.items ≡ symbols) }
     ensures err { IfErr result (NotRead (HoldNone Word.BITS State.BITS (map Word.number (Words.words words))
-        (items_of record { precision = PRECISION; table = M.table model.now }) amt (start State.BITS))) }
+        (items_of record { precision = PRECISION; table = M.table model.now }) amt (initial State.BITS))) }
 {
     let Ok(mut decoder) = RangeDecoder::<Word, State, Words::IntoReadWords>::from_compressed(words)
     else {
@@ -127,7 +127,7 @@ where
     Backend::WriteError: Drop,
     Backend::IntoReadWords: BoundedReadWords<Word, Queue>,
     <Backend::IntoReadWords as ReadWords<Word, Queue>>::ReadError: Drop,
-    ensures back { run_by Word.BITS State.BITS encoder ≡ start State.BITS →
+    ensures back { run_by Word.BITS State.BITS encoder ≡ initial State.BITS →
         IfOk result (λ back. (back.0.items ≡ symbols.now) × IsTrue back.1) }
     ensures read { IfOk result (λ back. ReadsAllSealed Word.BITS State.BITS
         (items_of record { precision = PRECISION; table = M.table model.now })
@@ -137,7 +137,7 @@ where
         (run_by Word.BITS State.BITS encoder) symbols.now) }
     ensures err { IfErr result (NotBack (HasImpossible (M.table model.now) symbols.now)
         (left_to_encode encoder < length symbols.now)
-        (run_by Word.BITS State.BITS encoder ≡ start State.BITS)) }
+        (run_by Word.BITS State.BITS encoder ≡ initial State.BITS)) }
 {
     let words = compressed_words_of_list(encoder, symbols, model)?;
     symbols_come_back::<M::Symbol>();

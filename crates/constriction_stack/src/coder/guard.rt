@@ -97,6 +97,7 @@ where
 {
     /// Writes the head's words onto the backend, and keeps the head. Returns how many they are.
     fn put_compressed(&mut self) -> Result<usize, Backend::WriteError>
+        ensures coder { IsCoder Word.number Backend.Holds Word.BITS State.BITS self.old }
         ensures shows { OnOk result (ShowsExported Word.BITS self.old.state self.new.state) }
         ensures back { IfOk result (λ count. without count self.new.state ≡ self.old.state) }
         ensures err { IfErr result
@@ -115,6 +116,7 @@ where
     /// Writes the head's words below its leading 1 onto the backend, and keeps the head. Returns
     /// how many they are.
     fn put_binary(&mut self) -> Result<usize, CoderError<(), Backend::WriteError>>
+        ensures coder { IsCoder Word.number Backend.Holds Word.BITS State.BITS self.old }
         ensures shows { OnOk result (ShowsBinary Word.BITS self.old.state self.new.state) }
         ensures back { IfOk result (λ count. without count self.new.state ≡ self.old.state) }
         ensures frontend { (result ≡ Err (coder_error.Frontend tt))
@@ -166,6 +168,7 @@ where
         &mut self,
     ) -> Result<CoderGuard<'_, Word, State, Backend, 0>, Backend::WriteError>
         ensures same_reference { IfOk result (λ g. (lender g).ghost_name ≡ self.entry.ghost_name) }
+        ensures coder { IsCoder Word.number Backend.Holds Word.BITS State.BITS self.old }
         ensures shows { IfOk result (λ g. ShowsExported Word.BITS self.old.state (lender g).now.state) }
         ensures back { IfOk result (λ g. without (written g) (lender g).now.state ≡ self.old.state) }
         ensures err { IfErr result
@@ -197,6 +200,7 @@ where
         &mut self,
     ) -> Result<CoderGuard<'_, Word, State, Backend, 1>, CoderError<(), Backend::WriteError>>
         ensures same_reference { IfOk result (λ g. (lender g).ghost_name ≡ self.entry.ghost_name) }
+        ensures coder { IsCoder Word.number Backend.Holds Word.BITS State.BITS self.old }
         ensures shows { IfOk result (λ g. ShowsBinary Word.BITS self.old.state (lender g).now.state) }
         ensures back { IfOk result (λ g. without (written g) (lender g).now.state ≡ self.old.state) }
         ensures frontend { (result ≡ Err (coder_error.Frontend tt))

@@ -50,7 +50,7 @@ impl<Word: WordOf<State>, State: BitArray, Backend: ReadWords<Word, Stack>> AnsC
         requires { IsSizes Word.BITS State.BITS }
         ensures ok { Backend.is_list → IfOk result (λ new.
             new.state ≡ filled Word.BITS State.BITS 0 (map Word.number (Backend.words bulk))) }
-        ensures high { Backend.is_list → OnOk result (BeginsHigh (map Word.number (Backend.words bulk))) }
+        ensures some { Backend.is_list → OnOk result (BeginsHigh (map Word.number (Backend.words bulk))) }
         ensures coder { IfOk result (λ new. IsCoder Word.number Backend.Holds Word.BITS State.BITS new) }
         ensures reads { IfOk result (λ new.
             FilledBy Word.number Backend.reads Word.BITS State.BITS bulk new.state.head new.backend) }
@@ -103,7 +103,7 @@ impl<Word: WordOf<State>, State: BitArray, Backend: WriteWords<Word>> AnsCoder<
         Backend: Drop,
         ensures ok { IfOk result (λ all.
             map Word.number (Backend.words all) ≡ exported Word.BITS self.state) }
-        ensures empty { self.state.head ≡ 0 → result ≡ Ok self.backend }
+        ensures untouched { self.state.head ≡ 0 → result ≡ Ok self.backend }
         ensures err { IfErr result (ExportNotWritten Word.number Backend.Holds Backend.WriteWords.own Word.BITS self) }
         ensures coder { IsCoder Word.number Backend.Holds Word.BITS State.BITS self }
     {
@@ -190,7 +190,7 @@ impl<Word: WordOf<State>, State: BitArray, Backend: WriteWords<Word>> AnsCoder<
         Backend: Drop,
         ensures ok { IfOk result (λ all. (m : ℕ) × IsOneAbove Word.BITS m self.state.head
             × (map Word.number (Backend.words all) ≡ binary_words Word.BITS m self.state)) }
-        ensures empty { self.state.head ≡ 1 → result ≡ Ok self.backend }
+        ensures untouched { self.state.head ≡ 1 → result ≡ Ok self.backend }
         ensures variant { (result ≡ Err None) ↔ ((m : ℕ) → IsOneAbove Word.BITS m self.state.head → ⊥) }
         ensures err { (e : Backend.WriteError) → result ≡ Err (Some e) →
             BinaryExportNotWritten Word.number Backend.Holds Backend.WriteWords.own Word.BITS self e }

@@ -1,10 +1,11 @@
 -- The tree's codewords beside those of any codebook, whatever its symbols are.
-use Rattle.std.proofs.Common.{Option, suc, zero, ◌≡◌, ◌+◌, ◌*◌, ◌%◌, ◌^◌, ◌≤◌, Fits, w64, ℕ, Bool, List, [], ◌∷◌, ap, ap₂, sym, subst, refl, ◌∙◌, arith, inl, inr, length, map, ◌++◌, ◌<◌, get_or, Some}
+use Rattle.std.proofs.Common.{Option, suc, zero, ◌≡◌, ◌+◌, ◌*◌, ◌%◌, ◌^◌, ◌≤◌, Fits, w64, ℕ, Bool, List, [], ◌∷◌, ap, sym, subst, refl, ◌∙◌, arith, inl, inr, length, map, ◌++◌, ◌<◌, get_or, Some}
 use Rattle.std.proofs.lemmas.Bool.{cases_order}
 use Rattle.constriction_symbol.specs.Huffman.{huffman, symbols_from}
 use Rattle.constriction_symbol_laws.specs.Cost.{AreApart, AreCodewordsOf, AreLawful, Costs, HaveCodewords, cost}
 use Rattle.constriction_symbol_laws.specs.Lists.{AreEach}
 use Rattle.constriction_symbol_laws.proofs.least_cost.Least.{least, own_codewords}
+use Rattle.constriction_base.proofs.WordLists.{own_remainders}
 
 -- what holds of the items at each place
 each_at : {A B : Type 0} (R : A → B → Type 0) (xs : List A) (ys : List B) (d : A) (e : B) → AreEach R xs ys → (k : ℕ) → k < length ys → R (get_or xs k d) (get_or ys k e)
@@ -125,8 +126,4 @@ same_cost {S} f g same symbols weights total all = (all.0, all.1, each symbols a
 
 -- weights of 64 bits are their own numbers
 pub own_numbers : (weights : List ℕ) → ((i : ℕ) → Fits w64 (get_or weights i 0)) → map (λ x. x % 2 ^ 64) weights ≡ weights
-own_numbers [] fits = refl
-own_numbers (weight ∷ weights) fits = ap₂ (λ w ws. w ∷ ws) (first weight (fits 0)) (own_numbers weights (λ i. fits (suc i)))
-  where
-    first : (weight : ℕ) → Fits w64 weight → weight % 2 ^ 64 ≡ weight
-    first weight fits = omega (arith, fits)
+own_numbers weights fits = own_remainders 64 weights (λ i. omega (arith, fits i))

@@ -4,7 +4,7 @@ use Rattle.std.proofs.lemmas.Bool.{cond_both, cases_eq}
 use Rattle.std.proofs.lemmas.Bool.Decides.{eqb_tells}
 use Rattle.std.proofs.lemmas.List.{length_push}
 use Rattle.std.proofs.lemmas.List.Sums.{sum_by-cons}
-use Rattle.constriction_symbol.specs.Huffman.{Tree, Weighed, comes_before, put_in, leaves_from, united, merged, path, leaves, times}
+use Rattle.constriction_symbol.specs.Huffman.{Tree, Weighed, comes_before, put_in, leaves_from, united, merged, path, leaves, occurrences}
 use Rattle.constriction_symbol.specs.Huffman.Tree.{Leaf, Node}
 use Rattle.constriction_symbol.proofs.HuffmanTrees.{path_none, path_some, times_node}
 use Rattle.constriction_symbol.proofs.HuffmanMerge.{sum_put}
@@ -23,10 +23,10 @@ bits_in (Some bits) = length bits
 
 -- what the symbols in a tree weigh
 abbrev pub weight_of : List ℕ → Tree → ℕ
-weight_of ws t = weighted 0 ws (λ s. times s (leaves t))
+weight_of ws t = weighted 0 ws (λ s. occurrences s (leaves t))
 
 weight_node_from : (s : ℕ) (ws : List ℕ) (lesser other : Tree)
-    → weighted s ws (λ s. times s (leaves (Node lesser other))) ≡ weighted s ws (λ s. times s (leaves lesser)) + weighted s ws (λ s. times s (leaves other))
+    → weighted s ws (λ s. occurrences s (leaves (Node lesser other))) ≡ weighted s ws (λ s. occurrences s (leaves lesser)) + weighted s ws (λ s. occurrences s (leaves other))
 weight_node_from s [] lesser other = refl
 weight_node_from s (w ∷ ws) lesser other = omega (arith, ap (λ n. w * n) (times_node s lesser other), weight_node_from (s + 1) ws lesser other)
 
@@ -38,19 +38,19 @@ abbrev pub depth : Tree → ℕ → ℕ
 depth t s = bits_in (path t s)
 
 -- it is one longer than in the child that has the symbol
-depth_node : (lesser other : Tree) (s : ℕ) → times s (leaves (Node lesser other)) ≤ 1 → depth (Node lesser other) s ≡ depth lesser s + depth other s + times s (leaves (Node lesser other))
+depth_node : (lesser other : Tree) (s : ℕ) → occurrences s (leaves (Node lesser other)) ≤ 1 → depth (Node lesser other) s ≡ depth lesser s + depth other s + occurrences s (leaves (Node lesser other))
 depth_node lesser other s once =
     let both = times_node s lesser other in
-    elim (cases_eq (times s (leaves lesser)) 0) [
-      | inl none ↦ elim (cases_eq (times s (leaves other)) 0) [
+    elim (cases_eq (occurrences s (leaves lesser)) 0) [
+      | inl none ↦ elim (cases_eq (occurrences s (leaves other)) 0) [
         | inl neither ↦ rw (path_none lesser s none, path_none other s neither) (omega (arith, both, none, neither))
         | inr some ↦ let found = path_some other s (omega (arith, some)) in rw (path_none lesser s none, found.1) (omega (arith, both, none, some, once))
       ]
       | inr some ↦ let found = path_some lesser s (omega (arith, some)) in rw (found.1, path_none other s (omega (arith, both, some, once))) (omega (arith, both, some, once))
     ]
 
-depths_node_from : (s : ℕ) (ws : List ℕ) (lesser other : Tree) → ((s : ℕ) → times s (leaves (Node lesser other)) ≤ 1)
-    → weighted s ws (depth (Node lesser other)) ≡ weighted s ws (depth lesser) + weighted s ws (depth other) + weighted s ws (λ s. times s (leaves (Node lesser other)))
+depths_node_from : (s : ℕ) (ws : List ℕ) (lesser other : Tree) → ((s : ℕ) → occurrences s (leaves (Node lesser other)) ≤ 1)
+    → weighted s ws (depth (Node lesser other)) ≡ weighted s ws (depth lesser) + weighted s ws (depth other) + weighted s ws (λ s. occurrences s (leaves (Node lesser other)))
 depths_node_from s [] lesser other once = refl
 depths_node_from s (w ∷ ws) lesser other once = omega (arith, ap (λ n. w * n) (depth_node lesser other s (once s)), depths_node_from (s + 1) ws lesser other once)
 
@@ -65,7 +65,7 @@ abbrev pub tree_cost : List ℕ → Tree → ℕ
 tree_cost ws (Leaf s) = 0
 tree_cost ws (Node lesser other) = tree_cost ws lesser + tree_cost ws other + weight_of ws (Node lesser other)
 
-pub depths_cost : (ws : List ℕ) (t : Tree) → ((s : ℕ) → times s (leaves t) ≤ 1) → weighted 0 ws (depth t) ≡ tree_cost ws t
+pub depths_cost : (ws : List ℕ) (t : Tree) → ((s : ℕ) → occurrences s (leaves t) ≤ 1) → weighted 0 ws (depth t) ≡ tree_cost ws t
 depths_cost ws (Leaf s) once = depths_leaf 0 ws s
 depths_cost ws (Node lesser other) once =
     let first = depths_cost ws lesser (λ s. omega (arith, once s, times_node s lesser other)) in
@@ -107,28 +107,28 @@ weighted_append s (w ∷ front) back f = omega (arith, weighted_append (s + 1) f
     same : (s n : ℕ) → s + 1 + n ≡ s + suc n
     same s n = omega arith
 
-times_leaf_other : (s u : ℕ) → (u ≡ s → ⊥) → times s (leaves (Leaf u)) ≡ 0
+times_leaf_other : (s u : ℕ) → (u ≡ s → ⊥) → occurrences s (leaves (Leaf u)) ≡ 0
 times_leaf_other s u differs = elim (eqb_tells u s) [ inl same ↦ absurd (differs same.1) | inr other ↦ rw other.0 refl ]
 
-times_leaf_same : (s : ℕ) → times s (leaves (Leaf s)) ≡ 1
+times_leaf_same : (s : ℕ) → occurrences s (leaves (Leaf s)) ≡ 1
 times_leaf_same s = elim (eqb_tells s s) [ inl same ↦ rw same.0 refl | inr other ↦ absurd (other.1 refl) ]
 
-leaf_before : (s : ℕ) (ws : List ℕ) (u : ℕ) → u < s → weighted s ws (λ s. times s (leaves (Leaf u))) ≡ 0
+leaf_before : (s : ℕ) (ws : List ℕ) (u : ℕ) → u < s → weighted s ws (λ s. occurrences s (leaves (Leaf u))) ≡ 0
 leaf_before s [] u low = refl
 leaf_before s (w ∷ ws) u low = omega (arith, ap (λ n. w * n) (times_leaf_other s u (omega (arith, low))), leaf_before (s + 1) ws u (omega (arith, low)))
 
-leaf_past : (s : ℕ) (ws : List ℕ) (u : ℕ) → s + length ws ≤ u → weighted s ws (λ s. times s (leaves (Leaf u))) ≡ 0
+leaf_past : (s : ℕ) (ws : List ℕ) (u : ℕ) → s + length ws ≤ u → weighted s ws (λ s. occurrences s (leaves (Leaf u))) ≡ 0
 leaf_past s [] u high = refl
 leaf_past s (w ∷ ws) u high = omega (arith, ap (λ n. w * n) (times_leaf_other s u (omega (arith, high))), leaf_past (s + 1) ws u (omega (arith, high)))
 
-leaf_first : (u w : ℕ) (back : List ℕ) → weighted u (w ∷ back) (λ s. times s (leaves (Leaf u))) ≡ w
+leaf_first : (u w : ℕ) (back : List ℕ) → weighted u (w ∷ back) (λ s. occurrences s (leaves (Leaf u))) ≡ w
 leaf_first u w back = omega (arith, ap (λ n. w * n) (times_leaf_same u), leaf_before (u + 1) back u (omega arith))
 
 -- a leaf weighs as its symbol does
 leaf_weight : (front : List ℕ) (w : ℕ) (back : List ℕ) → weight_of (front ++ w ∷ back) (Leaf (length front)) ≡ w
 leaf_weight front w back =
     let u = length front in
-    let f : ℕ → ℕ = λ s. times s (leaves (Leaf u)) in
+    let f : ℕ → ℕ = λ s. occurrences s (leaves (Leaf u)) in
     omega (arith, weighted_append 0 front (w ∷ back) f, leaf_past 0 front u (omega arith), ap (λ s. weighted s (w ∷ back) f) (none u), leaf_first u w back)
   where
     none : (u : ℕ) → 0 + u ≡ u

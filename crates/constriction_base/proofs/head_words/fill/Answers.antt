@@ -1,9 +1,13 @@
-use Rattle.std.proofs.Common.{arith, ◌∙◌, refl, sym}
+use Rattle.std.proofs.Common.{arith, ◌∙◌, refl, sym, ◌≡◌, ℕ, ◌/◌, ◌^◌, ◌≤◌, ap}
 use Rattle.std.proofs.lemmas.Bool.{false≢true}
 use Rattle.constriction_base.proofs.Exporting.{word_grows}
-use Rattle.constriction_base.proofs.Heads.{large_of_shr}
+use Rattle.constriction_base.proofs.Heads.{large_of_shr, small_of_shr}
 use Rattle.constriction_base.proofs.MovingIn.{moves_more, room_below}
 use Rattle.constriction_base.proofs.head_words.fill.Goals as goal
+
+-- where a shift of a head leaves nothing, it isn't one that came far enough
+not_far : {H : Type 0} (number : H → ℕ) (full head : H) (bits : ℕ) → 2 ^ bits ≤ number head → full ≡ head → number full / 2 ^ bits ≡ 0 → ⊥
+not_far number full head bits far same none = omega (arith, far, ap number same, small_of_shr (number full) bits none)
 
 pub shifted_left-requires-clause-fits : goal.shifted_left-requires-clause-fits
 shifted_left-requires-clause-fits g c =
@@ -38,6 +42,7 @@ words-preserved g c =
     record {
       some = rw sum (omega (arith, grows));
       below = λ small. rw sum room.0;
+      untouched = λ already. absurd (not_far g.State.BitArray.number _ _ c.args.bits already (c.words.invariant.untouched already).0 none);
       moved = moves_more g.Word.BitArray.number g.Backend.Holds g.Backend.ReadWords w (g.State.BitArray.number c.args.head) n (g.State.BitArray.number c.plus-full.result) c.args.bulk.now c.words.bulk c.read.new.self word c.words.invariant.moved reads top sum;
     }
 
@@ -45,3 +50,11 @@ pub returns-clause-moves : goal.returns-clause-moves
 returns-clause-moves g c =
     let full = large_of_shr _ _ (λ e. false≢true (c.words-test.ensures.1 (c.shifted_right.ensures ∙ e))) in
     (c.words.invariant.moved, full)
+
+pub returns-in-Ok-None-clause-untouched : goal.returns-in-Ok-None-clause-untouched
+returns-in-Ok-None-clause-untouched g c = λ already.
+    absurd (not_far g.State.BitArray.number _ _ c.args.bits already (c.words.invariant.untouched already).0 (sym c.shifted_right.ensures ∙ c.words-test.ensures.0 refl))
+
+pub returns-in-Err-clause-untouched : goal.returns-in-Err-clause-untouched
+returns-in-Err-clause-untouched g c = λ already.
+    absurd (not_far g.State.BitArray.number _ _ c.args.bits already (c.words.invariant.untouched already).0 (sym c.shifted_right.ensures ∙ c.words-test.ensures.0 refl))

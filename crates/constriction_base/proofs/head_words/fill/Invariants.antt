@@ -1,4 +1,4 @@
-use Rattle.std.specs.Prelude.{◌+◌, ◌-◌, ◌^◌, ◌<◌}
+use Rattle.std.specs.Prelude.{◌+◌, ◌-◌, ◌^◌, ◌<◌, ◌≡◌, ◌≤◌}
 use Rattle.constriction_base.specs.Readings.{MovesIn}
 use Rattle.constriction_base.proofs.head_words.fill.Given as goal
 
@@ -9,6 +9,7 @@ invariant-words g l =
     record {
       some : 0 < n;
       below : g.State.BitArray.number l.fn.head < 2 ^ (l.bits + w) → n < 2 ^ (l.bits + w);
+      untouched : 2 ^ l.bits ≤ g.State.BitArray.number l.fn.head → (l.full ≡ l.fn.head) × (l.bulk ≡ l.initial.bulk);
       moved : MovesIn g.Word.BitArray.number g.Backend.Holds g.Backend.ReadWords w (g.State.BitArray.number l.fn.head) l.initial.bulk n l.bulk;
     }
 

@@ -11,8 +11,8 @@ returns-then-bits-BITS-ne0-clause-none g c = λ m i.
     let w = g.Word.BitArray.BITS in
     c.if-bits-BITS-ne0.true (rw c.BITS.ensures (whole_of_ones w m c.bit_length-bits.result _ c.requires.some_bits c.bit_length-bits.ensures.below c.bit_length-bits.ensures.least i))
 
-pub returns-clause-some : goal.returns-clause-some
-returns-clause-some g c =
+pub returns-clause-value : goal.returns-clause-value
+returns-clause-value g c =
     let r = g.State.BitArray.number c.args.head in
     let below = c.bit_length-bits.ensures.below in
     let some = some_bits c.bit_length-bits.result r (some_of r c.if-is_nothing.ensures.1) below in

@@ -9,7 +9,7 @@ returns-clause-ok g c =
     let parts = c.parts-h.ensures in
     let before = coder_of _ _ _ number law g.C.Holds g.R.Holds _ _ c.args.compressed.now c.args.remainders.now parts.sized parts.some (law _) parts.window in
     told_ok _ _ c.take_quantile.result (λ found taken. took_of number g.C.Holds g.C.ReadWords g.R.Holds g.R.WriteWords _ _ _ _ _ _ _ _ _ _ _ before taken)
-    (rw parts.is at c.take_quantile.ensures.ok)
+    (rw parts.parts at c.take_quantile.ensures.ok)
 
 pub returns-clause-err : goal.returns-clause-err
 returns-clause-err g c =
@@ -20,4 +20,4 @@ returns-clause-err g c =
     let after = coder_of _ _ _ number law g.C.Holds g.R.Holds _ _ c.take_quantile.new.compressed c.take_quantile.new.remainders parts.sized parts.some (law _) parts.window in
     told_err _ _ c.take_quantile.result
     (λ e halts others kept room. halted_of number g.C.Holds g.C.ReadWords g.R.Holds g.R.WriteWords _ _ _ _ _ _ _ _ _ e before after halts others kept room)
-    (rw parts.is at c.take_quantile.ensures.err) c.take_quantile.ensures.others c.take_quantile.ensures.kept c.take_quantile.ensures.room
+    (rw parts.parts at c.take_quantile.ensures.err) c.take_quantile.ensures.others c.take_quantile.ensures.kept c.take_quantile.ensures.room

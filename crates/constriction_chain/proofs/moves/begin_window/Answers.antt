@@ -19,8 +19,8 @@ returns-then-is_nothing-clause-none g c =
     let top = rw c.in-Ok-Some.field-0-is at c.in-Ok-Some.ensures.words in
     inl (c.in-Ok-Some.word, c.if-is_nothing.ensures.0 refl, (reads, top))
 
-pub returns-then-full-clause-some : goal.returns-then-full-clause-some
-returns-then-full-clause-some g c =
+pub returns-then-full-clause-ok : goal.returns-then-full-clause-ok
+returns-then-full-clause-ok g c =
     let w = g.Word.BitArray.BITS in
     let reads = rw c.in-Ok-Some.field-0-is at c.in-Ok-Some.ensures.reads in
     let top = rw c.in-Ok-Some.field-0-is at c.in-Ok-Some.ensures.words in

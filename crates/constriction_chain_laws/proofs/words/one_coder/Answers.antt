@@ -1,5 +1,6 @@
 use Rattle.constriction_chain_laws.proofs.ComingBack.{one_compressed, one_remainders}
-use Rattle.constriction_chain_laws.proofs.OneBinary.{one_binary, one_form}
+use Rattle.constriction_chain_laws.proofs.OneBinary.{one_binary}
+use Rattle.constriction_base.proofs.OneAbove.{one_count}
 use Rattle.constriction_chain_laws.proofs.words.one_coder.Goals as goal
 
 pub returns-clause-compressed : goal.returns-clause-compressed
@@ -12,4 +13,4 @@ pub returns-clause-remainders : goal.returns-clause-remainders
 returns-clause-remainders c = λ w s P words x y. one_remainders w s P words x y
 
 pub returns-clause-form : goal.returns-clause-form
-returns-clause-form c = λ w m n r. one_form w m n r
+returns-clause-form c = λ w m n r. one_count w m n r

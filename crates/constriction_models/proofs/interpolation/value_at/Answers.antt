@@ -1,5 +1,5 @@
 use Rattle.std.proofs.Common.{ℕ, ◌+◌, ◌-◌, ◌/◌, ◌%◌, ◌<◌, refl, slice_index, arith}
-use Rattle.constriction_models.specs.Interpolation.{value_at, between}
+use Rattle.constriction_models.specs.Interpolation.{value_at, interpolated}
 use Rattle.constriction_models.specs.laws.Interpolating.{values_around, part_fits}
 use Rattle.constriction_models.proofs.interpolation.value_at.Goals as goal
 
@@ -17,5 +17,5 @@ overflow_mul-result c =
     omega (arith, part_fits long part (omega (arith, around.2)) small)
 
 pub returns : goal.returns
-unfolding value_at between
+unfolding value_at interpolated
 returns c = refl

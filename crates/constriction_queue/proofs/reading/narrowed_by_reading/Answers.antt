@@ -6,8 +6,8 @@ use Rattle.constriction_queue.proofs.Pointing.{at_cut, part_fits, scale_some}
 use Rattle.constriction_queue.proofs.Distances.{part_below, part_from, point_stays}
 use Rattle.constriction_queue.proofs.reading.narrowed_by_reading.Goals as goal
 
-pub refilled-requires-clause-wide : goal.refilled-requires-clause-wide
-refilled-requires-clause-wide g c =
+pub grown_by_reading-requires-clause-wide : goal.grown_by_reading-requires-clause-wide
+grown_by_reading-requires-clause-wide g c =
     rw (c.times-part.ensures, c.shifted_right-scale.ensures)
     (cut_wide _ _ _ _ _ c.requires.step.within_word c.requires.sizes.two_words c.requires.step.not_empty c.requires.wide)
 
@@ -52,8 +52,8 @@ times-part-requires g c = part_fits _ _ _ _ _ _ c.shifted_right-scale.ensures c.
 pub times-before-requires : goal.times-before-requires
 times-before-requires g c = before_fits _ _ _ _ _ _ c.shifted_right-scale.ensures c.requires.step.inside (g.met.State.BitArray.number_law _)
 
-pub refilled-requires-clause-sized : goal.refilled-requires-clause-sized
-refilled-requires-clause-sized g c = c.requires.sizes.two_words
+pub grown_by_reading-requires-clause-sized : goal.grown_by_reading-requires-clause-sized
+grown_by_reading-requires-clause-sized g c = c.requires.sizes.two_words
 
 pub returns-in-Ok-clause-wide : goal.returns-in-Ok-clause-wide
 returns-in-Ok-clause-wide g c = c.in-Ok.ensures.wide
@@ -69,7 +69,7 @@ minus-requires g c =
     let some = scale_some g.Word.BitArray.BITS g.State.BitArray.BITS c.args.precision _ c.requires.step.within_word c.requires.sizes.two_words c.requires.wide in
     rw (c.times-before.ensures, c.shifted_right-scale.ensures) (part_from (g.State.BitArray.number c.args.distance) _ (g.State.BitArray.number c.args.left) some c.requires.above)
 
-pub refilled-requires-clause-below : goal.refilled-requires-clause-below
-refilled-requires-clause-below g c =
+pub grown_by_reading-requires-clause-below : goal.grown_by_reading-requires-clause-below
+grown_by_reading-requires-clause-below g c =
     let some = scale_some g.Word.BitArray.BITS g.State.BitArray.BITS c.args.precision _ c.requires.step.within_word c.requires.sizes.two_words c.requires.wide in
     rw (c.minus.ensures, c.times-before.ensures, c.times-part.ensures, c.shifted_right-scale.ensures) (part_below (g.State.BitArray.number c.args.distance) _ (g.State.BitArray.number c.args.left) (g.State.BitArray.number c.args.p) some c.requires.above c.requires.below)

@@ -3,7 +3,7 @@ use Rattle.std.proofs.lemmas.List.{map-append}
 use Rattle.constriction_base.specs.Models.{pairs_of}
 use Rattle.constriction_coder_laws.proofs.PairCalls.{are_pairs}
 use Rattle.constriction_coder_laws.specs.Outcomes.{HasImpossibleItem}
-use Rattle.constriction_queue.specs.Range.{Run, start}
+use Rattle.constriction_queue.specs.Range.{Run, initial}
 use Rattle.constriction_queue.proofs.Seals.{words_of_numbers}
 use Rattle.constriction_queue_laws.specs.Outcomes.{HoldNone}
 use Rattle.constriction_queue.specs.Symbols.{FindsAll}
@@ -32,7 +32,7 @@ returns-clause-back g c =
     let last : Run = delimits.0 in
     let all : map number c.as_slice.result.now ≡ own ++ rest =
     ap (λ ws. map number ws) (c.as_slice.ensures.value ∙ c.in-Ok.ensures.items) ∙ map-append number c.in_ok-words.words.items c.args.others.now in
-    let found : FindsAll w s (map number c.as_slice.result.now) items (start s) last = rw all (c.symbols_come_back_whatever_follows.ensures w s [] items (start s) last own rest
+    let found : FindsAll w s (map number c.as_slice.result.now) items (initial s) last = rw all (c.symbols_come_back_whatever_follows.ensures w s [] items (initial s) last own rest
     c.requires.sizes tt models (words_of_numbers number w g.met.Word.BitArray.number_law c.args.others.now) refl delimits.1 delimits.2) in
     c.in_ok-again.ensures.back symbols last found c.requires.count
 
@@ -52,9 +52,9 @@ returns-in_err-again-clause-err g c =
     let last : Run = delimits.0 in
     let all : map number c.as_slice.result.now ≡ own ++ rest =
     ap (λ ws. map number ws) (c.as_slice.ensures.value ∙ c.in-Ok.ensures.items) ∙ map-append number c.in_ok-words.words.items c.args.others.now in
-    let found : FindsAll w s (map number c.as_slice.result.now) items (start s) last = rw all (c.symbols_come_back_whatever_follows.ensures w s [] items (start s) last own rest
+    let found : FindsAll w s (map number c.as_slice.result.now) items (initial s) last = rw all (c.symbols_come_back_whatever_follows.ensures w s [] items (initial s) last own rest
     c.requires.sizes tt models (words_of_numbers number w g.met.Word.BitArray.number_law c.args.others.now) refl delimits.1 delimits.2) in
-    let none_held : Type 0 = HoldNone w s (map number c.as_slice.result.now) (λ xs. pairs_of g.row.PRECISION table xs c.args.models.now) (length c.args.models.now) (start s) in
+    let none_held : Type 0 = HoldNone w s (map number c.as_slice.result.now) (λ xs. pairs_of g.row.PRECISION table xs c.args.models.now) (length c.args.models.now) (initial s) in
     passed _ c.in_err-again.field-0.0 _ c.from_residual-in_err-again.ensures.1
     (while_reading ⊥ (HasImpossibleItem (pairs_of g.row.PRECISION g.M.EntropyModel.table c.args.symbols.now c.args.models.now)) (2 ^ 64 - 18 < length symbols) none_held c.in_err-again.field-0.0 c.in_err-again.ensures.err
     (λ none. none symbols last c.requires.count found))

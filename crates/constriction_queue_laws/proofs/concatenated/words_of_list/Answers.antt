@@ -3,7 +3,7 @@ use Rattle.std.specs.Prelude.{reverse}
 use Rattle.std.proofs.lemmas.List.{reverse-reverse}
 use Rattle.constriction_base.specs.Models.{Model, items_of}
 use Rattle.constriction_queue.specs.Encoder.{left_to_encode, run_by}
-use Rattle.constriction_queue.specs.Range.{Run, start}
+use Rattle.constriction_queue.specs.Range.{Run, initial}
 use Rattle.constriction_queue.specs.SelfDelimiting.{SelfDelimits}
 use Rattle.constriction_queue.proofs.Showing.{queue_is}
 use Rattle.constriction_queue.specs.Symbols.{NarrowsAll}
@@ -19,7 +19,7 @@ returns-in-Ok-clause-words g c =
     let model : Model g.row.M-Symbol.Denot = record { precision = g.row.PRECISION; table = g.M.EntropyModel.table c.args.model.now } in
     let items = items_of model c.args.symbols.now in
     let last : Run = run_by w s c.encode_list.new.encoder in
-    let coded : NarrowsAll w s items (start s) last = subst (λ r. NarrowsAll w s items r last) c.new-encoder.ensures.run c.in_ok-encode_list.ensures.narrowed in
+    let coded : NarrowsAll w s items (initial s) last = subst (λ r. NarrowsAll w s items r last) c.new-encoder.ensures.run c.in_ok-encode_list.ensures.narrowed in
     let own = c.in-Ok.words.items in
     let turned : reverse (map number (reverse own)) ≡ map number own = sym (queue_is number (reverse own) (sym (reverse-reverse own)) refl) in
     (last, coded, subst (λ ws. SelfDelimits w s last ws) turned c.in-Ok.ensures.ok)

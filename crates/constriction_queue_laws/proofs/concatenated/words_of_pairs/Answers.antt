@@ -3,7 +3,7 @@ use Rattle.std.specs.Prelude.{reverse}
 use Rattle.std.proofs.lemmas.List.{reverse-reverse}
 use Rattle.constriction_base.specs.Models.{pairs_of}
 use Rattle.constriction_queue.specs.Encoder.{left_to_encode, run_by}
-use Rattle.constriction_queue.specs.Range.{Run, start}
+use Rattle.constriction_queue.specs.Range.{Run, initial}
 use Rattle.constriction_queue.specs.SelfDelimiting.{SelfDelimits}
 use Rattle.constriction_queue.proofs.Showing.{queue_is}
 use Rattle.constriction_queue.specs.Symbols.{NarrowsAll}
@@ -18,7 +18,7 @@ returns-in-Ok-clause-words g c =
     let number = g.Word.BitArray.number in
     let items = pairs_of g.row.PRECISION g.M.EntropyModel.table c.args.symbols.now c.args.models.now in
     let last : Run = run_by w s c.encode_pairs.new.encoder in
-    let coded : NarrowsAll w s items (start s) last = subst (λ r. NarrowsAll w s items r last) c.new-encoder.ensures.run c.in_ok-encode_pairs.ensures.narrowed in
+    let coded : NarrowsAll w s items (initial s) last = subst (λ r. NarrowsAll w s items r last) c.new-encoder.ensures.run c.in_ok-encode_pairs.ensures.narrowed in
     let own = c.in-Ok.words.items in
     let turned : reverse (map number (reverse own)) ≡ map number own = sym (queue_is number (reverse own) (sym (reverse-reverse own)) refl) in
     (last, coded, subst (λ ws. SelfDelimits w s last ws) turned c.in-Ok.ensures.ok)

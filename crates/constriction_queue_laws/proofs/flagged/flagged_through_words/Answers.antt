@@ -1,7 +1,7 @@
 use Rattle.std.proofs.Common.{ℕ, List, [], append-nil, map, refl, arith}
 use Rattle.constriction_base.specs.Models.{Model, Item, IsModel}
 use Rattle.constriction_queue.specs.Flagged.{flagged}
-use Rattle.constriction_queue.specs.Range.{start}
+use Rattle.constriction_queue.specs.Range.{initial}
 use Rattle.constriction_queue.specs.Symbols.{FindsAll}
 use Rattle.constriction_queue_laws.proofs.flagged.flagged_through_words.Goals as goal
 
@@ -20,8 +20,8 @@ returns-in-Ok-decode_flagged-clause-back g c =
     let items : List (Item ℕ) = flagged flag first second symbols in
     let words : List ℕ = map g.Word.BitArray.number c.in-Ok.words.items in
     let delimits = c.in-Ok.ensures.words in
-    let found : FindsAll w s words items (start s) delimits.0 =
+    let found : FindsAll w s words items (initial s) delimits.0 =
     rw append-nil at (c.flagged_symbols_come_back.ensures w s flag first second symbols words [] delimits.0 c.requires m n tt delimits.1 delimits.2) in
     let decoded = rw c.new-switch.ensures at c.in-Ok-decode_flagged.ensures.decoded in
-    let read = decoded tt refl words (start s) (c.in-Ok-from_compressed.ensures.ok tt) in
-    (c.one_list_of_flagged_symbols.ensures w s flag first second words symbols c.in-Ok-decode_flagged.again.items (start s) delimits.0 read.0 m n c.in-Ok-decode_flagged.ensures.count found read.1).0
+    let read = decoded tt refl words (initial s) (c.in-Ok-from_compressed.ensures.ok tt) in
+    (c.one_list_of_flagged_symbols.ensures w s flag first second words symbols c.in-Ok-decode_flagged.again.items (initial s) delimits.0 read.0 m n c.in-Ok-decode_flagged.ensures.count found read.1).0

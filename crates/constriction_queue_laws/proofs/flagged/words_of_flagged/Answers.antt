@@ -4,7 +4,7 @@ use Rattle.std.proofs.lemmas.List.{reverse-reverse}
 use Rattle.constriction_base.specs.Models.{Model, Item}
 use Rattle.constriction_queue.specs.Encoder.{run_by}
 use Rattle.constriction_queue.specs.Flagged.{flagged}
-use Rattle.constriction_queue.specs.Range.{Run, start}
+use Rattle.constriction_queue.specs.Range.{Run, initial}
 use Rattle.constriction_queue.specs.SelfDelimiting.{SelfDelimits}
 use Rattle.constriction_queue.proofs.Showing.{queue_is}
 use Rattle.constriction_queue.specs.Symbols.{NarrowsAll}
@@ -27,7 +27,7 @@ returns-in-Ok-into_self_delimited-clause-words g c =
     let second : Model ℕ = record { precision = g.row.P2; table = g.M2.EntropyModel.table c.args.second.now } in
     let items : List (Item ℕ) = flagged c.args.flag first second c.args.symbols.now in
     let last : Run = run_by w s c.encode_flagged.new.encoder in
-    let coded : NarrowsAll w s items (start s) last = subst (λ r. NarrowsAll w s items r last) c.new-encoder.ensures.run (encodes_items _ _ _ w s items c.new-encoder.result c.encode_flagged.new.encoder c.in-Ok.ensures.steps) in
+    let coded : NarrowsAll w s items (initial s) last = subst (λ r. NarrowsAll w s items r last) c.new-encoder.ensures.run (encodes_items _ _ _ w s items c.new-encoder.result c.encode_flagged.new.encoder c.in-Ok.ensures.steps) in
     let written = c.in-Ok-into_self_delimited.words.items in
     let turned : reverse (map number (reverse written)) ≡ map number written = sym (queue_is number (reverse written) (sym (reverse-reverse written)) refl) in
     (last, coded, subst (λ ws. SelfDelimits w s last ws) turned c.in-Ok-into_self_delimited.ensures.ok)

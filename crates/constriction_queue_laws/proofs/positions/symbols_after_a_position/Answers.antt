@@ -1,4 +1,4 @@
-use Rattle.constriction_queue.specs.Range.{start, sealed}
+use Rattle.constriction_queue.specs.Range.{initial, sealed}
 use Rattle.constriction_queue.proofs.Narrowing.{valid_start}
 use Rattle.constriction_queue.proofs.Entries.{intervals}
 use Rattle.constriction_queue_laws.proofs.Reading.{read_behind}
@@ -7,13 +7,13 @@ use Rattle.constriction_queue.proofs.SealedRuns.{words-sealed}
 
 pub returns-clause-decoded : goal.returns-clause-decoded
 returns-clause-decoded g c = λ w s before since middle last z bs ss h k.
-    let v = intervals w s before (start s) middle z bs (valid_start w s z) h in
+    let v = intervals w s before (initial s) middle z bs (valid_start w s z) h in
     read_behind w s since middle last z ss v k
     (λ within. c.decodes_undo_encodes.ensures.back w s (sealed w s last) since middle last z (words-sealed w s last) ss v k within)
 
 pub returns-clause-only : goal.returns-clause-only
 returns-clause-only g c = λ w s before since others middle last end z bs ss h k read alike.
-    let v = intervals w s before (start s) middle z bs (valid_start w s z) h in
+    let v = intervals w s before (initial s) middle z bs (valid_start w s z) h in
     let decoded = read_behind w s since middle last z ss v k
     (λ within. c.decodes_undo_encodes.ensures.back w s (sealed w s last) since middle last z (words-sealed w s last) ss v k within) in
     c.decodes_undo_encodes.ensures.only w s (sealed w s last) since others middle last end ss decoded read alike

@@ -1,4 +1,4 @@
-use Rattle.constriction_stack.proofs.BinaryForms.{one_count}
+use Rattle.constriction_base.proofs.OneAbove.{one_count}
 use Rattle.constriction_stack_laws.proofs.binary.one_binary_form.Goals as goal
 
 pub returns : goal.returns

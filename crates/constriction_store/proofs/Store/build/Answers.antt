@@ -3,7 +3,7 @@ use Rattle.std.proofs.Common.{◌≡◌, ℕ, List, [], map, append-nil, refl, s
 use Rattle.std.proofs.lemmas.List.{length-map, reverse-reverse}
 use Rattle.constriction_base.specs.Models.{Model, IsModel}
 use Rattle.constriction_queue.specs.Encoder.{run_by}
-use Rattle.constriction_queue.specs.Range.{Run, start}
+use Rattle.constriction_queue.specs.Range.{Run, initial}
 use Rattle.constriction_queue.specs.SelfDelimiting.{SelfDelimits}
 use Rattle.constriction_queue.proofs.Showing.{queue_is}
 use Rattle.constriction_store.specs.Stores.{Indexes, entry_at}
@@ -49,7 +49,7 @@ returns-in-Ok-into_self_delimited-clause-chunks g c =
     let turned : reverse (map number (reverse items)) ≡ words = sym (queue_is number (reverse items) (sym (reverse-reverse items)) refl) in
     let are : SelfDelimits w s last words = subst (λ ws. SelfDelimits w s last ws) turned c.in-Ok-into_self_delimited.ensures.ok in
     let chunks : List (List ℕ) = lists_of c.args.chunks.now in
-    let indexed : Indexes w s model chunks (map entry_at c.in-Ok.index.items) (start s) last = subst (λ (r : Run). Indexes w s model chunks (map entry_at c.in-Ok.index.items) r last) c.new-encoder.ensures.run c.in-Ok.ensures.ok in
+    let indexed : Indexes w s model chunks (map entry_at c.in-Ok.index.items) (initial s) last = subst (λ (r : Run). Indexes w s model chunks (map entry_at c.in-Ok.index.items) r last) c.new-encoder.ensures.run c.in-Ok.ensures.ok in
     held_chunks w s model words c.requires lawful
     (λ before since middle last bs ss h k are. rw append-nil at (c.symbols_come_back_whatever_follows.ensures w s before since middle last words [] c.requires bs ss tt h k are))
     chunks (map entry_at c.in-Ok.index.items) last are indexed
@@ -61,6 +61,6 @@ returns-in-Err-into_self_delimited-clause-err g c =
     let model : Model ℕ = record { precision = g.row.PRECISION; table = g.M.EntropyModel.table c.args.model } in
     let last : Run = run_by w s c.encode_chunks.new.encoder in
     let chunks : List (List ℕ) = lists_of c.args.chunks.now in
-    let indexed : Indexes w s model chunks (map entry_at c.in-Ok.index.items) (start s) last = subst (λ (r : Run). Indexes w s model chunks (map entry_at c.in-Ok.index.items) r last) c.new-encoder.ensures.run c.in-Ok.ensures.ok in
+    let indexed : Indexes w s model chunks (map entry_at c.in-Ok.index.items) (initial s) last = subst (λ (r : Run). Indexes w s model chunks (map entry_at c.in-Ok.index.items) r last) c.new-encoder.ensures.run c.in-Ok.ensures.ok in
     let refused = c.in-Err-into_self_delimited.ensures.err in
     some_chunks w s model chunks (map entry_at c.in-Ok.index.items) last refused.owed _ _ indexed refused.is refused.not_written.0

@@ -4,10 +4,11 @@ use Rattle.constriction_base.specs.Models.{Model}
 use Rattle.constriction_base.specs.Steps.{Step}
 use Rattle.constriction_queue.specs.Calls.{DecodeCall}
 use Rattle.constriction_queue.specs.Decoder.{quantile_read}
-use Rattle.constriction_queue.specs.Range.{narrow}
+use Rattle.constriction_queue.specs.Range.{narrowed_by}
 use Rattle.constriction_queue.proofs.Pointing.{takes_is}
 use Rattle.constriction_stream.proofs.Outcomes.{decoded_by}
-use Rattle.constriction_store.proofs.Symbols.{found_more, only_invalid, quantile_is}
+use Rattle.constriction_store.proofs.Symbols.{found_more, quantile_is}
+use Rattle.constriction_queue.proofs.Decoders.{only_invalid}
 use Rattle.constriction_store.proofs.looking_up.decode_chunk.Goals as goal
 
 pub symbols-init : goal.symbols-init
@@ -26,9 +27,9 @@ returns-in-Err-clause-err g c = λ words there at.
     let one = decoded_by (DecodeCall _ _ _ w s) (λ _ _ _. ⊥) _ _ _ _ _ c.in-Ok.ensures.step in
     let e : Step = record { precision = g.row.PRECISION; left = one.0; p = one.1 } in
     let takes = takes_is w s g.row.PRECISION one.0 one.1 words here.0 d.lower d.range d.point (quantile_read s g.row.PRECISION d) d.words refl one.3.from one.3.below here.2 in
-    let more = found_more w s words model c.symbols.symbols.items c.in-Ok.symbol there here.0 (narrow w s e here.0) here.1 (one.0, one.1, one.2, (takes, refl)) in
+    let more = found_more w s words model c.symbols.symbols.items c.in-Ok.symbol there here.0 (narrowed_by w s e here.0) here.1 (one.0, one.1, one.2, (takes, refl)) in
     let count = length-append c.symbols.symbols.items (c.in-Ok.symbol ∷ []) in
-    (c.symbols.symbols.items ++ c.in-Ok.symbol ∷ [], narrow w s e here.0, more, omega (arith, count), omega (arith, count, c.symbols.invariant.count, c.symbols-test.true))
+    (c.symbols.symbols.items ++ c.in-Ok.symbol ∷ [], narrowed_by w s e here.0, more, omega (arith, count), omega (arith, count, c.symbols.invariant.count, c.symbols-test.true))
 
 pub returns-in-Err-Frontend-clause-err : goal.returns-in-Err-Frontend-clause-err
 returns-in-Err-Frontend-clause-err g c = λ words there at.
@@ -53,8 +54,8 @@ symbols-preserved g c =
       read = λ words there at.
           let here = c.symbols.invariant.read words there at in
           let takes = takes_is w s g.row.PRECISION one.0 one.1 words here.0 d.lower d.range d.point (quantile_read s g.row.PRECISION d) d.words refl one.3.from one.3.below here.2 in (
-            narrow w s e here.0,
-            rw items (found_more w s words model c.symbols.symbols.items c.in-Ok.symbol there here.0 (narrow w s e here.0) here.1 (one.0, one.1, one.2, (takes, refl))),
+            narrowed_by w s e here.0,
+            rw items (found_more w s words model c.symbols.symbols.items c.in-Ok.symbol there here.0 (narrowed_by w s e here.0) here.1 (one.0, one.1, one.2, (takes, refl))),
             one.3.read tt words here.0 here.2,
           );
     }

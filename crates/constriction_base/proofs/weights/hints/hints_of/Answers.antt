@@ -3,10 +3,11 @@ use Rattle.std.proofs.Math.Nat.{mod-eq_of_lt, mul-le-mul_right}
 use Rattle.std.proofs.Math.Pow.{pow_mono}
 use Rattle.std.proofs.lemmas.List.{length-map}
 use Rattle.constriction_base.specs.laws.Weights.{ends_at}
-use Rattle.constriction_base.specs.Hints.{AreHints, IsHint}
-use Rattle.constriction_base.proofs.HintLemmas.{hints_push, hint_of, none_above}
+use Rattle.constriction_base.specs.Hints.{IsHint}
+use Rattle.constriction_base.proofs.HintLemmas.{hints_push, hint_of, none_above, no_hints}
 use Rattle.constriction_base.proofs.Results.{none_made}
-use Rattle.std.proofs.Common.{List, sym}
+use Rattle.std.proofs.Common.{sym}
+use Rattle.constriction_base.proofs.Heads.{pow-split}
 use Rattle.constriction_base.proofs.weights.hints.hints_of.Goals as goal
 
 -- one, moved up to a place within the bits
@@ -18,13 +19,6 @@ one_below one shift bits is within =
 
 pub shifted_left-width-requires-clause-fits : goal.shifted_left-width-requires-clause-fits
 shifted_left-width-requires-clause-fits g c = one_below _ _ _ c.unit.ensures (omega (arith, c.requires.sized.1, c.requires.within.0))
-
--- so many buckets of this width are all that is cut
-all_buckets : (precision shift : ℕ) → shift ≤ precision → 2 ^ (precision - shift) * 2 ^ shift ≡ 2 ^ precision
-all_buckets precision shift within =
-    let exponent : precision ≡ (precision - shift) + shift = omega arith in
-    let split : 2 ^ precision ≡ 2 ^ (precision - shift) * 2 ^ shift = ap (λ (n : ℕ). 2 ^ n) exponent ∙ pow-add 2 (precision - shift) shift in
-    omega (arith, split)
 
 -- a bucket begins below the end of all
 bucket_below : (bucket count width all : ℕ) → bucket < count → 0 < width → count * width ≡ all → bucket * width < all
@@ -46,7 +40,7 @@ next_place first width one shift bucket modulus next is one_is width_is next_is 
 pub symbol_from-symbol-requires-clause-above : goal.symbol_from-symbol-requires-clause-above
 symbol_from-symbol-requires-clause-above g c =
     let i = c.loop-bucket.invariant in
-    let place = bucket_below c.loop-bucket.bucket (2 ^ (g.row.PRECISION - c.args.shift)) (2 ^ c.args.shift) (2 ^ g.row.PRECISION) (omega (arith, c.loop-bucket-test.true)) (pow_pos c.args.shift) (all_buckets g.row.PRECISION c.args.shift (omega (arith, c.requires.within.0))) in
+    let place = bucket_below c.loop-bucket.bucket (2 ^ (g.row.PRECISION - c.args.shift)) (2 ^ c.args.shift) (2 ^ g.row.PRECISION) (omega (arith, c.loop-bucket-test.true)) (pow_pos c.args.shift) (pow-split g.row.PRECISION c.args.shift (omega (arith, c.requires.within.0))) in
     omega (arith, i.from, at_place _ _ g.row.PRECISION _ place c.requires.sized.1 i.first)
 
 pub loop-bucket-preserved : goal.loop-bucket-preserved
@@ -58,7 +52,7 @@ loop-bucket-preserved g c =
     let s = c.symbol_from-symbol.ensures in
     let hints = c.loop-bucket.hints.items in
     let symbol = c.symbol_from-symbol.result in
-    let place = bucket_below c.loop-bucket.bucket (2 ^ (g.row.PRECISION - c.args.shift)) (2 ^ c.args.shift) (2 ^ g.row.PRECISION) (omega (arith, c.loop-bucket-test.true)) (pow_pos c.args.shift) (all_buckets g.row.PRECISION c.args.shift (omega (arith, c.requires.within.0))) in
+    let place = bucket_below c.loop-bucket.bucket (2 ^ (g.row.PRECISION - c.args.shift)) (2 ^ c.args.shift) (2 ^ g.row.PRECISION) (omega (arith, c.loop-bucket-test.true)) (pow_pos c.args.shift) (pow-split g.row.PRECISION c.args.shift (omega (arith, c.requires.within.0))) in
     let first = at_place _ _ g.row.PRECISION _ place c.requires.sized.1 i.first in
     let lower : (k : ℕ) → k < length hints → get_or hints k 0 ≤ symbol = λ k h. omega (arith, i.lower k h, s.order) in
     let hint : IsHint starts (2 ^ g.row.PRECISION) (c.loop-bucket.bucket * 2 ^ c.args.shift) symbol =
@@ -84,7 +78,7 @@ returns-clause-ok g c =
     let hints = c.loop-bucket.hints.items in
     let last = length c.args.starts.now - 1 in
     let end : c.loop-bucket.bucket ≡ 2 ^ (g.row.PRECISION - c.args.shift) = omega (arith, c.loop-bucket-test.false, c.loop-bucket.auto.bucket-end, pow_mono c.requires.within.1) in
-    let place : length hints * 2 ^ c.args.shift ≡ high = rw (i.len, end) (all_buckets g.row.PRECISION c.args.shift (omega (arith, c.requires.within.0))) in
+    let place : length hints * 2 ^ c.args.shift ≡ high = rw (i.len, end) (pow-split g.row.PRECISION c.args.shift (omega (arith, c.requires.within.0))) in
     let inside : last < length starts = omega (arith, len, c.requires.some) in
     let hint : IsHint starts high high last = record {
       known = inside;
@@ -140,9 +134,6 @@ zero_place : (width all : ℕ) → 0 < all → 0 * width % all ≡ 0
 zero_place width all some =
     let none : 0 * width ≡ 0 = omega arith in
     ap (λ n. n % all) none ∙ mod-eq_of_lt some
-
-no_hints : (starts : List ℕ) (high width : ℕ) → AreHints starts high width []
-no_hints starts high width = record { each = λ k h. absurd (omega (arith, h)); rising = λ k h. absurd (omega (arith, h)) }
 
 pub loop-bucket-init : goal.loop-bucket-init
 loop-bucket-init g c =

@@ -3,11 +3,11 @@ use Rattle.std.proofs.lemmas.Bool.Decides.{nat_tests}
 use Rattle.std.proofs.lemmas.List.Sums.{sum_by_more}
 use Rattle.std.proofs.Math.Pow.{pow_mono}
 use Rattle.std.proofs.Common.{pow_pos}
-use Rattle.std.proofs.Common.{◌≡◌, ◌<◌, ◌↔◌, ◌+◌, ℕ, zero, suc, refl, Bool, true, false, IsTrue, rules}
+use Rattle.std.proofs.Common.{◌+◌, true, false, rules}
 use Rattle.std.specs.Prelude.{sum_by}
-use Rattle.std.proofs.lemmas.Bool.{false≢true}
 use Rattle.std.proofs.lemmas.List.{take_all}
 use Rattle.std.proofs.lemmas.List.Sums.{sum_by-take-le}
+use Rattle.constriction_base.proofs.Heads.{some_of_test}
 use Rattle.constriction_base.proofs.weights.starts.known_symbols.Goals as goal
 use Rattle.constriction_base.proofs.weights.starts.known_symbols.Goals.{then-not-is_nothing+else-known-gt0+else-is_below+then-is_below-2, then-not-is_nothing+else-known-gt0+else-is_below+else-is_below-2, else-not-is_nothing}
 
@@ -91,15 +91,9 @@ returns-then-known-gt0-2-clause-none g c = tt
 pub returns-else-known-gt0-2-clause-ok : goal.returns-else-known-gt0-2-clause-ok
 returns-else-known-gt0-2-clause-ok g c = tt
 
--- a weight that isn't nothing
-not_nothing : (test : Bool) (n : ℕ) → (IsTrue test ↔ (n ≡ 0)) → test ≡ false → 0 < n
-not_nothing true n is h = absurd cc
-not_nothing false zero is h = absurd (false≢true (is.1 refl))
-not_nothing false (suc n) is h = omega arith
-
 pub minus-less-requires : goal.minus-less-requires
 minus-less-requires g c =
-    let some = not_nothing c.is_nothing.result _ c.is_nothing.ensures (search rules) in
+    let some = some_of_test c.is_nothing.result _ c.is_nothing.ensures (search rules) in
     omega (arith, c.unit-one.ensures, some)
 
 -- what has the total before it has no weight more
@@ -107,7 +101,7 @@ pub returns-then-known-gt0-clause-none : goal.returns-then-known-gt0-clause-none
 returns-then-known-gt0-clause-none g c = λ all.
     let number = g.Probability.BitArray.number in
     let weights = c.args.weights.now in
-    let some = not_nothing c.is_nothing.result _ c.is_nothing.ensures (search rules) in
+    let some = some_of_test c.is_nothing.result _ c.is_nothing.ensures (search rules) in
     let more = sum_by_more number weights c.loop-i.i c.index-weights-i.result c.loop-i-test.true in
     omega (arith, all, some, more, ap number c.index-weights-i.is, sum_by-take-le number weights (c.loop-i.i + 1), c.loop-i.invariant.total_of c.if-known-gt0.true)
 
@@ -115,7 +109,7 @@ pub returns-then-is_below-clause-none : goal.returns-then-is_below-clause-none
 returns-then-is_below-clause-none g c = λ all.
     let number = g.Probability.BitArray.number in
     let weights = c.args.weights.now in
-    let some = not_nothing c.is_nothing.result _ c.is_nothing.ensures (search rules) in
+    let some = some_of_test c.is_nothing.result _ c.is_nothing.ensures (search rules) in
     let more = sum_by_more number weights c.loop-i.i c.index-weights-i.result c.loop-i-test.true in
     let left = c.loop-i.invariant.before (omega (arith, c.if-known-gt0.false)) in
     omega (arith, all, some, more, left, ap number c.index-weights-i.is, sum_by-take-le number weights (c.loop-i.i + 1), c.is_below.ensures.0 c.if-is_below.true, c.minus-rest.ensures, c.minus-less.ensures, c.ones-last.ensures, c.unit-one.ensures)

@@ -1,5 +1,6 @@
 use Rattle.std.proofs.Common.{arith, ◌≡◌, ◌^◌, ◌-◌, ◌*◌, ap, ◌∙◌}
-use Rattle.constriction_bench.proofs.Powers.{moved_fits, same_number}
+use Rattle.constriction_bench.proofs.Powers.{moved_fits}
+use Rattle.constriction_base.proofs.Sizes.{same_number}
 use Rattle.constriction_bench.proofs.flat.Flat.new.Goals as goal
 
 pub shifted_left-weight-requires-clause-fits : goal.shifted_left-weight-requires-clause-fits

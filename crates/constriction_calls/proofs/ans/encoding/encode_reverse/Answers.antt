@@ -1,5 +1,4 @@
 use Rattle.std.proofs.Common.{◌≤◌, arith, length, refl}
-use Rattle.constriction_inputs.specs.Refusals.{Else, Never}
 use Rattle.constriction_calls.proofs.AnsAnswers.{puts_done, puts_short}
 use Rattle.constriction_inputs.proofs.Asking.{fit_ok}
 use Rattle.constriction_calls.proofs.ans.encoding.encode_reverse.Goals.{in-Ok, in-Err}
@@ -9,7 +8,7 @@ pub returns : goal.returns
 returns g c =
     let coded = g.G.Models.coded c.args.models.now c.args.symbols.now in
     let within : c.args.len.now ≤ length c.args.words.now = omega (arith, c.if-len-words.false) in
-    let fit = fit_ok g.row.PRECISION coded (Else Never) tt c.in_ok-check.ensures in
+    let fit = fit_ok g.row.PRECISION coded c.in_ok-check.ensures in
     let items = c.in-Some.ensures.items c.args.symbols.now refl in
     let made = c.in-Some-coded.ensures in
     elim c.match-append.branch [

@@ -1,10 +1,11 @@
 use Rattle.std.proofs.Common.{rules, ◌≡◌, ◌∙◌, ◌*◌, ℕ, List, arith, inr, length, map, refl, sym}
 use Rattle.std.proofs.lemmas.List.{length-map}
 use Rattle.constriction_calls.specs.ChainCalls.{keeps}
-use Rattle.constriction_inputs.specs.Coded.{AreFit, AsIntervals, ByRows, items}
+use Rattle.constriction_inputs.specs.Coded.{AsIntervals, ByRows, items}
 use Rattle.constriction_inputs.specs.Weights.{AreTotals}
 use Rattle.constriction_inputs.specs.declared.refusal.Refusal.TheVariants as refusals
-use Rattle.constriction_calls.proofs.ChainAnswers.{intervals_fit, intervals_known, puts_as, puts_headless, puts_stopped}
+use Rattle.constriction_calls.proofs.ChainAnswers.{puts_as, puts_headless, puts_stopped}
+use Rattle.constriction_calls.proofs.Intervals.{intervals_fit, intervals_known}
 use Rattle.constriction_calls.proofs.chain.encoding.encode_intervals_reverse.Goals as goal
 
 pub returns : goal.returns
@@ -14,38 +15,42 @@ returns g c =
     let made = c.in-Ok.ensures in
     let given : List ℕ = map p c.as_slice.result.now in
     let ones : List ℕ = c.as_slice-2.result.now in
-    let is : items g.row.PRECISION (ByRows 3 given ones) ≡ items g.row.PRECISION (AsIntervals (map p c.args.lefts.now) (map p c.args.ps.now)) = rw (c.as_slice.ensures.value, c.as_slice-2.ensures.value) made.ok in
+    let coded = AsIntervals (map p c.args.lefts.now) (map p c.args.ps.now) in
+    let is : items g.row.PRECISION (ByRows 3 given ones) ≡ items g.row.PRECISION coded = rw (c.as_slice.ensures.value, c.as_slice-2.ensures.value) made.ok in
     let many : length ones ≡ length c.args.lefts.now = rw c.as_slice-2.ensures.value made.counted.1 in
     let counted : length given ≡ 3 * length ones = rw (many, c.as_slice.ensures.value) (length-map c.in-Ok.made.0.items p ∙ made.counted.0) in
     let totals : AreTotals g.row.PRECISION 3 (length ones) given = rw (many, c.as_slice.ensures.value) made.totals in
-    let fit : AreFit g.row.PRECISION (ByRows 3 given ones) = (counted, tt, totals) in
-    let fit' : AreFit g.row.PRECISION (AsIntervals (map p c.args.lefts.now) (map p c.args.ps.now)) = (length-map c.args.lefts.now p ∙ (made.intervals.0 ∙ sym (length-map c.args.ps.now p)), made.intervals.1, tt) in
+    let long = length-map c.args.lefts.now p ∙ (made.intervals.0 ∙ sym (length-map c.args.ps.now p)) in
     record {
       call = puts_as g.Word.BitArray.number g.State.BitArray.number g.Word.BitArray.BITS g.State.BitArray.BITS g.row.PRECISION
-          (keeps c.args.heads.now c.args.compressed.now c.args.compressed_len.now c.args.remainders.now c.args.remainders_len.now) (ByRows 3 given ones)
-          (AsIntervals (map p c.args.lefts.now) (map p c.args.ps.now)) is fit fit' (keeps now.heads now.compressed now.compressed_len c.args.remainders.now now.remainders_len) c.encode_reverse.result c.encode_reverse.ensures.call;
+          (keeps c.args.heads.now c.args.compressed.now c.args.compressed_len.now c.args.remainders.now c.args.remainders_len.now)
+          (ByRows 3 given ones) coded is (counted, tt, totals) (long, made.intervals.1, tt)
+          (keeps now.heads now.compressed now.compressed_len c.args.remainders.now now.remainders_len) c.encode_reverse.result c.encode_reverse.ensures.call;
     }
 
 pub returns-in-Some : goal.returns-in-Some
 returns-in-Some g c =
+    let p = g.P.BitArray.number in
     let right = c.in-Some.ensures.variant.0 refl in
     let given = c.in-Err.ensures in
     let memory : c.in-Err.refusal ≡ refusals.NoMemory = search rules in
-    let fit = intervals_fit g.P.BitArray.number g.row.PRECISION c.args.lefts.now c.args.ps.now c.in-Err.refusal given.wrong_length given.wrong_interval memory in
+    let old = keeps c.args.heads.now c.args.compressed.now c.args.compressed_len.now c.args.remainders.now c.args.remainders_len.now in
+    let fit = intervals_fit p g.row.PRECISION c.args.lefts.now c.args.ps.now c.in-Err.refusal given.wrong_length given.wrong_interval memory in
     record {
-      call = puts_stopped g.Word.BitArray.number g.State.BitArray.number g.Word.BitArray.BITS g.State.BitArray.BITS g.row.PRECISION (keeps c.args.heads.now c.args.compressed.now c.args.compressed_len.now c.args.remainders.now c.args.remainders_len.now)
-          (AsIntervals (map g.P.BitArray.number c.args.lefts.now) (map g.P.BitArray.number c.args.ps.now)) (omega (arith, c.if-compressed_len-compressed.false), omega (arith, c.if-remainders_len-remainders.false)) fit (record { some = right.0; window = right.1 })
-          (keeps c.args.heads.now c.args.compressed.now c.args.compressed_len.now c.args.remainders.now c.args.remainders_len.now) refl refusals.NoMemory
-          (inr (intervals_known g.row.PRECISION (map g.P.BitArray.number c.args.lefts.now) (map g.P.BitArray.number c.args.ps.now) fit.1, tt));
+      call = puts_stopped g.Word.BitArray.number g.State.BitArray.number g.Word.BitArray.BITS g.State.BitArray.BITS g.row.PRECISION old
+          (omega (arith, c.if-compressed_len-compressed.false), omega (arith, c.if-remainders_len-remainders.false)) (AsIntervals (map p c.args.lefts.now) (map p c.args.ps.now)) fit
+          (record { some = right.0; window = right.1 }) old refl refusals.NoMemory (inr (intervals_known g.row.PRECISION (map p c.args.lefts.now) (map p c.args.ps.now) fit.1, tt));
     }
 
 pub returns-in-None : goal.returns-in-None
 returns-in-None g c =
+    let p = g.P.BitArray.number in
     let given = c.in-Err.ensures in
     let memory : c.in-Err.refusal ≡ refusals.NoMemory = search rules in
-    let fit = intervals_fit g.P.BitArray.number g.row.PRECISION c.args.lefts.now c.args.ps.now c.in-Err.refusal given.wrong_length given.wrong_interval memory in
     record {
-      call = puts_headless g.Word.BitArray.number g.State.BitArray.number g.Word.BitArray.BITS g.State.BitArray.BITS g.row.PRECISION (keeps c.args.heads.now c.args.compressed.now c.args.compressed_len.now c.args.remainders.now c.args.remainders_len.now)
-          (AsIntervals (map g.P.BitArray.number c.args.lefts.now) (map g.P.BitArray.number c.args.ps.now)) (omega (arith, c.if-compressed_len-compressed.false), omega (arith, c.if-remainders_len-remainders.false)) fit
+      call = puts_headless g.Word.BitArray.number g.State.BitArray.number g.Word.BitArray.BITS g.State.BitArray.BITS g.row.PRECISION
+          (keeps c.args.heads.now c.args.compressed.now c.args.compressed_len.now c.args.remainders.now c.args.remainders_len.now)
+          (omega (arith, c.if-compressed_len-compressed.false), omega (arith, c.if-remainders_len-remainders.false)) (AsIntervals (map p c.args.lefts.now) (map p c.args.ps.now))
+          (intervals_fit p g.row.PRECISION c.args.lefts.now c.args.ps.now c.in-Err.refusal given.wrong_length given.wrong_interval memory)
           (λ heads. (let some = c.in-None.ensures.variant.1 (heads.some, heads.window) in absurd cc));
     }

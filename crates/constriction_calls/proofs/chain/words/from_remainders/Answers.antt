@@ -1,10 +1,9 @@
-use Rattle.std.proofs.Common.{◌≡◌, ◌==◌, ◌<◌, ◌-◌, ◌∙◌, arith, pow_pos, ap, map, reverse, take}
+use Rattle.std.proofs.Common.{◌≡◌, ◌==◌, ap, map, reverse, take}
 use Rattle.std.specs.declared.convert.Infallible.{Infallible}
 use Rattle.constriction_base.specs.Backends.{Reads}
 use Rattle.constriction_base.specs.declared.backends.semantics.Stack.{Stack}
-use Rattle.constriction_base.proofs.Exporting.{base_two}
 use Rattle.constriction_calls.specs.ChainWords.{InRemainders}
-use Rattle.constriction_calls.proofs.ChainWords.{begins_at, begins_none, all_taken, no_heads, of_remainders}
+use Rattle.constriction_calls.proofs.ChainWords.{all_taken, begins_at, begins_none, no_remainders, of_remainders}
 use Rattle.constriction_calls.proofs.chain.words.from_remainders.Goals as goal
 
 pub returns-in-Ok : goal.returns-in-Ok
@@ -12,19 +11,19 @@ returns-in-Ok g c =
     let raw = c.into_raw_parts-rest.result in
     let n = g.Word.BitArray.number in
     let made = of_remainders n g.Word.BitArray.BITS g.State.BitArray.BITS g.row.PRECISION c.args.words.now raw.1.buf.now raw.0.items (n raw.2.0) (g.State.BitArray.number raw.2.1) raw.1.pos c.in-Ok.coder.state
-    (ap (λ v. v.state) c.into_raw_parts-rest.ensures.value) c.into_buf_and_pos-pos.ensures.within c.in-Ok.ensures.coder.chain c.in-Ok.ensures.ok.0
-    (rw c.new_at_write_end-lent.ensures at (c.in-Ok.ensures.ok.1 tt)) in
+    c.into_buf_and_pos-pos.ensures.within c.in-Ok.ensures.coder.chain (ap (λ v. v.state) c.into_raw_parts-rest.ensures.value) c.in-Ok.ensures.ok.0 (rw c.new_at_write_end-lent.ensures at (c.in-Ok.ensures.ok.1 tt)) in
     record {
-      call = rw (c.parts-compressed.ensures.is, c.into_buf_and_pos-pos.ensures.pos) (begins_at n g.State.BitArray.number g.Word.BitArray.BITS g.State.BitArray.BITS g.row.PRECISION InRemainders c.args.words.now
+      call = rw (c.parts-compressed.ensures.parts, c.into_buf_and_pos-pos.ensures.pos) (begins_at n g.State.BitArray.number g.Word.BitArray.BITS g.State.BitArray.BITS g.row.PRECISION InRemainders c.args.words.now
           (record { heads = c.args.heads.now; len = c.args.len.now }) (record { heads = record { remainders = raw.2.1; compressed = raw.2.0 }; len = raw.1.pos }) made);
     }
 
 pub returns-in-Err : goal.returns-in-Err
-returns-in-Err g c = record {
-  call = begins_none g.Word.BitArray.number g.State.BitArray.number g.Word.BitArray.BITS g.State.BitArray.BITS g.row.PRECISION InRemainders c.args.words.now (record { heads = c.args.heads.now; len = c.args.len.now }) (λ from.
-      let n = g.Word.BitArray.number in
-      let words : map n (reverse (take c.new_at_write_end-lent.result.pos c.new_at_write_end-lent.result.buf.now)) ≡ map n (reverse c.args.words.now) = rw c.new_at_write_end-lent.ensures (all_taken n c.args.words.now) in
-      let some : 0 < from.0.r = omega (arith, from.1.chain.window.from, pow_pos (g.State.BitArray.BITS - g.Word.BitArray.BITS - g.row.PRECISION)) in
-      absurd (no_heads {O = Stack} {E = Infallible} n (record { words = λ cursor. reverse (take cursor.pos cursor.buf.now); is_list = Unit {0} })
-      (record { reads = λ old answer new. Reads (reverse (take old.pos old.buf.now)) answer (reverse (take new.pos new.buf.now)) × (new.buf ≡ old.buf); seems_exhausted = λ cursor. cursor.pos == 0 }) _ _ tt (λ never. elim never [ ]) c.new_at_write_end-lent.result _ (base_two g.Word.BitArray.BITS c.requires.sized.sizes.some_bits) c.in-Err.ensures.err from.0.h from.0.r from.0.remainders from.1.chain.some some from.1.chain.window.from (words ∙ from.1.are)));
-}
+returns-in-Err g c =
+    let n = g.Word.BitArray.number in
+    let words : map n (reverse (take c.new_at_write_end-lent.result.pos c.new_at_write_end-lent.result.buf.now)) ≡ map n (reverse c.args.words.now) = rw c.new_at_write_end-lent.ensures (all_taken n c.args.words.now) in
+    record {
+      call = begins_none n g.State.BitArray.number g.Word.BitArray.BITS g.State.BitArray.BITS g.row.PRECISION InRemainders c.args.words.now (record { heads = c.args.heads.now; len = c.args.len.now })
+          (no_remainders {O = Stack} {E = Infallible} n (record { words = λ cursor. reverse (take cursor.pos cursor.buf.now); is_list = Unit {0} })
+          (record { reads = λ old answer new. Reads (reverse (take old.pos old.buf.now)) answer (reverse (take new.pos new.buf.now)) × (new.buf ≡ old.buf); seems_exhausted = λ cursor. cursor.pos == 0 }) _ _ _
+          tt c.requires.sized (λ never. elim never [ ]) c.new_at_write_end-lent.result _ c.in-Err.ensures.err _ words);
+    }

@@ -13,7 +13,7 @@ returns-in-Ok g c =
     let h : ℕ = number c.args.heads.now.compressed in
     let r : ℕ = g.State.BitArray.number c.args.heads.now.remainders in
     let is : c.from_raw_parts-coder.result.state ≡ state h r [] [] =
-    ap (λ coder. coder.state) c.from_raw_parts-coder.ensures.value ∙ rw (c.in-Some.ensures.some, c.new-2.ensures.items, c.new-3.ensures.items) refl in
+    ap (λ coder. coder.state) c.from_raw_parts-coder.ensures.value ∙ rw (c.in-Some.ensures.value, c.new-2.ensures.items, c.new-3.ensures.items) refl in
     let found = heads_above number g.Word.BitArray.BITS h r c.in-Ok.added.items (stack_in number c.args.remainders.now c.args.remainders_len.now) c.from_raw_parts-coder.result.state is c.in-Ok.ensures.ok.1 in
     record {
       call = ends_at number g.State.BitArray.number g.Word.BitArray.BITS g.State.BitArray.BITS g.row.PRECISION InRemainders c.args.heads.now (record { words = c.args.remainders.now; len = c.args.remainders_len.now })

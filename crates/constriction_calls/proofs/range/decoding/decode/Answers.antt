@@ -1,8 +1,7 @@
 use Rattle.std.proofs.Common.{◌≡◌, ◌∙◌, ◌-◌, ◌≤◌, ℕ, List, ap, arith, length, map, rules, sym}
 use Rattle.std.proofs.lemmas.List.{length-map}
-use Rattle.constriction_inputs.specs.Coded.{AreFit, items}
+use Rattle.constriction_inputs.specs.Coded.{items}
 use Rattle.constriction_calls.specs.RangeCalls.{IsDecoderKept}
-use Rattle.constriction_inputs.specs.Refusals.{Else, Never}
 use Rattle.constriction_inputs.proofs.Asking.{fit_ok}
 use Rattle.constriction_calls.proofs.RangeAnswers.{takes_after, takes_fault, words_moved}
 use Rattle.constriction_calls.proofs.RangeTaking.{finds_same, stands_on, stands_read}
@@ -24,7 +23,7 @@ returns-in-Ok-take_list g c =
     let again = c.in-Ok-take_list.again.items in
     let size = length-map c.args.words.now number in
     let within : old.pos ≤ length buffer = omega (arith, c.if-decoder-words.false, size) in
-    let fit : AreFit P (coded symbols) = fit_ok P (coded symbols) (Else Never) c.in-Ok.field-0 c.in-Ok.ensures in
+    let fit = fit_ok P (coded symbols) c.in-Ok.ensures in
     let is : IsDecoderKept state w s old = search rules in
     let same : c.copy_from_slice.new.self ≡ again = c.copy_from_slice.ensures.after ∙ c.deref.ensures.value in
     let count : length c.copy_from_slice.new.self ≡ length symbols = ap length same ∙ c.in-Ok-take_list.ensures.count in
@@ -54,11 +53,11 @@ returns g c =
     let symbols = c.args.symbols.now in
     let old = c.args.decoder.now in
     let within : old.pos ≤ length buffer = omega (arith, c.if-decoder-words.false, length-map c.args.words.now number) in
-    let fit : AreFit P (coded symbols) = fit_ok P (coded symbols) (Else Never) c.in-Ok.field-0 c.in-Ok.ensures in
+    let fit = fit_ok P (coded symbols) c.in-Ok.ensures in
     let is : IsDecoderKept state w s old = search rules in
     record {
       call = takes_fault state w s P coded buffer old symbols within fit is c.in-Err-take_list.refusal
-          (words_moved _ _ c.in-Err-take_list.refusal
+          (words_moved c.in-Err-take_list.refusal
           (λ none words others run last at all count.
           none words others run last (stands_read state w s buffer words run old c.in-Some.reading at c.in-Some.ensures.read)
           (finds_same w s words (items P (coded others)) _ run last (c.in-Some-list.ensures.items others count) all) count)

@@ -1,10 +1,8 @@
-use Rattle.std.proofs.Common.{◌≤◌, arith, length, rules}
+use Rattle.std.proofs.Common.{◌≤◌, arith, length, refl, rules}
 use Rattle.constriction_queue.specs.Encoder.{run_by}
-use Rattle.constriction_inputs.specs.Coded.{AreFit}
 use Rattle.constriction_calls.specs.RangeCalls.{CanEncode, RangeKept}
-use Rattle.constriction_inputs.specs.Refusals.{Else, Never}
 use Rattle.constriction_inputs.proofs.Asking.{fit_ok}
-use Rattle.constriction_calls.proofs.RangeAnswers.{kept_same, puts_appended, puts_short}
+use Rattle.constriction_calls.proofs.RangeAnswers.{puts_appended, puts_short}
 use Rattle.constriction_calls.proofs.range.encoding.encode.Goals as goal
 
 pub returns-in-Ok-append : goal.returns-in-Ok-append
@@ -18,7 +16,7 @@ returns-in-Ok-append g c =
     let symbols = c.args.symbols.now in
     let old : RangeKept g.row.Word.Denot g.row.State.Denot = record { encoder = c.args.encoder.now; words = c.args.buffer.now; len = c.args.len.now } in
     let within : c.args.len.now ≤ length c.args.buffer.now = omega (arith, c.if-len-buffer.false) in
-    let fit : AreFit P (coded symbols) = fit_ok P (coded symbols) (Else Never) c.in-Ok.field-0 c.in-Ok.ensures in
+    let fit = fit_ok P (coded symbols) c.in-Ok.ensures in
     let can : CanEncode number state w s c.args.encoder.now (length symbols) = search rules in
     let made = c.in-Some-put_by in
     record {
@@ -37,11 +35,11 @@ returns g c =
     let symbols = c.args.symbols.now in
     let old : RangeKept g.row.Word.Denot g.row.State.Denot = record { encoder = c.args.encoder.now; words = c.args.buffer.now; len = c.args.len.now } in
     let within : c.args.len.now ≤ length c.args.buffer.now = omega (arith, c.if-len-buffer.false) in
-    let fit : AreFit P (coded symbols) = fit_ok P (coded symbols) (Else Never) c.in-Ok.field-0 c.in-Ok.ensures in
+    let fit = fit_ok P (coded symbols) c.in-Ok.ensures in
     let can : CanEncode number state w s c.args.encoder.now (length symbols) = search rules in
     let made = c.in-Some-put_by in
     let failed = c.in-Err-append in
     record {
       call = puts_short number state w s P coded symbols old within fit can (run_by w s c.in-Some.made) c.in-Some.ensures.run made.now made.ensures.coder made.words.items c.deref.result.now c.deref.ensures.value
-          made.ensures.narrowed failed.refusal _ failed.ensures.err failed.ensures.full (record { encoder = c.args.encoder.now; words = c.append.new.buffer; len = c.append.new.len }) (kept_same failed.ensures.kept.0 failed.ensures.kept.1);
+          made.ensures.narrowed failed.refusal _ failed.ensures.err failed.ensures.full (record { encoder = c.args.encoder.now; words = c.append.new.buffer; len = c.append.new.len }) (rw (failed.ensures.kept.0, failed.ensures.kept.1) refl);
     }

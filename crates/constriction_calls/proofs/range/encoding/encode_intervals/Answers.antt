@@ -1,10 +1,10 @@
-use Rattle.std.proofs.Common.{◌≤◌, arith, length, map, refl, rules, subst, sym}
+use Rattle.std.proofs.Common.{◌≤◌, arith, length, map, refl, rules}
 use Rattle.std.proofs.lemmas.List.{length-map}
 use Rattle.constriction_inputs.specs.Coded.{AsIntervals}
 use Rattle.constriction_calls.specs.RangeCalls.{CanEncode, RangeKept}
 use Rattle.constriction_inputs.specs.declared.refusal.Refusal.TheVariants as refusals
 use Rattle.constriction_calls.proofs.RangeAnswers.{puts_numbers, puts_room}
-use Rattle.constriction_calls.proofs.RangeIntervals.{fit_known, memory_fit}
+use Rattle.constriction_calls.proofs.Intervals.{intervals_fit, intervals_known}
 use Rattle.constriction_calls.proofs.range.encoding.encode_intervals.Goals as goal
 
 pub returns-then-can : goal.returns-then-can
@@ -18,10 +18,10 @@ returns-then-can g c =
     let ps = map g.P.BitArray.number c.args.ps.now in
     let old : RangeKept g.row.Word.Denot g.row.State.Denot = record { encoder = c.args.encoder.now; words = c.args.buffer.now; len = c.args.len.now } in
     let within : c.args.len.now ≤ length c.args.buffer.now = omega (arith, c.if-len-buffer.false) in
-    let fit = memory_fit g.P.BitArray.number P c.args.lefts.now c.args.ps.now c.in-Err-NoMemory.field-0 c.in-Err-NoMemory.field-0-is c.in-Err-NoMemory.ensures.wrong_length c.in-Err-NoMemory.ensures.wrong_interval in
+    let e = c.in-Err-NoMemory in
+    let fit = intervals_fit g.P.BitArray.number P c.args.lefts.now c.args.ps.now e.field-0 e.ensures.wrong_length e.ensures.wrong_interval e.field-0-is in
     let can : CanEncode number state w s c.args.encoder.now (length c.args.ps.now) = search rules in
-    let counted : CanEncode number state w s c.args.encoder.now (length ps) = subst (λ n. CanEncode number state w s c.args.encoder.now n) (sym (length-map c.args.ps.now g.P.BitArray.number)) can in
-    record { call = puts_room number state w s P (AsIntervals lefts) ps old within fit counted (fit_known P lefts ps fit) old refl refusals.NoMemory tt }
+    record { call = puts_room number state w s P (AsIntervals lefts) ps old within fit (rw (length-map c.args.ps.now g.P.BitArray.number) can) (intervals_known P lefts ps fit.1) old refl refusals.NoMemory tt }
 
 pub returns-else-can : goal.returns-else-can
 returns-else-can g c =
@@ -34,9 +34,7 @@ returns-else-can g c =
     let ps = map g.P.BitArray.number c.args.ps.now in
     let old : RangeKept g.row.Word.Denot g.row.State.Denot = record { encoder = c.args.encoder.now; words = c.args.buffer.now; len = c.args.len.now } in
     let within : c.args.len.now ≤ length c.args.buffer.now = omega (arith, c.if-len-buffer.false) in
-    let fit = memory_fit g.P.BitArray.number P c.args.lefts.now c.args.ps.now c.in-Err-NoMemory.field-0 c.in-Err-NoMemory.field-0-is c.in-Err-NoMemory.ensures.wrong_length c.in-Err-NoMemory.ensures.wrong_interval in
+    let e = c.in-Err-NoMemory in
+    let fit = intervals_fit g.P.BitArray.number P c.args.lefts.now c.args.ps.now e.field-0 e.ensures.wrong_length e.ensures.wrong_interval e.field-0-is in
     let none : CanEncode number state w s c.args.encoder.now (length c.args.ps.now) → ⊥ = search rules in
-    record {
-      call = puts_numbers number state w s P (AsIntervals lefts) ps old within fit
-          (λ counted. none (subst (λ n. CanEncode number state w s c.args.encoder.now n) (length-map c.args.ps.now g.P.BitArray.number) counted));
-    }
+    record { call = puts_numbers number state w s P (AsIntervals lefts) ps old within fit (λ counted. none (rw (length-map c.args.ps.now g.P.BitArray.number) at counted)) }

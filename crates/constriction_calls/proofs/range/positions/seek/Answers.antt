@@ -1,8 +1,8 @@
 use Rattle.std.proofs.Common.{◌≡◌, ◌∙◌, ◌+◌, ◌-◌, ◌≤◌, ◌^◌, List, ap, arith, drop, inr, map, length, rules, subst, sym, take}
-use Rattle.std.proofs.lemmas.List.{length-drop, take_all}
+use Rattle.std.proofs.lemmas.List.{drop-drop, length-drop, take_all}
 use Rattle.constriction_queue.proofs.Seals.{words_of_numbers}
 use Rattle.constriction_calls.specs.RangeCalls.{RangeBegins}
-use Rattle.constriction_calls.proofs.RangeTaking.{drop_twice, sought_kept}
+use Rattle.constriction_calls.proofs.RangeTaking.{sought_kept}
 use Rattle.constriction_calls.proofs.range.positions.seek.Goals as goal
 use Rattle.constriction_base.proofs.Guards.{map-drop}
 
@@ -21,7 +21,7 @@ returns g c =
     let began = subst (λ (ws : List g.row.Word.Denot). RangeBegins number state w s ws begun) took c.from_compressed-begun.ensures.call in
     let law = g.met.Word.BitArray.number_law in
     let rest : drop (pos + begun.pos) words ≡ drop begun.pos part =
-    sym (ap (λ ws. drop begun.pos ws) (map-drop number pos c.args.words.now) ∙ drop_twice begun.pos pos words) in
+    sym (ap (λ ws. drop begun.pos ws) (map-drop number pos c.args.words.now) ∙ drop-drop begun.pos pos words) in
     let within : pos ≤ length c.args.words.now = omega (arith, c.if-pos-words.false) in
     let wide : 2 ^ (s - w) ≤ state c.args.range = search rules in
     record {

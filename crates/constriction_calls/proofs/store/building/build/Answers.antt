@@ -2,33 +2,20 @@ use Rattle.std.proofs.Common.{◌∙◌, length, map, refl, ap, arith, rules}
 use Rattle.std.proofs.lemmas.List.{length-map}
 use Rattle.constriction_store.specs.Stores.{entry_at}
 use Rattle.constriction_inputs.specs.Weights.{IsTotal}
-use Rattle.constriction_calls.proofs.StoreAnswers.{kept_store, lie_within, space_refused}
+use Rattle.constriction_calls.proofs.Stacked.{lie_within}
+use Rattle.constriction_calls.proofs.StoreAnswers.{kept_store, space_refused}
 use Rattle.constriction_calls.proofs.StoreIndex.{as_many}
 use Rattle.constriction_calls.proofs.store.building.build.Goals as goal
 
-pub put_index-requires-clause-positions : goal.put_index-requires-clause-positions
-put_index-requires-clause-positions g c =
+pub put_index-requires : goal.put_index-requires
+put_index-requires g c =
     let items = c.in-Some.index.items in
     let built = c.in-Some.ensures.built in
     let fit = c.if-not-fit.ensures.0 refl in
-    let many = as_many _ _ _ c.args.symbols.now c.args.lengths.now (map entry_at items) _ _ built.1 in
-    omega (arith, fit.positions_are, many, length-map items entry_at, ap length c.deref-in-Ok.ensures.value)
-
-pub put_index-requires-clause-lowers : goal.put_index-requires-clause-lowers
-put_index-requires-clause-lowers g c =
-    let items = c.in-Some.index.items in
-    let built = c.in-Some.ensures.built in
-    let fit = c.if-not-fit.ensures.0 refl in
-    let many = as_many _ _ _ c.args.symbols.now c.args.lengths.now (map entry_at items) _ _ built.1 in
-    omega (arith, fit.lowers_are, many, length-map items entry_at, ap length c.deref-in-Ok.ensures.value)
-
-pub put_index-requires-clause-ranges : goal.put_index-requires-clause-ranges
-put_index-requires-clause-ranges g c =
-    let items = c.in-Some.index.items in
-    let built = c.in-Some.ensures.built in
-    let fit = c.if-not-fit.ensures.0 refl in
-    let many = as_many _ _ _ c.args.symbols.now c.args.lengths.now (map entry_at items) _ _ built.1 in
-    omega (arith, fit.ranges_are, many, length-map items entry_at, ap length c.deref-in-Ok.ensures.value)
+    let many = as_many _ _ _ c.args.symbols.now c.args.lengths.now (map entry_at items) _ _ (omega (arith, fit.all)) built.1 in
+    let mapped = length-map items entry_at in
+    let same = ap length c.deref-in-Ok.ensures.value in
+    record { positions = omega (arith, fit.positions_are); lowers = omega (arith, fit.lowers_are); ranges = omega (arith, fit.ranges_are) }
 
 pub returns-in-Ok : goal.returns-in-Ok
 returns-in-Ok g c =

@@ -6,7 +6,7 @@ use Rattle.constriction_queue.specs.Range.{Run}
 use Rattle.constriction_queue.specs.States.{lower_of, range_of}
 use Rattle.constriction_store.specs.Stores.{run_from}
 use Rattle.constriction_inputs.specs.Weights.{IsTotal, weights_model}
-use Rattle.constriction_calls.proofs.RangeAnswers.{words_why}
+use Rattle.constriction_calls.proofs.RangeAnswers.{words_moved}
 use Rattle.constriction_calls.proofs.RangeTaking.{finds_same}
 use Rattle.constriction_calls.proofs.StoreAnswers.{chunk_given, look_up_refused}
 use Rattle.constriction_calls.proofs.store.looking_up.chunk.Goals as goal
@@ -48,12 +48,11 @@ returns g c =
     let total : IsTotal g.row.PRECISION weights = search rules in
     let there : Run = run_from c.args.pos (lower_of c.in-Ok.state) (range_of c.in-Ok.state) in
     let there_is : there ≡ run_from c.args.pos (state c.args.lower) (state c.args.range) = ap₂ (λ (l r : ℕ). run_from c.args.pos l r) c.in-Ok.ensures.lower c.in-Ok.ensures.range in
-    let why = words_why _ c.in-Err.refusal c.in-Err.ensures.err in
     record {
       call = look_up_refused state w s g.row.PRECISION weights words c.args.pos c.args.lower c.args.range c.args.symbols.now
-          (omega (arith, c.if-pos-words.false, length-map c.args.words.now number)) total least c.in-Err.refusal why.0
-          (λ invalid symbols held.
+          (omega (arith, c.if-pos-words.false, length-map c.args.words.now number)) total least c.in-Err.refusal (words_moved c.in-Err.refusal
+          (λ none symbols held.
           let all = subst (λ (r : Run). FindsAll w s words (items_of (weights_model g.row.PRECISION weights) symbols) r held.1.0) (sym there_is) held.1.1 in
-          why.1 invalid words symbols there held.1.0 c.decoder_at-decoder.ensures (finds_same w s words _ _ there held.1.0 (c.in-Some.ensures.items symbols held.0) all) held.0)
-          _ refl;
+          none words symbols there held.1.0 c.decoder_at-decoder.ensures (finds_same w s words _ _ there held.1.0 (c.in-Some.ensures.items symbols held.0) all) held.0)
+          c.in-Err.ensures.err) _ refl;
     }

@@ -1,7 +1,8 @@
-use Rattle.std.proofs.Common.{◌≡◌, ◌-◌, ◌^◌, map, rules}
+use Rattle.std.proofs.Common.{◌≡◌, map, rules}
 use Rattle.constriction_symbol.specs.Bits.{bits_of_words}
-use Rattle.constriction_calls.specs.SymbolCalls.{AsQueue, MakesCode}
-use Rattle.constriction_calls.proofs.SymbolReads.{filled, made_tree}
+use Rattle.constriction_calls.specs.SymbolCalls.{AsQueue}
+use Rattle.constriction_inputs.proofs.Asking.{asked_ok}
+use Rattle.constriction_calls.proofs.SymbolReads.{filled}
 use Rattle.constriction_calls.proofs.symbol.decoding.decode_queue.Goals as goal
 
 pub returns : goal.returns
@@ -11,7 +12,7 @@ returns g c =
     let given : c.from_compressed-decoder.result.bits ≡ bits_of_words g.Word.BitArray.BITS words = search rules in
     let read = c.read_symbols.ensures in
     record {
-      call = filled g.C.Codes.number g.Word.BitArray.BITS AsQueue (g.C.Codes.book c.args.codes.now) words c.args.symbols.now (made_tree (MakesCode (2 ^ 63 - 1) (g.C.Codes.book c.args.codes.now)) made.codebook made.ensures.asks)
+      call = filled g.C.Codes.number g.Word.BitArray.BITS AsQueue (g.C.Codes.book c.args.codes.now) words c.args.symbols.now (asked_ok made.ensures.asks).0
           (g.C.Decoder.Codebook.codeword made.codebook) made.ensures.codewords (g.C.Decoder.DecoderCodebook.reads_on made.codebook) made.ensures.cut (g.C.Decoder.DecoderCodebook.is_invalid made.codebook) made.ensures.wrong
           c.from_compressed-decoder.result.bits given c.read_symbols.new.symbols c.read_symbols.result read.count read.ok read.err read.kept;
     }

@@ -1,10 +1,11 @@
-use Rattle.std.proofs.Common.{◌-◌, ◌^◌, ◌∙◌, ap, inl, inr, length, map, refl, reverse, subst, sym, take}
+use Rattle.std.proofs.Common.{◌∙◌, ap, inl, inr, length, map, refl, reverse, subst, sym, take}
 use Rattle.std.proofs.lemmas.List.{reverse-reverse}
 use Rattle.std.proofs.Math.Seq.{take-length}
 use Rattle.constriction_symbol.specs.Bits.{HasStackWords}
-use Rattle.constriction_calls.specs.SymbolCalls.{AsStack, MakesCode}
+use Rattle.constriction_calls.specs.SymbolCalls.{AsStack}
 use Rattle.constriction_calls.proofs.SymbolLists.{end_in_zero}
-use Rattle.constriction_calls.proofs.SymbolReads.{filled, made_tree}
+use Rattle.constriction_inputs.proofs.Asking.{asked_ok}
+use Rattle.constriction_calls.proofs.SymbolReads.{filled}
 use Rattle.constriction_calls.proofs.symbol.decoding.decode_stack.Goals as goal
 
 pub returns-in-Err-Frontend : goal.returns-in-Err-Frontend
@@ -17,7 +18,7 @@ returns-in-Err-Frontend g c =
       call = record {
         count = refl;
         taken = tt;
-        asked = inr (made_tree (MakesCode (2 ^ 63 - 1) (g.C.Codes.book c.args.codes.now)) c.in_ok-codebook.codebook c.in_ok-codebook.ensures.asks, inr (inl (refl, end_in_zero g.Word.BitArray.number words refused.0 _ all refused.1)));
+        asked = inr ((asked_ok c.in_ok-codebook.ensures.asks).0, inr (inl (refl, end_in_zero g.Word.BitArray.number words refused.0 _ all refused.1)));
         kept = refl;
       };
     }
@@ -35,7 +36,7 @@ returns g c =
     let made = c.in_ok-codebook in
     let read = c.read_symbols.ensures in
     record {
-      call = filled g.C.Codes.number w AsStack (g.C.Codes.book c.args.codes.now) (map number words) c.args.symbols.now (made_tree (MakesCode (2 ^ 63 - 1) (g.C.Codes.book c.args.codes.now)) made.codebook made.ensures.asks)
+      call = filled g.C.Codes.number w AsStack (g.C.Codes.book c.args.codes.now) (map number words) c.args.symbols.now (asked_ok made.ensures.asks).0
           (g.C.Decoder.Codebook.codeword made.codebook) made.ensures.codewords (g.C.Decoder.DecoderCodebook.reads_on made.codebook) made.ensures.cut (g.C.Decoder.DecoderCodebook.is_invalid made.codebook) made.ensures.wrong
           (reverse bits) given c.read_symbols.new.symbols c.read_symbols.result read.count read.ok read.err read.kept;
     }

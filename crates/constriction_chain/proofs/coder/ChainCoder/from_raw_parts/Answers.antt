@@ -5,4 +5,4 @@ pub returns-clause-coder : goal.returns-clause-coder
 returns-clause-coder g c =
     let law = g.met.Word.BitArray.number_law in
     let parts = c.parts-left_over.ensures in
-    rw (c.of.ensures, parts.is) (coder_of _ _ _ g.Word.BitArray.number law _ _ _ _ _ _ parts.sized parts.some (law _) parts.window)
+    rw (c.of.ensures, parts.parts) (coder_of _ _ _ g.Word.BitArray.number law _ _ _ _ _ _ parts.sized parts.some (law _) parts.window)

@@ -30,9 +30,9 @@ returns-in-Err-clause-coder g c =
 
 pub returns-in-Err-clause-err : goal.returns-in-Err-clause-err
 returns-in-Err-clause-err g c =
-    let ones = rw c.parts.ensures.is at c.in-Some.ensures.some in
+    let ones = rw c.parts.ensures.parts at c.in-Some.ensures.value in
     let refused = not_written g.Word.BitArray.number g.C.Holds g.C.WriteWords _ _ _ _ c.in-Err.ensures.written in
-    let refused' = rw c.parts.ensures.is at refused in
+    let refused' = rw c.parts.ensures.parts at refused in
     rw (← c.self.view_is) ((c.if-not-is_whole.ensures.0 refl, (_, ones)), (_, ones, refused'))
 
 pub returns-then-not-is_whole-clause-ok : goal.returns-then-not-is_whole-clause-ok
@@ -46,13 +46,13 @@ returns-in_default-clause-ok g c = tt
 
 pub returns-in_default-clause-err : goal.returns-in_default-clause-err
 returns-in_default-clause-err g c =
-    let none = rw c.parts.ensures.is at c.in_default.ensures.none in
+    let none = rw c.parts.ensures.parts at c.in_default.ensures.none in
     rw (← c.self.view_is) (λ whole. none whole.1.0 whole.1.1, refl)
 
 pub returns-in-Ok-clause-ok : goal.returns-in-Ok-clause-ok
 returns-in-Ok-clause-ok g c =
-    let ones = rw c.parts.ensures.is at c.in-Some.ensures.some in
-    let done = rw c.parts.ensures.is at c.in-Ok.ensures.written.words in
+    let ones = rw c.parts.ensures.parts at c.in-Some.ensures.value in
+    let done = rw c.parts.ensures.parts at c.in-Ok.ensures.written.words in
     rw (← c.self.view_is) (c.if-not-is_whole.ensures.0 refl, refl, (_, ones, done))
 
 pub returns-in-Ok-clause-err : goal.returns-in-Ok-clause-err

@@ -4,7 +4,7 @@ use Rattle.constriction_chain.proofs.coder.ChainCoder.into_remainders.Goals as g
 
 pub returns-in-Ok-clause-ok : goal.returns-in-Ok-clause-ok
 returns-in-Ok-clause-ok g c =
-    let done = rw c.parts-h.ensures.is at c.in-Ok.ensures.ok in
+    let done = rw c.parts-h.ensures.parts at c.in-Ok.ensures.ok in
     rw (← c.self.view_is) (refl, done)
 
 pub returns-in-Ok-clause-coder : goal.returns-in-Ok-clause-coder
@@ -15,7 +15,7 @@ returns-in-Ok-clause-coder g c =
 
 pub returns-in-Err-clause-err : goal.returns-in-Err-clause-err
 returns-in-Err-clause-err g c =
-    let refused = rw c.parts-h.ensures.is at c.in-Err.ensures.err in
+    let refused = rw c.parts-h.ensures.parts at c.in-Err.ensures.err in
     rw (← c.self.view_is) refused
 
 pub returns-in-Err-clause-coder : goal.returns-in-Err-clause-coder

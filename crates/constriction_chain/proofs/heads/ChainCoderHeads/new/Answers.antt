@@ -1,20 +1,14 @@
-use Rattle.std.proofs.Common.{arith, inl, inr, ◌≡◌, ◌<◌, ◌+◌, ◌-◌, ◌↔◌, ◌∙◌, sym, refl, ℕ, Bool, false, IsTrue}
-use Rattle.std.proofs.lemmas.Bool.{cases_lt, false≢true}
+use Rattle.std.proofs.Common.{arith, ◌-◌, refl, false}
 use Rattle.constriction_chain.proofs.Windows.{window_end}
+use Rattle.constriction_base.proofs.Heads.{some_of_test}
+use Rattle.constriction_chain.proofs.Sizes.{minus_minus}
 use Rattle.constriction_chain.proofs.heads.ChainCoderHeads.new.Goals as goal
-
-minus_minus : (s w N : ℕ) → s - (w + N) ≡ s - w - N
-minus_minus s w N = omega arith
-
--- a number that isn't 0
-above : (b : Bool) (n : ℕ) → (IsTrue b ↔ (n ≡ 0)) → b ≡ false → 0 < n
-above b n test is = elim (cases_lt 0 n) [ inl some ↦ some | inr none ↦ absurd (false≢true (sym is ∙ test.1 (omega (arith, none)))) ]
 
 pub invariant_of-result : goal.invariant_of-result
 invariant_of-result g c =
     let end = window_end g.Word.BitArray.BITS g.State.BitArray.BITS g.row.PRECISION c.requires in
     let low = rw (c.BITS.ensures, minus_minus) at (c.if-is_below_power.ensures) in
-    (c.requires, above c.is_nothing.result _ c.is_nothing.ensures c.if-is_nothing.false, record { from = low; below = omega (arith, end, c.if-not-is_below_power.ensures) })
+    (c.requires, some_of_test c.is_nothing.result _ c.is_nothing.ensures c.if-is_nothing.false, record { from = low; below = omega (arith, end, c.if-not-is_below_power.ensures) })
 
 pub returns-clause-variant : goal.returns-clause-variant
 returns-clause-variant g c = (λ some. ((invariant_of-result g c).1, (invariant_of-result g c).2), λ are. refl)

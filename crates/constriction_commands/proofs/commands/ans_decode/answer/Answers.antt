@@ -11,7 +11,7 @@ returns-clause-ok c =
     let imported = c.in-Ok.ensures.ok tt in
     let own = own_reverse c.in_ok-table.words.items (words_fit given) in
     ans_decoded c.in_ok-symbols.symbols.items c.decode.new.coder.state given
-    (rw own at (c.in-Ok.ensures.high tt))
+    (rw own at (c.in-Ok.ensures.some tt))
     (rw (imported, own) at c.in_ok-symbols.ensures.ok)
     c.in_ok-symbols.ensures.counted
     (rw c.as_slice.ensures.value at c.in_ok-line_of_numbers.ensures)

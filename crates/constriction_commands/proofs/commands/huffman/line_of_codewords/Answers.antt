@@ -3,8 +3,9 @@ use Rattle.std.specs.List.{join_with_byte}
 use Rattle.std.proofs.lemmas.List.{length-map}
 use Rattle.constriction.specs.symbol.Huffman.{path, symbols_from}
 use Rattle.constriction_commands.specs.commands.Huffman.{codeword_text}
-use Rattle.constriction_commands.proofs.TreeTexts.{symbols_count, texts_more}
+use Rattle.constriction_commands.proofs.TreeTexts.{texts_more}
 use Rattle.constriction_commands.proofs.Writing.{written-more, written-first}
+use Rattle.constriction.proofs.Lists.{length_symbols}
 use Rattle.constriction_commands.proofs.commands.huffman.line_of_codewords.Goals as goal
 use Rattle.constriction_commands.proofs.commands.huffman.line_of_codewords.Goals.{then-symbol-gt0+in_ok-push, else-symbol-gt0}
 
@@ -17,7 +18,7 @@ loop-symbol-preserved c =
     let written = c.in_ok-push_codeword.ensures in
     elim c.if-symbol-gt0.branch [
       | then-symbol-gt0+in_ok-push w ↦
-          let count : length texts ≡ symbol = length-map (symbols_from 0 symbol) text ∙ symbols_count 0 symbol in
+          let count : length texts ≡ symbol = length-map (symbols_from 0 symbol) text ∙ length_symbols 0 symbol in
           written-more [] c.loop-symbol.line.items c.if-symbol-gt0.line.items c.push_codeword.new.line.items (text symbol) texts _ (omega (arith, count, w.if-symbol-gt0.true)) c.loop-symbol.invariant (ap (λ v. v.items) w.line-is ∙ w.in_ok-push.ensures.items) written more
       | else-symbol-gt0 w ↦
           let none : symbol ≡ 0 = omega (arith, w.if-symbol-gt0.false) in

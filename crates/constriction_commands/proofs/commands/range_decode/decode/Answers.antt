@@ -1,17 +1,17 @@
 use Rattle.std.proofs.Common.{Err, [], ◌∷◌, length, length-append, refl, ◌∙◌, ap, arith}
 use Rattle.constriction.specs.queue.Calls.{DecodeCall}
-use Rattle.constriction.specs.queue.Range.{start, narrow}
+use Rattle.constriction.specs.queue.Range.{initial, narrowed_by}
 use Rattle.constriction.proofs.InTurn.{InTurn-symbol}
-use Rattle.constriction.proofs.Outcomes.{decoded_by}
+use Rattle.constriction.proofs.Outcomes.{decoded_by, only_invalid}
 use Rattle.constriction_commands.specs.Coding.{of_24_bits}
 use Rattle.constriction.specs.queue.Symbols.{Finds}
-use Rattle.constriction_commands.proofs.Ranges.{quantile_is, only_invalid}
+use Rattle.constriction_commands.proofs.Ranges.{quantile_is}
 use Rattle.constriction_commands.proofs.commands.range_decode.decode.Goals as goal
 
 pub loop-init : goal.loop-init
 loop-init g c = record {
   counted = rw c.new-symbols.ensures.items refl;
-  read = (start 64, c.decoder_of-coder.ensures, rw c.new-symbols.ensures.items refl);
+  read = (initial 64, c.decoder_of-coder.ensures, rw c.new-symbols.ensures.items refl);
 }
 
 pub loop-preserved : goal.loop-preserved
@@ -25,7 +25,7 @@ loop-preserved g c =
     record {
       counted = omega (arith, ap length more, length-append c.loop.symbols.items (c.in-Ok.symbol ∷ []), c.loop.invariant.counted);
       read = (
-        narrow 32 64 (record { precision = 24; left = one.0; p = one.1 }) here.0,
+        narrowed_by 32 64 (record { precision = 24; left = one.0; p = one.1 }) here.0,
         one.3.read tt words here.0 here.1,
         rw more (InTurn-symbol (λ item. Finds 32 64 words item.model item.symbol) model c.loop.symbols.items c.in-Ok.symbol _ _ _ here.2
             (one.0, one.1, one.2, (record { from = rw quantile at one.3.from; below = rw quantile at one.3.below }, refl))),

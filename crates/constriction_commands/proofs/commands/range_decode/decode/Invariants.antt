@@ -1,6 +1,6 @@
 use Rattle.std.proofs.Common.{◌≡◌, length}
 use Rattle.constriction.specs.Models.{items_of}
-use Rattle.constriction.specs.queue.Range.{Run, start, IsAt}
+use Rattle.constriction.specs.queue.Range.{Run, initial, IsAt}
 use Rattle.constriction_commands.specs.Coding.{of_24_bits}
 use Rattle.constriction.specs.queue.Symbols.{FindsAll}
 use Rattle.constriction_commands.proofs.commands.range_decode.decode.Given as goal
@@ -10,5 +10,5 @@ abbrev pub invariant-loop : goal.invariant-loop
 invariant-loop g l = record {
   counted : length l.symbols.items ≡ l.counter;
   read : (run : Run) × IsAt 32 64 l.words run l.coder.lower l.coder.range l.coder.point l.coder.words
-      × FindsAll 32 64 l.words (items_of (of_24_bits (g.M.EntropyModel.table l.model)) l.symbols.items) (start 64) run;
+      × FindsAll 32 64 l.words (items_of (of_24_bits (g.M.EntropyModel.table l.model)) l.symbols.items) (initial 64) run;
 }

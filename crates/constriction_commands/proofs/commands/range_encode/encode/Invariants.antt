@@ -1,7 +1,7 @@
 use Rattle.std.proofs.Common.{◌+◌, ◌≤◌, length, take}
 use Rattle.constriction.specs.Models.{items_of}
 use Rattle.constriction.specs.queue.Encoder.{left_to_encode, run_by}
-use Rattle.constriction.specs.queue.Range.{start}
+use Rattle.constriction.specs.queue.Range.{initial}
 use Rattle.constriction_commands.specs.Coding.{of_24_bits}
 use Rattle.constriction.specs.queue.Symbols.{NarrowsAll}
 use Rattle.constriction_commands.proofs.commands.range_encode.encode.Given as goal
@@ -10,5 +10,5 @@ use Rattle.constriction_commands.proofs.commands.range_encode.encode.Given as go
 abbrev pub invariant-loop-symbol : goal.invariant-loop-symbol
 invariant-loop-symbol g l = record {
   room : length l.symbols ≤ left_to_encode l.coder + l.symbol-index;
-  narrowed : NarrowsAll 32 64 (items_of (of_24_bits (g.M.EntropyModel.table l.model)) (take l.symbol-index l.symbols)) (start 64) (run_by 32 64 l.coder);
+  narrowed : NarrowsAll 32 64 (items_of (of_24_bits (g.M.EntropyModel.table l.model)) (take l.symbol-index l.symbols)) (initial 64) (run_by 32 64 l.coder);
 }

@@ -1,4 +1,4 @@
-use Rattle.std.proofs.Common.{◌∙◌, ℕ, ℤ, pos, Some, get_or, ap, refl, arith, rules}
+use Rattle.std.proofs.Common.{◌∙◌, ℕ, ℤ, pos, Some, get_or, ap, arith, rules}
 use Rattle.std.proofs.Common.{to_z, of_z, w64}
 use Rattle.std.proofs.lemmas.Int.{to_z-of_z}
 use Rattle.constriction_models.specs.Quantized.{indexed}
@@ -15,7 +15,7 @@ loop-i-preserved g c =
     let table = c.quantize_indexed.ensures.table ∙ ap (λ (below : ℤ → ℕ). indexed g.row.PRECISION below low count) some in
     record {
       tables = rw c.push_reserved.ensures.items (tables_more _ g.row.PRECISION (Some c.args.family) low count c.args.locations.now c.args.scales.now c.loop-i.models.items c.quantize_indexed.result
-          i (to_z w64 (of_z w64 (get_or c.args.locations.now i (pos 0)))) (get_or c.args.scales.now i 0) c.loop-i-test.true c.requires.counted (to_z-of_z w64 (get_or c.args.locations.now i (pos 0)) (search rules)) refl table c.loop-i.invariant.tables);
+          i (to_z w64 (of_z w64 (get_or c.args.locations.now i (pos 0)))) c.loop-i-test.true c.requires.counted (to_z-of_z w64 (get_or c.args.locations.now i (pos 0)) (search rules)) table c.loop-i.invariant.tables);
       counted = omega (arith, c.push_reserved.ensures.len, c.loop-i.invariant.counted);
       capacity = omega (arith, c.push_reserved.ensures.capacity, c.loop-i.invariant.capacity);
     }

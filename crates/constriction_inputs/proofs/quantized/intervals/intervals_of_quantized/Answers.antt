@@ -1,18 +1,15 @@
-use Rattle.std.proofs.Common.{◌≡◌, ◌∙◌, ◌<◌, ℕ, List, length, map, arith, refl, sym, subst, inr}
+use Rattle.std.proofs.Common.{◌≡◌, ◌∙◌, ◌<◌, ℕ, length, arith, refl, sym, subst, inr}
 use Rattle.std.specs.List.{AllByRecursion}
-use Rattle.constriction_base.specs.Models.{AreKnown, Item}
-use Rattle.constriction_inputs.specs.Quantized.{AreIntervalsOf, AreScaled, ByFamily, IsRange, family_items, family_of, symbols_in}
-use Rattle.constriction_inputs.specs.Refusals.{Else, Never}
-use Rattle.constriction_inputs.specs.declared.refusal.Refusal.TheVariants.{WrongInterval, WrongLength, WrongWeights}
+use Rattle.constriction_base.specs.Models.{AreKnown}
+use Rattle.constriction_inputs.specs.Quantized.{ByFamily, family_items, family_of, symbols_in}
 use Rattle.constriction_inputs.proofs.Asking.{three_ok}
-use Rattle.constriction_inputs.proofs.FamilyTables.{items_same, known_places}
+use Rattle.constriction_inputs.proofs.FamilyTables.{known_places}
 use Rattle.constriction_inputs.proofs.quantized.intervals.intervals_of_quantized.Goals as goal
 
 pub put_intervals-requires : goal.put_intervals-requires
 put_intervals-requires g c =
     let f = c.args.families.now in
-    let right = three_ok WrongLength WrongInterval WrongWeights (length f.locations.now ≡ length f.scales.now) (IsRange g.row.PRECISION f.min f.max) (AreScaled f.family f.scales.now) (Else Never) c.in-Ok.made
-    c.in-Ok.ensures.asks in
+    let right = three_ok c.in-Ok.ensures.asks in
     let many : length f.locations.now ≡ length c.args.symbols.now = omega (arith, c.if-families-symbols.false) in
     let known : AreKnown (family_items g.row.PRECISION (record { family = f.family; min = f.min; max = f.max; locations = f.locations.now; scales = f.scales.now }) c.args.symbols.now) = c.if-not-know.ensures.0 refl in
     let places = known_places g.row.PRECISION (family_of f.family) f.min (symbols_in f.min f.max) f.locations.now f.scales.now c.args.symbols.now (sym many) right.0 known in (
@@ -30,15 +27,13 @@ pub returns : goal.returns
 returns g c =
     let f = c.args.families.now in
     let by : ByFamily = record { family = f.family; min = f.min; max = f.max; locations = f.locations.now; scales = f.scales.now } in
-    let right = three_ok WrongLength WrongInterval WrongWeights (length f.locations.now ≡ length f.scales.now) (IsRange g.row.PRECISION f.min f.max) (AreScaled f.family f.scales.now) (Else Never) c.in-Ok.made
-    c.in-Ok.ensures.asks in
+    let right = three_ok c.in-Ok.ensures.asks in
     let many : length f.locations.now ≡ length c.args.symbols.now = omega (arith, c.if-families-symbols.false) in
     let known : AreKnown (family_items g.row.PRECISION by c.args.symbols.now) = c.if-not-know.ensures.0 refl in
     let e = c.in-Ok.ensures in
     record {
       call = record {
-        intervals = subst (λ (xs : List (Item ℕ)). AreIntervalsOf xs (map g.P.BitArray.number c.put_intervals.new.lefts) (map g.P.BitArray.number c.put_intervals.new.ps))
-            (items_same g.row.PRECISION by c.args.symbols.now _ _ _ e.family e.first e.count) c.put_intervals.ensures;
+        intervals = rw (e.family, ← e.count, ← e.first) c.put_intervals.ensures;
         asked = inr ((omega (arith, c.if-lefts-symbols.false), omega (arith, c.if-ps-symbols.false)), inr ((many, sym right.0 ∙ many), inr (right.1, inr (right.2, inr (known, tt)))));
         kept = tt;
       };

@@ -4,7 +4,7 @@ use Rattle.std.proofs.lemmas.List.{map-append, reverse-reverse}
 use Rattle.constriction_base.specs.Steps.{AreWords}
 use Rattle.constriction_base.specs.Models.{Model, IsModel, items_of}
 use Rattle.constriction_queue.specs.Encoder.{run_by}
-use Rattle.constriction_queue.specs.Range.{Run, sealed, start}
+use Rattle.constriction_queue.specs.Range.{Run, sealed, initial}
 use Rattle.constriction_queue.proofs.Seals.{words_of_numbers}
 use Rattle.constriction_queue.proofs.Showing.{queue_is}
 use Rattle.constriction_queue.specs.Symbols.{NarrowsAll}
@@ -22,7 +22,7 @@ returns-clause-words g c =
     let symbols = c.args.symbols.now in
     let last : Run = run_by w s c.encode_list.new.encoder in
     let models = are_models w model symbols lawful in
-    let coded : NarrowsAll w s (items_of model symbols) (start s) last = subst (λ r. NarrowsAll w s (items_of model symbols) r last) c.new-encoder.ensures.run c.in_ok-encode_list.ensures.narrowed in
+    let coded : NarrowsAll w s (items_of model symbols) (initial s) last = subst (λ r. NarrowsAll w s (items_of model symbols) r last) c.new-encoder.ensures.run c.in_ok-encode_list.ensures.narrowed in
     let rest : List ℕ = map number c.args.others.now in
     let are_words : AreWords w rest = words_of_numbers number w g.met.Word.BitArray.number_law c.args.others.now in
     let first : map number c.in-Ok.words.items ≡ sealed w s last = queue_is number (reverse c.in-Ok.words.items) (sym (reverse-reverse c.in-Ok.words.items)) c.in-Ok.ensures.ok in
@@ -41,7 +41,7 @@ returns-clause-back g c =
     let symbols = c.args.symbols.now in
     let last : Run = run_by w s c.encode_list.new.encoder in
     let models = are_models w model symbols lawful in
-    let coded : NarrowsAll w s (items_of model symbols) (start s) last = subst (λ r. NarrowsAll w s (items_of model symbols) r last) c.new-encoder.ensures.run c.in_ok-encode_list.ensures.narrowed in
+    let coded : NarrowsAll w s (items_of model symbols) (initial s) last = subst (λ r. NarrowsAll w s (items_of model symbols) r last) c.new-encoder.ensures.run c.in_ok-encode_list.ensures.narrowed in
     let rest : List ℕ = map number c.args.others.now in
     let are_words : AreWords w rest = words_of_numbers number w g.met.Word.BitArray.number_law c.args.others.now in
     let first : map number c.in-Ok.words.items ≡ sealed w s last = queue_is number (reverse c.in-Ok.words.items) (sym (reverse-reverse c.in-Ok.words.items)) c.in-Ok.ensures.ok in
@@ -50,5 +50,5 @@ returns-clause-back g c =
     let slice : map number c.as_slice.result.now ≡ sealed w s last ++ rest = ap (map number) c.as_slice.ensures.value ∙ all in
     let at = rw slice at (c.in-Ok-from_compressed.ensures.ok tt) in
     let decoded = c.symbols_come_back_before_others.ensures w s (items_of model symbols) last rest c.requires.sizes c.requires.two models are_words coded in
-    let back = c.in-Ok-decode_list.ensures.back tt (sealed w s last ++ rest) symbols (start s) last at decoded refl in
+    let back = c.in-Ok-decode_list.ensures.back tt (sealed w s last ++ rest) symbols (initial s) last at decoded refl in
     back.0

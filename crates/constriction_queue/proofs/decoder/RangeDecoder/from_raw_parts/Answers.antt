@@ -16,4 +16,4 @@ pub returns-clause-variant : goal.returns-clause-variant
 returns-clause-variant g c = is_inside _ _ _ _ _ _ _ _ (g.met.State.BitArray.number_law _) c.wrapping_minus-distance.ensures.value c.lower.ensures c.length.ensures.value c.if-not-is_below.ensures
 
 pub returns-clause-parts : goal.returns-clause-parts
-returns-clause-parts g c = rw (rw c.lower.ensures at c.wrapping_minus-distance.ensures.undoes) refl
+returns-clause-parts g c = rw (rw c.lower.ensures at c.wrapping_minus-distance.ensures.back) refl

@@ -1,4 +1,4 @@
-use Rattle.std.proofs.Common.{◌++◌, map}
+use Rattle.std.proofs.Common.{◌++◌, map, refl}
 use Rattle.constriction_base.proofs.Written.{not_written}
 use Rattle.constriction_queue.specs.Encoder.{owed_of, released_of}
 use Rattle.constriction_queue.proofs.Encoders.{is_encoder}
@@ -19,6 +19,7 @@ returns-in-Err-clause-err g c =
     let seal = c.sealing-seal.result in
     let all = c.sealing-seal.ensures.followed (map number words) (words_of_numbers number _ g.met.Word.BitArray.number_law words) in
     rw (← c.self.view_is) record {
+      words_are = refl;
       owed = released_of number seal.behind ++ owed_of number seal.held seal.point seal.zero;
       is = all;
       not_written = not_written number g.Backend.Holds g.Backend.WriteWords _ _ _ _ c.in-Err.ensures;

@@ -2,7 +2,7 @@ use Rattle.std.proofs.Common.{ℕ, List, length, map, refl, arith, ◌∷◌, �
 use Rattle.constriction_base.specs.Models.{Item, IsModel, AreModels, pairs_of}
 use Rattle.constriction_queue.proofs.Seals.{words_of_numbers}
 use Rattle.constriction_coder_laws.proofs.PairCalls.{are_pairs}
-use Rattle.constriction_queue.specs.Range.{Run, Within, start}
+use Rattle.constriction_queue.specs.Range.{Run, Within, initial}
 use Rattle.constriction_queue.specs.Symbols.{FindsAll, NarrowsAll}
 use Rattle.constriction_queue_laws.proofs.AnyWords.{found_of, lie_of, none_within, some_pairs}
 use Rattle.constriction_queue_laws.proofs.Told.{passed, while_reading}
@@ -18,8 +18,8 @@ returns-clause-within g c = λ some.
     λ m. (let sized = g.met.M.EntropyModel.sized m in record { some_bits = sized.0; within_word = omega (arith, sized.1, g.met.M.Probability.WordOf.width_law); lawful = g.M.EntropyModel.lawful m }) in
     let words : List ℕ = map g.Word.BitArray.number (g.Words.Holds.words c.args.words) in
     let fit = words_of_numbers g.Word.BitArray.number w g.met.Word.BitArray.number_law (g.Words.Holds.words c.args.words) in
-    let law : (first : Item g.row.M-Symbol.Denot) (others : List (Item g.row.M-Symbol.Denot)) (last : Run) → AreModels w (first ∷ others) → NarrowsAll w s (first ∷ others) (start s) last
-    → FindsAll w s words (first ∷ others) (start s) last ↔ Within w s words last = λ first others last ms coded. c.symbols_of_any_words.ensures w s words first others last c.requires fit ms coded in
+    let law : (first : Item g.row.M-Symbol.Denot) (others : List (Item g.row.M-Symbol.Denot)) (last : Run) → AreModels w (first ∷ others) → NarrowsAll w s (first ∷ others) (initial s) last
+    → FindsAll w s words (first ∷ others) (initial s) last ↔ Within w s words last = λ first others last ms coded. c.symbols_of_any_words.ensures w s words first others last c.requires fit ms coded in
     let models = λ (xs : List g.row.M-Symbol.Denot). are_pairs g.row.PRECISION table w xs c.args.models.now lawful in
     let again = c.in_ok-back.back.0.items in
     let read = c.in_ok-back.ensures.read in
@@ -35,8 +35,8 @@ returns-clause-back g c = λ symbols count lie.
     λ m. (let sized = g.met.M.EntropyModel.sized m in record { some_bits = sized.0; within_word = omega (arith, sized.1, g.met.M.Probability.WordOf.width_law); lawful = g.M.EntropyModel.lawful m }) in
     let words : List ℕ = map g.Word.BitArray.number (g.Words.Holds.words c.args.words) in
     let fit = words_of_numbers g.Word.BitArray.number w g.met.Word.BitArray.number_law (g.Words.Holds.words c.args.words) in
-    let law : (first : Item g.row.M-Symbol.Denot) (others : List (Item g.row.M-Symbol.Denot)) (last : Run) → AreModels w (first ∷ others) → NarrowsAll w s (first ∷ others) (start s) last
-    → FindsAll w s words (first ∷ others) (start s) last ↔ Within w s words last = λ first others last ms coded. c.symbols_of_any_words.ensures w s words first others last c.requires fit ms coded in
+    let law : (first : Item g.row.M-Symbol.Denot) (others : List (Item g.row.M-Symbol.Denot)) (last : Run) → AreModels w (first ∷ others) → NarrowsAll w s (first ∷ others) (initial s) last
+    → FindsAll w s words (first ∷ others) (initial s) last ↔ Within w s words last = λ first others last ms coded. c.symbols_of_any_words.ensures w s words first others last c.requires fit ms coded in
     let models = λ (xs : List g.row.M-Symbol.Denot). are_pairs g.row.PRECISION table w xs c.args.models.now lawful in
     c.in_ok-back.ensures.back symbols lie.0 (found_of w s words law (items symbols) (models symbols) lie) count
 
@@ -50,8 +50,8 @@ returns-in_err-back-clause-err g c =
     λ m. (let sized = g.met.M.EntropyModel.sized m in record { some_bits = sized.0; within_word = omega (arith, sized.1, g.met.M.Probability.WordOf.width_law); lawful = g.M.EntropyModel.lawful m }) in
     let words : List ℕ = map g.Word.BitArray.number (g.Words.Holds.words c.args.words) in
     let fit = words_of_numbers g.Word.BitArray.number w g.met.Word.BitArray.number_law (g.Words.Holds.words c.args.words) in
-    let law : (first : Item g.row.M-Symbol.Denot) (others : List (Item g.row.M-Symbol.Denot)) (last : Run) → AreModels w (first ∷ others) → NarrowsAll w s (first ∷ others) (start s) last
-    → FindsAll w s words (first ∷ others) (start s) last ↔ Within w s words last = λ first others last ms coded. c.symbols_of_any_words.ensures w s words first others last c.requires fit ms coded in
+    let law : (first : Item g.row.M-Symbol.Denot) (others : List (Item g.row.M-Symbol.Denot)) (last : Run) → AreModels w (first ∷ others) → NarrowsAll w s (first ∷ others) (initial s) last
+    → FindsAll w s words (first ∷ others) (initial s) last ↔ Within w s words last = λ first others last ms coded. c.symbols_of_any_words.ensures w s words first others last c.requires fit ms coded in
     let models = λ (xs : List g.row.M-Symbol.Denot). are_pairs g.row.PRECISION table w xs c.args.models.now lawful in
     passed _ c.in_err-back.field-0.0 _ c.from_residual.ensures.1
     (while_reading _ ⊥ ⊥ _ _ c.in_err-back.ensures.err (λ none. none_within w s words law items (length c.args.models.now) models refl none))

@@ -1,6 +1,6 @@
 use Rattle.std.proofs.Common.{refl, subst, arith, ◌≡◌, ◌<◌, length}
 use Rattle.constriction_base.specs.Models.{Model, IsModel, items_of}
-use Rattle.constriction_queue.specs.Range.{Run, sealed, start}
+use Rattle.constriction_queue.specs.Range.{Run, sealed, initial}
 use Rattle.constriction_coder_laws.specs.Outcomes.{HasImpossible}
 use Rattle.constriction_queue.specs.Encoder.{left_to_encode, run_by}
 use Rattle.constriction_queue_laws.specs.Outcomes.{GivesNone}
@@ -25,15 +25,15 @@ returns-clause-back g c = λ new.
     let sizes = c.in_ok-decoder.ensures.sizes in
     let models = are_models w model symbols lawful in
     let known = g.met.Backend.IntoReadWords.BoundedReadWords.knows_words in
-    let coded : NarrowsAll w s (items_of model symbols) (start s) last = subst (λ r. NarrowsAll w s (items_of model symbols) r last) new stands.1 in
+    let coded : NarrowsAll w s (items_of model symbols) (initial s) last = subst (λ r. NarrowsAll w s (items_of model symbols) r last) new stands.1 in
     let found = c.symbols_come_back.ensures.decoded w s (items_of model symbols) last sizes models coded in
-    let back = c.in_ok-again.ensures.back known (sealed w s last) symbols (start s) last stands.2 found refl in
+    let back = c.in_ok-again.ensures.back known (sealed w s last) symbols (initial s) last stands.2 found refl in
     let ended = c.has_ended-ended.ensures.ended (sealed w s last) last back.1 (c.symbols_come_back.ensures.exhausted w s (items_of model symbols) last sizes models coded) in
     (back.0, ended)
 
 pub returns-in_err-decoder-clause-err : goal.returns-in_err-decoder-clause-err
 returns-in_err-decoder-clause-err g c =
-    let new : Type 0 = run_by g.Word.BitArray.BITS g.State.BitArray.BITS c.args.encoder ≡ start g.State.BitArray.BITS in
+    let new : Type 0 = run_by g.Word.BitArray.BITS g.State.BitArray.BITS c.args.encoder ≡ initial g.State.BitArray.BITS in
     let impossible : Type 0 = HasImpossible (g.M.EntropyModel.table c.args.model.now) c.args.symbols.now in
     let many : Type 0 = left_to_encode c.args.encoder < length c.args.symbols.now in
     passed _ c.in_err-decoder.field-0.0 _ c.from_residual.ensures.1
@@ -43,7 +43,7 @@ pub returns-in_err-again-clause-err : goal.returns-in_err-again-clause-err
 returns-in_err-again-clause-err g c =
     let none_given : Type 0 = GivesNone g.Backend.IntoReadWords.Holds.is_list g.Word.BitArray.BITS g.State.BitArray.BITS
     (items_of (record { precision = g.row.PRECISION; table = g.M.EntropyModel.table c.args.model.now })) (length c.args.symbols.now) c.in_ok-decoder.decoder in
-    let begun : Type 0 = run_by g.Word.BitArray.BITS g.State.BitArray.BITS c.args.encoder ≡ start g.State.BitArray.BITS in
+    let begun : Type 0 = run_by g.Word.BitArray.BITS g.State.BitArray.BITS c.args.encoder ≡ initial g.State.BitArray.BITS in
     passed _ c.in_err-again.field-0.0 _ c.from_residual-in_err-again.ensures.1
     (while_reading (begun → ⊥) (HasImpossible (g.M.EntropyModel.table c.args.model.now) c.args.symbols.now) (left_to_encode c.args.encoder < length c.args.symbols.now) none_given c.in_err-again.field-0.0 c.in_err-again.ensures.err (λ none new. (
     let w = g.Word.BitArray.BITS in
@@ -57,9 +57,9 @@ returns-in_err-again-clause-err g c =
     let sizes = c.in_ok-decoder.ensures.sizes in
     let models = are_models w model symbols lawful in
     let known = g.met.Backend.IntoReadWords.BoundedReadWords.knows_words in
-    let coded : NarrowsAll w s (items_of model symbols) (start s) last = subst (λ r. NarrowsAll w s (items_of model symbols) r last) new stands.1 in
+    let coded : NarrowsAll w s (items_of model symbols) (initial s) last = subst (λ r. NarrowsAll w s (items_of model symbols) r last) new stands.1 in
     let found = c.symbols_come_back.ensures.decoded w s (items_of model symbols) last sizes models coded in
-    none known (sealed w s last) (start s) stands.2 symbols last refl found)))
+    none known (sealed w s last) (initial s) stands.2 symbols last refl found)))
 
 pub returns-clause-read : goal.returns-clause-read
 returns-clause-read g c =
@@ -67,7 +67,7 @@ returns-clause-read g c =
     let s = g.State.BitArray.BITS in
     let stands = c.in_ok-decoder.ensures.stands in
     let words = sealed w s stands.0 in
-    let decoded = c.in_ok-again.ensures.decoded g.met.Backend.IntoReadWords.BoundedReadWords.knows_words words (start s) stands.2 in
+    let decoded = c.in_ok-again.ensures.decoded g.met.Backend.IntoReadWords.BoundedReadWords.knows_words words (initial s) stands.2 in
     let told = c.has_ended-ended.ensures in (
       c.in_ok-again.ensures.count,
       (
@@ -90,4 +90,4 @@ returns-in_err-again-clause-none g c =
     let words = sealed w s stands.0 in
     let known = g.met.Backend.IntoReadWords.BoundedReadWords.knows_words in
     passed _ c.in_err-again.field-0.0 _ c.from_residual-in_err-again.ensures.1 (while_reading _ ⊤ ⊤ _ c.in_err-again.field-0.0 c.in_err-again.ensures.err
-    (λ none. (words, (stands.0, stands.1, refl), none known words (start s) stands.2)))
+    (λ none. (words, (stands.0, stands.1, refl), none known words (initial s) stands.2)))

@@ -1,7 +1,7 @@
 use Rattle.std.proofs.Common.{◌∙◌, arith}
 use Rattle.constriction_base.specs.Models.{IsModel, pairs_of}
 use Rattle.constriction_queue.specs.Encoder.{run_by, sealed_by}
-use Rattle.constriction_queue.specs.Range.{Run, sealed, start}
+use Rattle.constriction_queue.specs.Range.{Run, sealed, initial}
 use Rattle.constriction_coder_laws.proofs.PairCalls.{are_pairs}
 use Rattle.constriction_queue_laws.proofs.Told.{err_weaker, while_reading}
 use Rattle.constriction_queue_laws.proofs.round_trips.lent_pairs.decode_lent_words_by_models.Goals as goal
@@ -13,7 +13,7 @@ returns-clause-read g c =
     let s = g.State.BitArray.BITS in
     let words = c.words.ensures.shows ∙ c.in-Ok.ensures.shows in
     let at = rw words at (c.in-Ok-from_compressed.ensures.ok tt) in
-    ok_weaker c.decode_pairs.result (c.decode_pairs.ensures.decoded tt (sealed_by w s c.args.encoder.now) (start s) at) (λ again read. (read.0, read.1))
+    ok_weaker c.decode_pairs.result (c.decode_pairs.ensures.decoded tt (sealed_by w s c.args.encoder.now) (initial s) at) (λ again read. (read.0, read.1))
 
 pub returns-clause-back : goal.returns-clause-back
 returns-clause-back g c = λ symbols coded count.
@@ -27,7 +27,7 @@ returns-clause-back g c = λ symbols coded count.
     let at = rw words at (c.in-Ok-from_compressed.ensures.ok tt) in
     let decoded = c.symbols_come_back.ensures.decoded w s (pairs_of g.row.PRECISION table symbols c.args.models.now) last c.words.ensures.coder.sizes
     (are_pairs g.row.PRECISION table w symbols c.args.models.now lawful) coded in
-    ok_weaker c.decode_pairs.result (c.decode_pairs.ensures.back tt (sealed w s last) symbols (start s) last at decoded count) (λ again back. back.0)
+    ok_weaker c.decode_pairs.result (c.decode_pairs.ensures.back tt (sealed w s last) symbols (initial s) last at decoded count) (λ again back. back.0)
 
 pub returns-clause-err : goal.returns-clause-err
 returns-clause-err g c =
@@ -35,4 +35,4 @@ returns-clause-err g c =
     let s = g.State.BitArray.BITS in
     let words = c.words.ensures.shows ∙ c.in-Ok.ensures.shows in
     let at = rw words at (c.in-Ok-from_compressed.ensures.ok tt) in
-    err_weaker c.decode_pairs.result c.decode_pairs.ensures.err (λ e why. while_reading _ ⊥ ⊥ _ e why (λ none. none tt (sealed_by w s c.args.encoder.now) (start s) at))
+    err_weaker c.decode_pairs.result c.decode_pairs.ensures.err (λ e why. while_reading _ ⊥ ⊥ _ e why (λ none. none tt (sealed_by w s c.args.encoder.now) (initial s) at))

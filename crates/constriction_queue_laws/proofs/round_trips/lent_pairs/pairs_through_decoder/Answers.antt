@@ -1,6 +1,6 @@
 use Rattle.std.proofs.Common.{subst, arith, ◌≡◌, ◌<◌, length}
 use Rattle.constriction_base.specs.Models.{IsModel, pairs_of}
-use Rattle.constriction_queue.specs.Range.{Run, start}
+use Rattle.constriction_queue.specs.Range.{Run, initial}
 use Rattle.constriction_queue.specs.Symbols.{NarrowsAll}
 use Rattle.constriction_coder_laws.proofs.PairCalls.{are_pairs}
 use Rattle.constriction_coder_laws.specs.Outcomes.{HasImpossibleItem}
@@ -18,12 +18,12 @@ returns-clause-back g c = λ new.
     let s = g.State.BitArray.BITS in
     let items = pairs_of g.row.PRECISION g.M.EntropyModel.table c.args.symbols.now c.args.models.now in
     let last : Run = run_by w s c.encode_pairs.new.encoder in
-    let coded : NarrowsAll w s items (start s) last = subst (λ r. NarrowsAll w s items r last) new c.in_ok-encode_pairs.ensures.narrowed in
+    let coded : NarrowsAll w s items (initial s) last = subst (λ r. NarrowsAll w s items r last) new c.in_ok-encode_pairs.ensures.narrowed in
     c.decode_through_decoder_by_models.ensures.back c.args.symbols.now coded c.requires
 
 pub returns-in_err-encode_pairs-clause-err : goal.returns-in_err-encode_pairs-clause-err
 returns-in_err-encode_pairs-clause-err g c =
-    let new : Type 0 = run_by g.Word.BitArray.BITS g.State.BitArray.BITS c.args.encoder.now ≡ start g.State.BitArray.BITS in
+    let new : Type 0 = run_by g.Word.BitArray.BITS g.State.BitArray.BITS c.args.encoder.now ≡ initial g.State.BitArray.BITS in
     let impossible : Type 0 = HasImpossibleItem (pairs_of g.row.PRECISION g.M.EntropyModel.table c.args.symbols.now c.args.models.now) in
     let many : Type 0 = left_to_encode c.args.encoder.now < length c.args.symbols.now in
     passed _ c.in_err-encode_pairs.field-0.0 _ c.from_residual.ensures.1
@@ -40,7 +40,7 @@ returns-clause-err g c =
     let symbols = c.args.symbols.now in
     let items = pairs_of g.row.PRECISION table symbols c.args.models.now in
     let last : Run = run_by w s c.encode_pairs.new.encoder in
-    let coded : NarrowsAll w s items (start s) last = subst (λ r. NarrowsAll w s items r last) new c.in_ok-encode_pairs.ensures.narrowed in
+    let coded : NarrowsAll w s items (initial s) last = subst (λ r. NarrowsAll w s items r last) new c.in_ok-encode_pairs.ensures.narrowed in
     none symbols last c.requires (c.symbols_come_back.ensures.decoded w s items last c.bulk.ensures.coder.sizes
     (are_pairs g.row.PRECISION table w symbols c.args.models.now lawful) coded))))
 

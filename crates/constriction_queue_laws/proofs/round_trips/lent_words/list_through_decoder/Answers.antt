@@ -1,6 +1,6 @@
 use Rattle.std.proofs.Common.{refl, subst, arith, ◌≡◌, ◌<◌, length}
 use Rattle.constriction_base.specs.Models.{Model, IsModel, items_of}
-use Rattle.constriction_queue.specs.Range.{Run, start}
+use Rattle.constriction_queue.specs.Range.{Run, initial}
 use Rattle.constriction_queue.specs.Symbols.{NarrowsAll}
 use Rattle.constriction_coder_laws.proofs.SameModel.{are_models}
 use Rattle.constriction_coder_laws.specs.Outcomes.{HasImpossible}
@@ -20,12 +20,12 @@ returns-clause-back g c = λ new.
     let lawful : IsModel w model = record { some_bits = sized.0; within_word = omega (arith, sized.1, g.met.M.Probability.WordOf.width_law); lawful = g.M.EntropyModel.lawful c.args.model.now } in
     let symbols = c.args.symbols.now in
     let last : Run = run_by w s c.encode_list.new.encoder in
-    let coded : NarrowsAll w s (items_of model symbols) (start s) last = subst (λ r. NarrowsAll w s (items_of model symbols) r last) new c.in_ok-encode_list.ensures.narrowed in
+    let coded : NarrowsAll w s (items_of model symbols) (initial s) last = subst (λ r. NarrowsAll w s (items_of model symbols) r last) new c.in_ok-encode_list.ensures.narrowed in
     c.decode_through_decoder.ensures.back symbols coded refl
 
 pub returns-in_err-encode_list-clause-err : goal.returns-in_err-encode_list-clause-err
 returns-in_err-encode_list-clause-err g c =
-    let new : Type 0 = run_by g.Word.BitArray.BITS g.State.BitArray.BITS c.args.encoder.now ≡ start g.State.BitArray.BITS in
+    let new : Type 0 = run_by g.Word.BitArray.BITS g.State.BitArray.BITS c.args.encoder.now ≡ initial g.State.BitArray.BITS in
     let impossible : Type 0 = HasImpossible (g.M.EntropyModel.table c.args.model.now) c.args.symbols.now in
     let many : Type 0 = left_to_encode c.args.encoder.now < length c.args.symbols.now in
     passed _ c.in_err-encode_list.field-0.0 _ c.from_residual.ensures.1
@@ -41,7 +41,7 @@ returns-clause-err g c =
     let lawful : IsModel w model = record { some_bits = sized.0; within_word = omega (arith, sized.1, g.met.M.Probability.WordOf.width_law); lawful = g.M.EntropyModel.lawful c.args.model.now } in
     let symbols = c.args.symbols.now in
     let last : Run = run_by w s c.encode_list.new.encoder in
-    let coded : NarrowsAll w s (items_of model symbols) (start s) last = subst (λ r. NarrowsAll w s (items_of model symbols) r last) new c.in_ok-encode_list.ensures.narrowed in
+    let coded : NarrowsAll w s (items_of model symbols) (initial s) last = subst (λ r. NarrowsAll w s (items_of model symbols) r last) new c.in_ok-encode_list.ensures.narrowed in
     none symbols last refl (c.symbols_come_back.ensures.decoded w s (items_of model symbols) last c.bulk.ensures.coder.sizes (are_models w model symbols lawful) coded))))
 
 pub returns-clause-read : goal.returns-clause-read

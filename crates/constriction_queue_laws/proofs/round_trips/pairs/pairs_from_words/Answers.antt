@@ -1,5 +1,5 @@
 use Rattle.std.proofs.Common.{pow_pos, List, length}
-use Rattle.constriction_queue.specs.Range.{start}
+use Rattle.constriction_queue.specs.Range.{initial}
 use Rattle.constriction_queue_laws.specs.Outcomes.{GivesNone}
 use Rattle.constriction_base.specs.Models.{Item, pairs_of}
 use Rattle.constriction_queue_laws.proofs.ListCalls.{nears_of}
@@ -11,7 +11,7 @@ returns-clause-read g c =
     let w = g.Word.BitArray.BITS in
     let s = g.State.BitArray.BITS in
     let known = g.met.Words.IntoReadWords.BoundedReadWords.knows_words in
-    let decoded = c.in_ok-again.ensures.decoded known _ (start s) (c.in-Ok.ensures.ok known) in
+    let decoded = c.in_ok-again.ensures.decoded known _ (initial s) (c.in-Ok.ensures.ok known) in
     let told = c.has_ended-ended.ensures in (
       decoded.0,
       decoded.1,
@@ -22,7 +22,7 @@ returns-clause-read g c =
 pub returns-clause-back : goal.returns-clause-back
 returns-clause-back g c = λ symbols last found count.
     let known = g.met.Words.IntoReadWords.BoundedReadWords.knows_words in
-    (c.in_ok-again.ensures.back known _ symbols (start g.State.BitArray.BITS) last (c.in-Ok.ensures.ok known) found count).0
+    (c.in_ok-again.ensures.back known _ symbols (initial g.State.BitArray.BITS) last (c.in-Ok.ensures.ok known) found count).0
 
 pub returns-in_err-again-clause-err : goal.returns-in_err-again-clause-err
 returns-in_err-again-clause-err g c =
@@ -30,4 +30,4 @@ returns-in_err-again-clause-err g c =
     let items : List g.row.M-Symbol.Denot → List (Item g.row.M-Symbol.Denot) = λ (symbols : List g.row.M-Symbol.Denot). pairs_of g.row.PRECISION g.M.EntropyModel.table symbols c.args.models.now in
     passed _ c.in_err-again.field-0.0 _ c.from_residual.ensures.1
     (while_reading _ ⊥ ⊥ (GivesNone g.Words.IntoReadWords.Holds.is_list g.Word.BitArray.BITS g.State.BitArray.BITS items (length c.args.models.now) c.in-Ok.decoder) c.in_err-again.field-0.0
-    c.in_err-again.ensures.err (λ none. none known _ (start g.State.BitArray.BITS) (c.in-Ok.ensures.ok known)))
+    c.in_err-again.ensures.err (λ none. none known _ (initial g.State.BitArray.BITS) (c.in-Ok.ensures.ok known)))

@@ -1,6 +1,6 @@
 use Rattle.std.proofs.Common.{◌≡◌, map, refl, subst, arith, ◌<◌, length}
 use Rattle.constriction_base.specs.Models.{Model, IsModel, items_of}
-use Rattle.constriction_queue.specs.Range.{Run, start}
+use Rattle.constriction_queue.specs.Range.{Run, initial}
 use Rattle.constriction_coder_laws.specs.Outcomes.{HasImpossible}
 use Rattle.constriction_queue.specs.Encoder.{left_to_encode, run_by}
 use Rattle.constriction_queue_laws.proofs.ListCalls.{sealed_back}
@@ -26,9 +26,9 @@ returns-clause-back g c = λ new.
     let last : Run = seals.0 in
     let sizes = c.in_ok-words.ensures.sizes in
     let models = are_models w model symbols lawful in
-    let coded : NarrowsAll w s (items symbols) (start s) last = subst (λ r. NarrowsAll w s (items symbols) r last) new seals.1 in
+    let coded : NarrowsAll w s (items symbols) (initial s) last = subst (λ r. NarrowsAll w s (items symbols) r last) new seals.1 in
     let words = queue_is number (g.Backend.Holds-1.words c.in_ok-words.words) (g.met.Backend.BothWays.turned_law c.in_ok-words.words) seals.2 in
-    let found : FindsAll w s (map number (g.Backend.Holds-2.words c.in_ok-words.words)) (items symbols) (start s) last = rw words (c.symbols_come_back.ensures.decoded w s (items symbols) last sizes models coded) in
+    let found : FindsAll w s (map number (g.Backend.Holds-2.words c.in_ok-words.words)) (items symbols) (initial s) last = rw words (c.symbols_come_back.ensures.decoded w s (items symbols) last sizes models coded) in
     let may : MayEnd w s (map number (g.Backend.Holds-2.words c.in_ok-words.words)) last = rw words (c.symbols_come_back.ensures.exhausted w s (items symbols) last sizes models coded) in
     let back = c.list_from_words.ensures in
     ok_both c.list_from_words.result (back.back symbols last found refl) back.read
@@ -36,7 +36,7 @@ returns-clause-back g c = λ new.
 
 pub returns-in_err-words-clause-err : goal.returns-in_err-words-clause-err
 returns-in_err-words-clause-err g c =
-    let new : Type 0 = run_by g.Word.BitArray.BITS g.State.BitArray.BITS c.args.encoder ≡ start g.State.BitArray.BITS in
+    let new : Type 0 = run_by g.Word.BitArray.BITS g.State.BitArray.BITS c.args.encoder ≡ initial g.State.BitArray.BITS in
     let impossible : Type 0 = HasImpossible (g.M.EntropyModel.table c.args.model.now) c.args.symbols.now in
     let many : Type 0 = left_to_encode c.args.encoder < length c.args.symbols.now in
     passed _ c.in_err-words.field-0.0 _ c.from_residual.ensures.1
@@ -57,9 +57,9 @@ returns-clause-err g c =
     let last : Run = seals.0 in
     let sizes = c.in_ok-words.ensures.sizes in
     let models = are_models w model symbols lawful in
-    let coded : NarrowsAll w s (items symbols) (start s) last = subst (λ r. NarrowsAll w s (items symbols) r last) new seals.1 in
+    let coded : NarrowsAll w s (items symbols) (initial s) last = subst (λ r. NarrowsAll w s (items symbols) r last) new seals.1 in
     let words = queue_is number (g.Backend.Holds-1.words c.in_ok-words.words) (g.met.Backend.BothWays.turned_law c.in_ok-words.words) seals.2 in
-    let found : FindsAll w s (map number (g.Backend.Holds-2.words c.in_ok-words.words)) (items symbols) (start s) last = rw words (c.symbols_come_back.ensures.decoded w s (items symbols) last sizes models coded) in
+    let found : FindsAll w s (map number (g.Backend.Holds-2.words c.in_ok-words.words)) (items symbols) (initial s) last = rw words (c.symbols_come_back.ensures.decoded w s (items symbols) last sizes models coded) in
     none symbols last refl found)))
 
 pub returns-clause-read : goal.returns-clause-read

@@ -44,8 +44,8 @@ returns-in-Ok-None-clause-ok g c = λ list.
     let words = rw c.in-Ok-None.field-0-is at c.in-Ok-None.ensures.words in
     none_imported g.Word.BitArray.number g.Word.BitArray.BITS g.State.BitArray.BITS _ _ _ c.nothing.ensures (words list)
 
-pub returns-in-Ok-None-clause-high : goal.returns-in-Ok-None-clause-high
-returns-in-Ok-None-clause-high g c = λ list.
+pub returns-in-Ok-None-clause-some : goal.returns-in-Ok-None-clause-some
+returns-in-Ok-None-clause-some g c = λ list.
     let words = rw c.in-Ok-None.field-0-is at c.in-Ok-None.ensures.words in
     none_high g.Word.BitArray.number _ (words list).0
 
@@ -74,7 +74,7 @@ returns-clause-ok g c = λ list.
     let full = ended_state number g.Backend.Holds g.Backend.ReadWords w s _ (g.State.BitArray.number c.widen.result) _ c.read.new.self c.fill.new.bulk (facts w s c.requires) (g.met.State.BitArray.number_law _) moved list in
     first_imported number w s _ c.in-Ok-Some.word _ _ _ (read list) c.widen.ensures full
 
-pub returns-clause-high : goal.returns-clause-high
-returns-clause-high g c = λ list.
+pub returns-clause-some : goal.returns-clause-some
+returns-clause-some g c = λ list.
     let read = rw c.in-Ok-Some.field-0-is at c.in-Ok-Some.ensures.words in
     first_high g.Word.BitArray.number c.in-Ok-Some.word _ _ (read list) (some_of (g.Word.BitArray.number c.in-Ok-Some.word) c.if-is_nothing.ensures.1)

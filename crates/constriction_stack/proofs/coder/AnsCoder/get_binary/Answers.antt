@@ -7,6 +7,7 @@ returns-in-Ok g c = (
   (refl, λ w. refl, tt),
   record {
     same_reference = refl;
+    coder = c.in-Ok.ensures.coder;
     shows = c.in-Ok.ensures.shows;
     back = c.in-Ok.ensures.back;
     frontend = (λ is m i. absurd cc, λ none. absurd (none c.in-Ok.ensures.shows.0 c.in-Ok.ensures.shows.1));
@@ -20,6 +21,7 @@ returns-in-Err g c = (
   (refl, λ w. tt, c.in-Err.ensures.kept),
   record {
     same_reference = tt;
+    coder = c.in-Err.ensures.coder;
     shows = tt;
     back = tt;
     frontend = (λ is. c.in-Err.ensures.frontend.0 (same_error is), λ none. same_error (c.in-Err.ensures.frontend.1 none));

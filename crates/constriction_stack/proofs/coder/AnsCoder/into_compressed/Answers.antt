@@ -14,13 +14,13 @@ returns-in-Ok-clause-ok g c =
     let digits = counted_digits g.Word.BitArray.BITS c.count_of_words-count.result head c.self.invariant.some_bits c.count_of_words-count.ensures in
     rw (← c.self.view_is) (c.in-Ok.ensures.written.words ∙ ap (λ (ds : List ℕ). ds ++ below) digits)
 
-pub returns-in-Ok-clause-empty : goal.returns-in-Ok-clause-empty
-returns-in-Ok-clause-empty g c = rw (← c.self.view_is) (λ (zero : g.State.BitArray.number c.self.inside.state ≡ 0).
+pub returns-in-Ok-clause-untouched : goal.returns-in-Ok-clause-untouched
+returns-in-Ok-clause-untouched g c = rw (← c.self.view_is) (λ (zero : g.State.BitArray.number c.self.inside.state ≡ 0).
     let none : c.count_of_words-count.result ≡ 0 = c.count_of_words-count.ensures ∙ ap (count_of_words g.Word.BitArray.BITS) zero in
     ap Ok (c.in-Ok.ensures.written.untouched (ap (λ n. fixed_digits (2 ^ g.Word.BitArray.BITS) n (g.State.BitArray.number c.self.inside.state)) none)).1)
 
-pub returns-in-Err-clause-empty : goal.returns-in-Err-clause-empty
-returns-in-Err-clause-empty g c = rw (← c.self.view_is) (λ (zero : g.State.BitArray.number c.self.inside.state ≡ 0).
+pub returns-in-Err-clause-untouched : goal.returns-in-Err-clause-untouched
+returns-in-Err-clause-untouched g c = rw (← c.self.view_is) (λ (zero : g.State.BitArray.number c.self.inside.state ≡ 0).
     let none : c.count_of_words-count.result ≡ 0 = c.count_of_words-count.ensures ∙ ap (count_of_words g.Word.BitArray.BITS) zero in
     absurd (false≢true (c.in-Err.ensures.written.untouched (ap (λ n. fixed_digits (2 ^ g.Word.BitArray.BITS) n (g.State.BitArray.number c.self.inside.state)) none)).0))
 

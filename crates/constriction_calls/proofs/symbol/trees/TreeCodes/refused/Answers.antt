@@ -1,13 +1,17 @@
-use Rattle.std.proofs.Common.{◌<◌, All, inl, inr, map, refl, subst, sym}
+use Rattle.std.proofs.Common.{◌<◌, All, arith, inl, inr, map, refl, subst}
 use Rattle.std.proofs.lemmas.List.{length-map}
-use Rattle.constriction_calls.proofs.SymbolTrees.{below_have, have_below}
+use Rattle.constriction_symbol.specs.Huffman.{huffman}
+use Rattle.constriction_symbol_laws.proofs.bit_coders.Trees.{known_symbol}
+use Rattle.constriction_calls.proofs.SymbolLists.{all_have}
+use Rattle.constriction_calls.proofs.SymbolTrees.{below_have}
 use Rattle.constriction_calls.proofs.symbol.trees.TreeCodes.refused.Goals as goal
 
 pub returns-then-are_below : goal.returns-then-are_below
 returns-then-are_below g c =
-    let weights = c.args.self.now.weights.now in
-    let below = subst (λ n. All (λ s. s < n) c.args.symbols.now) (sym (length-map weights g.P.BitArray.number)) (c.are_below.ensures.0 c.if-are_below.true) in
-    inr (c.make_tree.ensures.0 c.if-not-make_tree.false, inr (have_below (map g.P.BitArray.number weights) c.args.symbols.now below, tt))
+    let weights = map g.P.BitArray.number c.args.self.now.weights.now in
+    let long = length-map c.args.self.now.weights.now g.P.BitArray.number in
+    let below = c.are_below.ensures.0 c.if-are_below.true in
+    inr (c.make_tree.ensures.0 c.if-not-make_tree.false, inr (all_have (huffman weights) c.args.symbols.now (λ k d inside. known_symbol weights _ (omega (arith, below k d inside, long))), tt))
 
 pub returns-else-are_below : goal.returns-else-are_below
 returns-else-are_below g c =

@@ -1,14 +1,14 @@
 use Rattle.std.proofs.Common.{arith, inr}
 use Rattle.constriction_base.proofs.Entries.{in_range}
 use Rattle.constriction_chain.proofs.Outcomes.{decoded, undecoded}
-use Rattle.constriction_chain.proofs.Sizes.{narrowed}
 use Rattle.constriction_chain.proofs.Taking.{covered}
+use Rattle.constriction_base.proofs.Sizes.{same_number}
 use Rattle.constriction_chain.proofs.coder.symbols.ChainCoderDecode.decode_symbol.Goals as goal
 
 pub quantile_function-symbol-requires : goal.quantile_function-symbol-requires
 quantile_function-symbol-requires g c =
     let below = c.in-Ok.ensures.ok.below in
-    rw (c.narrow.ensures, narrowed _ _ _ below (g.met.M.EntropyModel.sized c.args.model).1) below
+    rw (c.narrow.ensures, same_number _ _ _ below (g.met.M.EntropyModel.sized c.args.model).1) below
 
 pub keep-requires-clause-covers : goal.keep-requires-clause-covers
 keep-requires-clause-covers g c =
@@ -25,7 +25,7 @@ returns-in-Ok-keep g c =
     let number = g.Word.BitArray.number in
     let taken = c.in-Ok.ensures.ok in
     let covers = covered _ _ _ _ _ _ taken.below (g.met.M.EntropyModel.sized c.args.model).1 c.narrow.ensures c.quantile_function-symbol.ensures.covers in
-    let kept = rw (c.widen-left.ensures, c.widen-p.ensures, c.from_nonzero.ensures, c.parts-r.ensures.is) at c.in-Ok-keep.ensures.ok in
+    let kept = rw (c.widen-left.ensures, c.widen-p.ensures, c.from_nonzero.ensures, c.parts-r.ensures.parts) at c.in-Ok-keep.ensures.ok in
     rw (← c.self.view_is, c.of-after.ensures) (record {
       step = (
         _,
@@ -40,7 +40,7 @@ returns g c =
     let number = g.Word.BitArray.number in
     let taken = c.in-Ok.ensures.ok in
     let covers = covered _ _ _ _ _ _ taken.below (g.met.M.EntropyModel.sized c.args.model).1 c.narrow.ensures c.quantile_function-symbol.ensures.covers in
-    let lost = rw (c.widen-left.ensures, c.widen-p.ensures, c.from_nonzero.ensures, c.parts-r.ensures.is) at c.in-Err-keep.ensures.err in
+    let lost = rw (c.widen-left.ensures, c.widen-p.ensures, c.from_nonzero.ensures, c.parts-r.ensures.parts) at c.in-Err-keep.ensures.err in
     rw (← c.self.view_is) (record {
       step = inr (
         _,

@@ -14,13 +14,13 @@ give-requires-clause-total g c =
 
 pub returns-in-Ok-clause-step : goal.returns-in-Ok-clause-step
 returns-in-Ok-clause-step g c =
-    let call = rw (c.widen-left.ensures, c.widen-p.ensures, c.from_nonzero.ensures, c.parts-heads.ensures.is) at c.in-Ok.ensures.ok in
+    let call = rw (c.widen-left.ensures, c.widen-p.ensures, c.from_nonzero.ensures, c.parts-heads.ensures.parts) at c.in-Ok.ensures.ok in
     rw (← c.self.view_is, c.of-after.ensures) (inl (_, _, c.in-Some.ensures.found, call))
 
 pub returns-clause-step : goal.returns-clause-step
 returns-clause-step g c =
-    let call = rw (c.widen-left.ensures, c.widen-p.ensures, c.from_nonzero.ensures, c.parts-heads.ensures.is) at c.in-Err.ensures.err in
+    let call = rw (c.widen-left.ensures, c.widen-p.ensures, c.from_nonzero.ensures, c.parts-heads.ensures.parts) at c.in-Err.ensures.err in
     rw (← c.self.view_is) (inl (_, _, c.in-Some.ensures.found, call))
 
-pub give-requires-clause-inverse : goal.give-requires-clause-inverse
-give-requires-clause-inverse g c = rw (c.widen-p.ensures, c.from_nonzero.ensures) c.in-Some.ensures.reciprocal
+pub give-requires-clause-reciprocal : goal.give-requires-clause-reciprocal
+give-requires-clause-reciprocal g c = rw (c.widen-p.ensures, c.from_nonzero.ensures) c.in-Some.ensures.reciprocal

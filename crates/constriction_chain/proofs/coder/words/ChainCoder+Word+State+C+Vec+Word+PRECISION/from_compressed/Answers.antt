@@ -5,14 +5,14 @@ use Rattle.constriction_chain.proofs.coder.words.ChainCoder+Word+State+C+Vec+Wor
 
 pub returns-in-Ok-Some-clause-ok : goal.returns-in-Ok-Some-clause-ok
 returns-in-Ok-Some-clause-ok g c =
-    let found = rw c.in-Ok-Some.field-0-is at c.in-Ok-Some.ensures.some in
+    let found = rw c.in-Ok-Some.field-0-is at c.in-Ok-Some.ensures.ok in
     let window = rw c.in-Ok-Some.field-0-is at c.in-Ok-Some.ensures.window in
     let some : 0 < g.State.BitArray.number c.in-Ok-Some.r = omega (arith, window.from, pow_pos (g.State.BitArray.BITS - g.Word.BitArray.BITS - g.row.PRECISION)) in
     rw (c.of.ensures, c.unit.ensures) (refl, search rules, λ list. digits_begin g.Word.BitArray.number g.C.Holds g.C.ReadWords _ _ _ _ c.requires.sizes.some_bits g.met.Word.BitArray.number_law some found list)
 
 pub returns-in-Ok-Some-clause-reads : goal.returns-in-Ok-Some-clause-reads
 returns-in-Ok-Some-clause-reads g c =
-    let found = rw c.in-Ok-Some.field-0-is at c.in-Ok-Some.ensures.some in
+    let found = rw c.in-Ok-Some.field-0-is at c.in-Ok-Some.ensures.ok in
     rw c.of.ensures found
 
 pub returns-in-Ok-Some-clause-coder : goal.returns-in-Ok-Some-clause-coder

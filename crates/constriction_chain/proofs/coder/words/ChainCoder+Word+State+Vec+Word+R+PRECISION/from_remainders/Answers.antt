@@ -36,7 +36,7 @@ pub returns-in-Ok-Some-begin_window-clause-ok : goal.returns-in-Ok-Some-begin_wi
 returns-in-Ok-Some-begin_window-clause-ok g c =
     let number = g.Word.BitArray.number in
     let top = rw c.in-Ok-Some.field-0-is at c.in-Ok-Some.ensures.words in
-    let found = rw c.in-Ok-Some-begin_window.field-0-is at c.in-Ok-Some-begin_window.ensures.some in
+    let found = rw c.in-Ok-Some-begin_window.field-0-is at c.in-Ok-Some-begin_window.ensures.ok in
     let window = rw c.in-Ok-Some-begin_window.field-0-is at c.in-Ok-Some-begin_window.ensures.window in
     let some : 0 < g.State.BitArray.number c.in-Ok-Some-begin_window.r = omega (arith, window.from, pow_pos (g.State.BitArray.BITS - g.Word.BitArray.BITS - g.row.PRECISION)) in
     rw c.of.ensures (
@@ -49,7 +49,7 @@ pub returns-in-Ok-Some-begin_window-clause-reads : goal.returns-in-Ok-Some-begin
 returns-in-Ok-Some-begin_window-clause-reads g c =
     let reads = rw c.in-Ok-Some.field-0-is at c.in-Ok-Some.ensures.reads in
     let top = rw c.in-Ok-Some.field-0-is at c.in-Ok-Some.ensures.words in
-    let found = rw c.in-Ok-Some-begin_window.field-0-is at c.in-Ok-Some-begin_window.ensures.some in
+    let found = rw c.in-Ok-Some-begin_window.field-0-is at c.in-Ok-Some-begin_window.ensures.ok in
     rw c.of.ensures (c.in-Ok-Some.word, c.read.new.self, refl, (reads, top), found)
 
 pub returns-in-Ok-Some-begin_window-clause-coder : goal.returns-in-Ok-Some-begin_window-clause-coder

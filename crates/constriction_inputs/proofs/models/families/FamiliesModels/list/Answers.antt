@@ -1,8 +1,6 @@
-use Rattle.std.proofs.Common.{◌∙◌, ℕ, List, Some, length, ap, sym}
-use Rattle.constriction_base.specs.Models.{pairs_of}
+use Rattle.std.proofs.Common.{◌∙◌, Some, length, ap, refl, sym}
 use Rattle.constriction_models.specs.Quantizers.{symbol_count, first_symbol}
-use Rattle.constriction_inputs.specs.Quantized.{ByFamily}
-use Rattle.constriction_inputs.proofs.FamilyTables.{tables_counted, tables_same}
+use Rattle.constriction_inputs.proofs.FamilyTables.{tables_counted}
 use Rattle.constriction_inputs.proofs.models.families.FamiliesModels.list.Goals as goal
 
 pub returns-in-Ok-models_of-clause-count : goal.returns-in-Ok-models_of-clause-count
@@ -12,8 +10,5 @@ returns-in-Ok-models_of-clause-count g c =
 
 pub returns-in-Ok-models_of-clause-items : goal.returns-in-Ok-models_of-clause-items
 returns-in-Ok-models_of-clause-items g c =
-    let self = c.args.self.now in
-    let by : ByFamily = record { family = self.family; min = self.min; max = self.max; locations = self.locations.now; scales = self.scales.now } in
     let e = c.in-Ok.ensures in
-    λ others many. ap (λ (ts : List (List (ℕ × ℕ × ℕ))). pairs_of g.row.PRECISION (λ (t : List (ℕ × ℕ × ℕ)). t) others ts)
-    (sym (c.in-Ok-models_of.ensures ∙ tables_same g.row.PRECISION by _ _ _ e.family e.first e.count))
+    λ others many. rw (c.in-Ok-models_of.ensures, e.family, ← e.count, ← e.first) refl

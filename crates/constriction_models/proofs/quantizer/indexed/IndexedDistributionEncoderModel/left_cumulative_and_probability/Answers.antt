@@ -1,5 +1,5 @@
 use Rattle.std.proofs.Common.{arith}
-use Rattle.constriction_models.specs.laws.Quantizing.{interval_of}
+use Rattle.constriction_models.specs.laws.Quantizing.{proper_interval}
 use Rattle.constriction_models.specs.laws.Indexing.{indexed_has, indexed_impossible}
 use Rattle.constriction_models.proofs.quantizer.indexed.IndexedDistributionEncoderModel.left_cumulative_and_probability.Goals as goal
 use Rattle.constriction_base.proofs.Sizes.{pow_le}
@@ -13,21 +13,21 @@ pub interval-requires-clause-some : goal.interval-requires-clause-some
 interval-requires-clause-some g c =
     let m = c.args.self.now.model in
     let q = m.quantizer in
-    let i = interval_of g.row.PRECISION (g.D.CumulativeDistribution.below m.distribution) q.min q.count c.args.symbol.now (g.D.CumulativeDistribution.never_falls m.distribution) q.some q.room c.if-place-self.false in
+    let i = proper_interval g.row.PRECISION (g.D.CumulativeDistribution.below m.distribution) q.min q.count c.args.symbol.now (g.D.CumulativeDistribution.never_falls m.distribution) q.some q.room c.if-place-self.false in
     omega (arith, i.some, c.start-left.ensures, c.start-end.ensures)
 
 pub interval-requires-clause-fits : goal.interval-requires-clause-fits
 interval-requires-clause-fits g c =
     let m = c.args.self.now.model in
     let q = m.quantizer in
-    let i = interval_of g.row.PRECISION (g.D.CumulativeDistribution.below m.distribution) q.min q.count c.args.symbol.now (g.D.CumulativeDistribution.never_falls m.distribution) q.some q.room c.if-place-self.false in
+    let i = proper_interval g.row.PRECISION (g.D.CumulativeDistribution.below m.distribution) q.min q.count c.args.symbol.now (g.D.CumulativeDistribution.never_falls m.distribution) q.some q.room c.if-place-self.false in
     omega (arith, i.some, i.inside, c.start-left.ensures, pow_le _ _ q.fits)
 
 pub interval-requires-clause-long : goal.interval-requires-clause-long
 interval-requires-clause-long g c =
     let m = c.args.self.now.model in
     let q = m.quantizer in
-    let i = interval_of g.row.PRECISION (g.D.CumulativeDistribution.below m.distribution) q.min q.count c.args.symbol.now (g.D.CumulativeDistribution.never_falls m.distribution) q.some q.room c.if-place-self.false in
+    let i = proper_interval g.row.PRECISION (g.D.CumulativeDistribution.below m.distribution) q.min q.count c.args.symbol.now (g.D.CumulativeDistribution.never_falls m.distribution) q.some q.room c.if-place-self.false in
     omega (arith, i.not_all, c.start-left.ensures, c.start-end.ensures, pow_le _ _ q.fits)
 
 pub returns-clause-found : goal.returns-clause-found

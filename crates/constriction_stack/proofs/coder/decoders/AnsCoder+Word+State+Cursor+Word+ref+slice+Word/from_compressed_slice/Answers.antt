@@ -15,7 +15,7 @@ returns-in-Ok-clause-ok g c =
 
 pub returns-in-Ok-clause-variant : goal.returns-in-Ok-clause-variant
 returns-in-Ok-clause-variant g c = (
-  λ is. still_high g.Word.BitArray.number _ _ (all_below (λ buf. buf.now) _ _ c.new_at_write_end.ensures) (c.in-Ok.ensures.high tt),
+  λ is. still_high g.Word.BitArray.number _ _ (all_below (λ buf. buf.now) _ _ c.new_at_write_end.ensures) (c.in-Ok.ensures.some tt),
   λ high. refl,
 )
 

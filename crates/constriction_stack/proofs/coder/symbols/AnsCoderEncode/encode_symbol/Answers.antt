@@ -18,5 +18,5 @@ returns-clause-step g c =
     let encodes = rw (c.widen-left.ensures, c.widen.ensures, c.widen-p.ensures, c.widen-2.ensures, c.from_nonzero-p.ensures) at c.in-Err.ensures in
     rw (← c.self.view_is) (inl (_, _, c.in-Some.ensures.found, (Err c.in-Err.refusal, encodes, refl)))
 
-pub pushed_onto-requires-clause-inverse : goal.pushed_onto-requires-clause-inverse
-pushed_onto-requires-clause-inverse g c = rw (c.widen-p.ensures, c.widen-2.ensures, c.from_nonzero-p.ensures) c.in-Some.ensures.reciprocal
+pub pushed_onto-requires-clause-reciprocal : goal.pushed_onto-requires-clause-reciprocal
+pushed_onto-requires-clause-reciprocal g c = rw (c.widen-p.ensures, c.widen-2.ensures, c.from_nonzero-p.ensures) c.in-Some.ensures.reciprocal

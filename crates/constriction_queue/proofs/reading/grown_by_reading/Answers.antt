@@ -3,7 +3,7 @@ use Rattle.constriction_base.proofs.Heads.{large_of_shr, small_of_shr}
 use Rattle.constriction_queue.proofs.Parts.{lower_fits, range_fits}
 use Rattle.constriction_queue.proofs.Pointing.{at_long, at_short}
 use Rattle.constriction_queue.proofs.Distances.{point_shifted, room_for_word}
-use Rattle.constriction_queue.proofs.reading.refilled.Goals as goal
+use Rattle.constriction_queue.proofs.reading.grown_by_reading.Goals as goal
 
 pub returns-then-not-is_nothing-clause-wide : goal.returns-then-not-is_nothing-clause-wide
 returns-then-not-is_nothing-clause-wide g c =
