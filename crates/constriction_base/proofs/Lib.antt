@@ -17,3 +17,5 @@ pub mod Written
 pub mod WordLists
 pub mod Made
 pub mod Results
+pub mod SameModel
+pub mod FromBack

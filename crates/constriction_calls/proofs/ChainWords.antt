@@ -13,7 +13,7 @@ use Rattle.constriction_chain.specs.Chain.{ChainState, IsChain, IsSized, least}
 use Rattle.constriction_chain.specs.Imports.{FromBinary, FromCompressed, FromRemainders}
 use Rattle.constriction_chain.specs.Words.{NoHeads, NoStart, TooFew, remainder_words}
 use Rattle.constriction_chain.proofs.Chains.{state, state_same}
-use Rattle.constriction_chain_laws.proofs.NoCoder as laws
+use Rattle.constriction_chain.proofs.NoCoder as laws
 use Rattle.constriction_inputs.specs.Buffers.{Appended, WordsKept, stack_in}
 use Rattle.constriction_calls.specs.ChainWords.{AreWordsInForm, Begins, ChainBegins, ChainEnds, Form, HaveWords, HeadsOver, NoRoomFor, heads_over}
 use Rattle.constriction_calls.specs.declared.chain.ChainHeads.{ChainHeads}

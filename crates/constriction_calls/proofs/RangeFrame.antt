@@ -15,7 +15,7 @@ use Rattle.constriction_queue.proofs.Runs.{same_run}
 use Rattle.constriction_queue.proofs.Seals.{digits_of_words, words_held_fit}
 use Rattle.constriction_queue.proofs.Carry.{carry_held, length-held}
 use Rattle.constriction_queue.proofs.Narrowing.{by_growth, moved, grown_small, grown_large}
-use Rattle.constriction_queue_laws.proofs.AnyEncoder.{number_below}
+use Rattle.constriction_queue.proofs.Below.{number_below}
 
 -- the run behind k words more, whose number is n
 abbrev behind : ℕ → ℕ → ℕ → ℕ → Run → Run

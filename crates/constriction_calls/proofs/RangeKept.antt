@@ -19,7 +19,7 @@ use Rattle.constriction_calls.specs.RangeCalls.{IsEncoderKept, KeptFit, kept_wor
 use Rattle.constriction_calls.specs.declared.range.parts.EncoderParts.{EncoderParts}
 use Rattle.constriction_calls.proofs.RangeFrame.{held_inside, narrows_above, run_behind, sealed_behind}
 use Rattle.constriction_calls.proofs.Stacked.{turned_words}
-use Rattle.constriction_queue_laws.proofs.AnyEncoder.{number_below}
+use Rattle.constriction_queue.proofs.Below.{number_below}
 
 -- numbers of a list that is turned twice
 pub turned : {Word : Type 0} (number : Word → ℕ) (xs : List Word) → reverse (map number (reverse xs)) ≡ map number xs

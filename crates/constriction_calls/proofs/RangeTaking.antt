@@ -21,9 +21,9 @@ use Rattle.constriction_queue.proofs.WordsRead.{first_point}
 use Rattle.constriction_calls.specs.RangeCalls.{IsRead, StandsOver}
 use Rattle.constriction_calls.specs.declared.range.parts.DecoderParts.{DecoderParts}
 use Rattle.constriction_queue.specs.Symbols.{Finds, FindsAll, MayEnd}
-use Rattle.constriction_queue_laws.proofs.ComingBack.{one_decode}
-use Rattle.constriction_queue_laws.proofs.Flagging.{found_quantile}
-use Rattle.constriction_queue_laws.proofs.ListCalls.{decode_of, ended_of, nears_of}
+use Rattle.constriction_queue.proofs.ComingBack.{one_decode}
+use Rattle.constriction_queue.proofs.StepCalls.{found_quantile}
+use Rattle.constriction_queue.proofs.StepCalls.{decode_of, ended_of, nears_of}
 
 -- ---- where a cursor stands
 -- so many words are left that those before them are these

@@ -10,10 +10,10 @@ use Rattle.constriction_symbol.specs.Codewords.{ReadsSymbol}
 use Rattle.constriction_symbol.specs.declared.codebooks.SymbolCodeError.{SymbolCodeError}
 use Rattle.constriction_symbol.specs.declared.codebooks.SymbolCodeError.TheVariants.{OutOfCompressedData, InvalidCodeword}
 use Rattle.constriction_symbol.proofs.ReadBack.{gives_front}
-use Rattle.constriction_symbol_laws.specs.Lists.{AreCodewords}
+use Rattle.constriction_symbol.specs.Lists.{AreCodewords}
 use Rattle.constriction_inputs.specs.declared.refusal.Refusal.{Refusal}
 use Rattle.constriction_calls.specs.SymbolCalls.{AsStack, GiveNone, AllHaveCodewords, IsToldAs, ReadsNone}
-use Rattle.constriction_symbol_laws.proofs.bit_coders.Codewords.{codewords_push}
+use Rattle.constriction_symbol.proofs.CodewordLists.{codewords_push}
 
 -- where each symbol has a codeword, a list has those of its symbols
 pub all_have : {S : Type 0} (codeword : S → Option (List Bool)) (symbols : List S) → All (λ s. (bits : List Bool) × (codeword s ≡ Some bits)) symbols → AllHaveCodewords codeword symbols

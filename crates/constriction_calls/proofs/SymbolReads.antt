@@ -1,7 +1,7 @@
 -- Symbols that were read by a codebook, as a call that was handed its codewords tells of them.
 use Rattle.std.proofs.Common.{◌≡◌, ◌-◌, ◌^◌, ℕ, Bool, List, Option, Result, Ok, Err, inr, length}
 use Rattle.std.specs.Prelude.{IfErr, OnErr, OnOk}
-use Rattle.constriction_symbol_laws.proofs.bit_coders.Trees.{same_codewords}
+use Rattle.constriction_symbol.proofs.TreeCodewords.{same_codewords}
 use Rattle.constriction_inputs.specs.declared.refusal.Refusal.{Refusal}
 use Rattle.constriction_inputs.specs.declared.refusal.Refusal.TheVariants.{InvalidData, OutOfData}
 use Rattle.constriction_calls.specs.SymbolCalls.{BeginBits, SymbolCode, GiveBits, IsCutOff, IsWrong, MakesCode, Order, ReadsNone, TakesCodewords, codeword_in}

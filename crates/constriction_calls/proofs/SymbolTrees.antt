@@ -8,7 +8,7 @@ use Rattle.constriction_symbol.specs.Merging.{FitTree}
 use Rattle.constriction_symbol.specs.Codewords.{NoneBegins}
 use Rattle.constriction_symbol.specs.Huffman.{ReadsOnIn, Tree, huffman, path}
 use Rattle.constriction_symbol.specs.HuffmanLaws.{inner_begins_none}
-use Rattle.constriction_symbol_laws.proofs.bit_coders.Trees.{unknown_symbol}
+use Rattle.constriction_symbol.proofs.TreeCodewords.{unknown_symbol}
 use Rattle.constriction_calls.specs.SymbolCalls.{AllHaveCodewords}
 
 -- ---- which symbols have codewords

@@ -9,7 +9,7 @@ use Rattle.constriction_symbol.specs.Codewords.{NoneBegins}
 use Rattle.constriction_symbol.specs.Golomb.{IsInvalid, WantsBit, golomb}
 use Rattle.constriction_symbol.specs.Huffman.{huffman}
 use Rattle.constriction_symbol.specs.Merging.{FitTree}
-use Rattle.constriction_symbol_laws.specs.Lists.{AreCodewords}
+use Rattle.constriction_symbol.specs.Lists.{AreCodewords}
 use Rattle.constriction_inputs.specs.Buffers.{Appended, WordsKept}
 use Rattle.constriction_inputs.specs.Refusals.{Asks, Else, Memory, Room}
 use Rattle.constriction_inputs.specs.declared.refusal.Refusal.{Refusal}

@@ -12,3 +12,5 @@ pub mod Validity
 pub mod Below
 pub mod Refusals
 pub mod Rows
+pub mod NoCoder
+pub mod StepCalls

@@ -6,7 +6,7 @@ use Rattle.std.specs.declared.iter.Zip.{Zip}
 use Rattle.std.proofs.Common.{◌≡◌, ◌∙◌, Bor, Iter, Some, List, [], ◌∷◌, ◌++◌, map, refl, ap, ap₂}
 use Rattle.std.specs.Prelude.{reverse}
 use Rattle.std.proofs.lemmas.List.{reverse-append, reverse-reverse}
-use Rattle.constriction_coder_laws.proofs.ListsGiven.{from_back}
+use Rattle.constriction_base.proofs.FromBack.{from_back}
 use Rattle.constriction_coder_laws.proofs.PairCalls.{SameLength, both_now, left_in, pairs_from_back, rest_of}
 
 -- what is left, an item and those behind it, turned round

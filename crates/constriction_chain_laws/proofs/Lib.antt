@@ -4,7 +4,6 @@ pub mod FromBack
 pub mod Isolated
 pub mod Isolating
 pub mod ListCalls
-pub mod NoCoder
 pub mod OneBinary
 pub mod Remaining
 pub mod Stepping

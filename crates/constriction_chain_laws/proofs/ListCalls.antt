@@ -1,5 +1,5 @@
 -- What list calls of a chain coder do, in the words of the laws.
-use Rattle.std.proofs.Common.{ℕ, List, [], ◌∷◌, Ok, inl, inr, map, ap}
+use Rattle.std.proofs.Common.{ℕ, List, [], ◌∷◌, Ok, map, ap}
 use Rattle.constriction_base.specs.declared.errors.CoderError.{CoderError}
 use Rattle.constriction_base.specs.Models.{Model, Item, items_of}
 use Rattle.constriction_base.specs.Steps.{InTurn}
@@ -11,20 +11,14 @@ use Rattle.constriction_stream.specs.Lists.{StepsAll}
 use Rattle.constriction_stream.specs.Symbols.{EncodesSymbol}
 use Rattle.constriction_chain.specs.Chain.{ChainValue}
 use Rattle.constriction_chain.specs.Steps.{DecodeCall, EncodeCall}
-use Rattle.constriction_chain.specs.Symbols.{AreModelsAt, TakesOff, TakesOffAll, PutsBack, PutsBackAll, IsModelAt}
+use Rattle.constriction_chain.specs.Symbols.{AreModelsAt, TakesOff, TakesOffAll, PutsBackAll, IsModelAt}
 use Rattle.constriction_chain.specs.declared.errors.BackendError.{BackendError}
 use Rattle.constriction_chain.specs.declared.errors.EncoderFrontendError.{EncoderFrontendError}
+use Rattle.constriction_chain.proofs.StepCalls.{encode_of}
 
 -- ---- encodes
 module _ {S W C R O E F : Type 0} (number : W → ℕ) (compressed_holds : holding.Ghosts C W O) (compressed_writes : writing.Ghosts C W E)
     (remainders_holds : holding.Ghosts R W O) (remainders_reads : reading.Ghosts R W O F) (w s : ℕ) (is_impossible : EncoderFrontendError → Type 0) where
-  -- a step of the coder that went well is an encode of the symbol
-  pub encode_of : (model : Model S) (symbol : S) (old new : ChainValue C R) → remainders_holds.is_list
-      → EncodesSymbol (EncodeCall number compressed_holds compressed_writes remainders_holds remainders_reads w s) is_impossible model.precision model.table symbol old (Ok tt) new
-      → PutsBack w s model symbol old.state new.state
-  encode_of model symbol old new list (inl (left, p, has, call)) = (left, p, has, call.outcome.encoded list)
-  encode_of model symbol old new list (inr (never, e, impossible, is, same)) = absurd cc
-
   -- so is a list of them: what was given lends a symbol, or a pair, that stands for an item
   pub encodes_of : {A T : Type 0} (lent : A → T) (item : T → Item S) (xs : List A) (old new : ChainValue C R) → remainders_holds.is_list
       → StepsAll {E = CoderError EncoderFrontendError (BackendError E F)} (λ old x answer new. EncodesSymbol (EncodeCall number compressed_holds compressed_writes remainders_holds remainders_reads w s) is_impossible
@@ -32,7 +26,7 @@ module _ {S W C R O E F : Type 0} (number : W → ℕ) (compressed_holds : holdi
       → PutsBackAll w s (map item (map lent xs)) old.state new.state
   encodes_of lent item [] old new list all = ap (λ (c : ChainValue C R). c.state) all
   encodes_of lent item (x ∷ xs) old new list all =
-      (all.0.state, encode_of (item (lent x)).model (item (lent x)).symbol old all.0 list all.1, encodes_of lent item xs all.0 new list all.2)
+      (all.0.state, encode_of number compressed_holds compressed_writes remainders_holds remainders_reads w s is_impossible (item (lent x)).model (item (lent x)).symbol old all.0 list all.1, encodes_of lent item xs all.0 new list all.2)
 
 -- ---- decodes
 module _ {S W C R O E F : Type 0} (number : W → ℕ) (compressed_holds : holding.Ghosts C W O) (compressed_reads : reading.Ghosts C W O E)

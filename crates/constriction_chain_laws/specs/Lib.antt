@@ -1,4 +1,3 @@
 pub mod Endings
-pub mod Fits
 pub mod Isolating
 pub mod Undone

@@ -2,6 +2,4 @@ pub mod HavingRoom
 pub mod ListsGiven
 pub mod PairCalls
 pub mod Refused
-pub mod SameModel
-pub mod Turned
 pub mod Undoing

@@ -9,7 +9,7 @@ use Rattle.std.specs.Prelude.{reverse}
 use Rattle.std.proofs.lemmas.Bool.{cases_lt}
 use Rattle.std.proofs.lemmas.List.{reverse-append, reverse-reverse, append-nil, length-append}
 use Rattle.constriction_base.specs.Models.{Model, Item, IsModel, pairs_of, models, AreModels}
-use Rattle.constriction_coder_laws.proofs.ListsGiven.{none_left}
+use Rattle.constriction_base.proofs.FromBack.{none_left}
 use Rattle.constriction_base.proofs.WordLists.{zip_push}
 
 -- ---- what an iterator over two slices gave from the back

@@ -15,7 +15,7 @@ use Rattle.constriction_base.specs.Steps.{Step}
 use Rattle.constriction_base.specs.Tables.{Impossible}
 use Rattle.constriction_stream.proofs.Outcomes.{EncodesByBackend, frontend_by}
 use Rattle.constriction_coder_laws.specs.Outcomes.{HasImpossible, HasImpossibleItem, WhereFrontend}
-use Rattle.constriction_coder_laws.proofs.ListsGiven.{from_back}
+use Rattle.constriction_base.proofs.FromBack.{from_back}
 use Rattle.constriction_coder_laws.proofs.PairCalls.{rest_of, SameLength, both_now, left_in, pairs_from_back}
 
 -- what an iterator over a slice gave from the front, and over two slices

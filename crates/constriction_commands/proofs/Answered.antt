@@ -1,14 +1,14 @@
 -- What a command answers, put together from what its parts gave.
 use Rattle.std.proofs.Common.{◌≡◌, ℕ, ◌-◌, ◌^◌, List, ◌∷◌, suc, length, reverse, get_or, Fits, w32, arith}
-use Rattle.constriction.specs.Models.{items_of}
-use Rattle.constriction.specs.Readings.{BeginsHigh}
-use Rattle.constriction.specs.stack.Ans.{AnsState, empty, exported, filled}
-use Rattle.constriction.specs.stack.Symbols.{EncodesAll, DecodesAll}
-use Rattle.constriction.specs.queue.Range.{Run, initial, sealed}
+use Rattle.constriction_base.specs.Models.{items_of}
+use Rattle.constriction_base.specs.Readings.{BeginsHigh}
+use Rattle.constriction_stack.specs.Ans.{AnsState, empty, exported, filled}
+use Rattle.constriction_stack.specs.Symbols.{EncodesAll, DecodesAll}
+use Rattle.constriction_queue.specs.Range.{Run, initial, sealed}
 use Rattle.constriction_commands.specs.Lines.{line_of, second_line}
 use Rattle.constriction_commands.specs.Inputs.{GivesSymbols, GivesWords}
 use Rattle.constriction_commands.specs.Coding.{of_24_bits}
-use Rattle.constriction.specs.queue.Symbols.{NarrowsAll, FindsAll}
+use Rattle.constriction_queue.specs.Symbols.{NarrowsAll, FindsAll}
 use Rattle.constriction_commands.specs.commands.AnsEncode.{IsAnsEncoded}
 use Rattle.constriction_commands.specs.commands.AnsDecode.{IsAnsDecoded}
 use Rattle.constriction_commands.specs.commands.RangeEncode.{IsRangeEncoded}

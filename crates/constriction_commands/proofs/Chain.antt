@@ -3,10 +3,10 @@ use Rattle.std.specs.Prelude.{◌⊎◌}
 use Rattle.std.specs.Int.Digits.{number_from_digits, number_from_digits_after}
 use Rattle.std.proofs.Common.{◌≡◌, ℕ, ◌+◌, ◌*◌, ◌%◌, ◌^◌, ◌<◌, ◌≤◌, List, [], ◌∷◌, ◌++◌, length, map, reverse, ap, sym, subst, ◌∙◌, refl, inl, inr, arith, mul-le-mul_right, append-nil}
 use Rattle.std.proofs.lemmas.List.{reverse-append, reverse-reverse}
-use Rattle.constriction.specs.Readings.{BeginsHigh}
-use Rattle.constriction.specs.chain.Chain.{ChainState}
+use Rattle.constriction_base.specs.Readings.{BeginsHigh}
+use Rattle.constriction_chain.specs.Chain.{ChainState}
 use Rattle.constriction_commands.specs.Inputs.{GivesWords, NoWords}
-use Rattle.constriction.specs.chain.Words.{remainder_words}
+use Rattle.constriction_chain.specs.Words.{remainder_words}
 use Rattle.constriction_commands.specs.Lines.{line_of}
 use Rattle.constriction_commands.specs.Coding.{EndsWithZero}
 use Rattle.constriction_commands.specs.commands.ChainSplit.{IsChainOf, IsNoChain, ChainDecodes, ChainFails, ChainSplitFails, IsChainSplit}
@@ -14,7 +14,7 @@ use Rattle.constriction_commands.specs.declared.fault.Fault.{Fault}
 use Rattle.constriction_commands.specs.declared.fault.Fault.TheVariants.{NoChain, OutOfData, OutOfMemory}
 use Rattle.constriction_commands.proofs.OwnNumbers.{own_numbers}
 use Rattle.constriction_commands.proofs.Answered.{words_fit}
-use Rattle.constriction.proofs.Lists.{map-reverse}
+use Rattle.constriction_base.proofs.Turns.{map-reverse}
 
 -- a number grows by each digit behind it
 grows : (b from : ℕ) → 1 ≤ b → (vs : List ℕ) → from ≤ number_from_digits_after b from vs

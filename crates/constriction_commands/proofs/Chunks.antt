@@ -4,13 +4,13 @@ use Rattle.std.specs.declared.vec.Vec.{Vec}
 use Rattle.std.specs.List.{Any}
 use Rattle.std.proofs.lemmas.Bool.{cases_lt}
 use Rattle.std.proofs.lemmas.List.{take_more, map-append, map-id, flat_map_more, get_or_default}
-use Rattle.constriction.specs.Models.{Model, Item, item_of, items_of}
-use Rattle.constriction.specs.Tables.{Impossible}
-use Rattle.constriction.specs.queue.Range.{Run}
-use Rattle.constriction.specs.queue.Symbols.{Narrows, NarrowsAll}
-use Rattle.constriction.specs.store.Chunks.{lists_of, chunk_in, IsFirstUnknownOf}
-use Rattle.constriction.specs.store.Stores.{Entry, Indexes}
-use Rattle.constriction.proofs.InTurn.{InTurn-append}
+use Rattle.constriction_base.specs.Models.{Model, Item, item_of, items_of}
+use Rattle.constriction_base.specs.Tables.{Impossible}
+use Rattle.constriction_queue.specs.Range.{Run}
+use Rattle.constriction_queue.specs.Symbols.{Narrows, NarrowsAll}
+use Rattle.constriction_store.specs.Chunks.{lists_of, chunk_in, IsFirstUnknownOf}
+use Rattle.constriction_store.specs.Stores.{Entry, Indexes}
+use Rattle.constriction_base.proofs.InTurn.{InTurn-append}
 use Rattle.constriction_commands.specs.Inputs.{ChunksAre, GivesChunks, NoChunks, SymbolsAre, WeightsAre}
 use Rattle.constriction_commands.specs.Lines.{line_of}
 use Rattle.constriction_commands.specs.commands.Store.{joined, AreThere, AreWordsOf, StoringFails, LookingUpFails, StoreFails, lines_at}

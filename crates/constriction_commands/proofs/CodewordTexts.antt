@@ -2,8 +2,8 @@
 use Rattle.std.proofs.Common.{◌≡◌, ℕ, ◌+◌, ◌%◌, ◌^◌, ◌<◌, List, [], ◌∷◌, ◌++◌, length, map, get_or, take, ap, ◌∙◌, pow_pos}
 use Rattle.std.proofs.lemmas.List.{take_more, map-append}
 use Rattle.std.proofs.lemmas.Nat.{mod_below}
-use Rattle.constriction.specs.Steps.{AreWords}
-use Rattle.constriction.specs.symbol.Golomb.{golomb}
+use Rattle.constriction_base.specs.Steps.{AreWords}
+use Rattle.constriction_symbol.specs.Golomb.{golomb}
 use Rattle.constriction_commands.specs.Codewords.{digits}
 
 -- the codeword of a number as digits

@@ -2,7 +2,8 @@
 use Rattle.std.proofs.Common.{◌≡◌, ℕ, ◌%◌, ◌^◌, List, [], ◌∷◌, ◌++◌, map, reverse, sum, sum_by, get_or, Fits, w32, ap, sym, ◌∙◌, arith}
 use Rattle.std.proofs.lemmas.List.{reverse-append, reverse-reverse}
 use Rattle.constriction_commands.specs.Coding.{EndsWithZero}
-use Rattle.constriction.proofs.Lists.{map-reverse, own_remainders, sum_of_remainders}
+use Rattle.constriction_base.proofs.Turns.{map-reverse}
+use Rattle.constriction_base.proofs.WordLists.{own_remainders, sum_of_remainders}
 
 pub own_numbers : (weights : List ℕ) → ((i : ℕ) → Fits w32 (get_or weights i 0)) → map (λ x. x % 2 ^ 32) weights ≡ weights
 own_numbers weights fits = own_remainders 32 weights (λ i. omega (arith, fits i))

@@ -1,12 +1,12 @@
 -- Runs of a range coder, one more symbol at a time.
 use Rattle.std.proofs.Common.{◌≡◌, ℕ, ◌+◌, ◌-◌, ◌/◌, ◌%◌, ◌^◌, ◌<◌, List, get_or, length, map, reverse, take, sym, subst, ◌∙◌, ap, arith}
 use Rattle.std.proofs.lemmas.List.{take_more, reverse-reverse}
-use Rattle.constriction.specs.Models.{Model, items_of}
-use Rattle.constriction.specs.queue.Range.{Run, initial, offset, number_read, IsAt}
-use Rattle.constriction.specs.queue.Decoder.{Decoder, quantile_read}
-use Rattle.constriction.proofs.InTurn.{InTurn-symbol}
-use Rattle.constriction.specs.queue.Symbols.{Narrows, NarrowsAll}
-use Rattle.constriction.proofs.Lists.{map-reverse}
+use Rattle.constriction_base.specs.Models.{Model, items_of}
+use Rattle.constriction_queue.specs.Range.{Run, initial, offset, number_read, IsAt}
+use Rattle.constriction_queue.specs.Decoder.{Decoder, quantile_read}
+use Rattle.constriction_base.proofs.InTurn.{InTurn-symbol}
+use Rattle.constriction_queue.specs.Symbols.{Narrows, NarrowsAll}
+use Rattle.constriction_base.proofs.Turns.{map-reverse}
 
 -- ---- encoding
 

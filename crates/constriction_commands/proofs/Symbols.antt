@@ -2,11 +2,11 @@
 use Rattle.std.specs.List.{Any}
 use Rattle.std.proofs.Common.{◌≡◌, ℕ, ◌+◌, ◌<◌, ◌≤◌, inr, List, [], ◌∷◌, ◌++◌, length, get_or, drop, drop-cons, reverse, add-one, ◌∙◌, ap, sym, subst, refl, arith}
 use Rattle.std.proofs.lemmas.List.{drop_all, get_or_default, reverse-append}
-use Rattle.constriction.specs.Models.{Model, items_of}
-use Rattle.constriction.specs.Tables.{Impossible}
-use Rattle.constriction.specs.stack.Ans.{AnsState, IsValid, empty}
-use Rattle.constriction.specs.stack.Symbols.{Encodes, EncodesAll}
-use Rattle.constriction.proofs.InTurn.{InTurn-symbol}
+use Rattle.constriction_base.specs.Models.{Model, items_of}
+use Rattle.constriction_base.specs.Tables.{Impossible}
+use Rattle.constriction_stack.specs.Ans.{AnsState, IsValid, empty}
+use Rattle.constriction_stack.specs.Symbols.{Encodes, EncodesAll}
+use Rattle.constriction_base.proofs.InTurn.{InTurn-symbol}
 
 -- a coder that holds nothing is valid
 pub empty_valid : IsValid 32 64 empty

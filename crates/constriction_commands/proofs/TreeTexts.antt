@@ -2,9 +2,9 @@
 use Rattle.std.proofs.Common.{◌≡◌, ℕ, zero, suc, ◌+◌, ◌%◌, ◌^◌, List, [], ◌∷◌, ◌++◌, map, sum, sum_by, get_or, Bool, Option, Fits, w64, refl, ap, ap₂, ◌∙◌, arith}
 use Rattle.std.proofs.lemmas.List.{map-append}
 use Rattle.std.specs.List.{join_with_byte}
-use Rattle.constriction.specs.symbol.Huffman.{symbols_from}
+use Rattle.constriction_symbol.specs.Huffman.{symbols_from}
 use Rattle.constriction_commands.specs.commands.Huffman.{codeword_text, codewords_line}
-use Rattle.constriction.proofs.Lists.{own_numbers, sum_of_remainders}
+use Rattle.constriction_base.proofs.WordLists.{own_remainders, sum_of_remainders}
 
 -- one symbol more
 symbols_more : (from n : ℕ) → symbols_from from (suc n) ≡ symbols_from from n ++ (from + n) ∷ []
@@ -22,7 +22,7 @@ texts_more text n =
 
 -- the numbers of weights that were lent, and their sum
 pub own_weights : (lent weights : List ℕ) → lent ≡ weights → ((i : ℕ) → Fits w64 (get_or weights i 0)) → map (λ x. x % 2 ^ 64) lent ≡ weights
-own_weights lent weights is fits = ap (map (λ x. x % 2 ^ 64)) is ∙ own_numbers weights fits
+own_weights lent weights is fits = ap (map (λ x. x % 2 ^ 64)) is ∙ own_remainders 64 weights (λ i. omega (arith, fits i))
 
 pub own_total : (lent weights : List ℕ) → lent ≡ weights → ((i : ℕ) → Fits w64 (get_or weights i 0)) → sum_by (λ x. x % 2 ^ 64) lent ≡ sum weights
 own_total lent weights is fits = ap (sum_by (λ x. x % 2 ^ 64)) is ∙ sum_of_remainders 64 weights (λ i. omega (arith, fits i))

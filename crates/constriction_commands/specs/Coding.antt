@@ -1,8 +1,8 @@
 -- What the program's coders know of a table, and why symbols are not encoded.
 use Rattle.std.specs.Prelude.{◌≡◌, ℕ, List, [], ◌∷◌, ◌++◌, ⊤}
 use Rattle.std.specs.List.{Any}
-use Rattle.constriction.specs.Models.{Model}
-use Rattle.constriction.specs.Tables.{Impossible}
+use Rattle.constriction_base.specs.Models.{Model}
+use Rattle.constriction_base.specs.Tables.{Impossible}
 use Rattle.constriction_commands.specs.Inputs.{GivesSymbols, NoSymbols}
 use Rattle.constriction_commands.specs.declared.fault.Fault.{Fault}
 use Rattle.constriction_commands.specs.declared.fault.Fault.TheVariants.{Encoder, OutOfMemory}

@@ -1,6 +1,6 @@
 -- What the lines of a text give a command that codes symbols, and why they give nothing.
 use Rattle.std.specs.Prelude.{Option, None, ◌≡◌, ℕ, ◌-◌, ◌≤◌, ◌^◌, Some, List, [], ◌∷◌, sum, ◌≢◌, ◌⊎◌, ◌<◌, ⊤}
-use Rattle.constriction.specs.Tables.{table_of}
+use Rattle.constriction_base.specs.Tables.{table_of}
 use Rattle.constriction_commands.specs.Lines.{first_line, second_line, after_line, numbers_of, number_lists_of}
 use Rattle.constriction_commands.specs.declared.fault.Fault.{Fault}
 use Rattle.constriction_commands.specs.declared.fault.Fault.TheVariants.{BadNumber, NoCount, NoWeights, WrongTotal, OutOfMemory}

@@ -1,8 +1,8 @@
 -- Why symbols are not read from words of 32 bits by a range coder whose states have 64.
 use Rattle.std.specs.Prelude.{ℕ, ◌/◌, ◌≤◌, ◌<◌, ◌^◌, List, length, ⊤}
-use Rattle.constriction.specs.Models.{items_of}
-use Rattle.constriction.specs.queue.Range.{Run, initial, offset}
-use Rattle.constriction.specs.queue.Symbols.{FindsAll}
+use Rattle.constriction_base.specs.Models.{items_of}
+use Rattle.constriction_queue.specs.Range.{Run, initial, offset}
+use Rattle.constriction_queue.specs.Symbols.{FindsAll}
 use Rattle.constriction_commands.specs.Coding.{of_24_bits}
 use Rattle.constriction_commands.specs.declared.fault.Fault.{Fault}
 use Rattle.constriction_commands.specs.declared.fault.Fault.TheVariants.{InvalidData, OutOfMemory}

@@ -1,11 +1,12 @@
 //! Codewords of symbols as lists of bits, and bits as digits.
 
 ghost use Rattle.std.specs.Prelude.{◌≡◌, ◌++◌, Some, IfOk, OnOk};
-ghost use Rattle.constriction.specs.symbol.Bits.{PutsBit};
+ghost use Rattle.constriction_symbol.specs.Bits.{PutsBit};
 ghost use Rattle.constriction_commands.specs.Codewords.{digits};
 
-use constriction::Queue;
-use constriction::symbol::{EncoderCodebook, WriteBitStream};
+use constriction_base::backends::Queue;
+use constriction_symbol::codebooks::EncoderCodebook;
+use constriction_symbol::writing::WriteBitStream;
 use std::alloc::{AllocError, Global};
 
 /// A list of bits.

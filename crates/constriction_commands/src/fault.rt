@@ -4,10 +4,10 @@ ghost use Rattle.std.specs.Prelude.{◌≡◌};
 ghost use Rattle.constriction_commands.specs.Written.{fault_line};
 ghost use Rattle.constriction_commands.specs.declared.fault.Fault.TheVariants.{OutOfMemory};
 
-use constriction::DefaultEncoderFrontendError;
-use constriction::stream::chain;
-use constriction::stream::queue::DecoderFrontendError;
-use constriction::stream::stack::CompressedDataEndsWithZeroWord;
+use constriction_base::errors::DefaultEncoderFrontendError;
+use constriction_chain as chain;
+use constriction_queue::DecoderFrontendError;
+use constriction_stack::coder::words::CompressedDataEndsWithZeroWord;
 use std::alloc::{AllocError, AllocFailed};
 
 /// What stops a run of the program.

@@ -1,12 +1,13 @@
 //! The model of the commands that code symbols.
 
 ghost use Rattle.std.specs.Prelude.{◌≡◌, ◌≢◌, ◌⊎◌, ◌^◌, [], sum, IfOk, IfErr, OnOk, IsErrOf};
-ghost use Rattle.constriction.specs.Tables.{table_of};
+ghost use Rattle.constriction_base.specs.Tables.{table_of};
 ghost use Rattle.constriction_commands.specs.Inputs.{Total};
 ghost use Rattle.constriction_commands.specs.declared.fault.Fault.TheVariants.{NoWeights, WrongTotal, OutOfMemory};
 
 use crate::fault::Fault;
-use constriction::stream::model::{EntropyModel, TableError, WeightTable};
+use constriction_base::model::EntropyModel;
+use constriction_base::weights::{TableError, WeightTable};
 use std::alloc::Global;
 
 /// The precision of the weights.

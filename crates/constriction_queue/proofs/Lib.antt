@@ -24,3 +24,10 @@ pub mod ReadingRuns
 pub mod SealedRuns
 pub mod SelfDelimited
 pub mod FlaggedRuns
+pub mod Below
+pub mod ComingBack
+pub mod Sealing
+pub mod WordsWithin
+pub mod Followed
+pub mod StepCalls
+pub mod Seeking

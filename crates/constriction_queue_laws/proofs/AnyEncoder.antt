@@ -1,7 +1,6 @@
 -- The run of any encoder is an interval, whatever words were written before; and what it encodes has entries.
 use Rattle.std.proofs.Common.{ℕ, ◌+◌, ◌-◌, ◌*◌, ◌^◌, ◌<◌, ◌≤◌, List, [], ◌∷◌, ◌++◌, length}
 use Rattle.std.proofs.Common.{sym, ap, ◌∙◌, subst, arith, mul-le-mul_right, pow_pos}
-use native.Mathlib.Nat.{pow-suc, pow-zero}
 use Rattle.std.specs.Int.NonZero.{non_zero_usize_get}
 use Rattle.std.proofs.lemmas.List.{map-append}
 use Rattle.constriction_base.specs.declared.backends.reading.Holds as holding
@@ -15,16 +14,9 @@ use Rattle.constriction_queue.specs.declared.situation.EncoderSituation.TheVaria
 use Rattle.constriction_queue.specs.Encoder.{Encoder, IsEncoder, PartsFit, held_of, number_of, run_by, words_held}
 use Rattle.constriction_queue.specs.Range.{Run, IsInterval}
 use Rattle.constriction_queue.specs.Symbols.{Narrows, NarrowsAll}
+use Rattle.constriction_queue.proofs.Below.{number_below}
 use Rattle.constriction_queue.proofs.Carry.{carry_held, length-held}
 use Rattle.constriction_queue.proofs.Seals.{words_held_fit, words_of_numbers}
-
--- so many words are a number below the base to so many
-pub number_below : (w : ℕ) (ws : List ℕ) → AreWords w ws → number_of (2 ^ w) ws < (2 ^ w) ^ length ws
-number_below w [] all = rw (pow-zero (2 ^ w)) (omega arith)
-number_below w (x ∷ ws) all =
-    let rest : (number_of (2 ^ w) ws + 1) * 2 ^ w ≤ (2 ^ w) ^ length ws * 2 ^ w =
-    mul-le-mul_right (2 ^ w) (omega (arith, number_below w ws all.1)) in
-    rw (pow-suc (2 ^ w) (length ws)) (omega (arith, rest, all.0))
 
 -- the interval lies below the next number of as many words; where words are held, below the one that a carry makes
 inside_by : {Word : Type 0} (number : Word → ℕ) (w s lower range : ℕ) (situation : EncoderSituation Word) (ws : List ℕ)

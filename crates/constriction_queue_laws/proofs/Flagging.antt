@@ -1,6 +1,6 @@
 -- Symbols with a flag among them, as items of the range coder.
 use Rattle.std.specs.Prelude.{Ok, Err}
-use Rattle.std.proofs.Common.{◌≡◌, ◌<◌, ◌^◌, ◌==◌, ◌||◌, ℕ, Bool, true, false, List, [], ◌∷◌, ◌++◌, length, map, refl, sym, ap, ap₂, ◌∙◌, subst, inl, inr, arith}
+use Rattle.std.proofs.Common.{◌≡◌, ◌<◌, ◌==◌, ◌||◌, ℕ, Bool, true, false, List, [], ◌∷◌, ◌++◌, length, map, refl, sym, ap, ap₂, ◌∙◌, subst, inl, inr, arith}
 use Rattle.constriction_base.specs.declared.backends.reading.Holds as holding
 use Rattle.constriction_base.specs.declared.backends.reading.ReadWords as reading
 use Rattle.constriction_base.specs.declared.backends.writing.WriteWords as writing
@@ -9,11 +9,10 @@ use Rattle.constriction_base.specs.declared.errors.CoderError.{CoderError}
 use Rattle.constriction_base.specs.declared.errors.CoderError.TheVariants.{Backend, Frontend}
 use Rattle.constriction_base.specs.declared.errors.DefaultEncoderFrontendError.{DefaultEncoderFrontendError}
 use Rattle.constriction_base.specs.Models.{Model, Item, IsModel, AreModels, item_of, items_of}
-use Rattle.constriction_base.proofs.Entries.{in_range}
 use Rattle.constriction_base.proofs.InTurn.{InTurn-more}
 use Rattle.constriction_queue.specs.Encoder.{Encoder, run_by}
 use Rattle.constriction_queue.specs.Calls as calls
-use Rattle.constriction_queue.specs.Decoder.{Decoder, quantile_read, StandsAt}
+use Rattle.constriction_queue.specs.Decoder.{Decoder}
 use Rattle.constriction_queue.specs.Flagged.{DecodesUnder, EncodesItem, HoldsNone, StepsToFault, flagged, has_flag, next_model}
 use Rattle.constriction_queue.specs.declared.decoder.symbols.DecoderFrontendError.{DecoderFrontendError}
 use Rattle.constriction_queue.specs.Range.{Run}
@@ -24,9 +23,9 @@ use Rattle.constriction_coder_laws.specs.declared.errors.Stopped.TheVariants as 
 use Rattle.constriction_queue_laws.specs.Outcomes.{InvalidWhere}
 use Rattle.constriction_coder_laws.specs.Outcomes.{HasImpossibleItem}
 use Rattle.constriction_queue.specs.Symbols.{Finds, FindsAll, NarrowsAll}
-use Rattle.constriction_queue_laws.proofs.ComingBack.{one_decode, decodes_unique}
-use Rattle.constriction_queue_laws.proofs.ListCalls.{distance_is, encode_of}
-use Rattle.constriction_coder_laws.proofs.SameModel.{are_models, models-alike, symbols-items_of}
+use Rattle.constriction_queue.proofs.ComingBack.{one_decode, decodes_unique}
+use Rattle.constriction_queue.proofs.StepCalls.{encode_of}
+use Rattle.constriction_base.proofs.SameModel.{are_models, models-alike, symbols-items_of}
 
 -- ---- their models
 module _ (w flag : ℕ) (first second : Model ℕ) (m : IsModel w first) (n : IsModel w second) where
@@ -125,13 +124,6 @@ module _ (w s : ℕ) (words : List ℕ) where
     pub next_lawful : (b : Bool) → IsModel w (next_model b first second)
     next_lawful true = n
     next_lawful false = m
-
--- what is read there is a quantile
-pub found_quantile : {B : Type 0} (w s : ℕ) (words : List ℕ) (model : Model ℕ) (x : ℕ) (r next : Run) (d : Decoder B) → IsModel w model → 0 < 2 ^ s → StandsAt w s words r d
-    → Finds w s words model x r next → quantile_read s model.precision d < 2 ^ model.precision
-found_quantile w s words model x r next d m some at (left, p, has, (takes, is)) =
-    let bound = in_range 0 (2 ^ model.precision) model.table x left p m.lawful.follow has in
-    rw (distance_is w s words r d some at, at.range_is) (omega (arith, takes.below, bound.2))
 
 -- a switch that refused a decode itself read no quantile of its model
 pub only_invalid : {W B E Q : Type 0} (number : W → ℕ) (holds : holding.Ghosts B W Q) (reads : reading.Ghosts B W Q E) (w s : ℕ) (model : Model ℕ) (none : Type 0)

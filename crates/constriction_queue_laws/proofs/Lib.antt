@@ -1,12 +1,8 @@
 pub mod AnyEncoder
 pub mod AnyWords
-pub mod ComingBack
 pub mod Concatenating
 pub mod Flagging
-pub mod Followed
 pub mod ListCalls
 pub mod Pairs
-pub mod Reading
-pub mod Sealing
-pub mod Seeking
+pub mod TakenBack
 pub mod Told

@@ -6,7 +6,7 @@ use Rattle.std.specs.declared.iter.Zip.{Zip}
 use Rattle.std.specs.List.{zip}
 use Rattle.std.proofs.Common.{◌≡◌, ◌∙◌, Bor, Iter, List, [], ◌∷◌, ◌++◌, inl, inr, map, refl, sym, ap, ap₂}
 use Rattle.std.proofs.lemmas.List.{append-nil}
-use Rattle.constriction_coder_laws.proofs.ListsGiven.{none_left}
+use Rattle.constriction_base.proofs.FromBack.{none_left}
 
 zip_nothing : {A B : Type 0} (xs : List A) → ◌≡◌ {A = List (A × B)} (zip xs []) []
 zip_nothing [] = refl

@@ -32,8 +32,8 @@ use Rattle.constriction_queue.specs.declared.decoder.symbols.DecoderFrontendErro
 use Rattle.constriction_queue.specs.declared.decoder.symbols.DecoderFrontendError.TheVariants.{InvalidData}
 use Rattle.constriction_queue_laws.specs.Outcomes.{NotCoded, NotRead}
 use Rattle.constriction_queue.specs.Symbols.{Finds, FindsAll}
-use Rattle.constriction_queue_laws.proofs.ComingBack.{one_decode}
-use Rattle.constriction_queue_laws.proofs.ListCalls.{decode_of, distance_is}
+use Rattle.constriction_queue.proofs.ComingBack.{one_decode}
+use Rattle.constriction_queue.proofs.StepCalls.{decode_of, distance_is}
 use Rattle.constriction_queue_laws.proofs.Pairs.{both_now, pairs_given, pairs_left}
 use Rattle.constriction_coder_laws.proofs.Refused.{from_front}
 

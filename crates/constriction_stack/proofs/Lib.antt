@@ -13,3 +13,4 @@ pub mod Buffers
 pub mod FirstReads
 mod BinaryRows
 pub mod ByProduct
+pub mod StepCalls

@@ -6,7 +6,7 @@ use Rattle.constriction_stack.specs.Ans.{AnsState, IsValid, empty}
 use Rattle.constriction_base.specs.Models.{Model, IsModel, Item, models, AreModels, AreKnown}
 use Rattle.constriction_stack.specs.Symbols.{Decodes, EncodesAll, DecodesAll}
 use Rattle.constriction_stack_laws.proofs.Choosing.{encode_exists, encode_unique, decode_unique}
-use Rattle.constriction_coder_laws.proofs.Turned.{same_item}
+use Rattle.constriction_base.proofs.SameModel.{same_item}
 use Rattle.constriction_base.proofs.Turns.{map-reverse, all-reverse}
 
 module _ {S : Type 0} (w s : ℕ) where

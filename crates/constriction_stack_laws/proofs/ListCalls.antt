@@ -1,5 +1,5 @@
 -- What list calls of a stack coder do, in the words of the laws.
-use Rattle.std.proofs.Common.{◌≡◌, ℕ, List, [], ◌∷◌, Ok, Err, inl, inr, length, map, sym, ap}
+use Rattle.std.proofs.Common.{◌≡◌, ℕ, List, [], ◌∷◌, Ok, Err, length, map, sym, ap}
 use Rattle.std.specs.Prelude.{reverse}
 use Rattle.constriction_base.specs.declared.errors.CoderError.{CoderError}
 use Rattle.constriction_base.specs.Steps.{InTurn}
@@ -17,18 +17,11 @@ use Rattle.constriction_stack.specs.Symbols.{Encodes, Decodes, EncodesAll, Decod
 use Rattle.constriction_stack_laws.specs.Undone.{decode_back}
 use Rattle.constriction_coder_laws.proofs.Undoing.{all_undone, all_free}
 use Rattle.constriction_stack_laws.proofs.ComingBack.{decodes_only}
-use Rattle.constriction_coder_laws.proofs.SameModel.{are_models, models_turned, symbols_turned}
+use Rattle.constriction_base.proofs.SameModel.{are_models, models_turned, symbols_turned}
+use Rattle.constriction_stack.proofs.StepCalls.{encode_of}
 
 -- ---- encodes
 module _ {S W B E K F : Type 0} (number : W → ℕ) (holds : holding.Ghosts B W K) (writes : writing.Ghosts B W E) (w s : ℕ) (is_impossible : F → Type 0) where
-  -- a step of the coder that went well is an encode of the symbol
-  pub encode_of : (model : Model S) (symbol : S) (old new : AnsValue B) → IsValid w s old.state
-      → EncodesSymbol {F = F} (ByBackend (calls.EncodeCall number holds writes w s)) is_impossible model.precision model.table symbol old (Ok tt) new
-      → Encodes w s model symbol old.state new.state
-  encode_of model symbol old new v (inl (left, p, has, (Ok u, e, is))) = (left, p, has, e.pushed v)
-  encode_of model symbol old new v (inl (left, p, has, (Err x, e, is))) = absurd cc
-  encode_of model symbol old new v (inr (never, e, impossible, is, same)) = absurd cc
-
   -- so is a list of them: what was given lends a symbol, or a pair, that stands for an item
   pub encodes_of : {A T : Type 0} (lent : A → T) (item : T → Item S) (xs : List A) (old new : AnsValue B) → IsValid w s old.state
       → StepsAll {E = CoderError F E} (λ old x answer new. EncodesSymbol (ByBackend (calls.EncodeCall number holds writes w s)) is_impossible
@@ -36,7 +29,7 @@ module _ {S W B E K F : Type 0} (number : W → ℕ) (holds : holding.Ghosts B W
       → EncodesAll w s (map item (map lent xs)) old.state new.state
   encodes_of lent item [] old new v all = ap (λ (c : AnsValue B). c.state) all
   encodes_of lent item (x ∷ xs) old new v all =
-      let first = encode_of (item (lent x)).model (item (lent x)).symbol old all.0 v all.1 in
+      let first = encode_of number holds writes w s is_impossible (item (lent x)).model (item (lent x)).symbol old all.0 v all.1 in
       (all.0.state, first, encodes_of lent item xs all.0 new first.3.valid all.2)
 
 -- ---- decodes

@@ -14,7 +14,7 @@ use Rattle.constriction_queue.specs.SelfDelimiting.{SelfDelimits}
 use Rattle.constriction_queue.proofs.Narrowing.{grown_large, grown_small}
 use Rattle.constriction_queue.proofs.Pointing.{mod_sum}
 use Rattle.constriction_queue.specs.Symbols.{Narrows, NarrowsAll, Finds, FindsAll}
-use Rattle.constriction_coder_laws.proofs.SameModel.{are_models}
+use Rattle.constriction_base.proofs.SameModel.{are_models}
 use Rattle.std.specs.List.{AllByRecursion}
 use Rattle.constriction_store.specs.Chunks.{AllKnown, chunk_in, count_of}
 use Rattle.constriction_store.specs.Stores.{ArePlaces, Entry, HoldsChunks, Indexes, IsIndex, StandsAtEntry, entry_in, run_at, total_of}

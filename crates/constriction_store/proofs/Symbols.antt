@@ -8,10 +8,10 @@ use Rattle.constriction_queue.specs.Range.{Run, offset, narrowed_by, cut}
 use Rattle.constriction_queue.proofs.Narrowing.{by_growth}
 use Rattle.constriction_queue.specs.Decoder.{Decoder, quantile_read, StandsAt}
 use Rattle.constriction_queue.specs.Symbols.{Narrows, NarrowsAll, Finds, FindsAll}
-use Rattle.constriction_queue_laws.proofs.ListCalls.{distance_is}
-use Rattle.constriction_queue_laws.proofs.ComingBack.{one_decode, decodes_unique}
+use Rattle.constriction_queue.proofs.StepCalls.{distance_is}
+use Rattle.constriction_queue.proofs.ComingBack.{one_decode, decodes_unique}
 use Rattle.constriction_queue.proofs.Entries.{model_step}
-use Rattle.constriction_coder_laws.proofs.SameModel.{are_models, models-alike, symbols-items_of}
+use Rattle.constriction_base.proofs.SameModel.{are_models, models-alike, symbols-items_of}
 use Rattle.constriction_store.specs.Chunks.{AllKnown}
 
 -- one symbol more

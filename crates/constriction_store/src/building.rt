@@ -15,7 +15,6 @@ use constriction_base::backends::Pos;
 use constriction_base::errors::CoderError;
 use constriction_base::model::{DecoderModel, EncoderModel, EntropyModel};
 use constriction_queue::{RangeCoderState, RangeEncoder};
-use constriction_queue_laws::following::symbols_come_back_whatever_follows;
 use constriction_stream::encoding::Encode;
 use constriction_words::{BitArray, WordOf};
 use std::alloc::Global;
@@ -171,7 +170,6 @@ where
         if !are_few(chunks) {
             return Err(BuildError::TooLong);
         }
-        symbols_come_back_whatever_follows::<usize>();
         let mut encoder: RangeEncoder<Word, State, Vec<Word>> = RangeEncoder::new(alloc);
         let index = match encode_chunks::<Word, State, M, PRECISION>(
             alloc,

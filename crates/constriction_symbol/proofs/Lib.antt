@@ -26,3 +26,5 @@ pub mod EncoderTrees
 pub mod Turned
 pub mod TwoQueues
 pub mod Refusals
+pub mod CodewordLists
+pub mod TreeCodewords

@@ -12,3 +12,4 @@ pub mod DecoderTree
 pub mod EncoderTree
 pub mod Reversed
 pub mod Queues
+pub mod Lists

@@ -1,7 +1,7 @@
 -- What codewords cost under some weights, and which codewords are lawful.
 use Rattle.std.specs.Prelude.{◌≡◌, ℕ, ◌+◌, ◌*◌, ◌<◌, Bool, List, [], ◌∷◌, ◌++◌, length, map, get_or, Option, Some, AllPairs}
 use Rattle.constriction_symbol.specs.Huffman.{symbols_from}
-use Rattle.constriction_symbol_laws.specs.Lists.{AreEach}
+use Rattle.constriction_symbol.specs.Lists.{AreEach}
 
 -- the sum of weight times length, of a codeword for each symbol
 abbrev pub cost : List ℕ → List (List Bool) → ℕ

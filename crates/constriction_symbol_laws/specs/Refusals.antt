@@ -13,7 +13,7 @@ use Rattle.constriction_symbol.specs.declared.codebooks.SymbolCodeError.{SymbolC
 use Rattle.constriction_symbol.specs.declared.huffman.error.HuffmanError.{HuffmanError}
 use Rattle.constriction_symbol.specs.declared.huffman.error.HuffmanError.TheVariants as huffman_error
 use Rattle.constriction_symbol_laws.specs.Cost.{Costs}
-use Rattle.constriction_symbol_laws.specs.Lists.{AreCodewords, ReadsAll, ReadsPairs}
+use Rattle.constriction_symbol.specs.Lists.{AreCodewords, ReadsAll, ReadsPairs}
 use Rattle.constriction_symbol_laws.specs.declared.errors.ByTreesError.{ByTreesError}
 use Rattle.constriction_symbol_laws.specs.declared.errors.ByTreesError.TheVariants as by_trees
 use Rattle.constriction_symbol_laws.specs.declared.errors.BesideError.{BesideError}

@@ -1,7 +1,7 @@
 //! Lists of symbols that are read from their codewords.
 
-ghost use Rattle.constriction_symbol_laws.specs.Lists.{AreCodewords, AreCodewordsBy, AreEach, AreSameBy};
-ghost use Rattle.constriction_symbol_laws.specs.Lists.{ReadsAll, ReadsPairs};
+ghost use Rattle.constriction_symbol.specs.Lists.{AreCodewords, AreCodewordsBy, AreEach, AreSameBy};
+ghost use Rattle.constriction_symbol.specs.Lists.{ReadsAll, ReadsPairs};
 ghost use Rattle.constriction_base.specs.declared.errors.CoderError.TheVariants.{Frontend};
 ghost use Rattle.constriction_coder_laws.specs.declared.errors.Stopped.TheVariants.{Refused};
 ghost use Rattle.constriction_symbol.specs.declared.codebooks.SymbolCodeError.{SymbolCodeError};

@@ -6,7 +6,7 @@ ghost use Rattle.constriction_chain.specs.Chain.{ChainState, IsPrecisionChange, 
 ghost use Rattle.constriction_chain.specs.Runs.{AreIsolated, IsRun, decodings};
 ghost use Rattle.constriction_chain.specs.Symbols.{TakesOffAll};
 ghost use Rattle.constriction_chain_laws.specs.Endings.{EndsBeforeChange, PairsEndAcross, UnlessEnded};
-ghost use Rattle.constriction_chain_laws.specs.Fits.{CoderFits};
+ghost use Rattle.constriction_chain.specs.Fits.{CoderFits};
 ghost use Rattle.constriction_chain_laws.specs.Isolating.{events_across};
 
 use crate::isolation::symbols_are_isolated;

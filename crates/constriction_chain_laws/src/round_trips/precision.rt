@@ -3,7 +3,7 @@
 ghost use Rattle.std.specs.Prelude.{◌≡◌, ◌≤◌, ◌<◌, [], IfErr, IfOk};
 ghost use Rattle.constriction_chain.specs.Chain.{least};
 ghost use Rattle.constriction_chain_laws.specs.Endings.{UnlessEnded};
-ghost use Rattle.constriction_chain_laws.specs.Fits.{CoderFits};
+ghost use Rattle.constriction_chain.specs.Fits.{CoderFits};
 
 use crate::steps::changes_undo;
 use constriction_base::backends::{Holds, ReadWords, Stack, WriteWords};

@@ -10,7 +10,7 @@ ghost use Rattle.constriction_chain.specs.Chain.{ChainState, IsSized};
 ghost use Rattle.constriction_chain.specs.Imports.{FromBinary, FromCompressed, IsWhole};
 ghost use Rattle.constriction_chain.specs.Symbols.{TakesOffAll};
 ghost use Rattle.constriction_chain_laws.specs.Endings.{ComesBackOver, Ended, EndsFrom, UnlessEnded};
-ghost use Rattle.constriction_chain_laws.specs.Fits.{CoderFits};
+ghost use Rattle.constriction_chain.specs.Fits.{CoderFits};
 ghost use Rattle.constriction_coder_laws.specs.Outcomes.{Reasons};
 
 use crate::round_trips::words::{put_back, take_symbols};

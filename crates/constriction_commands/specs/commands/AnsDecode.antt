@@ -1,9 +1,9 @@
 -- What `ans-decode` answers a text, and when it gives which fault.
 use Rattle.std.specs.Prelude.{◌≡◌, ℕ, List, length, reverse}
-use Rattle.constriction.specs.Models.{items_of}
-use Rattle.constriction.specs.Readings.{BeginsHigh}
-use Rattle.constriction.specs.stack.Ans.{AnsState, filled}
-use Rattle.constriction.specs.stack.Symbols.{DecodesAll}
+use Rattle.constriction_base.specs.Models.{items_of}
+use Rattle.constriction_base.specs.Readings.{BeginsHigh}
+use Rattle.constriction_stack.specs.Ans.{AnsState, filled}
+use Rattle.constriction_stack.specs.Symbols.{DecodesAll}
 use Rattle.constriction_commands.specs.Lines.{line_of}
 use Rattle.constriction_commands.specs.Inputs.{GivesWords, NoWords}
 use Rattle.constriction_commands.specs.Coding.{of_24_bits, EndsWithZero}

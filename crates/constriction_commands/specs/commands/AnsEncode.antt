@@ -1,8 +1,8 @@
 -- What `ans-encode` answers a text.
 use Rattle.std.specs.Prelude.{◌≡◌, ℕ, List, reverse}
-use Rattle.constriction.specs.Models.{items_of}
-use Rattle.constriction.specs.stack.Ans.{AnsState, empty, exported}
-use Rattle.constriction.specs.stack.Symbols.{EncodesAll}
+use Rattle.constriction_base.specs.Models.{items_of}
+use Rattle.constriction_stack.specs.Ans.{AnsState, empty, exported}
+use Rattle.constriction_stack.specs.Symbols.{EncodesAll}
 use Rattle.constriction_commands.specs.Lines.{line_of}
 use Rattle.constriction_commands.specs.Inputs.{GivesSymbols}
 use Rattle.constriction_commands.specs.Coding.{of_24_bits}

@@ -1,11 +1,11 @@
 -- What `chain-split` answers a text, and when it gives which fault.
 use Rattle.std.specs.Prelude.{◌≡◌, ℕ, ◌^◌, ◌<◌, ◌⊎◌, List, [], ◌∷◌, ◌++◌, length, reverse, ⊤}
 use Rattle.std.specs.Int.Digits.{digits_of}
-use Rattle.constriction.specs.Tables.{AtEntry}
-use Rattle.constriction.specs.Steps.{InTurn}
-use Rattle.constriction.specs.chain.Chain.{ChainState, IsChain, IsDecode}
-use Rattle.constriction.specs.chain.Walk.{NeedsWord}
-use Rattle.constriction.specs.chain.Words.{remainder_words}
+use Rattle.constriction_base.specs.Tables.{AtEntry}
+use Rattle.constriction_base.specs.Steps.{InTurn}
+use Rattle.constriction_chain.specs.Chain.{ChainState, IsChain, IsDecode}
+use Rattle.constriction_chain.specs.Walk.{NeedsWord}
+use Rattle.constriction_chain.specs.Words.{remainder_words}
 use Rattle.constriction_commands.specs.Lines.{line_of}
 use Rattle.constriction_commands.specs.Inputs.{GivesWords, NoWords}
 use Rattle.constriction_commands.specs.Coding.{EndsWithZero}

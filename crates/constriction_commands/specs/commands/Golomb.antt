@@ -1,9 +1,9 @@
 -- What `golomb` answers a text, and when it gives which fault.
 use Rattle.std.specs.Prelude.{◌≡◌, ℕ, ◌-◌, ◌^◌, Some, List, [], ◌∷◌, ◌++◌, map, flat_map, ⊤}
 use Rattle.std.specs.List.{join_with_byte}
-use Rattle.constriction.specs.Steps.{AreWords}
-use Rattle.constriction.specs.symbol.Bits.{IsQueueWords}
-use Rattle.constriction.specs.symbol.Golomb.{golomb}
+use Rattle.constriction_base.specs.Steps.{AreWords}
+use Rattle.constriction_symbol.specs.Bits.{IsQueueWords}
+use Rattle.constriction_symbol.specs.Golomb.{golomb}
 use Rattle.constriction_commands.specs.Codewords.{digits}
 use Rattle.constriction_commands.specs.Lines.{first_line, numbers_of, line_of}
 use Rattle.constriction_commands.specs.Inputs.{IsBad}

@@ -1,7 +1,7 @@
 -- What `huffman` answers a text, and when it gives which fault.
 use Rattle.std.specs.Prelude.{◌≡◌, ℕ, ◌-◌, ◌/◌, ◌<◌, ◌≤◌, ◌^◌, Option, Some, None, Bool, List, [], ◌∷◌, ◌++◌, length, map, sum, ⊤}
 use Rattle.std.specs.List.{join_with_byte}
-use Rattle.constriction.specs.symbol.Huffman.{huffman, symbols_from}
+use Rattle.constriction_symbol.specs.Huffman.{huffman, symbols_from}
 use Rattle.constriction_commands.specs.Codewords.{digits}
 use Rattle.constriction_commands.specs.Lines.{first_line, numbers_of}
 use Rattle.constriction_commands.specs.Inputs.{IsBad}

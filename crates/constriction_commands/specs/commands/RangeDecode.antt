@@ -1,11 +1,11 @@
 -- What `range-decode` answers a text, and when it gives which fault.
 use Rattle.std.specs.Prelude.{◌≡◌, ℕ, List, length}
-use Rattle.constriction.specs.Models.{items_of}
-use Rattle.constriction.specs.queue.Range.{Run, initial}
+use Rattle.constriction_base.specs.Models.{items_of}
+use Rattle.constriction_queue.specs.Range.{Run, initial}
 use Rattle.constriction_commands.specs.Lines.{line_of}
 use Rattle.constriction_commands.specs.Inputs.{GivesWords, NoWords}
 use Rattle.constriction_commands.specs.Coding.{of_24_bits}
-use Rattle.constriction.specs.queue.Symbols.{FindsAll}
+use Rattle.constriction_queue.specs.Symbols.{FindsAll}
 use Rattle.constriction_commands.specs.Ranges.{ReadingFails}
 use Rattle.constriction_commands.specs.declared.fault.Fault.{Fault}
 use Rattle.constriction_commands.specs.declared.fault.Fault.TheVariants.{InvalidData}

@@ -1,11 +1,11 @@
 -- What `range-encode` answers a text.
 use Rattle.std.specs.Prelude.{◌≡◌, ℕ, List}
-use Rattle.constriction.specs.Models.{items_of}
-use Rattle.constriction.specs.queue.Range.{Run, initial, sealed}
+use Rattle.constriction_base.specs.Models.{items_of}
+use Rattle.constriction_queue.specs.Range.{Run, initial, sealed}
 use Rattle.constriction_commands.specs.Lines.{line_of}
 use Rattle.constriction_commands.specs.Inputs.{GivesSymbols}
 use Rattle.constriction_commands.specs.Coding.{of_24_bits}
-use Rattle.constriction.specs.queue.Symbols.{NarrowsAll}
+use Rattle.constriction_queue.specs.Symbols.{NarrowsAll}
 
 -- the seal of the run of the symbols, as a line
 pub record IsRangeEncoded (text answer : List ℕ) : Type 0 where

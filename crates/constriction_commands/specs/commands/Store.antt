@@ -1,12 +1,12 @@
 -- What `store` answers a text, and when it gives which fault.
 use Rattle.std.specs.Prelude.{◌≡◌, ℕ, ◌<◌, ◌≤◌, List, ◌++◌, ⊤, flat_map, length}
 use Rattle.std.specs.List.{AllByRecursion, Any}
-use Rattle.constriction.specs.Models.{items_of}
-use Rattle.constriction.specs.Tables.{Impossible}
-use Rattle.constriction.specs.queue.Range.{Run, initial}
-use Rattle.constriction.specs.queue.SelfDelimiting.{SelfDelimits}
-use Rattle.constriction.specs.queue.Symbols.{NarrowsAll}
-use Rattle.constriction.specs.store.Chunks.{chunk_in, count_of}
+use Rattle.constriction_base.specs.Models.{items_of}
+use Rattle.constriction_base.specs.Tables.{Impossible}
+use Rattle.constriction_queue.specs.Range.{Run, initial}
+use Rattle.constriction_queue.specs.SelfDelimiting.{SelfDelimits}
+use Rattle.constriction_queue.specs.Symbols.{NarrowsAll}
+use Rattle.constriction_store.specs.Chunks.{chunk_in, count_of}
 use Rattle.constriction_commands.specs.Coding.{of_24_bits}
 use Rattle.constriction_commands.specs.Inputs.{GivesChunks, NoChunks}
 use Rattle.constriction_commands.specs.Lines.{line_of}

@@ -1,8 +1,8 @@
 //! `ans-decode`: the words of an ANS coder to symbols.
 
 ghost use Rattle.std.specs.Prelude.{◌≡◌, length, IfOk, IfErr};
-ghost use Rattle.constriction.specs.Models.{items_of};
-ghost use Rattle.constriction.specs.stack.Symbols.{DecodesAll};
+ghost use Rattle.constriction_base.specs.Models.{items_of};
+ghost use Rattle.constriction_stack.specs.Symbols.{DecodesAll};
 ghost use Rattle.constriction_commands.specs.Coding.{of_24_bits};
 ghost use Rattle.constriction_commands.specs.commands.AnsDecode.{IsAnsDecoded, AnsDecodeFails};
 ghost use Rattle.constriction_commands.specs.declared.fault.Fault.TheVariants.{OutOfMemory};
@@ -11,10 +11,11 @@ use crate::fault::Fault;
 use crate::given::words::table_and_words;
 use crate::output::line_of_numbers;
 use crate::weights::PRECISION;
-use constriction::CoderError;
-use constriction::stream::Decode;
-use constriction::stream::model::{DecoderModel, EntropyModel};
-use constriction::stream::stack::{CompressedDataEndsWithZeroWord, DefaultAnsCoder};
+use constriction_base::errors::CoderError;
+use constriction_base::model::{DecoderModel, EntropyModel};
+use constriction_stack::DefaultAnsCoder;
+use constriction_stack::coder::words::CompressedDataEndsWithZeroWord;
+use constriction_stream::decoding::Decode;
 use std::alloc::Global;
 
 /// The next symbols of a coder.

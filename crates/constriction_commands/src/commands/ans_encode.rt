@@ -1,9 +1,9 @@
 //! `ans-encode`: symbols to the words of an ANS coder.
 
 ghost use Rattle.std.specs.Prelude.{◌≡◌, ◌%◌, ◌^◌, map, reverse, IfOk, IfErr};
-ghost use Rattle.constriction.specs.Models.{items_of};
-ghost use Rattle.constriction.specs.stack.Ans.{AnsState, empty, exported};
-ghost use Rattle.constriction.specs.stack.Symbols.{EncodesAll};
+ghost use Rattle.constriction_base.specs.Models.{items_of};
+ghost use Rattle.constriction_stack.specs.Ans.{AnsState, empty, exported};
+ghost use Rattle.constriction_stack.specs.Symbols.{EncodesAll};
 ghost use Rattle.constriction_commands.specs.Coding.{of_24_bits, CoderFails, EncodeFails};
 ghost use Rattle.constriction_commands.specs.commands.AnsEncode.{IsAnsEncoded};
 
@@ -11,10 +11,10 @@ use crate::fault::Fault;
 use crate::given::symbols::table_and_symbols;
 use crate::output::line_of_words;
 use crate::weights::PRECISION;
-use constriction::CoderError;
-use constriction::stream::Encode;
-use constriction::stream::model::{EncoderModel, EntropyModel};
-use constriction::stream::stack::DefaultAnsCoder;
+use constriction_base::errors::CoderError;
+use constriction_base::model::{EncoderModel, EntropyModel};
+use constriction_stack::DefaultAnsCoder;
+use constriction_stream::encoding::Encode;
 use std::alloc::Global;
 
 /// The words that hold the symbols, the first of which is decoded first.

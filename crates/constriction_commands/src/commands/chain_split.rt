@@ -10,10 +10,10 @@ use crate::fault::Fault;
 use crate::given::words::table_and_words;
 use crate::output::{line_of_numbers, push_words};
 use crate::weights::PRECISION;
-use constriction::CoderError;
-use constriction::stream::Decode;
-use constriction::stream::chain::{BackendError, DefaultChainCoder};
-use constriction::stream::model::{DecoderModel, EntropyModel};
+use constriction_base::errors::CoderError;
+use constriction_base::model::{DecoderModel, EntropyModel};
+use constriction_chain::{BackendError, DefaultChainCoder};
+use constriction_stream::decoding::Decode;
 use std::alloc::{AllocError, Global};
 
 /// The coder that words stand for.

@@ -1,8 +1,8 @@
 //! `golomb`: numbers to their Exp-Golomb codewords, as texts and in the words of a queue of bits.
 
 ghost use Rattle.std.specs.Prelude.{◌≡◌, ◌%◌, ◌^◌, ◌++◌, map, flat_map, IfOk, IfErr, OnOk};
-ghost use Rattle.constriction.specs.symbol.Bits.{IsQueueWords};
-ghost use Rattle.constriction.specs.symbol.Golomb.{golomb};
+ghost use Rattle.constriction_symbol.specs.Bits.{IsQueueWords};
+ghost use Rattle.constriction_symbol.specs.Golomb.{golomb};
 ghost use Rattle.constriction_commands.specs.Codewords.{digits};
 ghost use Rattle.constriction_commands.specs.commands.Golomb.{GolombFails, IsGolomb, golomb_line};
 
@@ -10,8 +10,9 @@ use crate::codewords::{codeword, push_digits};
 use crate::fault::Fault;
 use crate::input::{parse_numbers, split_line};
 use crate::output::push_words;
-use constriction::symbol::exp_golomb::ExpGolomb;
-use constriction::symbol::{DefaultQueueEncoder, WriteBitStream};
+use constriction_symbol::coder::DefaultQueueEncoder;
+use constriction_symbol::exp_golomb::ExpGolomb;
+use constriction_symbol::writing::WriteBitStream;
 use std::alloc::{AllocError, Global};
 
 /// Adds the codeword of a number as digits.

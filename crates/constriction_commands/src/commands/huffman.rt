@@ -1,14 +1,14 @@
 //! `huffman`: weights to the codewords of their symbols, as texts.
 
 ghost use Rattle.std.specs.Prelude.{IfErr, IfOk, OnOk, length, ◌++◌, ◌≡◌};
-ghost use Rattle.constriction.specs.symbol.Huffman.{IsHuffman, book_of, leaves, path};
+ghost use Rattle.constriction_symbol.specs.Huffman.{IsHuffman, book_of, leaves, path};
 ghost use Rattle.constriction_commands.specs.commands.Huffman.{HuffmanFails, IsHuffmanLine, TreeFails, codeword_text};
 ghost use Rattle.constriction_commands.specs.commands.Huffman.{codewords_line};
 
 use crate::codewords::{codeword, push_digits};
 use crate::fault::Fault;
 use crate::input::{parse_numbers, split_line};
-use constriction::symbol::huffman::{EncoderHuffmanTree, HuffmanError};
+use constriction_symbol::huffman::{EncoderHuffmanTree, HuffmanError};
 use std::alloc::{AllocError, Global};
 
 /// The tree of the weights of symbols 0, 1, ..

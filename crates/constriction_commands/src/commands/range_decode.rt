@@ -1,10 +1,10 @@
 //! `range-decode`: the words of a range coder to symbols.
 
 ghost use Rattle.std.specs.Prelude.{◌≡◌, length, IfOk, IfErr};
-ghost use Rattle.constriction.specs.Models.{items_of};
-ghost use Rattle.constriction.specs.queue.Range.{Run, initial, IsAt};
+ghost use Rattle.constriction_base.specs.Models.{items_of};
+ghost use Rattle.constriction_queue.specs.Range.{Run, initial, IsAt};
 ghost use Rattle.constriction_commands.specs.Coding.{of_24_bits};
-ghost use Rattle.constriction.specs.queue.Symbols.{FindsAll};
+ghost use Rattle.constriction_queue.specs.Symbols.{FindsAll};
 ghost use Rattle.constriction_commands.specs.Ranges.{ReadingFails};
 ghost use Rattle.constriction_commands.specs.commands.RangeDecode.{IsRangeDecoded, RangeDecodeFails};
 
@@ -12,11 +12,11 @@ use crate::fault::Fault;
 use crate::given::words::table_and_words;
 use crate::output::line_of_numbers;
 use crate::weights::PRECISION;
-use constriction::CoderError;
-use constriction::backends::Cursor;
-use constriction::stream::Decode;
-use constriction::stream::model::{DecoderModel, EntropyModel};
-use constriction::stream::queue::{DecoderFrontendError, DefaultRangeDecoder};
+use constriction_base::cursor::Cursor;
+use constriction_base::errors::CoderError;
+use constriction_base::model::{DecoderModel, EntropyModel};
+use constriction_queue::{DecoderFrontendError, DefaultRangeDecoder};
+use constriction_stream::decoding::Decode;
 use std::alloc::Global;
 
 /// A decoder that borrows its words.

@@ -1,20 +1,20 @@
 //! `range-encode`: symbols to the words of a range coder.
 
 ghost use Rattle.std.specs.Prelude.{◌≡◌, ◌%◌, ◌^◌, map, IfOk, IfErr};
-ghost use Rattle.constriction.specs.Models.{items_of};
-ghost use Rattle.constriction.specs.queue.Range.{Run, initial, sealed};
+ghost use Rattle.constriction_base.specs.Models.{items_of};
+ghost use Rattle.constriction_queue.specs.Range.{Run, initial, sealed};
 ghost use Rattle.constriction_commands.specs.Coding.{of_24_bits, CoderFails, EncodeFails};
-ghost use Rattle.constriction.specs.queue.Symbols.{NarrowsAll};
+ghost use Rattle.constriction_queue.specs.Symbols.{NarrowsAll};
 ghost use Rattle.constriction_commands.specs.commands.RangeEncode.{IsRangeEncoded};
 
 use crate::fault::Fault;
 use crate::given::symbols::table_and_symbols;
 use crate::output::line_of_words;
 use crate::weights::PRECISION;
-use constriction::CoderError;
-use constriction::stream::Encode;
-use constriction::stream::model::{EncoderModel, EntropyModel};
-use constriction::stream::queue::DefaultRangeEncoder;
+use constriction_base::errors::CoderError;
+use constriction_base::model::{EncoderModel, EntropyModel};
+use constriction_queue::DefaultRangeEncoder;
+use constriction_stream::encoding::Encode;
 use std::alloc::Global;
 
 /// The words that hold the symbols, the first of which is decoded first.

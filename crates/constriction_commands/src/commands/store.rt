@@ -1,9 +1,9 @@
 //! `store`: chunks to the words of an indexed store, and the chunks that are looked up in it.
 
 ghost use Rattle.std.specs.Prelude.{◌≡◌, ◌++◌, List, ℕ, length, IfOk, IfErr, OnOk};
-ghost use Rattle.constriction.specs.Tables.{entries, model_of};
-ghost use Rattle.constriction.specs.store.Chunks.{lists_of};
-ghost use Rattle.constriction.specs.store.Stores.{HoldsChunks};
+ghost use Rattle.constriction_base.specs.WeightTables.{entries, model_of};
+ghost use Rattle.constriction_store.specs.Chunks.{lists_of};
+ghost use Rattle.constriction_store.specs.Stores.{HoldsChunks};
 ghost use Rattle.constriction_commands.specs.commands.Store.{AreThere, AreWordsOf, IsStored, LookingUpFails};
 ghost use Rattle.constriction_commands.specs.commands.Store.{StoreFails, StoringFails, lines_at};
 
@@ -11,9 +11,9 @@ use crate::fault::Fault;
 use crate::given::chunks::table_and_chunks;
 use crate::output::{line_of_words, push_numbers};
 use crate::weights::{PRECISION, Table};
-use constriction::DefaultEncoderFrontendError;
-use constriction::store::{BuildError, ChunkError, Store};
-use constriction::stream::model::{DecoderModel, EncoderModel, EntropyModel};
+use constriction_base::errors::DefaultEncoderFrontendError;
+use constriction_base::model::{DecoderModel, EncoderModel, EntropyModel};
+use constriction_store::{BuildError, ChunkError, Store};
 use std::alloc::Global;
 
 /// A store of words of 32 bits.

@@ -1,13 +1,13 @@
 //! Weights, look-ups and chunks.
 
 ghost use Rattle.std.specs.Prelude.{IfOk, IfErr};
-ghost use Rattle.constriction.specs.store.Chunks.{lists_of};
+ghost use Rattle.constriction_store.specs.Chunks.{lists_of};
 ghost use Rattle.constriction_commands.specs.Inputs.{GivesChunks, NoChunks};
 
 use crate::fault::Fault;
 use crate::input::{parse_lines, parse_numbers, split_line};
 use crate::weights::{PRECISION, Table, make_table};
-use constriction::stream::model::EntropyModel;
+use constriction_base::model::EntropyModel;
 use std::alloc::Global;
 
 /// The places of the chunks that are looked up, and all chunks.

@@ -8,7 +8,7 @@ use crate::fault::Fault;
 use crate::given::two_lines;
 use crate::input::parse_numbers;
 use crate::weights::{PRECISION, Table, make_table};
-use constriction::stream::model::EntropyModel;
+use constriction_base::model::EntropyModel;
 use std::alloc::Global;
 
 /// The greatest count of symbols.

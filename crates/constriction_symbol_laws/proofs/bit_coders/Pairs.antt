@@ -10,8 +10,9 @@ use Rattle.constriction_base.specs.declared.errors.CoderError.{CoderError}
 use Rattle.constriction_base.proofs.InTurn.{InTurn-more}
 use Rattle.constriction_symbol.specs.Codewords.{ReadsSymbol}
 use Rattle.constriction_symbol.specs.declared.codebooks.SymbolCodeError.{SymbolCodeError}
-use Rattle.constriction_symbol_laws.specs.Lists.{ReadsPairs}
-use Rattle.constriction_coder_laws.proofs.ListsGiven.{none_left, zip_more}
+use Rattle.constriction_symbol.specs.Lists.{ReadsPairs}
+use Rattle.constriction_base.proofs.FromBack.{none_left}
+use Rattle.constriction_coder_laws.proofs.ListsGiven.{zip_more}
 use Rattle.constriction_coder_laws.proofs.PairCalls.{both_now, rest_of}
 
 -- ---- what an iterator over two slices gave

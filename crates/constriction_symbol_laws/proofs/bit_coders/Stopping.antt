@@ -6,7 +6,7 @@ use Rattle.constriction_coder_laws.specs.declared.errors.Stopped.TheVariants.{Re
 use Rattle.constriction_symbol.specs.Codewords.{ComesBack, ReadsSymbol}
 use Rattle.constriction_symbol.specs.declared.codebooks.SymbolCodeError.{SymbolCodeError}
 use Rattle.constriction_symbol_laws.specs.Refusals.{BeginsWithNone, StopsReading}
-use Rattle.constriction_symbol_laws.proofs.bit_coders.Codewords.{none_stops}
+use Rattle.constriction_symbol.proofs.CodewordLists.{none_stops}
 
 -- by a law of single symbols, as `symbol_comes_back` has it
 pub begins_with_none : {I S V E : Type 0} (next : I → Option (Result Bool E) → I → Type 0) (unread : I → List Bool) (codeword : S → Option (List Bool)) (same : S → S → Type 0) (reads_on : List Bool → Type 0) (is_invalid : List Bool → V → Type 0)

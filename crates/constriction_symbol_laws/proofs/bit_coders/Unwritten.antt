@@ -10,7 +10,7 @@ use Rattle.constriction_base.specs.declared.errors.CoderError.TheVariants.{Front
 use Rattle.constriction_base.specs.declared.errors.DefaultEncoderFrontendError.{DefaultEncoderFrontendError}
 use Rattle.constriction_symbol.specs.Codewords.{WritesCodeword, formed}
 use Rattle.constriction_symbol_laws.specs.Refusals.{SymbolNotWritten}
-use Rattle.constriction_coder_laws.proofs.ListsGiven.{from_back}
+use Rattle.constriction_base.proofs.FromBack.{from_back}
 use Rattle.constriction_coder_laws.proofs.PairCalls.{SameLength, both_now, left_in, pairs_from_back, rest_of}
 use Rattle.constriction_coder_laws.proofs.Refused.{from_front, pairs_from_front}
 

@@ -3,7 +3,7 @@ use Rattle.std.proofs.Common.{Option, suc, zero, ◌≡◌, ◌+◌, ◌*◌, �
 use Rattle.std.proofs.lemmas.Bool.{cases_order}
 use Rattle.constriction_symbol.specs.Huffman.{huffman, symbols_from}
 use Rattle.constriction_symbol_laws.specs.Cost.{AreApart, AreCodewordsOf, AreLawful, Costs, HaveCodewords, cost}
-use Rattle.constriction_symbol_laws.specs.Lists.{AreEach}
+use Rattle.constriction_symbol.specs.Lists.{AreEach}
 use Rattle.constriction_symbol_laws.proofs.least_cost.Least.{least, own_codewords}
 use Rattle.constriction_base.proofs.WordLists.{own_remainders}
 

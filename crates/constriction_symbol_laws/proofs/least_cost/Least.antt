@@ -5,7 +5,7 @@ use Rattle.constriction_symbol.specs.Huffman.{Weighed, huffman, leaves_from, mer
 use Rattle.constriction_symbol.specs.Huffman.Tree.{Leaf}
 use Rattle.constriction_symbol.proofs.HuffmanMerge.{huffman_path, huffman_prefix_free, length_leaves, length_put, merge_without_repeats, merged_one}
 use Rattle.constriction_symbol_laws.specs.Cost.{AreCodewordsOf, AreLawful, cost}
-use Rattle.constriction_symbol_laws.proofs.bit_coders.Trees.{known_symbol}
+use Rattle.constriction_symbol.proofs.TreeCodewords.{known_symbol}
 use Rattle.constriction_symbol_laws.proofs.least_cost.Lengths.{AreAscending, AreAtMost, ascending_put, at_most_beside, kraft, kraft_beside, length_beside, put_beside, spent, spent_beside, unions, unions_least}
 use Rattle.constriction_symbol_laws.proofs.least_cost.Kraft.{kraft_bound, lawful_apart, some_most}
 use Rattle.constriction_symbol_laws.proofs.least_cost.Depths.{cost_depths, depths_cost, leaves_cost, merged_cost, tree_cost, weighed_leaves}

@@ -1,6 +1,6 @@
 //! Lists that are written and read, in the words of the laws.
 
-ghost use Rattle.constriction_symbol_laws.specs.Lists.{AreCodewords, ReadsAll};
+ghost use Rattle.constriction_symbol.specs.Lists.{AreCodewords, ReadsAll};
 ghost use Rattle.constriction_symbol_laws.specs.Refusals.{SymbolNotWritten, StopsReading};
 ghost use Rattle.std.specs.Prelude.{Bool, IfErr, IfOk, List, OnOk, length, reverse, ◌++◌, ◌≡◌};
 

@@ -1,6 +1,6 @@
 //! Symbols that come back from the words that a coder lends by a guard, and coders that are as before then.
 
-ghost use Rattle.constriction_symbol_laws.specs.Lists.{AreCodewords, AreEach};
+ghost use Rattle.constriction_symbol.specs.Lists.{AreCodewords, AreEach};
 ghost use Rattle.constriction_coder_laws.specs.Outcomes.{Reasons};
 ghost use Rattle.constriction_symbol_laws.specs.Refusals.{BeginsWithNone};
 ghost use Rattle.std.specs.Prelude.{Bool, IfErr, IfOk, List, length, reverse, ◌++◌, ◌≡◌};

@@ -1,6 +1,6 @@
 //! Symbols that have a codebook each, so that codebooks are mixed in one stream.
 
-ghost use Rattle.constriction_symbol_laws.specs.Lists.{AreCodewordsBy, AreSameBy, ReadsPairs, of_pair};
+ghost use Rattle.constriction_symbol.specs.Lists.{AreCodewordsBy, AreSameBy, ReadsPairs, of_pair};
 ghost use Rattle.constriction_symbol_laws.specs.Refusals.{HasNoCodeword, SymbolNotWritten, StopsAtCodebook};
 ghost use Rattle.constriction_coder_laws.specs.Outcomes.{UnlessImpossible};
 ghost use Rattle.std.specs.List.{zip};

@@ -1,6 +1,6 @@
 //! Lists through words.
 
-ghost use Rattle.constriction_symbol_laws.specs.Lists.{AreEach};
+ghost use Rattle.constriction_symbol.specs.Lists.{AreEach};
 ghost use Rattle.constriction_symbol_laws.specs.Refusals.{HasNoCodeword};
 ghost use Rattle.constriction_coder_laws.specs.Outcomes.{OnlyRefused, UnlessImpossible};
 ghost use Rattle.std.specs.Prelude.{IfErr, IfOk, ◌≡◌};

@@ -1,5 +1,5 @@
 use Rattle.std.proofs.Common.{Err, sym, ◌∙◌, ap}
-use Rattle.constriction.specs.Tables.{table_of}
+use Rattle.constriction_base.specs.Tables.{table_of}
 use Rattle.constriction_commands.proofs.OwnNumbers.{own_numbers, own_sum}
 use Rattle.constriction_commands.proofs.weights.make_table.Goals as goal
 

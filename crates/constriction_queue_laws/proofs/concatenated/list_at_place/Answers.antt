@@ -4,7 +4,7 @@ use Rattle.constriction_queue.specs.Decoder.{StandsAt}
 use Rattle.constriction_queue.specs.Range.{initial}
 use Rattle.constriction_queue.specs.Symbols.{FindsAll}
 use Rattle.constriction_queue_laws.proofs.Concatenating.{numbers_from, words_from}
-use Rattle.constriction_coder_laws.proofs.SameModel.{are_models}
+use Rattle.constriction_base.proofs.SameModel.{are_models}
 use Rattle.constriction_queue_laws.proofs.concatenated.list_at_place.Goals as goal
 
 pub returns-in-Ok-decode_list-clause-read : goal.returns-in-Ok-decode_list-clause-read

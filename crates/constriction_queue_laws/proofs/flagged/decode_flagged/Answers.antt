@@ -4,8 +4,9 @@ use Rattle.constriction_queue.specs.Flagged.{HoldsNone, has_flag, next_model}
 use Rattle.constriction_queue.specs.declared.decoder.symbols.DecoderFrontendError.{DecoderFrontendError}
 use Rattle.constriction_queue.proofs.FlaggedRuns.{flag_more}
 use Rattle.constriction_queue.specs.Symbols.{Finds}
-use Rattle.constriction_queue_laws.proofs.Flagging.{finds_flagged, flagged_next, found_quantile, next_lawful, only_invalid}
-use Rattle.constriction_queue_laws.proofs.ListCalls.{decode_of}
+use Rattle.constriction_queue_laws.proofs.Flagging.{finds_flagged, flagged_next, next_lawful, only_invalid}
+use Rattle.constriction_queue.proofs.StepCalls.{found_quantile}
+use Rattle.constriction_queue.proofs.StepCalls.{decode_of}
 use Rattle.constriction_queue_laws.proofs.flagged.decode_flagged.Goals as goal
 
 pub decode-init : goal.decode-init

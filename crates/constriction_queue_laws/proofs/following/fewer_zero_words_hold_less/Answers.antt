@@ -1,5 +1,5 @@
 use Rattle.constriction_queue.proofs.SelfDelimited.{ones_behind, words_ones}
-use Rattle.constriction_queue_laws.proofs.Followed.{fewer_read}
+use Rattle.constriction_queue.proofs.Followed.{fewer_read}
 use Rattle.constriction_queue_laws.proofs.following.fewer_zero_words_hold_less.Goals as goal
 
 pub returns : goal.returns

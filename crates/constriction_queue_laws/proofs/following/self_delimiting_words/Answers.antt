@@ -1,5 +1,5 @@
 use Rattle.constriction_queue.proofs.SelfDelimited.{one_list, self_words}
-use Rattle.constriction_queue_laws.proofs.Followed.{self_end, two_words_same}
+use Rattle.constriction_queue.proofs.Followed.{self_end, two_words_same}
 use Rattle.constriction_queue_laws.proofs.following.self_delimiting_words.Goals as goal
 
 pub returns-clause-one : goal.returns-clause-one

@@ -3,7 +3,7 @@ use Rattle.constriction_queue.specs.Range.{initial}
 use Rattle.constriction_queue.proofs.Narrowing.{valid_start}
 use Rattle.constriction_queue.proofs.SelfDelimited.{self_words}
 use Rattle.constriction_queue.proofs.Entries.{intervals}
-use Rattle.constriction_queue_laws.proofs.Followed.{read_whatever_follows}
+use Rattle.constriction_queue.proofs.Followed.{read_whatever_follows}
 use Rattle.constriction_queue_laws.proofs.following.symbols_come_back_whatever_follows.Goals as goal
 use Rattle.constriction_base.proofs.WordLists.{words-append}
 

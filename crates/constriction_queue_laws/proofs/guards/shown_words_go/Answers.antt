@@ -1,6 +1,6 @@
 use Rattle.std.proofs.Common.{ap}
 use Rattle.constriction_queue.specs.Range.{sealed}
-use Rattle.constriction_queue_laws.proofs.Sealing.{run_of_left}
+use Rattle.constriction_queue.proofs.Sealing.{run_of_left}
 use Rattle.constriction_queue_laws.proofs.guards.shown_words_go.Goals as goal
 
 pub returns-clause-run : goal.returns-clause-run

@@ -3,7 +3,8 @@ use Rattle.std.proofs.lemmas.List.{reverse-reverse}
 use Rattle.constriction_base.specs.Models.{IsModel}
 use Rattle.constriction_queue.specs.Symbols.{FindsAll}
 use Rattle.constriction_queue_laws.specs.Undone.{Reading}
-use Rattle.constriction_queue_laws.proofs.ComingBack.{decodes_unique, taken_back}
+use Rattle.constriction_queue.proofs.ComingBack.{decodes_unique}
+use Rattle.constriction_queue_laws.proofs.TakenBack.{taken_back}
 use Rattle.std.specs.Prelude.{reverse}
 use Rattle.constriction_queue_laws.proofs.lists.decodes_undo_encodes.Goals as goal
 use Rattle.constriction_base.proofs.Turns.{all-reverse}

@@ -1,5 +1,5 @@
 use Rattle.constriction_queue.proofs.Entries.{intervals}
-use Rattle.constriction_queue_laws.proofs.ComingBack.{encodes_exist, encodes_unique}
+use Rattle.constriction_queue.proofs.ComingBack.{encodes_exist, encodes_unique}
 use Rattle.constriction_queue_laws.proofs.lists.one_list_of_encodes.Goals as goal
 
 pub returns-clause-exists : goal.returns-clause-exists

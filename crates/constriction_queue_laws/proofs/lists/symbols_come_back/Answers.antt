@@ -1,7 +1,7 @@
 use Rattle.constriction_queue.specs.Range.{initial, sealed}
 use Rattle.constriction_queue.proofs.Narrowing.{valid_start}
-use Rattle.constriction_queue_laws.proofs.Reading.{read_behind}
-use Rattle.constriction_queue_laws.proofs.Sealing.{sealed_end}
+use Rattle.constriction_queue.proofs.WordsWithin.{read_behind}
+use Rattle.constriction_queue.proofs.Sealing.{sealed_end}
 use Rattle.constriction_queue_laws.proofs.lists.symbols_come_back.Goals as goal
 use Rattle.constriction_queue.proofs.SealedRuns.{words-sealed}
 

@@ -1,7 +1,7 @@
 use Rattle.std.proofs.Common.{◌∷◌}
 use Rattle.constriction_queue.specs.Range.{initial}
 use Rattle.constriction_queue.proofs.Narrowing.{valid_start}
-use Rattle.constriction_queue_laws.proofs.Reading.{within_read}
+use Rattle.constriction_queue.proofs.WordsWithin.{within_read}
 use Rattle.constriction_queue_laws.proofs.lists.symbols_of_any_words.Goals as goal
 
 pub returns : goal.returns

@@ -1,7 +1,7 @@
 use Rattle.constriction_queue.specs.Range.{initial, sealed}
 use Rattle.constriction_queue.proofs.Narrowing.{valid_start}
 use Rattle.constriction_queue.proofs.Entries.{intervals}
-use Rattle.constriction_queue_laws.proofs.Reading.{read_behind}
+use Rattle.constriction_queue.proofs.WordsWithin.{read_behind}
 use Rattle.constriction_queue_laws.proofs.positions.symbols_after_a_position.Goals as goal
 use Rattle.constriction_queue.proofs.SealedRuns.{words-sealed}
 

@@ -6,6 +6,7 @@ use Rattle.constriction_queue.specs.Encoder.{run_by}
 use Rattle.constriction_queue.specs.Range.{Run, initial}
 use Rattle.constriction_queue.specs.SelfDelimiting.{SelfDelimits}
 use Rattle.constriction_queue.proofs.Showing.{queue_is}
+use Rattle.constriction_queue.proofs.Followed.{come_back_whatever_follows}
 use Rattle.constriction_store.specs.Stores.{Indexes, entry_at}
 use Rattle.constriction_store.specs.Chunks.{lists_of}
 use Rattle.constriction_store.proofs.Indexed.{held_chunks, is_index, some_chunks}
@@ -51,7 +52,7 @@ returns-in-Ok-into_self_delimited-clause-chunks g c =
     let chunks : List (List ℕ) = lists_of c.args.chunks.now in
     let indexed : Indexes w s model chunks (map entry_at c.in-Ok.index.items) (initial s) last = subst (λ (r : Run). Indexes w s model chunks (map entry_at c.in-Ok.index.items) r last) c.new-encoder.ensures.run c.in-Ok.ensures.ok in
     held_chunks w s model words c.requires lawful
-    (λ before since middle last bs ss h k are. rw append-nil at (c.symbols_come_back_whatever_follows.ensures w s before since middle last words [] c.requires bs ss tt h k are))
+    (λ before since middle last bs ss h k are. rw append-nil at (come_back_whatever_follows w s c.requires before since middle last words [] bs ss tt h k are))
     chunks (map entry_at c.in-Ok.index.items) last are indexed
 
 pub returns-in-Err-into_self_delimited-clause-err : goal.returns-in-Err-into_self_delimited-clause-err

@@ -1,7 +1,7 @@
 use Rattle.std.proofs.Common.{ℕ, arith}
 use Rattle.constriction_base.specs.Models.{Model}
 use Rattle.constriction_queue.specs.Encoder.{run_by}
-use Rattle.constriction_queue_laws.proofs.ListCalls.{encode_of}
+use Rattle.constriction_queue.proofs.StepCalls.{encode_of}
 use Rattle.constriction_store.proofs.Symbols.{known_more, narrowed_more}
 use Rattle.constriction_store.proofs.building.encode_chunk.Goals as goal
 

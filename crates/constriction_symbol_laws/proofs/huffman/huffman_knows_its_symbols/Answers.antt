@@ -1,4 +1,4 @@
-use Rattle.constriction_symbol_laws.proofs.bit_coders.Trees.{known_symbol, unknown_symbol}
+use Rattle.constriction_symbol.proofs.TreeCodewords.{known_symbol, unknown_symbol}
 use Rattle.constriction_symbol_laws.proofs.huffman.huffman_knows_its_symbols.Goals as goal
 
 pub returns : goal.returns

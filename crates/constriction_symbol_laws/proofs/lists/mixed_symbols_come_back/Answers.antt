@@ -2,8 +2,8 @@ use Rattle.std.proofs.Common.{◌≡◌, Ok, subst}
 use Rattle.std.specs.List.{zip}
 use Rattle.constriction_symbol.specs.Codewords.{ReadsSymbol}
 use Rattle.constriction_symbol.proofs.ReadBack.{symbol_back}
-use Rattle.constriction_symbol_laws.specs.Lists.{IsSamePair}
-use Rattle.constriction_symbol_laws.proofs.bit_coders.Codewords.{all_back, each_zip}
+use Rattle.constriction_symbol.specs.Lists.{IsSamePair}
+use Rattle.constriction_symbol.proofs.CodewordLists.{all_back, each_zip}
 use Rattle.constriction_symbol_laws.proofs.lists.mixed_symbols_come_back.Goals as goal
 
 pub returns : goal.returns

@@ -1,7 +1,7 @@
 use Rattle.std.proofs.Common.{Ok}
 use Rattle.constriction_symbol.specs.Codewords.{ReadsSymbol}
 use Rattle.constriction_symbol.proofs.ReadBack.{symbol_back}
-use Rattle.constriction_symbol_laws.proofs.bit_coders.Codewords.{all_back, each_free}
+use Rattle.constriction_symbol.proofs.CodewordLists.{all_back, each_free}
 use Rattle.constriction_symbol_laws.proofs.lists.symbols_come_back.Goals as goal
 
 pub returns : goal.returns

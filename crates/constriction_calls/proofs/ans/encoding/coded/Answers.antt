@@ -3,7 +3,7 @@ use Rattle.constriction_base.specs.Models.{Model, item_of, pairs_of}
 use Rattle.constriction_base.proofs.InTurn.{InTurn-more}
 use Rattle.constriction_stack.specs.Ans.{AnsState}
 use Rattle.constriction_stack.specs.Symbols.{Encodes}
-use Rattle.constriction_stack_laws.proofs.ListCalls.{encode_of}
+use Rattle.constriction_stack.proofs.StepCalls.{encode_of}
 use Rattle.constriction_inputs.proofs.Pairs.{drop_last, pairs_end, turned_last}
 use Rattle.constriction_calls.proofs.ans.encoding.coded.Goals as goal
 

@@ -3,7 +3,7 @@ use Rattle.constriction_base.specs.declared.errors.CoderError.TheVariants.{Front
 use Rattle.constriction_base.specs.Models.{Model, item_of, pairs_of}
 use Rattle.constriction_base.proofs.InTurn.{InTurn-more}
 use Rattle.constriction_chain.specs.Symbols.{PutsBack}
-use Rattle.constriction_chain_laws.proofs.ListCalls.{encode_of}
+use Rattle.constriction_chain.proofs.StepCalls.{encode_of}
 use Rattle.constriction_inputs.proofs.Pairs.{pairs_end, parted_last, turned_last, unknown_last}
 use Rattle.constriction_calls.proofs.ChainSteps.{impossible_at, lacks_at}
 use Rattle.constriction_calls.proofs.chain.encoding.put_symbols.Goals as goal

@@ -4,7 +4,7 @@ use Rattle.constriction_base.specs.Models.{Model, item_of, pairs_of}
 use Rattle.constriction_base.proofs.InTurn.{InTurn-more}
 use Rattle.constriction_queue.specs.Encoder.{run_by}
 use Rattle.constriction_queue.specs.Symbols.{Narrows}
-use Rattle.constriction_queue_laws.proofs.ListCalls.{encode_of}
+use Rattle.constriction_queue.proofs.StepCalls.{encode_of}
 use Rattle.constriction_inputs.proofs.Pairs.{pairs_next}
 use Rattle.constriction_calls.proofs.range.encoding.put_list.Goals as goal
 

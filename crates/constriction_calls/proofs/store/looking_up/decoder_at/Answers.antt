@@ -4,7 +4,7 @@ use Rattle.constriction_queue.specs.Range.{Run}
 use Rattle.constriction_queue.specs.States.{IsPosition, lower_of, range_of}
 use Rattle.constriction_queue.proofs.Beginning.{cursor_keeps}
 use Rattle.constriction_queue.proofs.Seals.{words_of_numbers}
-use Rattle.constriction_queue_laws.proofs.Seeking.{sought_there}
+use Rattle.constriction_queue.proofs.Seeking.{sought_there}
 use Rattle.constriction_store.specs.Stores.{run_from}
 use Rattle.constriction_calls.proofs.store.looking_up.decoder_at.Goals as goal
 

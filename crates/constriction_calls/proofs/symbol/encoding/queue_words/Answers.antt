@@ -2,9 +2,9 @@ use Rattle.std.proofs.Common.{◌∙◌, ◌++◌, ap, map, reverse, sym, subst}
 use Rattle.std.proofs.lemmas.Iterator.{items_from_drains, YieldsList-from_slice}
 use Rattle.std.proofs.lemmas.List.{reverse-reverse}
 use Rattle.constriction_symbol.specs.Bits.{IsQueueWords}
-use Rattle.constriction_symbol_laws.specs.Lists.{AreCodewords}
-use Rattle.constriction_symbol_laws.proofs.bit_coders.Codewords.{codewords_map, written_first}
-use Rattle.constriction_symbol_laws.proofs.bit_coders.Trees.{same_codewords}
+use Rattle.constriction_symbol.specs.Lists.{AreCodewords}
+use Rattle.constriction_symbol.proofs.CodewordLists.{codewords_map, written_first}
+use Rattle.constriction_symbol.proofs.TreeCodewords.{same_codewords}
 use Rattle.constriction_calls.specs.SymbolCalls.{codeword_in}
 use Rattle.constriction_calls.proofs.SymbolLists.{vec_puts}
 use Rattle.constriction_calls.proofs.symbol.encoding.queue_words.Goals as goal

@@ -5,7 +5,7 @@ use Rattle.std.specs.Prelude.{reverse}
 use Rattle.std.proofs.lemmas.Result.{MatchResult-weaker}
 use Rattle.constriction_base.specs.Models.{Model, items_of, item_of}
 use Rattle.constriction_chain.specs.Symbols.{PutsBackAll}
-use Rattle.constriction_coder_laws.proofs.ListsGiven.{all_from_back}
+use Rattle.constriction_base.proofs.FromBack.{all_from_back}
 use Rattle.constriction_chain_laws.proofs.Ending.{not_encoded}
 use Rattle.constriction_chain_laws.proofs.FromBack.{stopped_back}
 use Rattle.constriction_chain_laws.proofs.ListCalls.{encodes_of}

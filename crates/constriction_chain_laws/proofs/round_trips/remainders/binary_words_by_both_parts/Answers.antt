@@ -3,7 +3,7 @@ use Rattle.std.specs.Prelude.{reverse}
 use Rattle.constriction_chain.specs.Imports.{IsWhole}
 use Rattle.constriction_chain_laws.specs.Endings.{ComesBackOver}
 use Rattle.constriction_chain_laws.proofs.Remaining.{binary_form_back}
-use Rattle.constriction_chain_laws.proofs.NoCoder.{no_binary}
+use Rattle.constriction_chain.proofs.NoCoder.{no_binary}
 use Rattle.constriction_chain_laws.proofs.round_trips.remainders.binary_words_by_both_parts.Goals as goal
 
 pub returns-in-Err-Frontend-clause-err : goal.returns-in-Err-Frontend-clause-err

@@ -1,7 +1,7 @@
 use Rattle.std.proofs.Common.{◌∙◌, ◌++◌, ◌^◌, map, ap}
 use Rattle.std.specs.Int.Digits.{digits_of}
 use Rattle.constriction_chain.specs.Imports.{IsWhole}
-use Rattle.constriction_chain_laws.proofs.NoCoder.{no_compressed}
+use Rattle.constriction_chain.proofs.NoCoder.{no_compressed}
 use Rattle.constriction_chain_laws.proofs.Remaining.{form_back}
 use Rattle.constriction_chain_laws.proofs.round_trips.remainders.words_by_suffix.Goals as goal
 

@@ -1,7 +1,8 @@
 use Rattle.std.proofs.Common.{refl}
 use Rattle.constriction_base.specs.Models.{Model}
 use Rattle.constriction_chain.specs.Symbols.{IsModelAt}
-use Rattle.constriction_chain_laws.proofs.ListCalls.{decode_of, encode_of}
+use Rattle.constriction_chain_laws.proofs.ListCalls.{decode_of}
+use Rattle.constriction_chain.proofs.StepCalls.{encode_of}
 use Rattle.constriction_chain_laws.proofs.Stepping.{stays}
 use Rattle.constriction_chain_laws.proofs.round_trips.steps.decode_and_encode.Goals as goal
 

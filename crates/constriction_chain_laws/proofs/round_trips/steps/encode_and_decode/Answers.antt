@@ -1,6 +1,7 @@
 use Rattle.std.proofs.Common.{sym, refl, arith}
 use Rattle.constriction_base.specs.Models.{Model}
-use Rattle.constriction_chain_laws.proofs.ListCalls.{decode_of, encode_of}
+use Rattle.constriction_chain_laws.proofs.ListCalls.{decode_of}
+use Rattle.constriction_chain.proofs.StepCalls.{encode_of}
 use Rattle.constriction_chain_laws.proofs.round_trips.steps.encode_and_decode.Goals as goal
 
 pub returns-in-Ok-decode_symbol-clause-encoded : goal.returns-in-Ok-decode_symbol-clause-encoded

@@ -1,4 +1,4 @@
-use Rattle.constriction_chain_laws.proofs.NoCoder.{no_remainders}
+use Rattle.constriction_chain.proofs.NoCoder.{no_remainders}
 use Rattle.constriction_chain_laws.proofs.round_trips.words.put_back_pairs.Goals as goal
 
 pub returns-in-Err-Frontend-clause-err : goal.returns-in-Err-Frontend-clause-err

@@ -1,8 +1,8 @@
 use Rattle.std.proofs.Common.{[], ◌∷◌, arith, length, length-append, ap}
-use Rattle.constriction.specs.stack.Ans.{DecodeCall}
-use Rattle.constriction.specs.stack.Symbols.{Decodes}
-use Rattle.constriction.proofs.InTurn.{InTurn-symbol}
-use Rattle.constriction.proofs.Outcomes.{decoded_by}
+use Rattle.constriction_stack.specs.Ans.{DecodeCall}
+use Rattle.constriction_stack.specs.Symbols.{Decodes}
+use Rattle.constriction_base.proofs.InTurn.{InTurn-symbol}
+use Rattle.constriction_stream.proofs.Outcomes.{decoded_by}
 use Rattle.constriction_commands.specs.Coding.{of_24_bits}
 use Rattle.constriction_commands.proofs.commands.ans_decode.decode.Goals as goal
 

@@ -1,6 +1,6 @@
 use Rattle.std.proofs.Common.{◌≡◌, length}
-use Rattle.constriction.specs.Models.{items_of}
-use Rattle.constriction.specs.stack.Symbols.{DecodesAll}
+use Rattle.constriction_base.specs.Models.{items_of}
+use Rattle.constriction_stack.specs.Symbols.{DecodesAll}
 use Rattle.constriction_commands.specs.Coding.{of_24_bits}
 use Rattle.constriction_commands.proofs.commands.ans_decode.decode.Given as goal
 

@@ -2,7 +2,7 @@ use Rattle.std.proofs.Common.{◌^◌, ◌%◌, map, sym, ◌∙◌}
 use Rattle.constriction_commands.specs.Coding.{EncodeFails}
 use Rattle.constriction_commands.proofs.Faults.{passed_on, no_symbols, symbols_refused}
 use Rattle.constriction_commands.proofs.Answered.{ans_encoded}
-use Rattle.constriction.proofs.Lists.{map-reverse}
+use Rattle.constriction_base.proofs.Turns.{map-reverse}
 use Rattle.constriction_commands.proofs.commands.ans_encode.answer.Goals as goal
 
 pub returns-clause-ok : goal.returns-clause-ok

@@ -1,6 +1,6 @@
 use Rattle.std.proofs.Common.{◌≡◌, ◌+◌, ◌-◌, ◌<◌, length, arith}
-use Rattle.constriction.specs.stack.Ans.{EncodeCall}
-use Rattle.constriction.proofs.Outcomes.{ok_by, frontend_by}
+use Rattle.constriction_stack.specs.Ans.{EncodeCall}
+use Rattle.constriction_stream.proofs.Outcomes.{ok_by, frontend_by}
 use Rattle.constriction_commands.proofs.Symbols.{empty_valid, encoded-none, encoded-more, impossible_at}
 use Rattle.constriction_commands.proofs.commands.ans_encode.encode.Goals as goal
 

@@ -1,7 +1,7 @@
 use Rattle.std.proofs.Common.{◌≤◌, length, drop, reverse}
-use Rattle.constriction.specs.Models.{items_of}
-use Rattle.constriction.specs.stack.Ans.{IsValid, empty}
-use Rattle.constriction.specs.stack.Symbols.{EncodesAll}
+use Rattle.constriction_base.specs.Models.{items_of}
+use Rattle.constriction_stack.specs.Ans.{IsValid, empty}
+use Rattle.constriction_stack.specs.Symbols.{EncodesAll}
 use Rattle.constriction_commands.specs.Coding.{of_24_bits}
 use Rattle.constriction_commands.proofs.commands.ans_encode.encode.Given as goal
 

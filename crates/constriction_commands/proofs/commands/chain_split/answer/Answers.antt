@@ -2,7 +2,7 @@ use Rattle.std.proofs.Common.{ℕ, ◌%◌, ◌^◌, map, reverse, sym, ◌∙�
 use Rattle.constriction_commands.specs.commands.ChainSplit.{ChainSplitFails}
 use Rattle.constriction_commands.proofs.Faults.{passed_on}
 use Rattle.constriction_commands.proofs.Chain.{own_chain, none_split, no_coder, not_split, split}
-use Rattle.constriction.proofs.Lists.{map-reverse}
+use Rattle.constriction_base.proofs.Turns.{map-reverse}
 use Rattle.constriction_commands.proofs.commands.chain_split.answer.Goals as goal
 
 pub returns-clause-ok : goal.returns-clause-ok

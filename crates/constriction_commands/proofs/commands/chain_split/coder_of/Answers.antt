@@ -1,6 +1,6 @@
 use Rattle.std.proofs.Common.{◌%◌, ◌^◌, sym, ◌∙◌, refl, inl, inr, arith}
 use Rattle.constriction_commands.proofs.Chain.{all_read, last_zero}
-use Rattle.constriction.proofs.Lists.{map-reverse}
+use Rattle.constriction_base.proofs.Turns.{map-reverse}
 use Rattle.constriction_commands.proofs.commands.chain_split.coder_of.Goals as goal
 
 pub returns-in-Ok-clause-ok : goal.returns-in-Ok-clause-ok

@@ -1,7 +1,7 @@
 use Rattle.std.proofs.Common.{◌%◌, ◌^◌, [], ◌∷◌, map, arith, length, length-append, ap, ◌∙◌, inl, inr}
-use Rattle.constriction.specs.Tables.{AtEntry}
-use Rattle.constriction.specs.chain.Chain.{IsDecode}
-use Rattle.constriction.proofs.InTurn.{InTurn-more}
+use Rattle.constriction_base.specs.Tables.{AtEntry}
+use Rattle.constriction_chain.specs.Chain.{IsDecode}
+use Rattle.constriction_base.proofs.InTurn.{InTurn-more}
 use Rattle.constriction_commands.proofs.commands.chain_split.decode.Goals as goal
 
 pub loop-preserved : goal.loop-preserved

@@ -1,6 +1,6 @@
 use Rattle.std.proofs.Common.{◌≡◌, ℕ, List, [], ◌++◌, length, map, take, get_or, ◌∙◌, ap, arith}
 use Rattle.std.proofs.lemmas.List.{length-map, length-take-le}
-use Rattle.constriction.specs.symbol.Golomb.{golomb}
+use Rattle.constriction_symbol.specs.Golomb.{golomb}
 use Rattle.constriction_commands.specs.Codewords.{digits}
 use Rattle.constriction_commands.proofs.CodewordTexts.{text-more}
 use Rattle.constriction_commands.proofs.Writing.{written-more, written-first}

@@ -1,6 +1,6 @@
 use Rattle.std.proofs.Common.{◌≡◌, map, take}
 use Rattle.std.specs.List.{join_with_byte}
-use Rattle.constriction.specs.symbol.Golomb.{golomb}
+use Rattle.constriction_symbol.specs.Golomb.{golomb}
 use Rattle.constriction_commands.specs.Codewords.{digits}
 use Rattle.constriction_commands.proofs.commands.golomb.line_of_codewords.Given as goal
 

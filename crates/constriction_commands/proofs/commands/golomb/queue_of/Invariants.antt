@@ -1,5 +1,5 @@
 use Rattle.std.proofs.Common.{◌≡◌, flat_map, take}
-use Rattle.constriction.specs.symbol.Golomb.{golomb}
+use Rattle.constriction_symbol.specs.Golomb.{golomb}
 use Rattle.constriction_commands.proofs.commands.golomb.queue_of.Given as goal
 
 -- the codewords so far are held

@@ -1,6 +1,6 @@
 use Rattle.std.proofs.Common.{◌-◌, ◌^◌, Some, length, sym, ◌∙◌, ap}
 use Rattle.std.proofs.lemmas.List.{map-id}
-use Rattle.constriction.specs.symbol.Huffman.{huffman, leaves, path}
+use Rattle.constriction_symbol.specs.Huffman.{huffman, leaves, path}
 use Rattle.constriction_commands.specs.Lines.{numbers_of}
 use Rattle.constriction_commands.proofs.TreeTexts.{same_line}
 use Rattle.constriction_commands.proofs.commands.huffman.answer.Goals as goal

@@ -1,11 +1,11 @@
 use Rattle.std.proofs.Common.{◌≡◌, ℕ, List, [], ◌∷◌, ◌++◌, length, map, ◌∙◌, ap, arith}
 use Rattle.std.specs.List.{join_with_byte}
 use Rattle.std.proofs.lemmas.List.{length-map}
-use Rattle.constriction.specs.symbol.Huffman.{path, symbols_from}
+use Rattle.constriction_symbol.specs.Huffman.{path, symbols_from}
 use Rattle.constriction_commands.specs.commands.Huffman.{codeword_text}
 use Rattle.constriction_commands.proofs.TreeTexts.{texts_more}
 use Rattle.constriction_commands.proofs.Writing.{written-more, written-first}
-use Rattle.constriction.proofs.Lists.{length_symbols}
+use Rattle.constriction_symbol.proofs.HuffmanMerge.{length_symbols}
 use Rattle.constriction_commands.proofs.commands.huffman.line_of_codewords.Goals as goal
 use Rattle.constriction_commands.proofs.commands.huffman.line_of_codewords.Goals.{then-symbol-gt0+in_ok-push, else-symbol-gt0}
 

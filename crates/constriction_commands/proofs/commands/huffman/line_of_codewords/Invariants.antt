@@ -1,6 +1,6 @@
 use Rattle.std.proofs.Common.{◌≡◌, map}
 use Rattle.std.specs.List.{join_with_byte}
-use Rattle.constriction.specs.symbol.Huffman.{path, symbols_from}
+use Rattle.constriction_symbol.specs.Huffman.{path, symbols_from}
 use Rattle.constriction_commands.specs.commands.Huffman.{codeword_text}
 use Rattle.constriction_commands.proofs.commands.huffman.line_of_codewords.Given as goal
 

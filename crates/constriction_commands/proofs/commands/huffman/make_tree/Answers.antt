@@ -1,7 +1,7 @@
 use Rattle.std.proofs.Common.{◌∙◌, ◌%◌, ◌^◌, ◌-◌, ℕ, List, length, inl, inr, subst, ap, arith}
 use Rattle.std.proofs.lemmas.Iterator.{items_from_drains, YieldsList-from_slice}
-use Rattle.constriction.specs.symbol.Huffman.{IsHuffman, book_of}
-use Rattle.constriction.specs.symbol.Merging.{MakeNoTree}
+use Rattle.constriction_symbol.specs.Huffman.{IsHuffman, book_of}
+use Rattle.constriction_symbol.specs.Merging.{MakeNoTree}
 use Rattle.constriction_commands.proofs.TreeTexts.{own_total, own_weights}
 use Rattle.constriction_commands.proofs.commands.huffman.make_tree.Goals as goal
 

@@ -1,10 +1,11 @@
 use Rattle.std.proofs.Common.{Err, [], ◌∷◌, length, length-append, refl, ◌∙◌, ap, arith}
-use Rattle.constriction.specs.queue.Calls.{DecodeCall}
-use Rattle.constriction.specs.queue.Range.{initial, narrowed_by}
-use Rattle.constriction.proofs.InTurn.{InTurn-symbol}
-use Rattle.constriction.proofs.Outcomes.{decoded_by, only_invalid}
+use Rattle.constriction_queue.specs.Calls.{DecodeCall}
+use Rattle.constriction_queue.specs.Range.{initial, narrowed_by}
+use Rattle.constriction_base.proofs.InTurn.{InTurn-symbol}
+use Rattle.constriction_stream.proofs.Outcomes.{decoded_by}
+use Rattle.constriction_queue.proofs.Decoders.{only_invalid}
 use Rattle.constriction_commands.specs.Coding.{of_24_bits}
-use Rattle.constriction.specs.queue.Symbols.{Finds}
+use Rattle.constriction_queue.specs.Symbols.{Finds}
 use Rattle.constriction_commands.proofs.Ranges.{quantile_is}
 use Rattle.constriction_commands.proofs.commands.range_decode.decode.Goals as goal
 

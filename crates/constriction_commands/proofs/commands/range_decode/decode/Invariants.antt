@@ -1,8 +1,8 @@
 use Rattle.std.proofs.Common.{◌≡◌, length}
-use Rattle.constriction.specs.Models.{items_of}
-use Rattle.constriction.specs.queue.Range.{Run, initial, IsAt}
+use Rattle.constriction_base.specs.Models.{items_of}
+use Rattle.constriction_queue.specs.Range.{Run, initial, IsAt}
 use Rattle.constriction_commands.specs.Coding.{of_24_bits}
-use Rattle.constriction.specs.queue.Symbols.{FindsAll}
+use Rattle.constriction_queue.specs.Symbols.{FindsAll}
 use Rattle.constriction_commands.proofs.commands.range_decode.decode.Given as goal
 
 -- the symbols so far are read, and the decoder is at the moment behind them

@@ -1,8 +1,8 @@
 use Rattle.std.proofs.Common.{◌%◌, ◌^◌, ◌∙◌, arith}
 use Rattle.std.proofs.lemmas.List.{take_all}
-use Rattle.constriction.specs.queue.Calls.{EncodeCall}
-use Rattle.constriction.specs.queue.Encoder.{run_by}
-use Rattle.constriction.proofs.Outcomes.{ok_by, frontend_by}
+use Rattle.constriction_queue.specs.Calls.{EncodeCall}
+use Rattle.constriction_queue.specs.Encoder.{run_by}
+use Rattle.constriction_stream.proofs.Outcomes.{ok_by, frontend_by}
 use Rattle.constriction_commands.proofs.Symbols.{impossible_at}
 use Rattle.constriction_commands.proofs.Ranges.{narrowed-more, in_order}
 use Rattle.constriction_commands.proofs.commands.range_encode.encode.Goals as goal

@@ -1,9 +1,9 @@
 use Rattle.std.proofs.Common.{◌+◌, ◌≤◌, length, take}
-use Rattle.constriction.specs.Models.{items_of}
-use Rattle.constriction.specs.queue.Encoder.{left_to_encode, run_by}
-use Rattle.constriction.specs.queue.Range.{initial}
+use Rattle.constriction_base.specs.Models.{items_of}
+use Rattle.constriction_queue.specs.Encoder.{left_to_encode, run_by}
+use Rattle.constriction_queue.specs.Range.{initial}
 use Rattle.constriction_commands.specs.Coding.{of_24_bits}
-use Rattle.constriction.specs.queue.Symbols.{NarrowsAll}
+use Rattle.constriction_queue.specs.Symbols.{NarrowsAll}
 use Rattle.constriction_commands.proofs.commands.range_encode.encode.Given as goal
 
 -- the symbols before the place are encoded, and the coder takes the others

@@ -1,5 +1,5 @@
 use Rattle.std.proofs.Common.{ℕ, List, ◌++◌, ap, ◌∙◌}
-use Rattle.constriction.specs.store.Chunks.{lists_of}
+use Rattle.constriction_store.specs.Chunks.{lists_of}
 use Rattle.constriction_commands.specs.Lines.{line_of}
 use Rattle.constriction_commands.specs.commands.Store.{StoreFails, lines_at}
 use Rattle.constriction_commands.proofs.Chunks.{no_chunks, not_stored, not_looked_up}

@@ -1,6 +1,6 @@
 use Rattle.std.proofs.Common.{ℕ, List, take}
-use Rattle.constriction.specs.Tables.{model_of}
-use Rattle.constriction.specs.store.Stores.{HoldsChunks}
+use Rattle.constriction_base.specs.WeightTables.{model_of}
+use Rattle.constriction_store.specs.Stores.{HoldsChunks}
 use Rattle.constriction_commands.proofs.Chunks.{AreShown}
 use Rattle.constriction_commands.proofs.commands.store.push_chunks.Given as goal
 

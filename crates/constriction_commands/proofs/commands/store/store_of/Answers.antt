@@ -1,5 +1,5 @@
-use Rattle.constriction.specs.store.Chunks.{count_of, lists_of}
-use Rattle.constriction.specs.Tables.{model_of}
+use Rattle.constriction_store.specs.Chunks.{count_of, lists_of}
+use Rattle.constriction_base.specs.WeightTables.{model_of}
 use Rattle.constriction_commands.proofs.Chunks.{joined_run, unknown_in, not_many}
 use Rattle.constriction_commands.proofs.commands.store.store_of.Goals as goal
 

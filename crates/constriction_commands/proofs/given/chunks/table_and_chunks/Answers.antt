@@ -1,6 +1,6 @@
 use Rattle.std.proofs.Common.{◌-◌, ◌^◌, Err, Some, sym, ◌∙◌, ap}
 use Rattle.std.proofs.lemmas.List.{map-id}
-use Rattle.constriction.specs.store.Chunks.{lists_of}
+use Rattle.constriction_store.specs.Chunks.{lists_of}
 use Rattle.constriction_commands.specs.Inputs.{NoChunks}
 use Rattle.constriction_commands.specs.Lines.{first_line, after_line, numbers_of, number_lists_of}
 use Rattle.constriction_commands.proofs.Chunks.{own_lists, no_table}

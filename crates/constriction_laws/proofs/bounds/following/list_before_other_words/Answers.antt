@@ -8,7 +8,7 @@ use Rattle.constriction_queue.specs.Range.{Run, sealed, initial}
 use Rattle.constriction_queue.proofs.Seals.{words_of_numbers}
 use Rattle.constriction_queue.proofs.Showing.{queue_is}
 use Rattle.constriction_queue.specs.Symbols.{NarrowsAll}
-use Rattle.constriction_coder_laws.proofs.SameModel.{are_models}
+use Rattle.constriction_base.proofs.SameModel.{are_models}
 use Rattle.constriction_laws.proofs.bounds.following.list_before_other_words.Goals as goal
 
 pub returns-clause-words : goal.returns-clause-words

@@ -6,7 +6,8 @@ use Rattle.constriction_stack.specs.Symbols.{Decodes, Encodes}
 use Rattle.constriction_stack.proofs.Pushing.{valid_pop}
 use Rattle.constriction_laws.specs.Bounds.{Decode, Encode}
 use Rattle.constriction_stack_laws.proofs.Choosing.{step_of}
-use Rattle.constriction_stack_laws.proofs.ListCalls.{encode_of, decode_of}
+use Rattle.constriction_stack.proofs.StepCalls.{encode_of}
+use Rattle.constriction_stack_laws.proofs.ListCalls.{decode_of}
 use Rattle.constriction_laws.proofs.bounds.words.exchange.Goals as goal
 
 pub returns-clause-net : goal.returns-clause-net

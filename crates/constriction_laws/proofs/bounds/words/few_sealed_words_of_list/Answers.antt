@@ -10,7 +10,7 @@ use Rattle.constriction_laws.specs.Bounds.{product, rounded_whole, share}
 use Rattle.constriction_queue.specs.Symbols.{NarrowsAll}
 use Rattle.constriction_laws.proofs.StepsOfSymbols.{narrowed_entries}
 use Rattle.constriction_queue.proofs.Entries.{entries, are_steps, run_is}
-use Rattle.constriction_coder_laws.proofs.SameModel.{are_models}
+use Rattle.constriction_base.proofs.SameModel.{are_models}
 use Rattle.constriction_laws.proofs.bounds.words.few_sealed_words_of_list.Goals as goal
 
 pub returns-clause-few : goal.returns-clause-few

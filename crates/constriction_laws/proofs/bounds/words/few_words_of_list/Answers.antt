@@ -3,7 +3,7 @@ use Rattle.std.specs.Prelude.{reverse}
 use Rattle.std.proofs.lemmas.List.{length-reverse, length-map}
 use Rattle.constriction_base.specs.Models.{Model, IsModel, items_of}
 use Rattle.constriction_laws.proofs.StepsOfSymbols.{entries_are_steps, steps_of_encodes}
-use Rattle.constriction_coder_laws.proofs.SameModel.{are_models}
+use Rattle.constriction_base.proofs.SameModel.{are_models}
 use Rattle.constriction_stack.specs.Ans.{empty}
 use Rattle.constriction_laws.proofs.bounds.words.few_words_of_list.Goals as goal
 

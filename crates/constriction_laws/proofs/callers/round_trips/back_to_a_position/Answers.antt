@@ -8,7 +8,8 @@ use Rattle.constriction_stack.proofs.PositionsKept.{held_less}
 use Rattle.constriction_base.specs.Models.{Model, IsModel, Item, item_of}
 use Rattle.constriction_stack.specs.Symbols.{Encodes, Decodes}
 use Rattle.constriction_stack_laws.proofs.ComingBack.{empty_valid}
-use Rattle.constriction_stack_laws.proofs.ListCalls.{encode_of, decode_of}
+use Rattle.constriction_stack.proofs.StepCalls.{encode_of}
+use Rattle.constriction_stack_laws.proofs.ListCalls.{decode_of}
 use Rattle.constriction_stack_laws.proofs.Seeking.{encodes_grow, cut_is_sought}
 use Rattle.constriction_laws.proofs.callers.round_trips.back_to_a_position.Goals as goal
 

@@ -5,7 +5,8 @@ use Rattle.constriction_stack.specs.Ans.{AnsState, IsValid, filled, exported, em
 use Rattle.constriction_base.specs.Models.{Model, IsModel, Item, AreModels, models}
 use Rattle.constriction_stack.specs.Symbols.{Encodes, Decodes, EncodesAll, DecodesAll}
 use Rattle.constriction_stack_laws.proofs.ComingBack.{empty_valid}
-use Rattle.constriction_stack_laws.proofs.ListCalls.{encode_of, decode_of}
+use Rattle.constriction_stack.proofs.StepCalls.{encode_of}
+use Rattle.constriction_stack_laws.proofs.ListCalls.{decode_of}
 use Rattle.constriction_laws.proofs.callers.round_trips.two_precisions.Goals as goal
 
 abbrev item : Model ℕ → ℕ → Item ℕ

@@ -1,7 +1,7 @@
 use Rattle.std.proofs.Common.{ℕ, List, map, refl, arith, ◌∷◌, ◌↔◌}
 use Rattle.constriction_base.specs.Models.{Model, Item, IsModel, AreModels, items_of}
 use Rattle.constriction_queue.proofs.Seals.{words_of_numbers}
-use Rattle.constriction_coder_laws.proofs.SameModel.{are_models}
+use Rattle.constriction_base.proofs.SameModel.{are_models}
 use Rattle.constriction_queue.specs.Range.{Run, Within, initial}
 use Rattle.constriction_queue.specs.Symbols.{FindsAll, NarrowsAll}
 use Rattle.constriction_queue_laws.proofs.AnyWords.{found_of, lie_of, none_within, some_items}

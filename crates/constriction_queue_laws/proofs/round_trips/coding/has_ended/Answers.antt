@@ -1,5 +1,6 @@
 use Rattle.std.proofs.Common.{◌≡◌, ◌∙◌, [], ap, sym, pow_pos}
-use Rattle.constriction_queue_laws.proofs.ListCalls.{ended_of, none_mapped}
+use Rattle.constriction_queue.proofs.StepCalls.{ended_of}
+use Rattle.constriction_queue_laws.proofs.ListCalls.{none_mapped}
 use Rattle.constriction_queue_laws.proofs.round_trips.coding.has_ended.Goals as goal
 
 pub returns-then-maybe_exhausted-clause-ended : goal.returns-then-maybe_exhausted-clause-ended

@@ -6,10 +6,10 @@ use Rattle.constriction_queue.specs.Encoder.{left_to_encode, run_by}
 use Rattle.constriction_queue_laws.specs.Outcomes.{GivesNone}
 use Rattle.constriction_queue_laws.proofs.Told.{passed, while_coding, while_reading}
 use Rattle.constriction_queue.specs.Symbols.{NarrowsAll}
-use Rattle.constriction_coder_laws.proofs.SameModel.{are_models}
+use Rattle.constriction_base.proofs.SameModel.{are_models}
 use Rattle.std.proofs.Common.{pow_pos}
 use Rattle.std.specs.Prelude.{⊤}
-use Rattle.constriction_queue_laws.proofs.ListCalls.{nears_of}
+use Rattle.constriction_queue.proofs.StepCalls.{nears_of}
 use Rattle.constriction_queue_laws.proofs.round_trips.decoders.list_into_decoder.Goals as goal
 
 pub returns-clause-back : goal.returns-clause-back

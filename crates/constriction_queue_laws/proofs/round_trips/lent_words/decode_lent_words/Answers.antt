@@ -2,7 +2,7 @@ use Rattle.std.proofs.Common.{◌∙◌, arith}
 use Rattle.constriction_base.specs.Models.{Model, IsModel, items_of}
 use Rattle.constriction_queue.specs.Encoder.{run_by, sealed_by}
 use Rattle.constriction_queue.specs.Range.{Run, sealed, initial}
-use Rattle.constriction_coder_laws.proofs.SameModel.{are_models}
+use Rattle.constriction_base.proofs.SameModel.{are_models}
 use Rattle.constriction_queue_laws.proofs.Told.{err_weaker, while_reading}
 use Rattle.constriction_queue_laws.proofs.round_trips.lent_words.decode_lent_words.Goals as goal
 use Rattle.constriction_coder_laws.proofs.ListsGiven.{ok_weaker}

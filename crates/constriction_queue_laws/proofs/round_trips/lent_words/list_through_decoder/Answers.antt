@@ -2,7 +2,7 @@ use Rattle.std.proofs.Common.{refl, subst, arith, ◌≡◌, ◌<◌, length}
 use Rattle.constriction_base.specs.Models.{Model, IsModel, items_of}
 use Rattle.constriction_queue.specs.Range.{Run, initial}
 use Rattle.constriction_queue.specs.Symbols.{NarrowsAll}
-use Rattle.constriction_coder_laws.proofs.SameModel.{are_models}
+use Rattle.constriction_base.proofs.SameModel.{are_models}
 use Rattle.constriction_coder_laws.specs.Outcomes.{HasImpossible}
 use Rattle.constriction_queue.specs.Encoder.{left_to_encode, run_by}
 use Rattle.constriction_queue_laws.proofs.Told.{err_weaker, passed, while_coding, while_reading}

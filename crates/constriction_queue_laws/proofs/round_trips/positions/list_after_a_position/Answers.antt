@@ -2,10 +2,10 @@ use Rattle.std.proofs.Common.{length, map, refl, ap, arith}
 use Rattle.constriction_base.specs.Models.{Model, IsModel, items_of}
 use Rattle.constriction_queue.specs.Range.{Run}
 use Rattle.constriction_queue.specs.Symbols.{FindsAll}
-use Rattle.constriction_coder_laws.proofs.SameModel.{are_models}
+use Rattle.constriction_base.proofs.SameModel.{are_models}
 use Rattle.constriction_queue_laws.proofs.AnyEncoder.{symbols_known}
 use Rattle.constriction_queue.proofs.Entries.{intervals}
-use Rattle.constriction_queue_laws.proofs.Seeking.{place_within}
+use Rattle.constriction_queue.proofs.Seeking.{place_within}
 use Rattle.constriction_queue_laws.proofs.round_trips.positions.list_after_a_position.Goals as goal
 
 pub returns-in-Ok-clause-back : goal.returns-in-Ok-clause-back

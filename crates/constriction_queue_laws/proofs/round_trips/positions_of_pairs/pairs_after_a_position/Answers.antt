@@ -5,7 +5,7 @@ use Rattle.constriction_queue.specs.Symbols.{FindsAll}
 use Rattle.constriction_coder_laws.proofs.PairCalls.{are_pairs}
 use Rattle.constriction_queue_laws.proofs.AnyEncoder.{items_known}
 use Rattle.constriction_queue.proofs.Entries.{intervals}
-use Rattle.constriction_queue_laws.proofs.Seeking.{place_within}
+use Rattle.constriction_queue.proofs.Seeking.{place_within}
 use Rattle.constriction_queue_laws.proofs.round_trips.positions_of_pairs.pairs_after_a_position.Goals as goal
 
 pub returns-in-Ok-clause-back : goal.returns-in-Ok-clause-back

@@ -6,7 +6,7 @@ use Rattle.constriction_queue.specs.States.{IsPosition, lower_of, range_of}
 use Rattle.std.specs.declared.convert.Infallible.{Infallible}
 use Rattle.constriction_queue.proofs.Beginning.{cursor_keeps}
 use Rattle.constriction_queue.proofs.Seals.{words_of_numbers}
-use Rattle.constriction_queue_laws.proofs.Seeking.{sought_there}
+use Rattle.constriction_queue.proofs.Seeking.{sought_there}
 use Rattle.constriction_queue_laws.proofs.round_trips.positions_of_pairs.pairs_from_position.Goals as goal
 
 pub returns-in-Ok-decode_pairs-clause-read : goal.returns-in-Ok-decode_pairs-clause-read

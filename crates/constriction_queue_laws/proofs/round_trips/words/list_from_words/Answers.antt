@@ -2,7 +2,7 @@ use Rattle.std.proofs.Common.{pow_pos, List}
 use Rattle.constriction_queue.specs.Range.{initial}
 use Rattle.constriction_queue_laws.specs.Outcomes.{GivesNone}
 use Rattle.constriction_base.specs.Models.{Item, items_of}
-use Rattle.constriction_queue_laws.proofs.ListCalls.{nears_of}
+use Rattle.constriction_queue.proofs.StepCalls.{nears_of}
 use Rattle.constriction_queue_laws.proofs.Told.{passed, while_reading}
 use Rattle.constriction_queue_laws.proofs.round_trips.words.list_from_words.Goals as goal
 

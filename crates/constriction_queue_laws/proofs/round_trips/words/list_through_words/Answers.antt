@@ -6,7 +6,7 @@ use Rattle.constriction_queue.specs.Encoder.{left_to_encode, run_by}
 use Rattle.constriction_queue_laws.proofs.ListCalls.{sealed_back}
 use Rattle.constriction_queue_laws.proofs.Told.{err_weaker, passed, while_coding, while_reading}
 use Rattle.constriction_queue.specs.Symbols.{FindsAll, MayEnd, NarrowsAll}
-use Rattle.constriction_coder_laws.proofs.SameModel.{are_models}
+use Rattle.constriction_base.proofs.SameModel.{are_models}
 use Rattle.std.specs.Prelude.{⊤}
 use Rattle.constriction_queue_laws.proofs.round_trips.words.list_through_words.Goals as goal
 use Rattle.constriction_coder_laws.proofs.ListsGiven.{ok_both}

@@ -3,7 +3,7 @@ use Rattle.constriction_stack.specs.Binary.{binary_state, binary_words}
 use Rattle.constriction_stack.proofs.BinaryForms.{binary_valid}
 use Rattle.constriction_base.specs.Models.{Model, IsModel, item_of, items_of}
 use Rattle.constriction_stack.specs.Symbols.{EncodesAll}
-use Rattle.constriction_coder_laws.proofs.SameModel.{are_models}
+use Rattle.constriction_base.proofs.SameModel.{are_models}
 use Rattle.constriction_stack_laws.proofs.round_trips.binary.binary_words_with_list.Goals as goal
 use Rattle.constriction_base.proofs.Turns.{map-reverse}
 

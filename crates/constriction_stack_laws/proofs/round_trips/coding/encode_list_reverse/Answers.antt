@@ -4,7 +4,7 @@ use Rattle.std.proofs.lemmas.Result.{MatchResult-weaker}
 use Rattle.constriction_base.specs.Models.{Model, items_of, item_of}
 use Rattle.constriction_stack.specs.Ans.{EncodeCall}
 use Rattle.constriction_stack.specs.Symbols.{EncodesAll}
-use Rattle.constriction_coder_laws.proofs.ListsGiven.{all_from_back}
+use Rattle.constriction_base.proofs.FromBack.{all_from_back}
 use Rattle.constriction_stack_laws.proofs.ListCalls.{encodes_of}
 use Rattle.constriction_coder_laws.proofs.Refused.{reversed_impossible}
 use Rattle.constriction_stack_laws.proofs.round_trips.coding.encode_list_reverse.Goals as goal

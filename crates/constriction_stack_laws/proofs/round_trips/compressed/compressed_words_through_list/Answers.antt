@@ -4,7 +4,7 @@ use Rattle.constriction_stack.specs.Ans.{filled}
 use Rattle.constriction_base.specs.Models.{Model, IsModel, item_of, items_of}
 use Rattle.constriction_stack.specs.Symbols.{EncodesAll}
 use Rattle.constriction_coder_laws.proofs.ListsGiven.{words_fit}
-use Rattle.constriction_coder_laws.proofs.SameModel.{are_models}
+use Rattle.constriction_base.proofs.SameModel.{are_models}
 use Rattle.constriction_stack_laws.proofs.round_trips.compressed.compressed_words_through_list.Goals as goal
 use Rattle.constriction_base.proofs.Turns.{map-reverse}
 

@@ -2,7 +2,7 @@ use Rattle.std.proofs.Common.{◌∙◌, arith}
 use Rattle.std.specs.Prelude.{reverse}
 use Rattle.std.proofs.lemmas.List.{length-reverse, reverse-reverse}
 use Rattle.constriction_base.specs.Models.{Model, IsModel, items_of}
-use Rattle.constriction_coder_laws.proofs.SameModel.{are_models}
+use Rattle.constriction_base.proofs.SameModel.{are_models}
 use Rattle.constriction_stack_laws.proofs.Seeking.{encodes_grow}
 use Rattle.constriction_stack_laws.proofs.round_trips.positions.list_before_a_position.Goals as goal
 

@@ -1,5 +1,6 @@
 use Rattle.constriction_base.specs.Models.{Model}
-use Rattle.constriction_stack_laws.proofs.ListCalls.{encode_of, decode_of}
+use Rattle.constriction_stack.proofs.StepCalls.{encode_of}
+use Rattle.constriction_stack_laws.proofs.ListCalls.{decode_of}
 use Rattle.constriction_stack_laws.proofs.round_trips.steps.encode_and_decode.Goals as goal
 
 pub returns-in-Ok-decode_symbol-clause-back : goal.returns-in-Ok-decode_symbol-clause-back

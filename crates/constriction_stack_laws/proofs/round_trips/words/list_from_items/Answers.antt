@@ -2,7 +2,7 @@ use Rattle.std.proofs.Common.{arith}
 use Rattle.std.specs.Prelude.{false}
 use Rattle.constriction_coder_laws.specs.Readings.{words_left}
 use Rattle.constriction_base.specs.Models.{Model, IsModel, items_of}
-use Rattle.constriction_coder_laws.proofs.SameModel.{are_models, models_turned, symbols_turned}
+use Rattle.constriction_base.proofs.SameModel.{are_models, models_turned, symbols_turned}
 use Rattle.constriction_coder_laws.proofs.ListsGiven.{ok_both}
 use Rattle.constriction_stack_laws.proofs.round_trips.words.list_from_items.Goals as goal
 

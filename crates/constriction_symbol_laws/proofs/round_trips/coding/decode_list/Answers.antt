@@ -1,8 +1,8 @@
 use Rattle.std.proofs.Common.{◌≡◌, ◌∙◌, [], ◌∷◌, ◌++◌, length, sym, ap, subst, arith, rules}
 use Rattle.std.proofs.lemmas.List.{length-append}
 use Rattle.constriction_symbol.specs.Codewords.{ReadsSymbol}
-use Rattle.constriction_symbol_laws.specs.Lists.{ReadsAll}
-use Rattle.constriction_symbol_laws.proofs.bit_coders.Codewords.{reads_more}
+use Rattle.constriction_symbol.specs.Lists.{ReadsAll}
+use Rattle.constriction_symbol.proofs.CodewordLists.{reads_more}
 use Rattle.constriction_symbol_laws.proofs.round_trips.coding.decode_list.Goals as goal
 
 pub decode-preserved : goal.decode-preserved

@@ -1,5 +1,5 @@
 use Rattle.std.proofs.Common.{◌≡◌, ◌+◌, length}
-use Rattle.constriction_symbol_laws.specs.Lists.{ReadsAll}
+use Rattle.constriction_symbol.specs.Lists.{ReadsAll}
 use Rattle.constriction_symbol_laws.proofs.round_trips.coding.decode_list.Given as goal
 
 abbrev pub invariant-decode : goal.invariant-decode

@@ -2,8 +2,8 @@ use Rattle.std.specs.Slice.Iter.{iter_rest}
 use Rattle.std.proofs.Common.{◌∙◌, ap, map, sym, subst}
 use Rattle.std.proofs.lemmas.Result.{MatchResult-weaker}
 use Rattle.std.proofs.lemmas.Iterator.{items_from_drains, YieldsList-from_slice}
-use Rattle.constriction_symbol_laws.specs.Lists.{AreCodewords}
-use Rattle.constriction_symbol_laws.proofs.bit_coders.Codewords.{codewords_map, written_first}
+use Rattle.constriction_symbol.specs.Lists.{AreCodewords}
+use Rattle.constriction_symbol.proofs.CodewordLists.{codewords_map, written_first}
 use Rattle.constriction_symbol_laws.proofs.bit_coders.Unwritten.{not_written, stands_front}
 use Rattle.constriction_symbol_laws.proofs.round_trips.coding.encode_list.Goals as goal
 

@@ -5,9 +5,9 @@ use Rattle.std.proofs.lemmas.List.{reverse-reverse}
 use Rattle.std.proofs.lemmas.Result.{MatchResult-weaker}
 use Rattle.constriction_base.specs.Backends.{IsWrite}
 use Rattle.constriction_symbol.specs.Bits.{PutsOnto}
-use Rattle.constriction_symbol_laws.specs.Lists.{AreCodewords}
-use Rattle.constriction_coder_laws.proofs.ListsGiven.{all_from_back}
-use Rattle.constriction_symbol_laws.proofs.bit_coders.Codewords.{codewords_map, written_last}
+use Rattle.constriction_symbol.specs.Lists.{AreCodewords}
+use Rattle.constriction_base.proofs.FromBack.{all_from_back}
+use Rattle.constriction_symbol.proofs.CodewordLists.{codewords_map, written_last}
 use Rattle.constriction_symbol_laws.proofs.bit_coders.Unwritten.{not_written, stands_back}
 use Rattle.constriction_symbol_laws.proofs.round_trips.coding.encode_list_reverse.Goals as goal
 use Rattle.constriction_base.proofs.Turns.{map-reverse}

@@ -3,7 +3,7 @@ use Rattle.std.specs.Prelude.{reverse, take}
 use Rattle.std.proofs.lemmas.List.{reverse-reverse}
 use Rattle.std.proofs.Math.Seq.{take-length}
 use Rattle.constriction_symbol.specs.Bits.{HasStackWords}
-use Rattle.constriction_symbol_laws.proofs.bit_coders.Codewords.{has_stack_words}
+use Rattle.constriction_symbol.proofs.CodewordLists.{has_stack_words}
 use Rattle.constriction_symbol_laws.proofs.round_trips.lent_words.list_from_lent_stack.Goals as goal
 
 pub returns-in-Ok-decode_list-clause-back : goal.returns-in-Ok-decode_list-clause-back

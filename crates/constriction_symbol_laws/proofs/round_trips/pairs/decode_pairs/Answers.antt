@@ -2,7 +2,7 @@ use Rattle.std.proofs.Common.{◌≡◌, ◌∙◌, [], ◌∷◌, ◌++◌, len
 use Rattle.std.specs.List.{zip}
 use Rattle.std.specs.Slice.Iter.{iter_rest}
 use Rattle.std.proofs.lemmas.List.{length-append}
-use Rattle.constriction_symbol_laws.specs.Lists.{ReadsPairs}
+use Rattle.constriction_symbol.specs.Lists.{ReadsPairs}
 use Rattle.constriction_coder_laws.proofs.ListsGiven.{rest_after}
 use Rattle.constriction_symbol_laws.proofs.bit_coders.Pairs.{reads_pairs_more}
 use Rattle.constriction_symbol_laws.proofs.round_trips.pairs.decode_pairs.Goals as goal

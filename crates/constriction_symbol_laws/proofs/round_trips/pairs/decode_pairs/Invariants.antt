@@ -1,7 +1,7 @@
 use Rattle.std.proofs.Common.{◌≡◌, ◌+◌, length, drop}
 use Rattle.std.specs.Slice.Iter.{iter_rest}
 use Rattle.std.specs.List.{zip}
-use Rattle.constriction_symbol_laws.specs.Lists.{ReadsPairs}
+use Rattle.constriction_symbol.specs.Lists.{ReadsPairs}
 use Rattle.constriction_symbol_laws.proofs.round_trips.pairs.decode_pairs.Given as goal
 
 abbrev pub invariant-decode : goal.invariant-decode

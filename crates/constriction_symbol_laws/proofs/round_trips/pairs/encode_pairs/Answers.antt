@@ -3,8 +3,8 @@ use Rattle.std.specs.List.{zip}
 use Rattle.std.specs.Iterator.Adapters.{zip_first, zip_second}
 use Rattle.std.specs.Slice.Iter.{iter_rest}
 use Rattle.std.proofs.lemmas.Result.{MatchResult-weaker}
-use Rattle.constriction_symbol_laws.specs.Lists.{AreCodewords}
-use Rattle.constriction_symbol_laws.proofs.bit_coders.Codewords.{codewords_map, written_first}
+use Rattle.constriction_symbol.specs.Lists.{AreCodewords}
+use Rattle.constriction_symbol.proofs.CodewordLists.{codewords_map, written_first}
 use Rattle.constriction_symbol_laws.proofs.bit_coders.Pairs.{all_pairs}
 use Rattle.constriction_symbol_laws.proofs.bit_coders.Unwritten.{not_written, pair_stands_front}
 use Rattle.constriction_coder_laws.proofs.PairCalls.{rest_of, both_now}

@@ -2,7 +2,7 @@ use Rattle.std.proofs.Common.{◌∙◌, ◌++◌, ap, drop, false, inl, inr, ma
 use Rattle.std.proofs.lemmas.List.{reverse-reverse}
 use Rattle.std.proofs.lemmas.Iterator.{items_from_drains, YieldsList-from_slice}
 use Rattle.constriction_symbol.specs.Bits.{bits_of_words}
-use Rattle.constriction_symbol_laws.proofs.bit_coders.Trees.{each_is, same_codewords, same_trees}
+use Rattle.constriction_symbol.proofs.TreeCodewords.{each_is, same_codewords, same_trees}
 use Rattle.constriction_symbol.specs.Huffman.{huffman}
 use Rattle.constriction_symbol.specs.Merging.{MakeNoTree}
 use Rattle.constriction_symbol_laws.proofs.round_trips.trees.list_through_queue_by_trees.Goals as goal

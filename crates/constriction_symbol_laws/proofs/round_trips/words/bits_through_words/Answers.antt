@@ -1,5 +1,5 @@
 use Rattle.std.proofs.Common.{sym}
-use Rattle.constriction_symbol_laws.proofs.bit_coders.Codewords.{has_stack_words}
+use Rattle.constriction_symbol.proofs.CodewordLists.{has_stack_words}
 use Rattle.constriction_symbol_laws.proofs.round_trips.words.bits_through_words.Goals as goal
 
 pub returns-clause-back : goal.returns-clause-back

@@ -1,7 +1,7 @@
 use Rattle.std.proofs.Common.{◌<◌, All, arith, inl, inr, map, refl, subst}
 use Rattle.std.proofs.lemmas.List.{length-map}
 use Rattle.constriction_symbol.specs.Huffman.{huffman}
-use Rattle.constriction_symbol_laws.proofs.bit_coders.Trees.{known_symbol}
+use Rattle.constriction_symbol.proofs.TreeCodewords.{known_symbol}
 use Rattle.constriction_calls.proofs.SymbolLists.{all_have}
 use Rattle.constriction_calls.proofs.SymbolTrees.{below_have}
 use Rattle.constriction_calls.proofs.symbol.trees.TreeCodes.refused.Goals as goal

@@ -2,7 +2,7 @@
 use Rattle.std.proofs.Common.{◌≡◌, ◌<◌, ◌≤◌, ℕ, Bool, List, [], ◌∷◌, Option, Some, None, length, ap, ap₂, refl, sym, ◌∙◌, arith}
 use Rattle.constriction_symbol.specs.Huffman.{huffman}
 use Rattle.constriction_symbol.proofs.HuffmanMerge.{huffman_path, merge_one, merge_path_none, merge_path_some}
-use Rattle.constriction_symbol_laws.specs.Lists.{AreCodewords, AreEach}
+use Rattle.constriction_symbol.specs.Lists.{AreCodewords, AreEach}
 
 -- the codewords of a list by the one codebook are those by the other
 pub same_codewords : {A : Type 0} (f g : A → Option (List Bool)) → ((x : A) → f x ≡ g x) → (xs : List A) (bits : List Bool) → AreCodewords f xs bits → AreCodewords g xs bits

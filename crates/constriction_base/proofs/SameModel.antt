@@ -1,9 +1,12 @@
--- Symbols under one model.
-use Rattle.std.proofs.Common.{◌≡◌, ℕ, List, [], ◌∷◌, length, refl, sym, ap, ◌∙◌, arith}
+-- Items that are alike, and symbols under one model.
+use Rattle.std.proofs.Common.{◌≡◌, ℕ, List, [], ◌∷◌, length, refl, sym, ap, ap₂, ◌∙◌, arith}
 use Rattle.std.specs.Prelude.{reverse, map}
 use Rattle.std.proofs.lemmas.List.{length-reverse}
 use Rattle.constriction_base.specs.Models.{Model, IsModel, Item, item_of, items_of, models, AreModels}
 use Rattle.constriction_base.proofs.Turns.{map-reverse}
+
+pub same_item : {S : Type 0} (a b : Item S) → a.model ≡ b.model → a.symbol ≡ b.symbol → a ≡ b
+same_item {S} a b p q = ap₂ (λ (m : Model S) (x : S). let i : Item S = record { model = m; symbol = x } in i) p q
 
 pub symbols-items_of : {S : Type 0} (model : Model S) (xs : List S) → map (λ i. i.symbol) (items_of model xs) ≡ xs
 symbols-items_of model [] = refl

@@ -1,15 +1,12 @@
 -- There is one list of encodes, and one of decodes.
 use Rattle.std.proofs.Common.{◌≡◌, ℕ, List, [], ◌∷◌, refl, sym, ap₂, ◌∙◌, subst}
-use Rattle.std.specs.Prelude.{◌/◌, ◌^◌, reverse}
-use Rattle.constriction_base.specs.Steps.{Step, IsSizes, InTurn}
+use Rattle.std.specs.Prelude.{◌/◌, ◌^◌}
+use Rattle.constriction_base.specs.Steps.{Step}
 use Rattle.constriction_base.specs.Models.{Model, IsModel, Item, models, AreModels, AreKnown}
 use Rattle.constriction_base.proofs.Entries.{one_at, one_of}
-use Rattle.constriction_base.proofs.InTurn.{InTurn-turned}
-use Rattle.constriction_queue.specs.Range.{Run, IsInterval, narrowed_by, offset}
+use Rattle.constriction_queue.specs.Range.{Run, narrowed_by, offset}
 use Rattle.constriction_queue.specs.Symbols.{Narrows, NarrowsAll, Finds, FindsAll}
-use Rattle.constriction_queue.proofs.Entries.{interval_after}
-use Rattle.constriction_queue_laws.specs.Undone.{TakesBack}
-use Rattle.constriction_coder_laws.proofs.Turned.{same_item}
+use Rattle.constriction_base.proofs.SameModel.{same_item}
 
 module _ {S : Type 0} (w s : ℕ) where
   pub encodes_exist : (items : List (Item S)) (old : Run) → AreKnown items → (new : Run) × NarrowsAll w s items old new
@@ -49,10 +46,3 @@ module _ {S : Type 0} (w s : ℕ) where
       let same = one_decode words item.model other.symbol item.symbol old j.0 i.0 ms.0 second i.1 in
       let more = decodes_unique words items others i.0 new last ms.1 rest i.2 (subst (λ (r : Run). FindsAll w s words others r last) same.1 j.2) in
       (ap₂ (λ (x : Item S) (xs : List (Item S)). x ∷ xs) (same_item other item model same.0) more.0, more.1)
-
-  -- the encodes from the last one back
-  pub taken_back : (items : List (Item S)) (old last : Run) → IsSizes w s → AreModels w items → IsInterval w s old → NarrowsAll w s items old last
-      → InTurn (TakesBack w s) (reverse items) last old
-  taken_back [] old last z ms v h = sym h
-  taken_back (item ∷ items) old last z ms v h =
-      InTurn-turned (TakesBack w s) item items last h.0 old (taken_back items h.0 last z ms.1 (interval_after w s item old h.0 z ms.0 v h.1) h.2) (v, h.1)

@@ -8,7 +8,7 @@ use Rattle.constriction_queue.specs.Range.{Run, cut, grown, narrowed_by, number_
 use Rattle.constriction_queue.specs.States.{IsPosition}
 use Rattle.constriction_queue.proofs.Sought.{sought_is_at}
 use Rattle.constriction_queue.specs.Symbols.{NarrowsAll}
-use Rattle.constriction_queue_laws.proofs.Sealing.{sealed_long}
+use Rattle.constriction_queue.proofs.Sealing.{sealed_long}
 use Rattle.constriction_base.proofs.Guards.{map-drop}
 
 -- over a buffer of the words it stands at that moment of reading them

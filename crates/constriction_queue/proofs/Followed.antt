@@ -10,12 +10,12 @@ use Rattle.constriction_queue.specs.SelfDelimiting.{AreLeast, SelfDelimits}
 use Rattle.constriction_queue.proofs.Cuts.{offset_is}
 use Rattle.constriction_queue.proofs.Narrowing.{valid_start}
 use Rattle.constriction_queue.proofs.SealedRuns.{ceil_below, ceil_from}
-use Rattle.constriction_queue.proofs.SelfDelimited.{fewer_outside, length_self, number_at_end, ones_behind, self_sealed, self_within, words_ones, words_same}
+use Rattle.constriction_queue.proofs.SelfDelimited.{fewer_outside, length_self, number_at_end, ones_behind, self_sealed, self_within, self_words, words_ones, words_same}
 use Rattle.constriction_queue.specs.Symbols.{Narrows, NarrowsAll, FindsAll, MayEnd}
-use Rattle.constriction_queue_laws.proofs.ComingBack.{encodes_unique}
-use Rattle.constriction_queue.proofs.Entries.{as_encodes, intervals}
-use Rattle.constriction_queue_laws.proofs.Reading.{within_read}
-use Rattle.constriction_queue_laws.proofs.Sealing.{drop_all, less_than_all}
+use Rattle.constriction_queue.proofs.ComingBack.{encodes_unique}
+use Rattle.constriction_queue.proofs.Entries.{as_encodes, interval_after, intervals}
+use Rattle.constriction_queue.proofs.WordsWithin.{read_before, within_read}
+use Rattle.constriction_queue.proofs.Sealing.{drop_all, less_than_all}
 use Rattle.constriction_base.proofs.WordLists.{words-append, words-fixed_digits}
 use Rattle.constriction_base.proofs.Turns.{all-append}
 
@@ -42,6 +42,24 @@ module _ {S : Type 0} (w s : ℕ) (z : IsSizes w s) where
       → FindsAll w s (words ++ rest) since middle last
   read_whatever_follows before [] middle last words rest bs ss h k are fit law = k
   read_whatever_follows before (item ∷ since) middle last words rest bs ss h k are fit law = law (within_since before item since middle last words rest bs ss h k are fit)
+
+  -- words that lie within the run behind symbols are read as these, and lie within the run before them
+  found_within : (words : List ℕ) → AreWords w words → (items : List (Item S)) (old new : Run) → AreModels w items → IsInterval w s old → NarrowsAll w s items old new → Within w s words new
+      → FindsAll w s words items old new × Within w s words old
+  found_within words are [] old new ms v h within = (h, subst (λ (r : Run). Within w s words r) h within)
+  found_within words are (item ∷ items) old new ms v h within =
+      let rest = found_within words are items h.0 new ms.1 (interval_after w s item old h.0 z ms.0 v h.1) h.2 within in
+      let one = read_before w s z words are item old h.0 ms.0 v h.1 rest.1 in
+      ((h.0, one.0, rest.0), one.1)
+
+  -- symbols that a new encoder was given, all of them or those since a position, come back whatever words follow
+  pub come_back_whatever_follows : (before since : List (Item S)) (middle last : Run) (words rest : List ℕ) → AreModels w before → AreModels w since → AreWords w rest
+      → NarrowsAll w s before (initial s) middle → NarrowsAll w s since middle last → SelfDelimits w s last words
+      → FindsAll w s (words ++ rest) since middle last
+  come_back_whatever_follows before since middle last words rest bs ss fit h k are =
+      let v = intervals w s before (initial s) middle z bs (valid_start w s z) h in
+      read_whatever_follows before since middle last words rest bs ss h k are fit
+      (λ within. (found_within (words ++ rest) (words-append w words rest (self_words w s last words are) fit) since middle last ss v k within).0)
 
   -- fewer zero words
   pub fewer_read : (count fewer : ℕ) (first : Item S) (others : List (Item S)) (last end : Run) → AreModels w (first ∷ others) → NarrowsAll w s (first ∷ others) (initial s) last

@@ -1,12 +1,13 @@
 -- Which words are read as symbols.
-use Rattle.std.proofs.Common.{ℕ, List, [], ◌∷◌, subst}
+use Rattle.std.proofs.Common.{ℕ, List, [], ◌∷◌, subst, arith}
 use Rattle.constriction_base.specs.Steps.{Step, IsSizes, AreWords}
-use Rattle.constriction_base.specs.Models.{Item, AreModels}
+use Rattle.constriction_base.specs.Models.{Item, IsModel, AreModels}
+use Rattle.constriction_base.proofs.Entering.{entry_is_step}
 use Rattle.constriction_queue.specs.Range.{Run, IsInterval, Within, sealed, initial}
-use Rattle.constriction_queue.proofs.ReadingRuns.{law_reads}
-use Rattle.constriction_queue.specs.Symbols.{NarrowsAll, FindsAll}
+use Rattle.constriction_queue.proofs.ReadingRuns.{law_reads, takes_narrow}
+use Rattle.constriction_queue.specs.Symbols.{Narrows, Finds, NarrowsAll, FindsAll}
 use Rattle.constriction_queue.proofs.Entries.{entries, are_steps, run_is, intervals, as_encodes, reads_entries}
-use Rattle.constriction_queue_laws.proofs.Sealing.{less_behind, sealed_within_interval}
+use Rattle.constriction_queue.proofs.Sealing.{less_behind, sealed_within_interval}
 
 -- words that were read as some symbols lie within their run
 pub within_read : {S : Type 0} (w s : ℕ) (words : List ℕ) (item : Item S) (items : List (Item S)) (last : Run) → IsSizes w s → AreWords w words → AreModels w (item ∷ items)
@@ -27,3 +28,11 @@ read_behind w s [] middle last z ss v k law = k
 read_behind w s (item ∷ since) middle last z ss v k law =
     law (sealed_within_interval w s last z (intervals w s (item ∷ since) middle last z ss v k)
     (less_behind w s z item since middle last ss v k))
+
+-- where words lie within the run behind an item, it is read there, and they lie within the run before it
+pub read_before : {S : Type 0} (w s : ℕ) → IsSizes w s → (words : List ℕ) → AreWords w words → (item : Item S) (old new : Run) → IsModel w item.model → IsInterval w s old
+    → Narrows w s item.model item.symbol old new → Within w s words new → Finds w s words item.model item.symbol old new × Within w s words old
+read_before w s z words are item old new m v h i =
+    let step = entry_is_step w item.model.precision item.model.precision h.0 h.1 item.model.table item.symbol m.lawful h.2 (m.some_bits, omega arith) m.within_word in
+    let here = takes_narrow w s words z are (record { precision = item.model.precision; left = h.0; p = h.1 }) old step v (subst (λ (r : Run). Within w s words r) h.3 i) in
+    ((h.0, h.1, h.2, (here.0, h.3)), here.1)

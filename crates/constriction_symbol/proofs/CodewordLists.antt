@@ -9,7 +9,7 @@ use Rattle.constriction_stream.specs.Lists.{StepsAll}
 use Rattle.constriction_symbol.specs.Bits.{HasStackWords, IsStackWords}
 use Rattle.constriction_symbol.specs.Codewords.{ReadsSymbol, WritesCodeword, formed}
 use Rattle.constriction_symbol.specs.declared.codebooks.SymbolCodeError.{SymbolCodeError}
-use Rattle.constriction_symbol_laws.specs.Lists.{AreCodewords, AreEach, ReadsAll}
+use Rattle.constriction_symbol.specs.Lists.{AreCodewords, AreEach, ReadsAll}
 
 -- ---- lists of codewords
 -- one symbol more
