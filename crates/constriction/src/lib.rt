@@ -131,8 +131,8 @@
 //! Functions whose contracts are theorems, for proofs of one's own. Most are called for their contract
 //! alone and do nothing.
 //!
-//! - [`laws::lists`]: where each step is undone, so is a list of them. [`laws::room`]: what a coder that
-//!   isn't full takes. [`laws::round_trips`]: lists that any coder gives.
+//! - [`laws::lists`]: where each step is undone, so is a list of them.
+//!   [`laws::round_trips`]: lists that any coder gives.
 //! - [`laws::bounds`]: the words of the stack coder and of the range coder are few, whatever the steps; and what may
 //!   follow those of a range coder.
 //! - [`laws::chain`]: the chain coder. [`laws::chain::isolation`] says that its symbols don't depend on one
@@ -250,7 +250,7 @@ pub mod symbol {
 
 pub mod laws {
     pub use constriction_laws::{
-        bounds, chain, errors, lists, queue, room, round_trips, stack, symbol,
+        bounds, chain, errors, lists, queue, round_trips, stack, symbol,
     };
     pub use constriction_store::laws as store;
 }

@@ -16,7 +16,7 @@ use Rattle.constriction_queue.specs.SelfDelimiting.{SelfDelimits}
 use Rattle.constriction_queue.proofs.SealedRuns.{tail}
 use Rattle.constriction_queue.proofs.SelfDelimited.{length_self}
 use Rattle.constriction_base.proofs.Guards.{fixed-length}
-use Rattle.constriction_stack_laws.proofs.ComingBack.{empty_valid}
+use Rattle.constriction_laws.proofs.of_stack.ComingBack.{empty_valid}
 
 -- ---- over numbers: h is the new head, a the old head's whole steps
 written_bound : (h a x y b p n c : ℕ) → h ≤ suc a * n → a * p ≤ y → y * b ≤ x → p * (c * b) ≤ x → h * b * (p * c) ≤ x * (n * (c + 1))

@@ -10,7 +10,7 @@ use Rattle.constriction_queue.specs.Range.{Run}
 use Rattle.constriction_queue.specs.Symbols as queue
 use Rattle.constriction_queue.proofs.Entries.{entries}
 use Rattle.constriction_laws.specs.Bounds.{AreEntries, product, share, rounded_whole}
-use Rattle.constriction_stack_laws.proofs.Choosing.{step_of}
+use Rattle.constriction_laws.proofs.of_stack.Choosing.{step_of}
 
 pub steps_of_encodes : {S : Type 0} (w s : ℕ) (items : List (Item S)) (old new : AnsState) → EncodesAll w s items old new
     → (steps : List Step) × AreEntries items steps × InTurn (IsPush w s) steps old new

@@ -1,3 +1,9 @@
+pub mod stack
+pub mod queue
+pub mod chain
+pub mod symbol
 pub mod Bounds
 pub mod Exchanges
 pub mod Stepping
+pub mod Readings
+pub mod Outcomes

@@ -1,2 +1,2 @@
 -- What codewords cost under weights.
-pub use Rattle.constriction_symbol_laws.specs.Cost.{cost, AreLawful, AreCodewordsOf, HaveCodewords, AreApart, Costs, CostsFromZero}
+pub use Rattle.constriction_laws.specs.symbol.Cost.{cost, AreLawful, AreCodewordsOf, HaveCodewords, AreApart, Costs, CostsFromZero}

@@ -1,96 +1,23 @@
 //! Words that are known to be few, from the public contracts of the coders and the bounds alone.
 
-ghost use Rattle.std.specs.Prelude.{◌≡◌, ◌-◌, ◌*◌, ◌<◌, ◌≤◌, ◌^◌, ◌⊎◌, List, [], ◌∷◌, length, map, reverse, IfOk};
+ghost use Rattle.std.specs.Prelude.{◌≡◌, ◌-◌, ◌<◌, ◌≤◌, ◌^◌, ◌⊎◌, [], ◌∷◌, IfOk};
 ghost use Rattle.std.specs.Prelude.{IfErr, MatchBool};
 ghost use Rattle.constriction_base.specs.Steps.{Step, IsSizes};
 ghost use Rattle.constriction_base.specs.Tables.{AtEntry, Impossible};
-ghost use Rattle.constriction_base.specs.Models.{items_of};
-ghost use Rattle.constriction_stack.specs.Ans.{IsValid, empty};
-ghost use Rattle.constriction_coder_laws.specs.Outcomes.{HasImpossible, UnlessImpossible};
-ghost use Rattle.constriction_queue.specs.Range.{initial};
-ghost use Rattle.constriction_queue_laws.specs.Outcomes.{NotCoded, SealsAll};
-ghost use Rattle.constriction_stack_laws.specs.Exporting.{ExportsAll};
+ghost use Rattle.constriction_stack.specs.Ans.{AnsState, IsValid};
+ghost use Rattle.constriction_stack.specs.Symbols.{Decodes, Encodes};
 ghost use Rattle.constriction_laws.specs.Exchanges.{StopsExchange};
-ghost use Rattle.constriction_laws.specs.Bounds.{AreEntries, Decode, Encode, IsNetBounded, product};
-ghost use Rattle.constriction_laws.specs.Bounds.{rounded_whole, share};
+ghost use Rattle.constriction_laws.specs.Bounds.{Decode, Encode, IsNetBounded};
 
-use crate::bounds::{range_bound, stack_bound, stack_net_bound};
+use crate::bounds::stack_net_bound;
 use constriction_base::backends::{Holds, ReadWords, Stack, WriteWords};
 use constriction_base::errors::CoderError;
 use constriction_base::model::{DecoderModel, EncoderModel, EntropyModel};
-use constriction_coder_laws::errors::RoundTripError;
-use constriction_queue::RangeEncoder;
-use constriction_queue_laws::round_trips::coding::encode_list;
 use constriction_stack::coder::AnsCoder;
-use constriction_stack_laws::round_trips::words::words_of_list;
 use constriction_stream::coder::Code;
 use constriction_stream::decoding::Decode;
 use constriction_stream::encoding::Encode;
 use constriction_words::{BitArray, WordOf};
-use std::alloc::Global;
-
-/// The words of a new stack coder on which symbols were put, the last one first, and how many they are at most.
-///
-/// # Errors
-///
-/// Those of [`words_of_list`].
-pub fn few_words_of_list<
-    Word: WordOf<State>,
-    State: BitArray,
-    M: EncoderModel<PRECISION>,
-    const PRECISION: usize,
->(alloc: Global, symbols: &[M::Symbol], model: &M) -> Result<Vec<Word>, RoundTripError>
-where
-    M::Probability: WordOf<Word>,
-    requires { IsSizes Word.BITS State.BITS }
-    ensures words { IfOk result (λ words. ExportsAll Word.BITS State.BITS
-        (items_of record { precision = PRECISION; table = M.table model.now } (reverse symbols.now))
-        empty (map Word.number (reverse words.items))) }
-    ensures few { IfOk result (λ words. (steps : List Step)
-        × AreEntries (items_of record { precision = PRECISION; table = M.table model.now } (reverse symbols.now)) steps
-        × (2 ^ (Word.BITS * (length words.items - 1)) * product (share Word.BITS State.BITS) steps
-        ≤ 2 ^ (State.BITS - Word.BITS) * product (rounded_whole Word.BITS State.BITS) steps)) }
-    ensures err { IfErr result (UnlessImpossible (HasImpossible (M.table model.now) symbols.now)) }
-{
-    let words = words_of_list::<Word, State, M, PRECISION>(alloc, symbols, model)?;
-    stack_bound();
-    Ok(words)
-}
-
-/// The words of a new range encoder that was given symbols, and how many they are at most.
-///
-/// # Errors
-///
-/// `ImpossibleSymbol` where the model has no entry for one of the symbols, `TooManySymbols` where a new encoder doesn't
-/// count so many, and `Refused`.
-pub fn few_sealed_words_of_list<
-    Word: WordOf<State>,
-    State: BitArray,
-    M: EncoderModel<PRECISION>,
-    const PRECISION: usize,
->(alloc: Global, symbols: &[M::Symbol], model: &M) -> Result<Vec<Word>, RoundTripError>
-where
-    M::Probability: WordOf<Word>,
-    requires { IsSizes Word.BITS State.BITS }
-    ensures words { IfOk result (λ words. SealsAll Word.BITS State.BITS
-        (items_of record { precision = PRECISION; table = M.table model.now } symbols.now)
-        (initial State.BITS) (map Word.number words.items)) }
-    ensures few { IfOk result (λ words. (steps : List Step)
-        × AreEntries (items_of record { precision = PRECISION; table = M.table model.now } symbols.now) steps
-        × (2 ≤ length words.items →
-        2 ^ (Word.BITS * (length words.items - 2)) * (2 ^ State.BITS - 1) * product (share Word.BITS State.BITS) steps
-        < 2 ^ State.BITS * product (rounded_whole Word.BITS State.BITS) steps)) }
-    ensures err { IfErr result
-        (NotCoded (HasImpossible (M.table model.now) symbols.now) (2 ^ 64 - 18 < length symbols.now)) }
-{
-    let mut encoder: RangeEncoder<Word, State, Vec<Word>> = RangeEncoder::new(alloc);
-    encode_list(&mut encoder, symbols, model)?;
-    let Ok(words) = encoder.into_compressed() else {
-        return Err(RoundTripError::Refused);
-    };
-    range_bound();
-    Ok(words)
-}
 
 /// Whether a head is low, so that a word moves in below it where one is left.
 fn is_low<Word: WordOf<State>, State: BitArray>(head: State) -> bool
@@ -140,6 +67,11 @@ where
         × AtEntry PRECISION (D.table off.now) taken (λ step. step ≡ out)
         × AtEntry PRECISION (E.table on.now) symbol.now (λ step. step ≡ put)
         × IsNetBounded Word.BITS State.BITS (Decode out ∷ Encode put ∷ []) coder.old.state coder.new.state) }
+    ensures done { IsValid Word.BITS State.BITS coder.old.state → IfOk result (λ taken. (mid : AnsState)
+        × Decodes Word.BITS State.BITS record { precision = PRECISION; table = D.table off.now } taken
+        coder.old.state mid
+        × Encodes Word.BITS State.BITS record { precision = PRECISION; table = E.table on.now } symbol.now
+        mid coder.new.state) }
     ensures err { IfErr result (λ e. StopsExchange ((coder.old.state.head < 2 ^ (State.BITS - Word.BITS))
         ⊎ (coder.new.state.head < 2 ^ (State.BITS - Word.BITS))) (Impossible (E.table on.now) symbol.now) e) }
 {

@@ -5,9 +5,9 @@ use Rattle.constriction_stack.specs.Ans.{AnsState, IsValid}
 use Rattle.constriction_stack.specs.Symbols.{Decodes, Encodes}
 use Rattle.constriction_stack.proofs.Pushing.{valid_pop}
 use Rattle.constriction_laws.specs.Bounds.{Decode, Encode}
-use Rattle.constriction_stack_laws.proofs.Choosing.{step_of}
+use Rattle.constriction_laws.proofs.of_stack.Choosing.{step_of}
 use Rattle.constriction_stack.proofs.StepCalls.{encode_of}
-use Rattle.constriction_stack_laws.proofs.ListCalls.{decode_of}
+use Rattle.constriction_laws.proofs.of_stack.ListCalls.{decode_of}
 use Rattle.constriction_laws.proofs.bounds.words.exchange.Goals as goal
 
 pub returns-clause-net : goal.returns-clause-net
@@ -42,3 +42,24 @@ returns-clause-net g c = λ valid.
       (given.0, given.1, given.2, refl),
       c.stack_net_bound.ensures w s (Decode out ∷ Encode put ∷ []) old new sizes (out_step, (put_step, tt)) valid full (middle, (taken.3, middle_full), (new, given.3, refl)),
     )
+
+pub returns-clause-done : goal.returns-clause-done
+returns-clause-done g c = λ valid.
+    let w = g.Word.BitArray.BITS in
+    let s = g.State.BitArray.BITS in
+    let number = g.Word.BitArray.number in
+    let off : Model g.row.D-Symbol.Denot = record { precision = g.row.PRECISION; table = g.D.EntropyModel.table c.args.off.now } in
+    let on : Model g.row.E-Symbol.Denot = record { precision = g.row.PRECISION; table = g.E.EntropyModel.table c.args.on.now } in
+    let off_sized = g.met.D.EntropyModel.sized c.args.off.now in
+    let off_lawful : IsModel w off = record { some_bits = off_sized.0; within_word = omega (arith, off_sized.1, g.met.D.Probability.WordOf.width_law); lawful = g.D.EntropyModel.lawful c.args.off.now } in
+    let old : AnsState = c.args.coder.now.state in
+    let middle : AnsState = c.decode_symbol.new.self.state in
+    let sizes : IsSizes w s = c.state.ensures.1.sizes in
+    let taken : Decodes w s off c.in-Ok.taken old middle =
+    (decode_of _ number g.Backend.Holds g.Backend.ReadWords w s off _ _ _ c.in-Ok.ensures.step).0 g.met.Backend.WriteWords.knows_words in
+    let out : Step = record { precision = g.row.PRECISION; left = taken.0; p = taken.1 } in
+    let out_step : IsStep w out = step_of w s off c.in-Ok.taken taken.0 taken.1 off_lawful taken.2 in
+    let middle_valid : IsValid w s middle = subst (λ (x : AnsState). IsValid w s x) (sym taken.3.1) (valid_pop w s out sizes out_step old valid taken.3.0) in
+    let given : Encodes w s on c.args.symbol.now middle c.encode_symbol.new.self.state =
+    encode_of number g.Backend.Holds g.Backend.WriteWords w s _ on _ _ _ middle_valid c.in-Ok-encode_symbol.ensures.step in
+    (middle, taken, given)

@@ -1,0 +1,64 @@
+-- What list calls of a stack coder do, in the words of the laws.
+use Rattle.std.proofs.Common.{◌≡◌, ℕ, List, [], ◌∷◌, Ok, Err, length, map, sym, ap}
+use Rattle.std.specs.Prelude.{reverse}
+use Rattle.constriction_base.specs.declared.errors.CoderError.{CoderError}
+use Rattle.constriction_base.specs.Steps.{InTurn}
+use Rattle.constriction_base.specs.declared.backends.reading.Holds as holding
+use Rattle.constriction_base.specs.declared.backends.reading.ReadWords as reading
+use Rattle.constriction_base.specs.declared.backends.writing.WriteWords as writing
+use Rattle.constriction_base.specs.Tables.{AtEntry}
+use Rattle.constriction_stream.specs.Lists.{StepsAll}
+use Rattle.constriction_stream.specs.Symbols.{EncodesSymbol, ByBackend}
+use Rattle.constriction_stack.specs.Ans.{AnsState, AnsValue, IsValid}
+use Rattle.constriction_stack.specs.Ans as calls
+use Rattle.constriction_laws.specs.stack.Readings.{DecodesBy, DecodesAllBy}
+use Rattle.constriction_base.specs.Models.{Model, Item, items_of, IsModel}
+use Rattle.constriction_stack.specs.Symbols.{Encodes, Decodes, EncodesAll, DecodesAll}
+use Rattle.constriction_laws.specs.stack.Undone.{decode_back}
+use Rattle.constriction_laws.proofs.Undoing.{all_undone, all_free}
+use Rattle.constriction_laws.proofs.of_stack.ComingBack.{decodes_only}
+use Rattle.constriction_base.proofs.SameModel.{are_models, models_turned, symbols_turned}
+use Rattle.constriction_stack.proofs.StepCalls.{encode_of}
+
+-- ---- encodes
+module _ {S W B E K F : Type 0} (number : W → ℕ) (holds : holding.Ghosts B W K) (writes : writing.Ghosts B W E) (w s : ℕ) (is_impossible : F → Type 0) where
+  -- so is a list of them: what was given lends a symbol, or a pair, that stands for an item
+  pub encodes_of : {A T : Type 0} (lent : A → T) (item : T → Item S) (xs : List A) (old new : AnsValue B) → IsValid w s old.state
+      → StepsAll {E = CoderError F E} (λ old x answer new. EncodesSymbol (ByBackend (calls.EncodeCall number holds writes w s)) is_impossible
+      (item (lent x)).model.precision (item (lent x)).model.table (item (lent x)).symbol old answer new) old xs new
+      → EncodesAll w s (map item (map lent xs)) old.state new.state
+  encodes_of lent item [] old new v all = ap (λ (c : AnsValue B). c.state) all
+  encodes_of lent item (x ∷ xs) old new v all =
+      let first = encode_of number holds writes w s is_impossible (item (lent x)).model (item (lent x)).symbol old all.0 v all.1 in
+      (all.0.state, first, encodes_of lent item xs all.0 new first.3.valid all.2)
+
+-- ---- decodes
+module _ {S W B E K : Type 0} (F : Type 0) (number : W → ℕ) (holds : holding.Ghosts B W K) (reads : reading.Ghosts B W K E) (w s : ℕ) where
+  -- a step of the coder that went well is a decode of the symbol
+  abbrev Given : Model S → S → AnsValue B → AnsValue B → Type 0
+  Given model symbol old new = AtEntry model.precision model.table symbol (λ step. ByBackend {F = F} (calls.DecodeCall number holds reads w s) old step (Ok tt) new)
+
+  pub decode_of : (model : Model S) (symbol : S) (old new : AnsValue B) → Given model symbol old new
+      → (holds.is_list → Decodes w s model symbol old.state new.state) × DecodesBy number reads.reads w s model symbol old new
+  decode_of model symbol old new (left, p, has, (Ok u, d, is)) = ((λ known. (left, p, has, (d.is_next, d.popped known))), (left, p, has, (d.is_next, d.refilled)))
+  decode_of model symbol old new (left, p, has, (Err e, d, is)) = absurd cc
+
+  -- so is a list of them, each at the item that stands for what was given
+  pub decodes_of : {T : Type 0} (item : T → Item S) (xs : List T) (old new : AnsValue B) → InTurn (λ x. Given (item x).model (item x).symbol) xs old new
+      → (holds.is_list → DecodesAll w s (map item xs) old.state new.state) × DecodesAllBy number reads.reads w s (map item xs) old new
+  decodes_of item [] old new all = ((λ known. ap (λ (c : AnsValue B). c.state) all), all)
+  decodes_of item (x ∷ xs) old new all =
+      let first = decode_of (item x).model (item x).symbol old all.0 all.1 in
+      let more = decodes_of item xs all.0 new all.2 in
+      ((λ known. (all.0.state, first.0 known, more.0 known)), (all.0, first.1, more.1))
+
+-- symbols that were encoded come back, the last one first, and the state before
+pub back_of : {S : Type 0} (w s : ℕ) (model : Model S) (symbols again : List S) (before old new : AnsState) → IsModel w model → length symbols ≡ length again
+    → EncodesAll w s (items_of model symbols) before old → DecodesAll w s (items_of model again) old new
+    → (again ≡ reverse symbols) × (new ≡ before)
+back_of w s model symbols again before old new m count encoded decoded =
+    let items = items_of model symbols in
+    let undone = all_undone (λ item. Unit {0}) (λ state. Unit {0}) (λ item. Encodes w s item.model item.symbol) (λ item. Decodes w s item.model item.symbol)
+    (λ item x y free valid e. (decode_back w s item.model item.symbol x y e, tt)) items before old (all_free items) tt encoded in
+    let back = decodes_only w s items (items_of model again) before old new (are_models w model symbols m) (models_turned model symbols again (sym count)) undone.0 decoded in
+    (symbols_turned model symbols again back.0, back.1)

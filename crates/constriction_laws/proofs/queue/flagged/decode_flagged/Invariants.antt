@@ -1,0 +1,22 @@
+use Rattle.std.proofs.Common.{◌≡◌, ℕ, List, false, length}
+use Rattle.constriction_base.specs.Models.{Model}
+use Rattle.constriction_queue.specs.Decoder.{StandsAt}
+use Rattle.constriction_queue.specs.Flagged.{flagged, has_flag}
+use Rattle.constriction_queue.specs.Range.{Run}
+use Rattle.constriction_queue.specs.Symbols.{FindsAll}
+use Rattle.constriction_laws.proofs.queue.flagged.decode_flagged.Given as goal
+
+-- the symbols so far are read, and the flag is among them where the models were switched
+abbrev pub invariant-decode : goal.invariant-decode
+invariant-decode g l =
+    let w = g.Word.BitArray.BITS in
+    let s = g.State.BitArray.BITS in
+    let first : Model ℕ = record { precision = g.row.P1; table = g.M1.EntropyModel.table l.first } in
+    let second : Model ℕ = record { precision = g.row.P2; table = g.M2.EntropyModel.table l.second } in
+    record {
+      count : length l.symbols.items ≡ l.counter;
+      flag : l.switch.flag ≡ l.fn.switch.flag;
+      switched : l.fn.switch.switched ≡ false → l.switch.switched ≡ has_flag l.fn.switch.flag l.symbols.items;
+      read : g.Backend.Holds.is_list → l.fn.switch.switched ≡ false → (words : List ℕ) (old : Run) → StandsAt w s words old l.fn.switch.decoder
+          → (last : Run) × FindsAll w s words (flagged l.fn.switch.flag first second l.symbols.items) old last × StandsAt w s words last l.switch.decoder;
+    }

@@ -1,0 +1,85 @@
+use Rattle.std.proofs.Common.{◌≡◌, ◌∙◌, ◌++◌, ℕ, [], refl, subst, ap, arith, map, pow_pos, List, length}
+use Rattle.constriction_queue.specs.Range.{initial}
+use Rattle.constriction_laws.specs.queue.Outcomes.{GivesNone}
+use Rattle.constriction_base.specs.Models.{Item, IsModel, pairs_of}
+use Rattle.constriction_base.specs.Steps.{AreWords}
+use Rattle.constriction_base.proofs.WordLists.{words_behind}
+use Rattle.constriction_queue.proofs.Seals.{words_of_numbers}
+use Rattle.constriction_queue.specs.Range.{sealed}
+use Rattle.constriction_queue.specs.Symbols.{FindsAll}
+use Rattle.constriction_laws.proofs.PairCalls.{are_pairs}
+use Rattle.constriction_queue.proofs.StepCalls.{nears_of}
+use Rattle.constriction_laws.proofs.of_queue.Told.{passed, while_reading}
+use Rattle.constriction_laws.proofs.queue.round_trips.pairs.pairs_from_words.Goals as goal
+
+pub returns-clause-read : goal.returns-clause-read
+returns-clause-read g c =
+    let w = g.Word.BitArray.BITS in
+    let s = g.State.BitArray.BITS in
+    let known = g.met.Words.IntoReadWords.BoundedReadWords.knows_words in
+    let decoded = c.in_ok-again.ensures.decoded known _ (initial s) (c.in-Ok.ensures.ok known) in
+    let told = c.has_ended-ended.ensures in (
+      decoded.0,
+      decoded.1,
+      told.ended _ decoded.0 decoded.2,
+      λ yes. nears_of w s _ decoded.0 c.decode_pairs.new.decoder (pow_pos s) decoded.2 (told.value.0 yes).1,
+    )
+
+pub returns-clause-back : goal.returns-clause-back
+returns-clause-back g c = λ symbols last found count.
+    let known = g.met.Words.IntoReadWords.BoundedReadWords.knows_words in
+    (c.in_ok-again.ensures.back known _ symbols (initial g.State.BitArray.BITS) last (c.in-Ok.ensures.ok known) found count).0
+
+pub returns-in_err-again-clause-err : goal.returns-in_err-again-clause-err
+returns-in_err-again-clause-err g c =
+    let known = g.met.Words.IntoReadWords.BoundedReadWords.knows_words in
+    let items : List g.row.M-Symbol.Denot → List (Item g.row.M-Symbol.Denot) = λ (symbols : List g.row.M-Symbol.Denot). pairs_of g.row.PRECISION g.M.EntropyModel.table symbols c.args.models.now in
+    passed _ c.in_err-again.field-0.0 _ c.from_residual.ensures.1
+    (while_reading _ ⊥ ⊥ (GivesNone g.Words.IntoReadWords.Holds.is_list g.Word.BitArray.BITS g.State.BitArray.BITS items (length c.args.models.now) c.in-Ok.decoder) c.in_err-again.field-0.0
+    c.in_err-again.ensures.err (λ none. none known _ (initial g.State.BitArray.BITS) (c.in-Ok.ensures.ok known)))
+
+pub returns-clause-sealed : goal.returns-clause-sealed
+returns-clause-sealed g c = λ symbols seals count.
+    let w = g.Word.BitArray.BITS in
+    let s = g.State.BitArray.BITS in
+    let number = g.Word.BitArray.number in
+    let table = g.M.EntropyModel.table in
+    let known = g.met.Words.IntoReadWords.BoundedReadWords.knows_words in
+    let items : List (Item g.row.M-Symbol.Denot) = pairs_of g.row.PRECISION table symbols c.args.models.now in
+    let models = are_pairs g.row.PRECISION table w symbols c.args.models.now
+    (λ m. (let sized = g.met.M.EntropyModel.sized m in record { some_bits = sized.0; within_word = omega (arith, sized.1, g.met.M.Probability.WordOf.width_law); lawful = g.M.EntropyModel.lawful m })) in
+    let words : List ℕ = map number (g.Words.Holds.words c.args.words) in
+    let found : FindsAll w s words items (initial s) seals.0 = rw seals.2 (c.symbols_come_back.ensures.decoded w s items seals.0 c.requires models seals.1) in
+    let back = c.in_ok-again.ensures.back known words symbols (initial s) seals.0 (c.in-Ok.ensures.ok known) found count in
+    (back.0, c.has_ended-ended.ensures.ended words seals.0 back.1 (rw seals.2 (c.symbols_come_back.ensures.exhausted w s items seals.0 c.requires models seals.1)))
+
+pub returns-clause-followed : goal.returns-clause-followed
+returns-clause-followed g c = λ symbols own rest two seals all count.
+    let w = g.Word.BitArray.BITS in
+    let s = g.State.BitArray.BITS in
+    let number = g.Word.BitArray.number in
+    let table = g.M.EntropyModel.table in
+    let known = g.met.Words.IntoReadWords.BoundedReadWords.knows_words in
+    let items : List (Item g.row.M-Symbol.Denot) = pairs_of g.row.PRECISION table symbols c.args.models.now in
+    let models = are_pairs g.row.PRECISION table w symbols c.args.models.now
+    (λ m. (let sized = g.met.M.EntropyModel.sized m in record { some_bits = sized.0; within_word = omega (arith, sized.1, g.met.M.Probability.WordOf.width_law); lawful = g.M.EntropyModel.lawful m })) in
+    let words : List ℕ = map number (g.Words.Holds.words c.args.words) in
+    let fit : AreWords w rest = words_behind w own rest (subst (λ (ws : List ℕ). AreWords w ws) all (words_of_numbers number w g.met.Word.BitArray.number_law (g.Words.Holds.words c.args.words))) in
+    let is : words ≡ sealed w s seals.0 ++ rest = all ∙ ap (λ (ws : List ℕ). ws ++ rest) seals.2 in
+    let found : FindsAll w s words items (initial s) seals.0 = rw is (c.symbols_come_back_before_others.ensures w s items seals.0 rest c.requires two models fit seals.1) in
+    (c.in_ok-again.ensures.back known words symbols (initial s) seals.0 (c.in-Ok.ensures.ok known) found count).0
+
+pub returns-clause-delimited : goal.returns-clause-delimited
+returns-clause-delimited g c = λ symbols own rest delimits all count.
+    let w = g.Word.BitArray.BITS in
+    let s = g.State.BitArray.BITS in
+    let number = g.Word.BitArray.number in
+    let table = g.M.EntropyModel.table in
+    let known = g.met.Words.IntoReadWords.BoundedReadWords.knows_words in
+    let items : List (Item g.row.M-Symbol.Denot) = pairs_of g.row.PRECISION table symbols c.args.models.now in
+    let models = are_pairs g.row.PRECISION table w symbols c.args.models.now
+    (λ m. (let sized = g.met.M.EntropyModel.sized m in record { some_bits = sized.0; within_word = omega (arith, sized.1, g.met.M.Probability.WordOf.width_law); lawful = g.M.EntropyModel.lawful m })) in
+    let words : List ℕ = map number (g.Words.Holds.words c.args.words) in
+    let fit : AreWords w rest = words_behind w own rest (subst (λ (ws : List ℕ). AreWords w ws) all (words_of_numbers number w g.met.Word.BitArray.number_law (g.Words.Holds.words c.args.words))) in
+    let found : FindsAll w s words items (initial s) delimits.0 = rw all (c.symbols_come_back_whatever_follows.ensures w s [] items (initial s) delimits.0 own rest c.requires tt models fit refl delimits.1 delimits.2) in
+    (c.in_ok-again.ensures.back known words symbols (initial s) delimits.0 (c.in-Ok.ensures.ok known) found count).0

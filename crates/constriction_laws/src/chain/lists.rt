@@ -1,0 +1,88 @@
+//! Lists of symbols on the chain coder: encodes undo decodes and the other way round, the last one first.
+//!
+//! Each symbol has its own table, and all are of the coder's precision. What is proved of one step is
+//! enough: the laws here follow by [`lists_undo`].
+
+ghost use Rattle.std.specs.Prelude.{◌≡◌, ℕ, List, reverse, ⊤};
+ghost use Rattle.constriction_base.specs.Models.{Item};
+ghost use Rattle.constriction_chain.specs.Chain.{ChainState, IsChain, IsSized};
+ghost use Rattle.constriction_chain.specs.Symbols.{AreModelsAt, TakesOff, TakesOffAll, PutsBack, PutsBackAll};
+ghost use Rattle.constriction_chain.specs.Symbols.{IsModelAt};
+ghost use Rattle.constriction_laws.specs.chain.Undone.{Sizes, decode_back, encode_back, decoded_at};
+
+use crate::lists::{StepsUndo, lists_undo};
+use std::marker::PhantomData;
+
+/// Encodes of symbols, which decodes undo.
+pub struct Encoding<Symbol> {
+    symbols: PhantomData<Symbol>,
+}
+
+impl<Symbol> StepsUndo for Encoding<Symbol> {
+    ghost setting = { ℕ × ℕ };
+
+    ghost step = { Item Symbol };
+
+    ghost state = { ChainState };
+
+    ghost allowed = { λ sizes item. ⊤ };
+
+    ghost valid = { λ sizes state. ⊤ };
+
+    ghost does = { λ sizes item old new. PutsBack sizes.0 sizes.1 item.model item.symbol old new };
+
+    ghost undoes = { λ sizes item old new. TakesOff sizes.0 sizes.1 item.model item.symbol old new };
+
+    ghost one_undone = { λ sizes item old new allowed valid does.
+        (decode_back sizes.0 sizes.1 item.model item.symbol old new does, tt) };
+}
+
+/// Decodes of symbols from states of coders, which encodes undo.
+pub struct Decoding<Symbol> {
+    symbols: PhantomData<Symbol>,
+}
+
+impl<Symbol> StepsUndo for Decoding<Symbol> {
+    ghost setting = { Sizes };
+
+    ghost step = { Item Symbol };
+
+    ghost state = { ChainState };
+
+    ghost allowed = { λ sizes item. IsModelAt sizes.P item.model };
+
+    ghost valid = { λ sizes state. IsChain sizes.w sizes.s sizes.P state };
+
+    ghost does = { λ sizes item old new. TakesOff sizes.w sizes.s item.model item.symbol old new };
+
+    ghost undoes = { λ sizes item old new. PutsBack sizes.w sizes.s item.model item.symbol old new };
+
+    ghost one_undone = { λ sizes item old new allowed valid does. (
+      encode_back sizes.w sizes.s sizes.P item.model item.symbol old new sizes.are allowed valid does,
+      decoded_at sizes.w sizes.s sizes.P item.model item.symbol old new sizes.are allowed valid does,
+    ) };
+}
+
+/// Decodes of symbols that were encoded undo the encodes, the last one first.
+pub fn decodes_undo_encodes<Symbol>()
+    ensures { (w s : ℕ) (items : List (Item Symbol)) (old new : ChainState) →
+        PutsBackAll w s items old new → TakesOffAll w s (reverse items) new old }
+{
+    lists_undo::<Encoding<Symbol>>()
+}
+
+/// Encodes of the symbols that decodes gave, the last one first and under the same tables, undo the
+/// decodes: there are such encodes, and they lead to the state before and to no other.
+pub fn encodes_undo_decodes<Symbol>()
+    ensures back { (w s P : ℕ) (items : List (Item Symbol)) (old new : ChainState) → IsSized w s P →
+        AreModelsAt P items → IsChain w s P old →
+        TakesOffAll w s items old new → PutsBackAll w s (reverse items) new old }
+    ensures only { (w s P : ℕ) (items : List (Item Symbol)) (old new last : ChainState) → IsSized w s P →
+        AreModelsAt P items → IsChain w s P old →
+        TakesOffAll w s items old new → PutsBackAll w s (reverse items) new last → last ≡ old }
+    ensures valid { (w s P : ℕ) (items : List (Item Symbol)) (old new : ChainState) → IsSized w s P →
+        AreModelsAt P items → IsChain w s P old →
+        TakesOffAll w s items old new → IsChain w s P new }
+{
+    lists_undo::<Decoding<Symbol>>()
+}

@@ -1,0 +1,81 @@
+//! List calls of the chain coder, said in the words of the laws: which states they lead to.
+
+ghost use Rattle.std.specs.Prelude.{◌≡◌, length, reverse, IfErr, IfOk, OnOk};
+ghost use Rattle.constriction_base.specs.Models.{pairs_of};
+ghost use Rattle.constriction_chain.specs.Symbols.{TakesOffAll, PutsBackAll};
+ghost use Rattle.constriction_laws.specs.chain.Endings.{EndsEarly, NotEncoded, UnlessEnded};
+
+use crate::chain::round_trips::counting::decode_by_models_counting;
+use constriction_base::backends::{Holds, ReadWords, Stack, WriteWords};
+use constriction_base::errors::CoderError;
+use constriction_base::model::{DecoderModel, EncoderModel, EntropyModel};
+use constriction_chain::{ChainCoder, EncoderError};
+use crate::errors::{RoundTripError, Stopped};
+use constriction_stream::encoding::{Encode, EncodeReverse};
+use constriction_words::{BitArray, WordOf};
+use std::alloc::Global;
+
+/// A symbol that is taken out for each of the models: a decode of each, one after the other.
+///
+/// # Errors
+///
+/// Those of [`decode_list`].
+pub fn decode_pairs<
+    Word: WordOf<State>,
+    State: BitArray,
+    C: ReadWords<Word, Stack>,
+    R: WriteWords<Word>,
+    M: DecoderModel<PRECISION>,
+    const PRECISION: usize,
+>(
+    alloc: Global,
+    coder: &mut ChainCoder<Word, State, C, R, PRECISION>,
+    models: &[M],
+) -> Result<Vec<M::Symbol>, RoundTripError>
+where
+    M::Probability: WordOf<Word>,
+    C::ReadError: Drop,
+    R::WriteError: Drop,
+    ensures count { IfOk result (λ again. length again.items ≡ length models.now) }
+    ensures decoded { C.is_list → IfOk result (λ again. TakesOffAll Word.BITS State.BITS
+        (pairs_of PRECISION M.table again.items models.now) coder.old.state coder.new.state) }
+    ensures err { IfErr result (UnlessEnded (λ taken. EndsEarly C.is_list Word.BITS State.BITS PRECISION
+        (λ given. pairs_of PRECISION M.table given models.now)
+        (length models.now) coder.old.state taken coder.new.state)) }
+{
+    match decode_by_models_counting::<_, _, PRECISION>(alloc, coder, models) {
+        Ok(symbols) => Ok(symbols),
+        Err((taken, Stopped::Refused(CoderError::Frontend(_)))) => Err(RoundTripError::OutOfData(
+            taken,
+        )),
+        Err(_) => Err(RoundTripError::Refused),
+    }
+}
+
+/// Symbols that are put back, each by a model of its own, the last one first: an encode of each, one after the other.
+///
+/// # Errors
+///
+/// Those of [`encode_list_reverse`].
+pub fn encode_pairs_reverse<
+    Word: WordOf<State>,
+    State: BitArray,
+    C: WriteWords<Word>,
+    R: ReadWords<Word, Stack>,
+    M: EncoderModel<PRECISION>,
+    const PRECISION: usize,
+>(
+    coder: &mut ChainCoder<Word, State, C, R, PRECISION>,
+    symbols: &[M::Symbol],
+    models: &[M],
+) -> Result<(), EncoderError<C::WriteError, R::ReadError>>
+where
+    M::Probability: WordOf<Word>,
+    requires { length symbols.now ≡ length models.now }
+    ensures encoded { R.is_list → OnOk result (PutsBackAll Word.BITS State.BITS
+        (reverse (pairs_of PRECISION M.table symbols.now models.now)) coder.old.state coder.new.state) }
+    ensures err { R.is_list → IfErr result (λ e. NotEncoded Word.BITS State.BITS
+        (reverse (pairs_of PRECISION M.table symbols.now models.now)) coder.old.state e coder.new.state) }
+{
+    coder.encode_symbols_reverse(symbols.iter().zip(models.iter()))
+}

@@ -1,0 +1,54 @@
+//! Lists of symbols from any decoder, as vectors, or how many of them came.
+
+ghost use Rattle.std.specs.Prelude.{◌≡◌, length, Ok, IfOk, IfErr};
+ghost use Rattle.std.specs.List.{zip};
+ghost use Rattle.constriction_base.specs.Steps.{InTurn};
+ghost use Rattle.constriction_laws.specs.chain.Endings.{StopsAfterPairs};
+ghost use Rattle.constriction_stream.specs.Symbols.{DecodesByModel};
+
+use constriction_base::errors::CoderError;
+use constriction_base::model::{DecoderModel, EntropyModel};
+use crate::errors::Stopped;
+use constriction_stream::decoding::Decode;
+use constriction_words::WordOf;
+use std::alloc::Global;
+
+/// A symbol for each of the models.
+///
+/// # Errors
+///
+/// As those of [`decode_list_counting`].
+pub fn decode_by_models_counting<C, M, const PRECISION: usize>(
+    alloc: Global,
+    decoder: &mut C,
+    models: &[M],
+) -> Result<
+    Vec<M::Symbol>,
+    (
+        usize,
+        Stopped<CoderError<C::FrontendError, C::BackendError>>,
+    ),
+>
+where
+    C: Decode<PRECISION>,
+    M: DecoderModel<PRECISION>,
+    M::Probability: WordOf<C::Word>,
+    ensures count { IfOk result (λ symbols. length symbols.items ≡ length models.now) }
+    ensures steps { IfOk result (λ symbols. InTurn
+        (λ pair old new. DecodesByModel C.decodes C.halts PRECISION M.table old pair.1 (Ok pair.0) new)
+        (zip symbols.items models.now) decoder.old decoder.new) }
+    ensures err { IfErr result (λ e. StopsAfterPairs C.decodes C.halts PRECISION M.table models.now e.0 decoder.old
+        e.1 decoder.new) }
+{
+    let mut symbols = Vec::new(alloc);
+    'decode: for answer in decoder.decode_symbols(models) {
+        let symbol = match answer {
+            Ok(symbol) => symbol,
+            Err(error) => return Err((symbols.len(), Stopped::Refused(error))),
+        };
+        let Ok(()) = symbols.push(symbol) else {
+            return Err((0, Stopped::NoMemory));
+        };
+    }
+    Ok(symbols)
+}

@@ -1,0 +1,68 @@
+//! Isolation through the calls: where other models replace those of some symbols, all others stay.
+
+ghost use Rattle.std.specs.Prelude.{◌≡◌, ◌⊎◌, length, IfErr, IfOk};
+ghost use Rattle.constriction_base.specs.Models.{pairs_of};
+ghost use Rattle.constriction_chain.specs.Runs.{AreIsolated};
+ghost use Rattle.constriction_chain.specs.Symbols.{TakesOffAll};
+ghost use Rattle.constriction_laws.specs.chain.Endings.{EndsEarly, UnlessEnded};
+ghost use Rattle.constriction_laws.specs.chain.Isolating.{decodings_by};
+
+use crate::chain::isolation::symbols_are_isolated;
+use crate::chain::round_trips::coding::decode_pairs;
+use constriction_base::backends::{Holds, ReadWords, Stack, WriteWords};
+use constriction_base::model::{DecoderModel, EntropyModel};
+use constriction_chain::ChainCoder;
+use crate::errors::RoundTripError;
+use constriction_stream::decoding::Decode;
+use constriction_words::{BitArray, WordOf};
+use std::alloc::Global;
+
+/// Symbols of two coders over the same words, by a list of models each, which may be of two types: as far as both get,
+/// wherever the tables at a place are equal, so are the symbols there, whatever the other tables are.
+///
+/// # Errors
+///
+/// `OutOfData(count)` after so many symbols of one of the coders, where it needs a word and none is left, and
+/// `Refused`, which tells nothing.
+pub fn decode_by_two<
+    Word: WordOf<State>,
+    State: BitArray,
+    C: ReadWords<Word, Stack>,
+    R: WriteWords<Word>,
+    M: DecoderModel<PRECISION>,
+    L: DecoderModel<PRECISION, Symbol = M::Symbol>,
+    const PRECISION: usize,
+>(
+    alloc: Global,
+    coder: &mut ChainCoder<Word, State, C, R, PRECISION>,
+    models: &[M],
+    same: &mut ChainCoder<Word, State, C, R, PRECISION>,
+    others: &[L],
+) -> Result<(Vec<M::Symbol>, Vec<M::Symbol>), RoundTripError>
+where
+    M::Probability: WordOf<Word>,
+    L::Probability: WordOf<Word>,
+    M::Symbol: Drop,
+    C::ReadError: Drop,
+    R::WriteError: Drop,
+    ensures count { IfOk result (λ both. (length both.0.items ≡ length models.now)
+        × (length both.1.items ≡ length others.now)) }
+    ensures first { C.is_list → IfOk result (λ both. TakesOffAll Word.BITS State.BITS
+        (pairs_of PRECISION M.table both.0.items models.now) coder.old.state coder.new.state) }
+    ensures other { C.is_list → IfOk result (λ both. TakesOffAll Word.BITS State.BITS
+        (pairs_of PRECISION L.table both.1.items others.now) same.old.state same.new.state) }
+    ensures isolated { C.is_list → coder.old.state.h ≡ same.old.state.h →
+        coder.old.state.compressed ≡ same.old.state.compressed →
+        IfOk result (λ both. AreIsolated (decodings_by PRECISION M.table both.0.items models.now)
+        (decodings_by PRECISION L.table both.1.items others.now)) }
+    ensures err { IfErr result (UnlessEnded (λ taken.
+        EndsEarly C.is_list Word.BITS State.BITS PRECISION (λ given. pairs_of PRECISION M.table given models.now)
+        (length models.now) coder.old.state taken coder.new.state
+        ⊎ EndsEarly C.is_list Word.BITS State.BITS PRECISION (λ given. pairs_of PRECISION L.table given others.now)
+        (length others.now) same.old.state taken same.new.state)) }
+{
+    let one = decode_pairs(alloc, coder, models)?;
+    let two = decode_pairs(alloc, same, others)?;
+    symbols_are_isolated::<M::Symbol>();
+    Ok((one, two))
+}

@@ -1,0 +1,113 @@
+//! The two halves of the way of words there and back: what `words_come_back` says of their states is the rest.
+
+ghost use Rattle.std.specs.Prelude.{◌≡◌, ◌<◌, ◌++◌, ℕ, List, length, map, reverse, IfErr, IfOk};
+ghost use Rattle.constriction_base.specs.Models.{pairs_of};
+ghost use Rattle.constriction_chain.specs.Chain.{ChainState, IsSized};
+ghost use Rattle.constriction_chain.specs.Imports.{FromRemainders, IsWhole};
+ghost use Rattle.constriction_chain.specs.Symbols.{TakesOffAll, PutsBackAll};
+ghost use Rattle.constriction_chain.specs.Words.{remainder_words};
+ghost use Rattle.constriction_laws.specs.chain.Endings.{ComesBackOver, Ended, NotPutBack, UnlessEnded};
+
+use crate::chain::errors::PutBackError;
+use crate::chain::round_trips::coding::{decode_pairs, encode_pairs_reverse};
+use constriction_base::backends::Holds;
+use constriction_base::errors::CoderError;
+use constriction_base::model::{DecoderModel, EncoderModel, EntropyModel};
+use constriction_chain::{ChainCoder, EncoderFrontendError};
+use crate::errors::RoundTripError;
+use constriction_words::{BitArray, WordOf};
+use std::alloc::Global;
+
+/// A symbol that is taken out of a coder for each of the models, and its words then: those that are left of the
+/// compressed ones, and the remainders with both heads.
+///
+/// # Errors
+///
+/// Those of [`take_symbols`].
+pub fn take_pairs<
+    Word: WordOf<State>,
+    State: BitArray,
+    M: DecoderModel<PRECISION>,
+    const PRECISION: usize,
+>(
+    alloc: Global,
+    coder: ChainCoder<Word, State, Vec<Word>, Vec<Word>, PRECISION>,
+    models: &[M],
+) -> Result<(Vec<M::Symbol>, Vec<Word>, Vec<Word>), RoundTripError>
+where
+    M::Probability: WordOf<Word>,
+    M::Symbol: Drop,
+    ensures count { IfOk result (λ taken. length taken.0.items ≡ length models.now) }
+    ensures words { IfOk result (λ taken. (after : ChainState)
+        × TakesOffAll Word.BITS State.BITS (pairs_of PRECISION M.table taken.0.items models.now) coder.state after
+        × (map Word.number (reverse taken.1.items) ≡ after.compressed)
+        × (map Word.number (reverse taken.2.items) ≡ remainder_words Word.BITS after)) }
+    ensures err { IfErr result (UnlessEnded (λ taken. (taken < length models.now) × (after : ChainState)
+        × Ended Word.BITS State.BITS PRECISION
+        (λ given. pairs_of PRECISION M.table given models.now) taken coder.state after)) }
+{
+    let mut coder = coder;
+    let symbols = decode_pairs(alloc, &mut coder, models)?;
+    match coder.into_remainders() {
+        Ok((prefix, suffix)) => Ok((symbols, prefix, suffix)),
+        Err(_) => Err(RoundTripError::Refused),
+    }
+}
+
+/// The coder of remainders with symbols put back, each by its own model and the last one first. There have to be as
+/// many models as symbols.
+///
+/// # Errors
+///
+/// Each case of [`PutBackError`]. All but `NoMemory` come for no other reason than they tell.
+pub fn put_back_pairs<
+    Word: WordOf<State>,
+    State: BitArray,
+    M: EncoderModel<PRECISION>,
+    const PRECISION: usize,
+>(
+    alloc: Global,
+    remainders: Vec<Word>,
+    symbols: &[M::Symbol],
+    models: &[M],
+) -> Result<ChainCoder<Word, State, Vec<Word>, Vec<Word>, PRECISION>, PutBackError>
+where
+    M::Probability: WordOf<Word>,
+    requires { IsSized Word.BITS State.BITS PRECISION }
+    ensures encoded { IfOk result (λ coder. (before : ChainState)
+        × FromRemainders Word.BITS State.BITS PRECISION (map Word.number (reverse remainders.items)) before
+        × PutsBackAll Word.BITS State.BITS (reverse (pairs_of PRECISION M.table symbols.now models.now)) before
+        coder.state) }
+    ensures back { (x after : ChainState) (below : List ℕ) → IsWhole Word.BITS State.BITS PRECISION x →
+        TakesOffAll Word.BITS State.BITS (pairs_of PRECISION M.table symbols.now models.now) x after →
+        map Word.number (reverse remainders.items) ≡ remainder_words Word.BITS after ++ below →
+        IfOk result (λ coder. ComesBackOver x below after.compressed coder.state) }
+    ensures err { IfErr result (NotPutBack Word.BITS State.BITS PRECISION (map Word.number (reverse remainders.items))
+        (reverse (pairs_of PRECISION M.table symbols.now models.now)) (length symbols.now ≡ length models.now → ⊥)) }
+{
+    if symbols.len() != models.len() {
+        return Err(PutBackError::UnequalCounts);
+    }
+    let mut coder = match ChainCoder::<
+        Word,
+        State,
+        Vec<Word>,
+        Vec<Word>,
+        PRECISION,
+    >::from_remainders(alloc, remainders)
+    {
+        Ok(coder) => coder,
+        Err(CoderError::Frontend(_)) => return Err(PutBackError::InvalidRemainders),
+        Err(CoderError::Backend(never)) => match never {},
+    };
+    match encode_pairs_reverse(&mut coder, symbols, models) {
+        Ok(()) => Ok(coder),
+        Err(CoderError::Frontend(EncoderFrontendError::ImpossibleSymbol)) => {
+            Err(PutBackError::ImpossibleSymbol)
+        }
+        Err(CoderError::Frontend(EncoderFrontendError::OutOfRemainders)) => {
+            Err(PutBackError::OutOfRemainders)
+        }
+        Err(CoderError::Backend(_)) => Err(PutBackError::NoMemory),
+    }
+}

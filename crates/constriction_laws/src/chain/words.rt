@@ -1,0 +1,48 @@
+//! Words that come back from the symbols that are decoded from them, by way of the remainders.
+
+ghost use Rattle.std.specs.Prelude.{◌≡◌, ◌≤◌, ℕ, List, reverse, ◌++◌};
+ghost use Rattle.constriction_base.specs.Models.{Item};
+ghost use Rattle.constriction_base.specs.Steps.{AreWords};
+ghost use Rattle.constriction_chain.specs.Chain.{ChainState, IsSized};
+ghost use Rattle.constriction_laws.specs.chain.Endings.{BeginInBinary};
+ghost use Rattle.constriction_chain.specs.Imports.{FromBinary, FromCompressed, FromRemainders, IsWhole};
+ghost use Rattle.constriction_chain.specs.Imports.{compressed_words};
+ghost use Rattle.constriction_chain.specs.Symbols.{AreModelsAt, TakesOffAll, PutsBackAll};
+ghost use Rattle.constriction_base.specs.Writing.{IsOneAbove};
+ghost use Rattle.constriction_chain.specs.Words.{remainder_words};
+
+/// Words stand for one coder, as compressed words, in binary form, and as remainders; and of one number there is one
+/// binary form.
+pub fn one_coder()
+    ensures compressed { (w s P : ℕ) (words : List ℕ) (x y : ChainState) → 1 ≤ w →
+        FromCompressed w s P words x → FromCompressed w s P words y → x ≡ y }
+    ensures binary { (w s P : ℕ) (words : List ℕ) (x y : ChainState) → IsSized w s P →
+        FromBinary w s P words x → FromBinary w s P words y → x ≡ y }
+    ensures remainders { (w s P : ℕ) (words : List ℕ) (x y : ChainState) → 1 ≤ w →
+        FromRemainders w s P words x → FromRemainders w s P words y → x ≡ y }
+    ensures form { (w m n r : ℕ) → 1 ≤ w → IsOneAbove w m r → IsOneAbove w n r → m ≡ n }
+{}
+
+/// Words come back from the symbols that are decoded from them.
+///
+/// Import the words; decode any symbols; export the remainders, and put other words below them, or none:
+/// the compressed words that are left, say. Import these; encode the same symbols, the last one first and
+/// under the same tables; export. The exported words, and behind them the compressed words that were left,
+/// are the words; and the other words are left of the remainders.
+pub fn words_come_back<Symbol>()
+    ensures encoded { (w s P : ℕ) (below : List ℕ) (items : List (Item Symbol)) (x y : ChainState) →
+        IsSized w s P → AreModelsAt P items → AreWords w below → IsWhole w s P x → TakesOffAll w s items x y →
+        (z last : ChainState) × FromRemainders w s P (remainder_words w y ++ below) z
+        × PutsBackAll w s (reverse items) z last }
+    ensures compressed { (w s P : ℕ) (words below : List ℕ) (items : List (Item Symbol)) (x y z last : ChainState) →
+        IsSized w s P → AreModelsAt P items →
+        FromCompressed w s P words x → TakesOffAll w s items x y →
+        FromRemainders w s P (remainder_words w y ++ below) z → PutsBackAll w s (reverse items) z last →
+        (last.h ≡ 1) × (last.remainders ≡ below) × (words ≡ compressed_words w last ++ y.compressed) }
+    ensures binary { (w s P : ℕ) (words below : List ℕ) (items : List (Item Symbol)) (x y z last : ChainState) →
+        IsSized w s P → AreModelsAt P items →
+        FromBinary w s P words x → TakesOffAll w s items x y →
+        FromRemainders w s P (remainder_words w y ++ below) z → PutsBackAll w s (reverse items) z last →
+        (last.h ≡ 1) × (last.remainders ≡ below)
+        × BeginInBinary w words last y.compressed }
+{}

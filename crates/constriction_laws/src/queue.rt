@@ -1,0 +1,21 @@
+//! Laws of the range coder.
+//!
+//! - [`words`]: what sealed words are read as, and which words are read as a list of steps.
+//! - [`lists`]: lists of symbols come back from the sealed words, the first one first.
+//! - [`positions`]: a recorded position leads to the symbols that were encoded after it.
+//! - [`following`]: words that hold whatever follows them.
+//! - [`concatenated`]: lists in words that stand one behind the other, each decoded from its place.
+//! - [`flagged`]: symbols under two models in one stream, which change behind a flag.
+//! - [`guards`]: the words that a guard shows are those of the export, and go again.
+//! - [`refusals`]: when a step isn't refused.
+//! - [`round_trips`]: whole lists there and back, by the coder's own calls.
+
+pub mod concatenated;
+pub mod flagged;
+pub mod following;
+pub mod guards;
+pub mod lists;
+pub mod positions;
+pub mod refusals;
+pub mod round_trips;
+pub mod words;

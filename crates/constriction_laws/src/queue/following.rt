@@ -1,0 +1,50 @@
+//! Words that hold whatever follows them, for states of any number of words.
+
+ghost use Rattle.std.specs.Prelude.{◌≡◌, ◌/◌, ◌<◌, ◌++◌, ◌∷◌, ℕ, List};
+ghost use Rattle.constriction_base.specs.Models.{Item, AreModels};
+ghost use Rattle.constriction_base.specs.Steps.{Step, IsSizes, AreSteps, AreWords};
+ghost use Rattle.constriction_queue.specs.Range.{Run, ReadAs, run, sealed, initial};
+ghost use Rattle.constriction_queue.specs.SelfDelimiting.{AreLeast, SelfDelimits, sealed_with_zeros};
+ghost use Rattle.constriction_queue.specs.Symbols.{NarrowsAll, FindsAll, MayEnd};
+
+use crate::queue::lists::decodes_undo_encodes;
+
+/// What the words are: one list for each run, of words; where a state is two words it is that of the sealed words;
+/// and reading them ends where the symbols do.
+pub fn self_delimiting_words<Symbol>()
+    ensures one { (w s : ℕ) (last : Run) (words others : List ℕ) → SelfDelimits w s last words →
+        SelfDelimits w s last others → others ≡ words }
+    ensures words { (w s : ℕ) (last : Run) (words : List ℕ) → SelfDelimits w s last words → AreWords w words }
+    ensures two_words { (w s : ℕ) (items : List (Item Symbol)) (last : Run) (words : List ℕ) → IsSizes w s → s / w ≡ 2 →
+        AreModels w items → NarrowsAll w s items (initial s) last → SelfDelimits w s last words →
+        words ≡ sealed w s last }
+    ensures exhausted { (w s : ℕ) (items : List (Item Symbol)) (last : Run) (words : List ℕ) → IsSizes w s →
+        AreModels w items → NarrowsAll w s items (initial s) last → SelfDelimits w s last words →
+        MayEnd w s words last }
+{}
+
+/// The words are read as the steps that they were made of, whatever words follow.
+pub fn self_delimiting_words_are_read()
+    ensures { (w s : ℕ) (steps : List Step) (words rest : List ℕ) → IsSizes w s → AreSteps w steps → AreWords w rest →
+        SelfDelimits w s (run w s steps (initial s)) words → ReadAs w s (words ++ rest) steps (initial s) }
+{}
+
+/// Symbols that a new encoder was given, all of them or those since a position, come back from the words, whatever
+/// words follow.
+pub fn symbols_come_back_whatever_follows<Symbol>()
+    ensures { (w s : ℕ) (before since : List (Item Symbol)) (middle last : Run) (words rest : List ℕ) → IsSizes w s →
+        AreModels w before → AreModels w since → AreWords w rest →
+        NarrowsAll w s before (initial s) middle → NarrowsAll w s since middle last → SelfDelimits w s last words →
+        FindsAll w s (words ++ rest) since middle last }
+{
+    decodes_undo_encodes::<Symbol>()
+}
+
+/// With fewer zero words behind the digits there are words that may not follow: the symbols don't come back.
+pub fn fewer_zero_words_hold_less<Symbol>()
+    ensures { (w s count fewer : ℕ) (first : Item Symbol) (others : List (Item Symbol)) (last : Run) → IsSizes w s →
+        AreModels w (first ∷ others) → NarrowsAll w s (first ∷ others) (initial s) last →
+        AreLeast w s last count → fewer < count →
+        (rest : List ℕ) × AreWords w rest × ((end : Run) →
+        FindsAll w s (sealed_with_zeros w s last fewer ++ rest) (first ∷ others) (initial s) end → ⊥) }
+{}

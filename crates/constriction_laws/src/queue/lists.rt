@@ -1,0 +1,95 @@
+//! Lists of symbols on the range coder: they come back, the first one first.
+//!
+//! Each symbol has its own table and precision, as long as the precision is allowed. What is proved of one
+//! step is enough: the laws here follow by [`lists_undo`], where encodes are taken back from the last to the
+//! first.
+
+ghost use Rattle.std.specs.Prelude.{◌≡◌, ◌↔◌, ◌∷◌, ℕ, List};
+ghost use Rattle.constriction_base.specs.Models.{Item, IsModel, models, AreModels, AreKnown};
+ghost use Rattle.constriction_base.specs.Steps.{IsSizes, AreWords};
+ghost use Rattle.constriction_queue.specs.Range.{Run, IsInterval, Within, sealed, initial};
+ghost use Rattle.constriction_queue.specs.Symbols.{Finds, NarrowsAll, FindsAll, MayEnd};
+ghost use Rattle.constriction_laws.specs.queue.Undone.{Reading, TakesBack, read_back};
+
+use crate::lists::{StepsUndo, lists_undo};
+use std::marker::PhantomData;
+
+/// Encodes of symbols, taken back from the last one, which decodes undo.
+pub struct Encoding<Symbol> {
+    symbols: PhantomData<Symbol>,
+}
+
+impl<Symbol> StepsUndo for Encoding<Symbol> {
+    ghost setting = { Reading };
+
+    ghost step = { Item Symbol };
+
+    ghost state = { Run };
+
+    ghost allowed = { λ g item. IsModel g.w item.model };
+
+    ghost valid = { λ g r. Within g.w g.s g.words r };
+
+    ghost does = { λ g item new old. TakesBack g.w g.s item new old };
+
+    ghost undoes = { λ g item old new. Finds g.w g.s g.words item.model item.symbol old new };
+
+    ghost one_undone = { λ g item new old allowed valid does. read_back g item new old allowed valid does };
+}
+
+/// Symbols that their tables know are encoded on each run in exactly one way.
+pub fn one_list_of_encodes<Symbol>()
+    ensures exists { (w s : ℕ) (items : List (Item Symbol)) (old : Run) → AreKnown items →
+        (new : Run) × NarrowsAll w s items old new }
+    ensures unique { (w s : ℕ) (items : List (Item Symbol)) (old new other : Run) → AreModels w items →
+        NarrowsAll w s items old new → NarrowsAll w s items old other → new ≡ other }
+    ensures interval { (w s : ℕ) (items : List (Item Symbol)) (old new : Run) → IsSizes w s →
+        AreModels w items → IsInterval w s old →
+        NarrowsAll w s items old new → IsInterval w s new }
+{}
+
+/// Words that lie within the run at the end of encodes are decoded as their symbols, and as nothing else.
+pub fn decodes_undo_encodes<Symbol>()
+    ensures back { (w s : ℕ) (words : List ℕ) (items : List (Item Symbol)) (old new : Run) → IsSizes w s →
+        AreWords w words → AreModels w items → IsInterval w s old →
+        NarrowsAll w s items old new → Within w s words new →
+        FindsAll w s words items old new }
+    ensures only { (w s : ℕ) (words : List ℕ) (items others : List (Item Symbol)) (old new last : Run) →
+        AreModels w items →
+        FindsAll w s words items old new → FindsAll w s words others old last → models others ≡ models items →
+        (others ≡ items) × (last ≡ new) }
+    ensures within { (w s : ℕ) (words : List ℕ) (items : List (Item Symbol)) (old new : Run) → IsSizes w s →
+        AreWords w words → AreModels w items → IsInterval w s old →
+        NarrowsAll w s items old new → Within w s words new → Within w s words old }
+{
+    lists_undo::<Encoding<Symbol>>()
+}
+
+/// A decoder over any words gives a list of symbols that isn't empty exactly if the words lie within the run
+/// at its end.
+pub fn symbols_of_any_words<Symbol>()
+    ensures { (w s : ℕ) (words : List ℕ) (first : Item Symbol) (others : List (Item Symbol)) (last : Run) →
+        IsSizes w s → AreWords w words → AreModels w (first ∷ others) →
+        NarrowsAll w s (first ∷ others) (initial s) last →
+        (FindsAll w s words (first ∷ others) (initial s) last ↔ Within w s words last) }
+{
+    decodes_undo_encodes::<Symbol>()
+}
+
+/// Symbols that are encoded by a new encoder come back from its sealed words, the first one first.
+///
+/// Encode any symbols, each under its own table; seal; decode from these words, followed by nothing, with the
+/// same tables in the same order. The symbols are the same, the run is the encoder's, and the decoder is
+/// exhausted.
+pub fn symbols_come_back<Symbol>()
+    ensures decoded { (w s : ℕ) (items : List (Item Symbol)) (last : Run) → IsSizes w s → AreModels w items →
+        NarrowsAll w s items (initial s) last → FindsAll w s (sealed w s last) items (initial s) last }
+    ensures only { (w s : ℕ) (items others : List (Item Symbol)) (last end : Run) → IsSizes w s →
+        AreModels w items → NarrowsAll w s items (initial s) last →
+        FindsAll w s (sealed w s last) others (initial s) end → models others ≡ models items →
+        (others ≡ items) × (end ≡ last) }
+    ensures exhausted { (w s : ℕ) (items : List (Item Symbol)) (last : Run) → IsSizes w s → AreModels w items →
+        NarrowsAll w s items (initial s) last → MayEnd w s (sealed w s last) last }
+{
+    decodes_undo_encodes::<Symbol>()
+}

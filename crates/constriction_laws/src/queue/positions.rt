@@ -1,0 +1,55 @@
+//! Positions of the range coder, which lead to the moment of reading at which they were recorded.
+//!
+//! A position is the number of words that were written and held, and the interval. Whatever is encoded since,
+//! the words that are exported later have that moment in them, though a carry may have changed the words held.
+
+ghost use Rattle.std.specs.Prelude.{◌≡◌, ◌/◌, ◌^◌, ℕ, List, drop};
+ghost use Rattle.constriction_base.specs.Models.{Item, models, AreModels};
+ghost use Rattle.constriction_base.specs.Steps.{IsSizes, AreWords};
+ghost use Rattle.constriction_queue.specs.Encoder.{run_by};
+ghost use Rattle.constriction_queue.specs.Range.{Run, IsAt, IsInterval, number_of_first, sealed, initial};
+ghost use Rattle.constriction_queue.specs.States.{IsPosition};
+ghost use Rattle.constriction_queue.specs.Symbols.{NarrowsAll, FindsAll};
+
+use crate::queue::lists::decodes_undo_encodes;
+use constriction_base::backends::{Holds, WriteWords};
+use constriction_queue::RangeEncoder;
+use constriction_words::{BitArray, WordOf};
+
+/// A decoder that goes to the position of a run, and reads as many words there as a state has, stands at that
+/// moment of reading.
+pub fn position_leads_there()
+    ensures { (w s : ℕ) (words rest : List ℕ) (there : Run) (place lower range point : ℕ) → IsSizes w s →
+        AreWords w words → IsPosition s there place lower range →
+        point ≡ number_of_first (2 ^ w) (s / w) (drop place words) → rest ≡ drop (s / w) (drop place words) →
+        IsAt w s words there lower range point rest }
+{}
+
+/// A decoder that seeks to a recorded position gives the symbols that were encoded after it, over the words
+/// that the encoder exported later, if it wasn't cleared in between. So it does from any interval on.
+pub fn symbols_after_a_position<Symbol>()
+    ensures decoded { (w s : ℕ) (before since : List (Item Symbol)) (middle last : Run) → IsSizes w s →
+        AreModels w before → AreModels w since →
+        NarrowsAll w s before (initial s) middle → NarrowsAll w s since middle last →
+        FindsAll w s (sealed w s last) since middle last }
+    ensures only { (w s : ℕ) (before since others : List (Item Symbol)) (middle last end : Run) → IsSizes w s →
+        AreModels w before → AreModels w since →
+        NarrowsAll w s before (initial s) middle → NarrowsAll w s since middle last →
+        FindsAll w s (sealed w s last) others middle end → models others ≡ models since →
+        (others ≡ since) × (end ≡ last) }
+    ensures anywhere { (w s : ℕ) (since : List (Item Symbol)) (middle last : Run) → IsSizes w s → AreModels w since →
+        IsInterval w s middle → NarrowsAll w s since middle last →
+        FindsAll w s (sealed w s last) since middle last }
+{
+    decodes_undo_encodes::<Symbol>()
+}
+
+/// The run of any encoder is an interval, whatever words were written before: so what is encoded there comes back
+/// from there.
+pub fn run_of_any_encoder<Word: WordOf<State>, State: BitArray, Backend: WriteWords<Word>>(
+    encoder: &RangeEncoder<Word, State, Backend>,
+)
+    ensures { IsInterval Word.BITS State.BITS (run_by Word.BITS State.BITS encoder.now) }
+{
+    let _ = encoder.bulk();
+}

@@ -1,0 +1,17 @@
+//! When a step of the range coder isn't refused.
+
+ghost use Rattle.std.specs.Prelude.{◌+◌, ◌≤◌, length};
+ghost use Rattle.constriction_base.specs.Steps.{Step};
+ghost use Rattle.constriction_queue.specs.Encoder.{Encoder};
+ghost use Rattle.constriction_queue.specs.Calls.{IsRefused};
+
+use constriction_base::backends::{Holds, WriteWords};
+use constriction_words::{BitArray, WordOf};
+
+/// A backend refuses no step where it has room for one word more than are held, as a cursor that is long
+/// enough.
+pub fn room_is_enough<Word: WordOf<State>, State: BitArray, Backend: WriteWords<Word>>()
+    ensures { (old : Encoder Backend) (step : Step) (e : Backend.WriteError) (new : Encoder Backend) →
+        length old.held + 1 ≤ Backend.room old.bulk →
+        IsRefused Word.number Backend.Holds Backend.WriteWords.own Word.BITS State.BITS old step e new → ⊥ }
+{}

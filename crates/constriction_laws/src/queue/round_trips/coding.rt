@@ -1,0 +1,119 @@
+//! List calls of the range coder, said in the words of the laws: which runs they lead to.
+
+ghost use Rattle.std.specs.Prelude.{◌≡◌, ◌↔◌, ◌+◌, ◌<◌, ◌≤◌, ℕ, List, length, IfOk, IfErr, IsTrue};
+ghost use Rattle.constriction_base.specs.Models.{pairs_of};
+ghost use Rattle.constriction_laws.specs.Outcomes.{HasImpossibleItem};
+ghost use Rattle.constriction_queue.specs.Decoder.{MayBeExhausted, StandsAt};
+ghost use Rattle.constriction_queue.specs.Encoder.{left_to_encode, run_by};
+ghost use Rattle.constriction_queue.specs.Range.{Run};
+ghost use Rattle.constriction_laws.specs.queue.Outcomes.{GivesNone, NotCoded, NotRead, ReadTo};
+ghost use Rattle.constriction_queue.specs.Symbols.{NarrowsAll, FindsAll, MayEnd};
+
+use constriction_base::backends::{BoundedReadWords, Holds, Queue, ReadWords, WriteWords};
+use constriction_base::errors::CoderError;
+use constriction_base::model::{DecoderModel, EncoderModel, EntropyModel};
+use crate::errors::{RoundTripError, Stopped};
+use crate::round_trips as any_coder;
+use constriction_queue::{RangeDecoder, RangeEncoder};
+use constriction_stream::decoding::Decode;
+use constriction_stream::encoding::Encode;
+use constriction_words::{BitArray, WordOf};
+use std::alloc::Global;
+
+/// Symbols that are put behind the others, each by a model of its own.
+///
+/// It leads to the run of an encode of each of them, one after the other.
+///
+/// # Errors
+/// - `ImpossibleSymbol`: a model has no entry for its symbol. The symbols before it are coded.
+/// - `TooManySymbols`: the encoder doesn't count so many more symbols. None is coded.
+/// - `Refused`: the backend refused a word. The symbols before it are coded.
+pub fn encode_pairs<
+    Word: WordOf<State>,
+    State: BitArray,
+    Backend: WriteWords<Word>,
+    M: EncoderModel<PRECISION>,
+    const PRECISION: usize,
+>(
+    encoder: &mut RangeEncoder<Word, State, Backend>,
+    symbols: &[M::Symbol],
+    models: &[M],
+) -> Result<(), RoundTripError>
+where
+    M::Probability: WordOf<Word>,
+    Backend::WriteError: Drop,
+    requires { length symbols.now ≡ length models.now }
+    ensures narrowed { IfOk result (λ _. NarrowsAll Word.BITS State.BITS
+        (pairs_of PRECISION M.table symbols.now models.now)
+        (run_by Word.BITS State.BITS encoder.old) (run_by Word.BITS State.BITS encoder.new)) }
+    ensures fewer_left { left_to_encode encoder.old ≤ left_to_encode encoder.new + length symbols.now }
+    ensures err { IfErr result (NotCoded (HasImpossibleItem (pairs_of PRECISION M.table symbols.now models.now))
+        (left_to_encode encoder.old < length symbols.now)) }
+{
+    if Encode::<PRECISION>::symbols_left(encoder) < symbols.len() {
+        return Err(RoundTripError::TooManySymbols);
+    }
+    match Encode::<PRECISION>::encode_symbols(encoder, symbols.iter().zip(models.iter())) {
+        Ok(()) => Ok(()),
+        Err(CoderError::Frontend(_)) => Err(RoundTripError::ImpossibleSymbol),
+        Err(CoderError::Backend(_)) => Err(RoundTripError::Refused),
+    }
+}
+
+/// A symbol that is taken for each of the models.
+///
+/// From where the decoder stands it leads to the run of a decode of each symbol, one after the other. Where
+/// these words are those of as many symbols under these models, the symbols come back, the first one first.
+///
+/// # Errors
+/// - `InvalidData`: the words hold no list of symbols of the models from there on.
+/// - `Refused`: a read or memory was refused.
+pub fn decode_pairs<
+    Word: WordOf<State>,
+    State: BitArray,
+    Backend: ReadWords<Word, Queue>,
+    M: DecoderModel<PRECISION>,
+    const PRECISION: usize,
+>(
+    alloc: Global,
+    decoder: &mut RangeDecoder<Word, State, Backend>,
+    models: &[M],
+) -> Result<Vec<M::Symbol>, RoundTripError>
+where
+    M::Probability: WordOf<Word>,
+    Backend::ReadError: Drop,
+    ensures count { IfOk result (λ again. length again.items ≡ length models.now) }
+    ensures decoded { Backend.is_list → (words : List ℕ) (old : Run) →
+        StandsAt Word.BITS State.BITS words old decoder.old →
+        IfOk result (λ again. ReadTo Word.BITS State.BITS words
+        (pairs_of PRECISION M.table again.items models.now) old decoder.new) }
+    ensures back { Backend.is_list → (words : List ℕ) (symbols : List M.Symbol) (old last : Run) →
+        StandsAt Word.BITS State.BITS words old decoder.old →
+        FindsAll Word.BITS State.BITS words (pairs_of PRECISION M.table symbols models.now) old last →
+        length symbols ≡ length models.now →
+        IfOk result (λ again. (again.items ≡ symbols) × StandsAt Word.BITS State.BITS words last decoder.new) }
+    ensures err { IfErr result (NotRead (GivesNone Backend.is_list Word.BITS State.BITS
+        (λ symbols. pairs_of PRECISION M.table symbols models.now) (length models.now) decoder.old)) }
+{
+    match any_coder::decode_by_models::<_, _, PRECISION>(alloc, decoder, models) {
+        Ok(again) => Ok(again),
+        Err(Stopped::Refused(CoderError::Frontend(_))) => Err(RoundTripError::InvalidData),
+        Err(Stopped::Refused(CoderError::Backend(_))) => Err(RoundTripError::Refused),
+        Err(Stopped::NoMemory) => Err(RoundTripError::Refused),
+    }
+}
+
+/// Whether the backend and the decoder say that the words may have ended, as `maybe_exhausted` of the decoder does.
+/// They do, where these may end at the run at which the decoder stands, as those of a seal at the end of its run.
+pub fn has_ended<
+    Word: WordOf<State>,
+    State: BitArray,
+    Backend: BoundedReadWords<Word, Queue>,
+    const PRECISION: usize,
+>(decoder: &RangeDecoder<Word, State, Backend>) -> bool
+    ensures value { IsTrue result ↔ MayBeExhausted Word.BITS State.BITS Backend.seems_exhausted decoder.now }
+    ensures ended { (words : List ℕ) (there : Run) → StandsAt Word.BITS State.BITS words there decoder.now →
+        MayEnd Word.BITS State.BITS words there → IsTrue result }
+{
+    decoder.bulk().maybe_exhausted() && Decode::<PRECISION>::maybe_exhausted(decoder)
+}

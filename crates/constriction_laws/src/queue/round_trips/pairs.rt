@@ -1,0 +1,114 @@
+//! Symbols that have a model each, and come back from the words that an encoder exports.
+//!
+//! [`compressed_words_of_pairs`] says what the words are, [`pairs_from_words`] takes any words and says what is in
+//! them, and [`pairs_through_words`] joins the two.
+
+ghost use Rattle.std.specs.Prelude.{◌≡◌, ◌<◌, ◌/◌, ◌++◌, ℕ, List, length, map, reverse, IfOk, IfErr, IsTrue};
+ghost use Rattle.constriction_base.specs.Models.{pairs_of};
+ghost use Rattle.constriction_base.specs.Steps.{IsSizes};
+ghost use Rattle.constriction_laws.specs.Outcomes.{HasImpossibleItem};
+ghost use Rattle.constriction_queue.specs.Encoder.{left_to_encode, run_by};
+ghost use Rattle.constriction_queue.specs.Range.{Run, initial};
+ghost use Rattle.constriction_laws.specs.queue.Outcomes.{HoldNone, NotCoded};
+ghost use Rattle.constriction_laws.specs.queue.Outcomes.{NotRead, ReadsToEnd, SealsAll};
+ghost use Rattle.constriction_laws.specs.queue.Concatenated.{DelimitsItems};
+ghost use Rattle.constriction_queue.specs.Symbols.{FindsAll};
+
+use crate::bounds::following::symbols_come_back_before_others;
+use crate::queue::following::symbols_come_back_whatever_follows;
+use crate::queue::lists::symbols_come_back;
+use crate::queue::round_trips::coding::{decode_pairs, encode_pairs, has_ended};
+use constriction_base::backends::{BoundedReadWords, Holds, IntoReadWords, Queue, ReadWords, WriteWords};
+use constriction_base::model::{DecoderModel, EncoderModel, EntropyModel};
+use crate::errors::RoundTripError;
+use constriction_queue::{RangeDecoder, RangeEncoder};
+use constriction_words::{BitArray, WordOf};
+use std::alloc::Global;
+
+/// The words that an encoder exports behind these symbols, each by its own model: `encode_symbols`, `into_compressed`.
+///
+/// # Errors
+/// - `ImpossibleSymbol`: a model has no entry for its symbol.
+/// - `TooManySymbols`: they are more than the encoder counts.
+/// - `Refused`: the backend refused a word.
+pub fn compressed_words_of_pairs<
+    Word: WordOf<State>,
+    State: BitArray,
+    Backend: WriteWords<Word> + Drop,
+    M: EncoderModel<PRECISION>,
+    const PRECISION: usize,
+>(
+    encoder: RangeEncoder<Word, State, Backend>,
+    symbols: &[M::Symbol],
+    models: &[M],
+) -> Result<Backend, RoundTripError>
+where
+    M::Probability: WordOf<Word>,
+    Backend::WriteError: Drop,
+    requires { length symbols.now ≡ length models.now }
+    ensures words { IfOk result (λ all. SealsAll Word.BITS State.BITS
+        (pairs_of PRECISION M.table symbols.now models.now)
+        (run_by Word.BITS State.BITS encoder) (reverse (map Word.number (Backend.words all)))) }
+    ensures sizes { IfOk result (λ _. IsSizes Word.BITS State.BITS) }
+    ensures err { IfErr result (NotCoded (HasImpossibleItem (pairs_of PRECISION M.table symbols.now models.now))
+        (left_to_encode encoder < length symbols.now)) }
+{
+    let mut encoder = encoder;
+    encode_pairs(&mut encoder, symbols, models)?;
+    match encoder.into_compressed() {
+        Ok(words) => Ok(words),
+        Err(_) => Err(RoundTripError::Refused),
+    }
+}
+
+/// A symbol for each of the models from any words, by a new decoder, and whether it then says that it may be exhausted:
+/// `from_compressed`, `decode_symbols`, `maybe_exhausted`.
+///
+/// # Errors
+/// - `InvalidData`: the words hold no list of symbols of the models.
+/// - `Refused`: a read or memory was refused.
+pub fn pairs_from_words<
+    Word: WordOf<State>,
+    State: BitArray,
+    Words: IntoReadWords<Word, Queue>,
+    M: DecoderModel<PRECISION>,
+    const PRECISION: usize,
+>(alloc: Global, words: Words, models: &[M]) -> Result<(Vec<M::Symbol>, bool), RoundTripError>
+where
+    M::Probability: WordOf<Word>,
+    Words::IntoReadWords: BoundedReadWords<Word, Queue>,
+    <Words::IntoReadWords as ReadWords<Word, Queue>>::ReadError: Drop,
+    requires { IsSizes Word.BITS State.BITS }
+    ensures count { IfOk result (λ back. length back.0.items ≡ length models.now) }
+    ensures read { IfOk result (λ back. ReadsToEnd Word.BITS State.BITS (map Word.number (Words.words words))
+        (pairs_of PRECISION M.table back.0.items models.now) back.1) }
+    ensures back { (symbols : List M.Symbol) (last : Run) →
+        FindsAll Word.BITS State.BITS (map Word.number (Words.words words))
+        (pairs_of PRECISION M.table symbols models.now) (initial State.BITS) last →
+        length symbols ≡ length models.now → IfOk result (λ back. back.0.items ≡ symbols) }
+    ensures sealed { (symbols : List M.Symbol) → SealsAll Word.BITS State.BITS
+        (pairs_of PRECISION M.table symbols models.now) (initial State.BITS)
+        (map Word.number (Words.words words)) → length symbols ≡ length models.now →
+        IfOk result (λ back. (back.0.items ≡ symbols) × IsTrue back.1) }
+    ensures followed { (symbols : List M.Symbol) (own rest : List ℕ) → State.BITS / Word.BITS ≡ 2 →
+        SealsAll Word.BITS State.BITS (pairs_of PRECISION M.table symbols models.now) (initial State.BITS) own →
+        map Word.number (Words.words words) ≡ own ++ rest → length symbols ≡ length models.now →
+        IfOk result (λ back. back.0.items ≡ symbols) }
+    ensures delimited { (symbols : List M.Symbol) (own rest : List ℕ) →
+        DelimitsItems Word.BITS State.BITS (pairs_of PRECISION M.table symbols models.now) own →
+        map Word.number (Words.words words) ≡ own ++ rest → length symbols ≡ length models.now →
+        IfOk result (λ back. back.0.items ≡ symbols) }
+    ensures err { IfErr result (NotRead (HoldNone Word.BITS State.BITS (map Word.number (Words.words words))
+        (λ symbols. pairs_of PRECISION M.table symbols models.now) (length models.now) (initial State.BITS))) }
+{
+    symbols_come_back::<M::Symbol>();
+    symbols_come_back_before_others::<M::Symbol>();
+    symbols_come_back_whatever_follows::<M::Symbol>();
+    let Ok(mut decoder) = RangeDecoder::<Word, State, Words::IntoReadWords>::from_compressed(words)
+    else {
+        return Err(RoundTripError::Refused);
+    };
+    let again = decode_pairs(alloc, &mut decoder, models)?;
+    let ended = has_ended::<Word, State, Words::IntoReadWords, PRECISION>(&decoder);
+    Ok((again, ended))
+}

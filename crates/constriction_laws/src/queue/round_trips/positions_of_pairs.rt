@@ -1,0 +1,72 @@
+//! Symbols that have a model each, and come back from a recorded position.
+//!
+//! [`words_and_position_of_pairs`] says what was recorded and what the words are, [`pairs_from_position`] takes any
+//! words and any position and says what is there, and [`pairs_after_a_position`] joins the two.
+
+ghost use Rattle.std.specs.Prelude.{◌≡◌, ◌<◌, ◌≤◌, List, length, map, IfOk, IfErr};
+ghost use Rattle.constriction_base.specs.Models.{pairs_of};
+ghost use Rattle.constriction_base.specs.Steps.{IsSizes};
+ghost use Rattle.constriction_queue.specs.Range.{Run};
+ghost use Rattle.constriction_queue.specs.States.{IsPosition, lower_of, range_of};
+ghost use Rattle.constriction_laws.specs.queue.Outcomes.{NoneAt};
+ghost use Rattle.constriction_queue.specs.Symbols.{FindsAll};
+
+use crate::queue::concatenated::DecodeError;
+use crate::queue::round_trips::coding::decode_pairs;
+use constriction_base::backends::{Pos, Seek};
+use constriction_base::cursor::Cursor;
+use constriction_base::model::{DecoderModel, EntropyModel};
+use crate::errors::RoundTripError;
+use constriction_queue::{RangeCoderState, RangeDecoder};
+use constriction_words::{BitArray, WordOf};
+use std::alloc::Global;
+
+/// A symbol for each of the models from a position in words: `from_compressed`, `seek`, `decode_symbols`.
+///
+/// # Errors
+///
+/// Each case of [`DecodeError`]. `NoSuchPlace` and `InvalidData` come for no other reason than they tell.
+pub fn pairs_from_position<
+    Word: WordOf<State>,
+    State: BitArray,
+    M: DecoderModel<PRECISION>,
+    const PRECISION: usize,
+>(
+    alloc: Global,
+    words: Vec<Word>,
+    position: (usize, RangeCoderState<Word, State>),
+    models: &[M],
+) -> Result<Vec<M::Symbol>, DecodeError>
+where
+    M::Probability: WordOf<Word>,
+    requires { IsSizes Word.BITS State.BITS }
+    ensures place { IfOk result (λ _. position.0 ≤ length words.items) }
+    ensures count { IfOk result (λ again. length again.items ≡ length models.now) }
+    ensures read { (there : Run) → IsPosition State.BITS there position.0 (lower_of position.1) (range_of position.1) →
+        IfOk result (λ again. (last : Run) × FindsAll Word.BITS State.BITS (map Word.number words.items)
+        (pairs_of PRECISION M.table again.items models.now) there last) }
+    ensures back { (symbols : List M.Symbol) (there last : Run) →
+        IsPosition State.BITS there position.0 (lower_of position.1) (range_of position.1) →
+        FindsAll Word.BITS State.BITS (map Word.number words.items)
+        (pairs_of PRECISION M.table symbols models.now) there last →
+        length symbols ≡ length models.now → IfOk result (λ again. again.items ≡ symbols) }
+    ensures err { IfErr result (NoneAt Word.BITS State.BITS (map Word.number words.items)
+        (λ symbols. pairs_of PRECISION M.table symbols models.now) (length models.now)
+        position.0 (lower_of position.1) (range_of position.1)) }
+{
+    let mut decoder = match RangeDecoder::<Word, State, Cursor<Word, Vec<Word>>>::from_compressed(
+        words,
+    ) {
+        Ok(decoder) => decoder,
+        Err(never) => match never {},
+    };
+    match decoder.seek(position) {
+        Ok(()) => {}
+        Err(()) => return Err(DecodeError::NoSuchPlace),
+    }
+    match decode_pairs(alloc, &mut decoder, models) {
+        Ok(again) => Ok(again),
+        Err(RoundTripError::InvalidData) => Err(DecodeError::InvalidData),
+        Err(_) => Err(DecodeError::NoMemory),
+    }
+}

@@ -1,0 +1,56 @@
+//! Binary forms of the stack coder's states.
+//!
+//! In binary form any words are allowed, zeros at the top among them: they stand below a leading one
+//! bit of the head, which isn't written.
+
+ghost use Rattle.std.specs.Prelude.{◌≡◌, ◌≤◌, ℕ, List, reverse};
+ghost use Rattle.constriction_base.specs.Steps.{IsSizes, AreWords};
+ghost use Rattle.constriction_stack.specs.Ans.{AnsState, IsValid};
+ghost use Rattle.constriction_base.specs.Writing.{IsOneAbove};
+ghost use Rattle.constriction_stack.specs.Binary.{binary_state, binary_words};
+ghost use Rattle.constriction_base.specs.Models.{Item, AreModels};
+ghost use Rattle.constriction_stack.specs.Symbols.{EncodesAll, DecodesAll};
+
+use crate::stack::lists::encodes_undo_decodes;
+
+/// Any words are imported as a valid state in binary form, whose words they are.
+pub fn binary_export_of_import()
+    ensures words { (w s : ℕ) (words : List ℕ) → IsSizes w s → AreWords w words →
+        (m : ℕ) × IsOneAbove w m (binary_state w s words).head × (binary_words w m (binary_state w s words) ≡ words) }
+    ensures valid { (w s : ℕ) (words : List ℕ) → IsSizes w s → AreWords w words →
+        IsValid w s (binary_state w s words) }
+{}
+
+/// What is imported from the words of a valid state in binary form is that state.
+pub fn binary_import_of_export()
+    ensures state { (w s m : ℕ) (state : AnsState) → IsSizes w s → IsValid w s state →
+        IsOneAbove w m state.head →
+        binary_state w s (binary_words w m state) ≡ state }
+    ensures words { (w s m : ℕ) (state : AnsState) → IsSizes w s → IsValid w s state →
+        AreWords w (binary_words w m state) }
+{}
+
+/// A state has one binary form at most: its head says how many words it holds.
+pub fn one_binary_form()
+    ensures { (w m n : ℕ) (state : AnsState) → 1 ≤ w → IsOneAbove w m state.head → IsOneAbove w n state.head →
+        m ≡ n }
+{}
+
+/// Any words come back from the symbols that are decoded from them.
+///
+/// Import the words in binary form; decode any symbols; encode the same symbols, the last one first
+/// and under the same tables; export in binary form. The words are the same.
+pub fn binary_words_come_back<Symbol>()
+    ensures state { (w s : ℕ) (words : List ℕ) (items : List (Item Symbol)) (state last : AnsState) →
+        IsSizes w s → AreWords w words → AreModels w items →
+        DecodesAll w s items (binary_state w s words) state →
+        EncodesAll w s (reverse items) state last →
+        last ≡ binary_state w s words }
+    ensures words { (w s : ℕ) (words : List ℕ) (items : List (Item Symbol)) (state last : AnsState) →
+        IsSizes w s → AreWords w words → AreModels w items →
+        DecodesAll w s items (binary_state w s words) state →
+        EncodesAll w s (reverse items) state last →
+        (m : ℕ) × IsOneAbove w m last.head × (binary_words w m last ≡ words) }
+{
+    encodes_undo_decodes::<Symbol>()
+}

@@ -1,0 +1,159 @@
+//! Lists of symbols on the stack coder: they come back, the last one first.
+//!
+//! Each symbol has its own table and precision, as long as the precision is allowed. What is proved
+//! of one step is enough: the laws here follow by [`lists_undo`].
+
+ghost use Rattle.std.specs.Prelude.{◌≡◌, ℕ, List, reverse, ⊤};
+ghost use Rattle.constriction_base.specs.Readings.{BeginsHigh};
+ghost use Rattle.constriction_base.specs.Steps.{Step, InTurn, IsSizes, AreSteps, AreWords};
+ghost use Rattle.constriction_stack.specs.Ans.{AnsState, IsValid, IsPush, IsPop, filled, exported, empty};
+ghost use Rattle.constriction_base.specs.Models.{Item, IsModel, models, AreModels, AreKnown};
+ghost use Rattle.constriction_stack.specs.Symbols.{Encodes, Decodes, EncodesAll, DecodesAll};
+ghost use Rattle.constriction_laws.specs.stack.Undone.{Sizes, decode_back, encode_back, decoded_valid};
+
+use crate::lists::{StepsUndo, lists_undo};
+use std::marker::PhantomData;
+
+/// Encodes of symbols, which decodes undo.
+pub struct Encoding<Symbol> {
+    symbols: PhantomData<Symbol>,
+}
+
+impl<Symbol> StepsUndo for Encoding<Symbol> {
+    ghost setting = { Sizes };
+
+    ghost step = { Item Symbol };
+
+    ghost state = { AnsState };
+
+    ghost allowed = { λ sizes item. ⊤ };
+
+    ghost valid = { λ sizes state. ⊤ };
+
+    ghost does = { λ sizes item old new. Encodes sizes.w sizes.s item.model item.symbol old new };
+
+    ghost undoes = { λ sizes item old new. Decodes sizes.w sizes.s item.model item.symbol old new };
+
+    ghost one_undone = { λ sizes item old new allowed valid does.
+        (decode_back sizes.w sizes.s item.model item.symbol old new does, tt) };
+}
+
+/// Decodes of symbols from valid states, which encodes undo.
+pub struct Decoding<Symbol> {
+    symbols: PhantomData<Symbol>,
+}
+
+impl<Symbol> StepsUndo for Decoding<Symbol> {
+    ghost setting = { Sizes };
+
+    ghost step = { Item Symbol };
+
+    ghost state = { AnsState };
+
+    ghost allowed = { λ sizes item. IsModel sizes.w item.model };
+
+    ghost valid = { λ sizes state. IsValid sizes.w sizes.s state };
+
+    ghost does = { λ sizes item old new. Decodes sizes.w sizes.s item.model item.symbol old new };
+
+    ghost undoes = { λ sizes item old new. Encodes sizes.w sizes.s item.model item.symbol old new };
+
+    ghost one_undone = { λ sizes item old new allowed valid does. (
+      encode_back sizes.w sizes.s item.model item.symbol old new valid does,
+      decoded_valid sizes.w sizes.s item.model item.symbol old new sizes.are allowed valid does,
+    ) };
+}
+
+/// Symbols that their tables know can be encoded one after the other onto each valid state, in
+/// exactly one way.
+pub fn one_list_of_encodes<Symbol>()
+    ensures exists { (w s : ℕ) (items : List (Item Symbol)) (old : AnsState) →
+        IsSizes w s → AreModels w items → AreKnown items → IsValid w s old →
+        (new : AnsState) × EncodesAll w s items old new × IsValid w s new }
+    ensures unique { (w s : ℕ) (items : List (Item Symbol)) (old new other : AnsState) →
+        IsSizes w s → AreModels w items →
+        EncodesAll w s items old new → EncodesAll w s items old other → new ≡ other }
+{}
+
+/// Decodes under the same tables in reverse order undo encodes: they give the same symbols, the last
+/// one first, and the state before.
+pub fn decodes_undo_encodes<Symbol>()
+    ensures back { (w s : ℕ) (items : List (Item Symbol)) (old new : AnsState) → IsSizes w s →
+        EncodesAll w s items old new → DecodesAll w s (reverse items) new old }
+    ensures only { (w s : ℕ) (items others : List (Item Symbol)) (old new last : AnsState) →
+        IsSizes w s → AreModels w items →
+        EncodesAll w s items old new → DecodesAll w s others new last →
+        models others ≡ reverse (models items) →
+        (others ≡ reverse items) × (last ≡ old) }
+{
+    lists_undo::<Encoding<Symbol>>()
+}
+
+/// Encodes of the symbols that decodes gave, the last one first and under the same tables, undo the
+/// decodes: they give the valid state before.
+pub fn encodes_undo_decodes<Symbol>()
+    ensures back { (w s : ℕ) (items : List (Item Symbol)) (old new : AnsState) → IsSizes w s →
+        AreModels w items → IsValid w s old →
+        DecodesAll w s items old new → EncodesAll w s (reverse items) new old }
+    ensures only { (w s : ℕ) (items : List (Item Symbol)) (old new last : AnsState) → IsSizes w s →
+        AreModels w items → IsValid w s old →
+        DecodesAll w s items old new → EncodesAll w s (reverse items) new last → last ≡ old }
+    ensures valid { (w s : ℕ) (items : List (Item Symbol)) (old new : AnsState) → IsSizes w s →
+        AreModels w items → IsValid w s old →
+        DecodesAll w s items old new → IsValid w s new }
+{
+    lists_undo::<Decoding<Symbol>>()
+}
+
+/// Symbols that are encoded onto an empty coder come back from the words that it exports.
+///
+/// Encode any symbols, each under its own table; export the words; import them; decode with the same
+/// tables in reverse order. The symbols are the same, the last one first, and the coder is empty.
+pub fn symbols_come_back<Symbol>()
+    ensures encoded { (w s : ℕ) (items : List (Item Symbol)) → IsSizes w s → AreModels w items →
+        AreKnown items →
+        (state : AnsState) × EncodesAll w s items empty state }
+    ensures exported { (w s : ℕ) (items : List (Item Symbol)) (state : AnsState) → IsSizes w s →
+        EncodesAll w s items empty state → BeginsHigh (exported w state) }
+    ensures decoded { (w s : ℕ) (items : List (Item Symbol)) (state : AnsState) → IsSizes w s →
+        EncodesAll w s items empty state →
+        DecodesAll w s (reverse items) (filled w s 0 (exported w state)) empty }
+    ensures only { (w s : ℕ) (items others : List (Item Symbol)) (state last : AnsState) →
+        IsSizes w s → AreModels w items →
+        EncodesAll w s items empty state →
+        DecodesAll w s others (filled w s 0 (exported w state)) last →
+        models others ≡ reverse (models items) →
+        (others ≡ reverse items) × (last ≡ empty) }
+{
+    decodes_undo_encodes::<Symbol>()
+}
+
+/// Words that don't begin with zero, the first to be read first, come back from the symbols that are
+/// decoded from them.
+///
+/// Import the words; decode any symbols; encode the same symbols, the last one first and under the
+/// same tables; export. The words are the same.
+pub fn words_come_back<Symbol>()
+    ensures { (w s : ℕ) (words : List ℕ) (items : List (Item Symbol)) (state last : AnsState) →
+        IsSizes w s → AreWords w words → BeginsHigh words → AreModels w items →
+        DecodesAll w s items (filled w s 0 words) state →
+        EncodesAll w s (reverse items) state last → exported w last ≡ words }
+{
+    encodes_undo_decodes::<Symbol>()
+}
+
+/// Lists of steps undo each other, whatever tables they are of: pops in reverse order undo pushes, and
+/// pushes in reverse order undo pops.
+pub fn lists_of_entries_undo()
+    ensures pushes { (w s : ℕ) (steps : List Step) (old : AnsState) → IsSizes w s →
+        AreSteps w steps → IsValid w s old →
+        (new : AnsState) × InTurn (IsPush w s) steps old new × IsValid w s new }
+    ensures only { (w s : ℕ) (steps : List Step) (old new other : AnsState) → IsSizes w s →
+        AreSteps w steps →
+        InTurn (IsPush w s) steps old new → InTurn (IsPush w s) steps old other → new ≡ other }
+    ensures pops_undo { (w s : ℕ) (steps : List Step) (old new : AnsState) →
+        InTurn (IsPush w s) steps old new → InTurn (IsPop w s) (reverse steps) new old }
+    ensures pushes_undo { (w s : ℕ) (steps : List Step) (old new : AnsState) → IsSizes w s →
+        AreSteps w steps → IsValid w s old →
+        InTurn (IsPop w s) steps old new → InTurn (IsPush w s) (reverse steps) new old }
+{}

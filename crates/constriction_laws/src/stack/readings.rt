@@ -1,0 +1,57 @@
+//! Coders over backends of which reads tell the words, as iterators.
+//!
+//! Such a backend doesn't know its words. Where a function tells the words of each of its states, the
+//! reads take them one by one, and what is decoded by reads is what is decoded from those words.
+
+ghost use Rattle.std.specs.Prelude.{◌≡◌, ℕ, List, reverse};
+ghost use Rattle.constriction_base.specs.Iterators.{FusedRead};
+ghost use Rattle.constriction_base.specs.Steps.{IsSizes};
+ghost use Rattle.constriction_stack.specs.Ans.{AnsValue, empty};
+ghost use Rattle.constriction_laws.specs.Readings.{TellsWords, TellsItems, words_left};
+ghost use Rattle.constriction_laws.specs.stack.Readings.{told, DecodesBy, DecodesAllBy, DecodesFrom, TellsExport};
+ghost use Rattle.constriction_base.specs.Models.{Model, Item, models, AreModels};
+ghost use Rattle.constriction_stack.specs.Symbols.{Decodes, DecodesAll};
+
+use crate::stack::lists::symbols_come_back;
+use crate::stack::words::{imports_are_words, reads_are_words};
+use constriction_base::backends::{ReadWords, Stack};
+use constriction_words::BitArray;
+
+/// Where a function tells the words that an iterator gives, it tells the words of a backend over it:
+/// those, or none once the iterator has ended.
+pub fn items_are_words<Word, ReadError, Iter: Iterator<Item = Result<Word, ReadError>>>()
+    ensures { (words : Iter → List Word) → TellsItems Iter.next_gives words →
+        TellsWords (FusedRead Iter.next_gives) (words_left words) }
+{}
+
+/// Where a function tells the words of each state of a backend, a decode by reads is a decode from those
+/// words, and so are many.
+pub fn decodes_are_words<Symbol, Word: BitArray, Backend: ReadWords<Word, Stack>>()
+    ensures one { (words : Backend → List Word) (w s : ℕ) (model : Model Symbol) (symbol : Symbol)
+        (old new : AnsValue Backend) → TellsWords Backend.reads words →
+        DecodesBy Word.number Backend.reads w s model symbol old new →
+        Decodes w s model symbol (told Word.number words old) (told Word.number words new) }
+    ensures all { (words : Backend → List Word) (w s : ℕ) (items : List (Item Symbol)) (old new : AnsValue Backend) →
+        TellsWords Backend.reads words →
+        DecodesAllBy Word.number Backend.reads w s items old new →
+        DecodesAll w s items (told Word.number words old) (told Word.number words new) }
+{
+    reads_are_words::<Word, Backend>()
+}
+
+/// Symbols that are encoded onto an empty coder come back by reads that give the words that it exports.
+///
+/// Encode any symbols, each under its own table; export the words; import them by reads, as from an
+/// iterator that gives them; decode with the same tables in reverse order. The symbols are the same, the
+/// last one first, no word is left, and the coder is empty.
+pub fn symbols_come_back_by_reads<Symbol, Word: BitArray, Backend: ReadWords<Word, Stack>>()
+    ensures { (words : Backend → List Word) (w s : ℕ) (items others : List (Item Symbol)) (given : Backend)
+        (last : AnsValue Backend) → IsSizes w s → AreModels w items →
+        TellsExport Word.number Backend.reads words w s items given →
+        DecodesFrom Word.number Backend.reads w s given others last → models others ≡ reverse (models items) →
+        (others ≡ reverse items) × (told Word.number words last ≡ empty) }
+{
+    symbols_come_back::<Symbol>();
+    imports_are_words::<Word, Backend>();
+    decodes_are_words::<Symbol, Word, Backend>()
+}

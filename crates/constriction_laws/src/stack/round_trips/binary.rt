@@ -1,0 +1,100 @@
+//! Words of which any come back, by way of their binary form.
+
+ghost use Rattle.std.specs.Prelude.{◌≡◌, ℕ, List, length, map, reverse, IfOk, IfErr};
+ghost use Rattle.constriction_base.specs.Models.{pairs_of};
+ghost use Rattle.constriction_base.specs.Steps.{IsSizes, AreWords};
+ghost use Rattle.constriction_laws.specs.Outcomes.{HasImpossibleItem, OnlyRefused, Reasons};
+ghost use Rattle.constriction_base.specs.Writing.{IsOneAbove};
+ghost use Rattle.constriction_stack.specs.Ans.{AnsState, IsValid};
+ghost use Rattle.constriction_stack.specs.Binary.{binary_state, binary_words};
+ghost use Rattle.constriction_stack.specs.Symbols.{DecodesAll, EncodesAll};
+ghost use Rattle.constriction_laws.specs.stack.Exporting.{ComesFromNoWords};
+
+use crate::stack::binary::{binary_words_come_back, one_binary_form};
+use crate::stack::lists::encodes_undo_decodes;
+use crate::stack::round_trips::parts::{put_pairs, take_pairs};
+use constriction_base::backends::{Holds, ReadWords, Stack, WriteWords};
+use constriction_base::model::{DecoderModel, EncoderModel, EntropyModel};
+use crate::errors::RoundTripError;
+use constriction_stack::coder::AnsCoder;
+use constriction_words::{BitArray, WordOf};
+use std::alloc::Global;
+
+/// A symbol for each of the models from any words, and the coder that is left: `from_binary`, `decode_symbols`.
+///
+/// # Errors
+///
+/// `Refused` alone.
+pub fn pairs_from_binary_words<
+    Word: WordOf<State>,
+    State: BitArray,
+    Backend: ReadWords<Word, Stack> + Drop,
+    M: DecoderModel<PRECISION>,
+    const PRECISION: usize,
+>(
+    alloc: Global,
+    words: Backend,
+    models: &[M],
+) -> Result<(Vec<M::Symbol>, AnsCoder<Word, State, Backend>), RoundTripError>
+where
+    M::Probability: WordOf<Word>,
+    Backend::ReadError: Drop,
+    requires { IsSizes Word.BITS State.BITS }
+    ensures count { IfOk result (λ back. length back.0.items ≡ length models.now) }
+    ensures read { Backend.is_list → IfOk result (λ back. DecodesAll Word.BITS State.BITS
+        (pairs_of PRECISION M.table back.0.items models.now)
+        (binary_state Word.BITS State.BITS (map Word.number (Backend.words words))) back.1.state) }
+    ensures err { IfErr result OnlyRefused }
+{
+    let Ok(mut coder) = AnsCoder::<Word, State, Backend>::from_binary(words) else {
+        return Err(RoundTripError::Refused);
+    };
+    let symbols = take_pairs(alloc, &mut coder, models)?;
+    Ok((symbols, coder))
+}
+
+/// The words of a coder on which symbols are put back, each by its own model and the last one first:
+/// `encode_symbols_reverse`, `into_binary`. Any words come back from which these symbols were decoded.
+///
+/// # Errors
+///
+/// `ImpossibleSymbol` where one of the symbols has no entry in its model, `InvalidData` where no words are those from
+/// which these symbols were decoded, and `Refused`.
+pub fn binary_words_with_pairs<
+    Word: WordOf<State>,
+    State: BitArray,
+    Backend: WriteWords<Word> + Drop,
+    M: EncoderModel<PRECISION>,
+    const PRECISION: usize,
+>(
+    coder: AnsCoder<Word, State, Backend>,
+    symbols: &[M::Symbol],
+    models: &[M],
+) -> Result<Backend, RoundTripError>
+where
+    M::Probability: WordOf<Word>,
+    Backend::WriteError: Drop,
+    requires sizes { IsSizes Word.BITS State.BITS }
+    requires count { length symbols.now ≡ length models.now }
+    ensures words { IsValid Word.BITS State.BITS coder.state → IfOk result (λ again. (last : AnsState) × (m : ℕ)
+        × EncodesAll Word.BITS State.BITS (reverse (pairs_of PRECISION M.table symbols.now models.now)) coder.state last
+        × IsOneAbove Word.BITS m last.head
+        × (map Word.number (Backend.words again) ≡ binary_words Word.BITS m last)) }
+    ensures back { (words : List ℕ) → AreWords Word.BITS words → DecodesAll Word.BITS State.BITS
+        (pairs_of PRECISION M.table symbols.now models.now) (binary_state Word.BITS State.BITS words) coder.state →
+        IfOk result (λ again. map Word.number (Backend.words again) ≡ words) }
+    ensures err { IfErr result (Reasons (HasImpossibleItem (pairs_of PRECISION M.table symbols.now models.now)) ⊥
+        (ComesFromNoWords Word.BITS State.BITS (pairs_of PRECISION M.table symbols.now models.now) coder.state)
+        (λ taken. ⊥)) }
+{
+    let mut coder = coder;
+    put_pairs(&mut coder, symbols, models)?;
+    encodes_undo_decodes::<M::Symbol>();
+    binary_words_come_back::<M::Symbol>();
+    one_binary_form();
+    match coder.into_binary() {
+        Ok(again) => Ok(again),
+        Err(None) => Err(RoundTripError::InvalidData),
+        Err(Some(_)) => Err(RoundTripError::Refused),
+    }
+}

@@ -1,0 +1,96 @@
+//! Symbols that have a model each, and come back from the words that a coder exports.
+
+ghost use Rattle.std.specs.Prelude.{◌≡◌, List, length, map, reverse, IfOk, IfErr, OnOk};
+ghost use Rattle.constriction_base.specs.Models.{pairs_of};
+ghost use Rattle.constriction_base.specs.Steps.{IsSizes};
+ghost use Rattle.constriction_laws.specs.Outcomes.{HasImpossibleItem, UnlessImpossible, UnlessInvalid};
+ghost use Rattle.constriction_stack.specs.Ans.{AnsState, IsValid, filled};
+ghost use Rattle.constriction_stack.specs.Imports.{ImportRefused};
+ghost use Rattle.constriction_stack.specs.Symbols.{DecodesAll};
+ghost use Rattle.constriction_laws.specs.stack.Exporting.{ExportsAll};
+
+use crate::stack::round_trips::parts::{put_pairs, take_pairs};
+use crate::stack::words::import_of_export;
+use constriction_base::backends::{Holds, ReadWords, Stack, WriteWords};
+use constriction_base::model::{DecoderModel, EncoderModel, EntropyModel};
+use crate::errors::RoundTripError;
+use constriction_stack::coder::AnsCoder;
+use constriction_words::{BitArray, WordOf};
+use std::alloc::Global;
+
+/// The words that a coder exports on which symbols were put, each by its own model and the last one first:
+/// `encode_symbols_reverse`, `into_compressed`.
+///
+/// # Errors
+///
+/// `ImpossibleSymbol` where one of the symbols has no entry in its model, and `Refused`.
+pub fn words_with_pairs<
+    Word: WordOf<State>,
+    State: BitArray,
+    Backend: WriteWords<Word> + Drop,
+    M: EncoderModel<PRECISION>,
+    const PRECISION: usize,
+>(
+    coder: AnsCoder<Word, State, Backend>,
+    symbols: &[M::Symbol],
+    models: &[M],
+) -> Result<Backend, RoundTripError>
+where
+    M::Probability: WordOf<Word>,
+    Backend::WriteError: Drop,
+    requires { length symbols.now ≡ length models.now }
+    ensures words { IsValid Word.BITS State.BITS coder.state → IfOk result (λ words. ExportsAll Word.BITS State.BITS
+        (reverse (pairs_of PRECISION M.table symbols.now models.now))
+        coder.state (map Word.number (Backend.words words))) }
+    ensures sizes { OnOk result (IsSizes Word.BITS State.BITS) }
+    ensures err { IfErr result (UnlessImpossible
+        (HasImpossibleItem (pairs_of PRECISION M.table symbols.now models.now))) }
+{
+    let mut coder = coder;
+    put_pairs(&mut coder, symbols, models)?;
+    match coder.into_compressed() {
+        Ok(words) => Ok(words),
+        Err(_) => Err(RoundTripError::Refused),
+    }
+}
+
+/// A symbol for each of the models from words, and the coder that is left: `from_compressed`, `decode_symbols`. Where
+/// the words are those of a coder on which as many symbols were put by these models, from the last to the first, the
+/// symbols come back in order, and the state before.
+///
+/// # Errors
+///
+/// `InvalidData` where the words aren't imported, since the last one is zero or a read is refused, and `Refused`.
+pub fn pairs_from_words<
+    Word: WordOf<State>,
+    State: BitArray,
+    Backend: ReadWords<Word, Stack> + Drop,
+    M: DecoderModel<PRECISION>,
+    const PRECISION: usize,
+>(
+    alloc: Global,
+    words: Backend,
+    models: &[M],
+) -> Result<(Vec<M::Symbol>, AnsCoder<Word, State, Backend>), RoundTripError>
+where
+    M::Probability: WordOf<Word>,
+    Backend::ReadError: Drop,
+    requires { IsSizes Word.BITS State.BITS }
+    ensures count { IfOk result (λ back. length back.0.items ≡ length models.now) }
+    ensures read { Backend.is_list → IfOk result (λ back. DecodesAll Word.BITS State.BITS
+        (pairs_of PRECISION M.table back.0.items models.now)
+        (filled Word.BITS State.BITS 0 (map Word.number (Backend.words words))) back.1.state) }
+    ensures back { Backend.is_list → (symbols : List M.Symbol) (old : AnsState) → IsValid Word.BITS State.BITS old →
+        ExportsAll Word.BITS State.BITS (reverse (pairs_of PRECISION M.table symbols models.now)) old
+        (map Word.number (Backend.words words)) → length symbols ≡ length models.now →
+        IfOk result (λ back. (back.0.items ≡ symbols) × (back.1.state ≡ old)) }
+    ensures err { IfErr result (UnlessInvalid ((rest : Backend)
+        × ImportRefused Word.number Backend.reads Word.BITS State.BITS words rest)) }
+{
+    let Ok(mut decoder) = AnsCoder::<Word, State, Backend>::from_compressed(words) else {
+        return Err(RoundTripError::InvalidData);
+    };
+    import_of_export();
+    let again = take_pairs(alloc, &mut decoder, models)?;
+    Ok((again, decoder))
+}

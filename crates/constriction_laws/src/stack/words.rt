@@ -1,0 +1,48 @@
+//! The words of the stack coder's states.
+
+ghost use Rattle.constriction_base.specs.Readings.{BeginsHigh};
+ghost use Rattle.std.specs.Prelude.{◌≡◌, ◌<◌, ◌^◌, ℕ, List, map};
+ghost use Rattle.constriction_base.specs.Steps.{IsSizes, AreWords};
+ghost use Rattle.constriction_stack.specs.Ans.{AnsState, IsValid, filled, exported, refilled, RefillsBy};
+ghost use Rattle.constriction_stack.specs.Imports.{FilledBy};
+ghost use Rattle.constriction_laws.specs.Readings.{TellsWords};
+
+use constriction_base::backends::{ReadWords, Stack};
+use constriction_words::BitArray;
+
+/// What is imported from the words that a valid state exports is that state.
+pub fn import_of_export()
+    ensures state { (w s : ℕ) (state : AnsState) → IsSizes w s → IsValid w s state →
+        filled w s 0 (exported w state) ≡ state }
+    ensures high { (w s : ℕ) (state : AnsState) → IsSizes w s → IsValid w s state →
+        BeginsHigh (exported w state) }
+    ensures words { (w s : ℕ) (state : AnsState) → IsSizes w s → IsValid w s state →
+        AreWords w (exported w state) }
+{}
+
+/// A list of words that doesn't begin with zero, the first to be read first, is imported as a valid
+/// state, which exports that list. The empty list is one of them.
+pub fn export_of_import()
+    ensures words { (w s : ℕ) (words : List ℕ) → IsSizes w s → AreWords w words → BeginsHigh words →
+        exported w (filled w s 0 words) ≡ words }
+    ensures valid { (w s : ℕ) (words : List ℕ) → IsSizes w s → AreWords w words →
+        IsValid w s (filled w s 0 words) }
+{}
+
+/// Where a function tells the words of each state of a backend, as of an iterator, a head is
+/// refilled from those words.
+pub fn reads_are_words<Word: BitArray, Backend: ReadWords<Word, Stack>>()
+    ensures { (words : Backend → List Word) (w s head new_head : ℕ) (old new : Backend) →
+        TellsWords Backend.reads words → RefillsBy Word.number Backend.reads w s head old new_head new →
+        refilled w s head (map Word.number (words old))
+        ≡ record { head = new_head; words = map Word.number (words new) } }
+{}
+
+/// Where a function tells the words of each state of a backend, as of an iterator, what is imported by
+/// reads is the state of those words.
+pub fn imports_are_words<Word: BitArray, Backend: ReadWords<Word, Stack>>()
+    ensures { (words : Backend → List Word) (w s head : ℕ) (old new : Backend) → IsSizes w s →
+        head < 2 ^ s → TellsWords Backend.reads words →
+        FilledBy Word.number Backend.reads w s old head new →
+        filled w s 0 (map Word.number (words old)) ≡ record { head = head; words = map Word.number (words new) } }
+{}

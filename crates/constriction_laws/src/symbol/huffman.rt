@@ -1,0 +1,49 @@
+//! Codewords of Huffman trees.
+
+ghost use Rattle.constriction_laws.specs.symbol.Cost.{AreCodewordsOf, AreLawful, cost};
+ghost use Rattle.constriction_symbol.specs.Huffman.{Book, IsHuffman, Tree, huffman, merge};
+ghost use Rattle.std.specs.Prelude.{Bool, List, None, Option, Some, [], ◌++◌, ◌∷◌, ◌<◌, ◌≡◌, ◌≤◌, length, ℕ};
+
+/// Merging some weights gives one tree.
+pub fn one_tree()
+    ensures { (weights : List ℕ) → 0 < length weights → (tree : Tree) × (merge weights ≡ tree ∷ []) }
+{}
+
+/// No codeword of a Huffman tree begins another.
+pub fn huffman_is_prefix_free()
+    ensures { (weights : List ℕ) (s t : ℕ) (bits tail : List Bool) →
+        huffman weights s ≡ Some bits → huffman weights t ≡ Some (bits ++ tail) → s ≡ t }
+{}
+
+/// Each symbol that has a weight has a codeword, and no other symbol has one.
+pub fn huffman_knows_its_symbols()
+    ensures known { (weights : List ℕ) (s : ℕ) → s < length weights →
+        (bits : List Bool) × (huffman weights s ≡ Some bits) }
+    ensures impossible { (weights : List ℕ) (s : ℕ) → length weights ≤ s → huffman weights s ≡ None }
+{}
+
+/// No lawful codewords, one for each symbol, cost less than those of the Huffman tree of the same weights; nor do
+/// those of a lawful codebook. `tree` says so of what the makers of both trees ensure.
+pub fn least_cost()
+    ensures codewords { (weights : List ℕ) (codewords others : List (List Bool)) →
+        length codewords ≡ length weights → AreCodewordsOf (huffman weights) codewords →
+        length others ≡ length weights → AreLawful others →
+        cost weights codewords ≤ cost weights others }
+    ensures codebook { (weights : List ℕ) (codewords others : List (List Bool)) (codeword : ℕ → Option (List Bool)) →
+        length codewords ≡ length weights → AreCodewordsOf (huffman weights) codewords →
+        length others ≡ length weights → AreCodewordsOf codeword others →
+        ((s t : ℕ) (bits tail : List Bool) → codeword s ≡ Some bits → codeword t ≡ Some (bits ++ tail) → s ≡ t) →
+        cost weights codewords ≤ cost weights others }
+    ensures tree { (weights : List ℕ) (book : Book) (codewords others : List (List Bool)) →
+        IsHuffman weights book →
+        length codewords ≡ length weights → AreCodewordsOf book.codeword codewords →
+        length others ≡ length weights → AreLawful others →
+        cost weights codewords ≤ cost weights others }
+{}
+
+/// The Huffman tree of some weights has lawful codewords, one for each of them.
+pub fn huffman_has_codewords()
+    ensures { (weights : List ℕ) →
+        (codewords : List (List Bool)) × (length codewords ≡ length weights)
+        × AreCodewordsOf (huffman weights) codewords × AreLawful codewords }
+{}

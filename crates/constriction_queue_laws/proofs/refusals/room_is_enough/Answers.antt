@@ -1,7 +1,0 @@
-use Rattle.constriction_queue.proofs.Roomy.{room_enough}
-use Rattle.constriction_queue_laws.proofs.refusals.room_is_enough.Goals as goal
-
-pub returns : goal.returns
-returns g c = λ old step e new enough refused.
-    room_enough g.Word.BitArray.number g.Backend.Holds g.Backend.WriteWords g.Word.BitArray.BITS g.State.BitArray.BITS
-    old step e new enough refused

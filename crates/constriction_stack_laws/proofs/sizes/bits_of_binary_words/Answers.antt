@@ -1,5 +1,0 @@
-use Rattle.constriction_stack.proofs.SizesCounted.{valid_bits_of_binary}
-use Rattle.constriction_stack_laws.proofs.sizes.bits_of_binary_words.Goals as goal
-
-pub returns : goal.returns
-returns c = valid_bits_of_binary

@@ -1,5 +1,0 @@
-use Rattle.constriction_stack.proofs.SizesCounted.{bit_count_is}
-use Rattle.constriction_stack_laws.proofs.sizes.bits_of_numbers.Goals as goal
-
-pub returns : goal.returns
-returns c = bit_count_is

@@ -1,8 +1,0 @@
-use Rattle.constriction_stack_laws.proofs.Choosing.{encode_exists, encode_unique}
-use Rattle.constriction_stack_laws.proofs.steps.one_encode.Goals as goal
-
-pub returns-clause-exists : goal.returns-clause-exists
-returns-clause-exists g c = λ w s model symbol old. encode_exists w s model symbol old
-
-pub returns-clause-unique : goal.returns-clause-unique
-returns-clause-unique g c = λ w s model symbol old new other. encode_unique w s model symbol old new other

@@ -1,6 +1,0 @@
-use Rattle.constriction_stack_laws.proofs.ByReads.{filled_words}
-use Rattle.constriction_stack_laws.proofs.words.imports_are_words.Goals as goal
-
-pub returns : goal.returns
-returns g c = λ words w s head old new z fits law h.
-    filled_words g.Word.BitArray.number g.Backend.ReadWords.reads words w s head old new z fits law h

@@ -1,5 +1,0 @@
-use Rattle.constriction_symbol.specs.GolombLaws.{golomb_prefix_free}
-use Rattle.constriction_symbol_laws.proofs.golomb.golomb_is_prefix_free.Goals as goal
-
-pub returns : goal.returns
-returns c = golomb_prefix_free

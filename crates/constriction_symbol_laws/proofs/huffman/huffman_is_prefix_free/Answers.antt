@@ -1,5 +1,0 @@
-use Rattle.constriction_symbol.proofs.HuffmanMerge.{huffman_prefix_free}
-use Rattle.constriction_symbol_laws.proofs.huffman.huffman_is_prefix_free.Goals as goal
-
-pub returns : goal.returns
-returns c = huffman_prefix_free

@@ -1,5 +1,0 @@
-use Rattle.constriction_symbol.proofs.TreeCodewords.{known_symbol, unknown_symbol}
-use Rattle.constriction_symbol_laws.proofs.huffman.huffman_knows_its_symbols.Goals as goal
-
-pub returns : goal.returns
-returns c = record { known = known_symbol; impossible = unknown_symbol }

@@ -1,5 +1,0 @@
-use Rattle.constriction_symbol.proofs.HuffmanMerge.{merge_one}
-use Rattle.constriction_symbol_laws.proofs.huffman.one_tree.Goals as goal
-
-pub returns : goal.returns
-returns c = merge_one

@@ -1,5 +1,0 @@
-use Rattle.constriction_symbol_laws.proofs.bit_coders.Words.{one_list_of_queue}
-use Rattle.constriction_symbol_laws.proofs.words.one_list_of_queue_words.Goals as goal
-
-pub returns : goal.returns
-returns c = one_list_of_queue
