@@ -56,7 +56,8 @@
 //!
 //! - [`stream::Code`], [`stream::Encode`], [`stream::Decode`]: what every such coder does, symbol by
 //!   symbol or list by list; [`stream::Lent`] is a symbol that a list call is handed.
-//! - [`stream::EncodeReverse`]: lists from the last symbol to the first, for coders that are stacks.
+//! - [`stream::EncodeReverse`]: lists from the last symbol to the first, for code that is generic over coders that are
+//!   stacks. The stack coder and the chain coder have these calls themselves.
 //! - [`stream::IntoDecoder`], [`stream::AsDecoder`]: a decoder made of an encoder, or over one.
 //! - [`stream::DecodeSymbols`], [`stream::TryDecodeSymbols`], [`stream::DecodeIidSymbols`]: decoded
 //!   symbols as iterators.

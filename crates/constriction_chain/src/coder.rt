@@ -1,10 +1,12 @@
 //! The coder: what it holds.
 //!
 //! - [`symbols`]: the two steps, `encode_symbol` and `decode_symbol`.
+//! - [`lists`]: lists that are put back from the last to the first.
 //! - [`precision`]: changes of the precision.
 //! - [`words`]: coders from words, and the words of a coder.
 //! - [`seeking`]: positions, and going to them.
 
+pub mod lists;
 pub mod precision;
 pub mod seeking;
 pub mod symbols;

@@ -1,6 +1,7 @@
 //! The coder: what it holds, its parts, and when it is empty.
 //!
 //! - [`symbols`]: the two steps, `encode_symbol` and `decode_symbol`.
+//! - [`lists`]: lists that are put on from the last to the first.
 //! - [`words`]: words from a coder, a coder from words, and how many they are.
 //! - [`decoders`]: the same state over another backend, coders over borrowed words or words in the order of
 //!   reading, and going to positions.
@@ -8,6 +9,7 @@
 
 pub mod decoders;
 pub mod guard;
+pub mod lists;
 pub mod symbols;
 pub mod words;
 

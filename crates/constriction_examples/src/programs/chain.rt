@@ -1,9 +1,9 @@
 //! Symbols out of any words by a chain coder, and the words again from symbols and remainders.
 
 use anyhow::{Result, bail};
+use constriction::stream::Decode;
 use constriction::stream::chain::DefaultChainCoder;
 use constriction::stream::model::WeightTable;
-use constriction::stream::{Decode, Encode};
 use std::alloc::Global;
 
 /// Decodes two symbols from words, and encodes them back into what is left.
@@ -28,9 +28,7 @@ pub fn run(rt: &impl Print, alloc: Global) -> Result<()> {
     let Ok(mut coder) = DefaultChainCoder::from_remainders(alloc, suffix) else {
         bail!("no coder's remainders");
     };
-    for symbol in symbols.iter().rev() {
-        coder.encode_symbol(symbol, &table)?;
-    }
+    coder.encode_iid_symbols_reverse(symbols.as_slice(), &table)?;
     let Ok((_, exported)) = coder.into_compressed() else {
         bail!("bits are left over");
     };

@@ -1,0 +1,124 @@
+//! Lists of symbols that are put back from the last to the first, by the coder itself: what `EncodeReverse` does,
+//! called with no trait in scope, as in the Rust crate.
+
+ghost use Rattle.constriction_stream.specs.Lists.{GivesAtMost, LowersByItems, StepsUntilFault, TriesItem};
+ghost use Rattle.constriction_stream.specs.Symbols.{EncodesPair, EncodesSymbol};
+
+use crate::coder::ChainCoder;
+use crate::errors::EncoderError;
+use constriction_base::backends::{Holds, ReadWords, Stack, WriteWords};
+use constriction_base::model::{EncoderModel, EntropyModel};
+use constriction_stream::encoding::{Encode, EncodeReverse, Lent};
+use constriction_stream::errors::TryCodingError;
+use constriction_words::{BitArray, WordOf};
+
+impl<
+    Word: WordOf<State>,
+    State: BitArray,
+    C: WriteWords<Word>,
+    R: ReadWords<Word, Stack>,
+    const PRECISION: usize,
+> ChainCoder<Word, State, C, R, PRECISION> {
+    /// Encodes symbols from the last to the first, each by its own model, up to the first that is refused. A decoder
+    /// then gives them in the order of the list.
+    ///
+    /// # Errors
+    ///
+    /// That of the first step that is refused. Exactly the symbols behind it are encoded, and the items before it
+    /// aren't asked for.
+    pub fn encode_symbols_reverse<S, M, I>(
+        &mut self,
+        symbols_and_models: I,
+    ) -> Result<(), EncoderError<C::WriteError, R::ReadError>>
+    where
+        M: EncoderModel<PRECISION>,
+        M::Probability: WordOf<Word>,
+        S: Lent<M::Symbol> + Drop,
+        I: IntoIterator<Item = (S, M)>,
+        I::IntoIter: DoubleEndedIterator + Drop,
+        requires { GivesAtMost (I.into_iter_gives symbols_and_models) I.IntoIter.can_next_back I.IntoIter.remaining
+            (⟦<Self as Encode<PRECISION>>⟧.counts_symbols)
+            (⟦<Self as Encode<PRECISION>>⟧.symbols_left self.old) }
+        ensures steps { StepsUntilFault (EncodesPair (⟦<Self as Encode<PRECISION>>⟧.encodes)
+            (⟦<Self as Encode<PRECISION>>⟧.is_impossible_symbol) PRECISION M.table S.lent)
+            (I.into_iter_gives symbols_and_models) I.IntoIter.next_back_gives self.old result self.new }
+        ensures fewer_left { LowersByItems (I.into_iter_gives symbols_and_models) I.IntoIter.remaining
+            (⟦<Self as Encode<PRECISION>>⟧.symbols_left self.old)
+            (⟦<Self as Encode<PRECISION>>⟧.symbols_left self.new) }
+    {
+        EncodeReverse::<PRECISION>::encode_symbols_reverse(self, symbols_and_models)
+    }
+
+    /// Encodes symbols from the last to the first, each by its own model, where an item may be an error in place of
+    /// both.
+    ///
+    /// # Errors
+    ///
+    /// After each of them exactly the symbols behind the item are encoded.
+    ///
+    /// - `InvalidEntropyModel(error)`, where an item is an error. It leaves the coder.
+    /// - `CodingError(error)`, where a step is refused.
+    pub fn try_encode_symbols_reverse<S, M, E, I>(
+        &mut self,
+        symbols_and_models: I,
+    ) -> Result<(), TryCodingError<EncoderError<C::WriteError, R::ReadError>, E>>
+    where
+        M: EncoderModel<PRECISION>,
+        M::Probability: WordOf<Word>,
+        S: Lent<M::Symbol> + Drop,
+        I: IntoIterator<Item = Result<(S, M), E>>,
+        I::IntoIter: DoubleEndedIterator + Drop,
+        requires { GivesAtMost (I.into_iter_gives symbols_and_models) I.IntoIter.can_next_back I.IntoIter.remaining
+            (⟦<Self as Encode<PRECISION>>⟧.counts_symbols)
+            (⟦<Self as Encode<PRECISION>>⟧.symbols_left self.old) }
+        ensures steps { StepsUntilFault
+            (TriesItem (EncodesPair (⟦<Self as Encode<PRECISION>>⟧.encodes)
+            (⟦<Self as Encode<PRECISION>>⟧.is_impossible_symbol) PRECISION M.table S.lent))
+            (I.into_iter_gives symbols_and_models) I.IntoIter.next_back_gives self.old result self.new }
+        ensures fewer_left { LowersByItems (I.into_iter_gives symbols_and_models) I.IntoIter.remaining
+            (⟦<Self as Encode<PRECISION>>⟧.symbols_left self.old)
+            (⟦<Self as Encode<PRECISION>>⟧.symbols_left self.new) }
+    {
+        EncodeReverse::<PRECISION>::try_encode_symbols_reverse(self, symbols_and_models)
+    }
+
+    /// Encodes symbols from the last to the first, all by one model, up to the first that is refused. A decoder
+    /// then gives them in the order of the list.
+    ///
+    /// # Errors
+    ///
+    /// That of the first step that is refused. Exactly the symbols behind it are encoded, and those before it
+    /// aren't asked for.
+    ///
+    /// # Examples
+    ///
+    /// ```
+    /// coder.encode_iid_symbols_reverse([2usize, 0, 1].as_slice(), &table)?;
+    /// coder.decode_symbol(&table)?; // 2
+    /// ```
+    pub fn encode_iid_symbols_reverse<S, M, I>(
+        &mut self,
+        symbols: I,
+        model: M,
+    ) -> Result<(), EncoderError<C::WriteError, R::ReadError>>
+    where
+        M: EncoderModel<PRECISION> + Copy,
+        M::Probability: WordOf<Word>,
+        S: Lent<M::Symbol> + Drop,
+        I: IntoIterator<Item = S>,
+        I::IntoIter: DoubleEndedIterator + Drop,
+        requires { GivesAtMost (I.into_iter_gives symbols) I.IntoIter.can_next_back I.IntoIter.remaining
+            (⟦<Self as Encode<PRECISION>>⟧.counts_symbols)
+            (⟦<Self as Encode<PRECISION>>⟧.symbols_left self.old) }
+        ensures steps { StepsUntilFault (λ old symbol result new. EncodesSymbol
+            (⟦<Self as Encode<PRECISION>>⟧.encodes)
+            (⟦<Self as Encode<PRECISION>>⟧.is_impossible_symbol)
+            PRECISION (M.table model) (S.lent symbol) old result new)
+            (I.into_iter_gives symbols) I.IntoIter.next_back_gives self.old result self.new }
+        ensures fewer_left { LowersByItems (I.into_iter_gives symbols) I.IntoIter.remaining
+            (⟦<Self as Encode<PRECISION>>⟧.symbols_left self.old)
+            (⟦<Self as Encode<PRECISION>>⟧.symbols_left self.new) }
+    {
+        EncodeReverse::<PRECISION>::encode_iid_symbols_reverse(self, symbols, model)
+    }
+}
