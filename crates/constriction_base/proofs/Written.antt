@@ -1,10 +1,10 @@
 -- Words that are written one after another, and writes that are refused.
 use Rattle.std.specs.Prelude.{◌≡◌, ℕ, zero, suc, ◌+◌, ◌-◌, ◌*◌, ◌/◌, ◌%◌, ◌<◌, ◌≤◌, List, [], ◌∷◌, ◌++◌, Result, Ok, Err, length, map}
-use Rattle.std.proofs.Common.{◌∙◌, refl, sym, ap, arith, inl, inr, append_assoc, append-nil}
+use Rattle.std.proofs.Common.{◌∙◌, refl, sym, ap, subst, arith, inl, inr, append_assoc, append-nil}
 use Rattle.std.proofs.lemmas.Bool.{cases_lt}
 use Rattle.std.proofs.lemmas.Nat.{div-mul-add, mod-mul-add}
 use Rattle.constriction_base.specs.Digits.{fixed_digits}
-use Rattle.constriction_base.specs.Writing.{Appends, IsBegun, NotWritten, WritesAll}
+use Rattle.constriction_base.specs.Writing.{Appends, IsBegun, IsPrepared, NotWritten, RefusesWrite, StopsAtWrite, WritesAll, WrittenInTurn}
 use Rattle.constriction_base.specs.declared.backends.reading.Holds as holding
 use Rattle.constriction_base.specs.declared.backends.writing.WriteWords as writing
 
@@ -56,28 +56,85 @@ module _ {W B E S : Type 0} (number : W → ℕ) (holds : holding.Ghosts B W S) 
         error = inl (fails, same);
       }
 
-  -- they are written once there is room for them
-  pub appended : (owed : List ℕ) (old mid new : B) (answer : Result (Unit {0}) E) → writes.room old ≤ writes.room mid → holds.words mid ≡ holds.words old → (writes.makes_room → length owed ≤ writes.room mid)
-      → 0 < length owed → WritesAll number holds writes owed mid answer new → Appends number holds writes owed old answer new
-  appended owed old mid new (Ok done) more same made some i =
+  -- writes after other writes
+  pub written_then : (later first : List ℕ) (old between new : B) → WrittenInTurn number writes first old between → WrittenInTurn number writes later between new
+      → WrittenInTurn number writes (later ++ first) old new
+  written_then [] first old between new h k = subst (λ (b : B). WrittenInTurn number writes first old b) (sym k) h
+  written_then (n ∷ later) first old between new h k = (k.0, written_then later first old between k.0 h k.1, k.2)
+
+  -- one write
+  pub written_one : (word : W) (old new : B) → writes.writes old word (Ok tt) new → WrittenInTurn number writes (number word ∷ []) old new
+  written_one word old new wrote = (old, refl, (word, refl, wrote))
+
+  -- a write is refused at once
+  pub stops_at_once : (word : W) (old new : B) (e : E) → writes.writes old word (Err e) new → writes.write_fails old e → holds.words new ≡ holds.words old
+      → StopsAtWrite number holds writes (number word ∷ []) old e new
+  stops_at_once word old new e refused fails same =
+      record { later = []; word = word; written = []; parts = refl; last = old; led = refl; refused = refused; fails = fails; kept = sym same }
+
+  -- the refused write is that of a word of the later ones
+  pub stops_later : (later first : List ℕ) (old between new : B) (e : E) → WrittenInTurn number writes first old between → StopsAtWrite number holds writes later between e new
+      → StopsAtWrite number holds writes (later ++ first) old e new
+  stops_later later first old between new e h i =
       record {
-        words = rw (← same) i.words;
-        room_used = omega (arith, more, i.room_used);
+        later = i.later;
+        word = i.word;
+        written = i.written ++ first;
+        parts = ap (λ (ws : List ℕ). ws ++ first) i.parts ∙ append_assoc i.later (number i.word ∷ i.written) first;
+        last = i.last;
+        led = written_then i.written first old between i.last h i.led;
+        refused = i.refused;
+        fails = i.fails;
+        kept = i.kept;
+      }
+
+  -- or of the first ones
+  pub stops_before : (later first : List ℕ) (old new : B) (e : E) → StopsAtWrite number holds writes first old e new → StopsAtWrite number holds writes (later ++ first) old e new
+  stops_before later first old new e i =
+      record {
+        later = later ++ i.later;
+        word = i.word;
+        written = i.written;
+        parts = ap (λ (ws : List ℕ). later ++ ws) i.parts ∙ sym (append_assoc later i.later (number i.word ∷ i.written));
+        last = i.last;
+        led = i.led;
+        refused = i.refused;
+        fails = i.fails;
+        kept = i.kept;
+      }
+
+  -- room was asked for all of them
+  pub prepared : (owed : List ℕ) (count : ℕ) (old new : B) → count ≡ length owed → holds.words new ≡ holds.words old → writes.room old ≤ writes.room new
+      → (writes.makes_room → count ≤ writes.room new) → ((e : E) → writes.write_fails new e → writes.write_fails old e) → IsPrepared holds writes (length owed) old new
+  prepared owed count old new is same more made fails = record { words = same; room = more; made = λ makes. rw (← is) (made makes); fails = fails }
+
+  -- after room was asked for, which made none
+  pub stopped : (owed : List ℕ) (old mid new : B) (e : E) → IsPrepared holds writes (length owed) old mid → WritesAll number holds writes owed mid (Err e) new
+      → RefusesWrite number holds writes owed old e new
+  stopped owed old mid new e prepared i = (λ makes. (let full = prepared.made makes in omega (arith, full, i.short)), (mid, prepared, i.error))
+
+  -- they are written once there is room for them
+  pub appended : (owed : List ℕ) (old mid new : B) (answer : Result (Unit {0}) E) → IsPrepared holds writes (length owed) old mid
+      → 0 < length owed → WritesAll number holds writes owed mid answer new → Appends number holds writes owed old answer new
+  appended owed old mid new (Ok done) prepared some i =
+      record {
+        words = rw (← prepared.words) i.words;
+        room_used = omega (arith, prepared.room, i.room_used);
         untouched = λ none. absurd (omega (arith, some, ap length none));
         begun = tt;
         short = tt;
         kept = λ makes. tt;
         error = tt;
       }
-  appended owed old mid new (Err e) more same made some i =
+  appended owed old mid new (Err e) prepared some i =
       record {
         words = tt;
         room_used = tt;
         untouched = λ none. absurd (omega (arith, some, ap length none));
-        begun = rw (← same) i.begun;
-        short = omega (arith, more, i.short);
-        kept = λ makes. (let full = made makes in absurd (omega (arith, full, i.short)));
-        error = inr (λ makes. (let full = made makes in omega (arith, full, i.short)), i.error);
+        begun = rw (← prepared.words) i.begun;
+        short = omega (arith, prepared.room, i.short);
+        kept = λ makes. (let full = prepared.made makes in absurd (omega (arith, full, i.short)));
+        error = inr (stopped owed old mid new e prepared i);
       }
 
   -- where the backend is gone
@@ -86,6 +143,6 @@ module _ {W B E S : Type 0} (number : W → ℕ) (holds : holding.Ghosts B W S) 
     i.short,
     elim i.error [
       | inl fails ↦ inl fails.0
-      | inr refused ↦ inr (refused.0, (refused.1.0, refused.1.1, rw refused.1.2 i.begun))
+      | inr refused ↦ inr (new, i.begun, refused)
     ],
   )

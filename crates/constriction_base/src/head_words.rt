@@ -98,7 +98,8 @@ pub fn append_words<Word: WordOf<State>, State: BitArray, Backend: WriteWords<Wo
         (λ refused. drop refused.0 (Backend.words bulk.new) ≡ Backend.words bulk.old) }
     // None is written but where a write was refused.
     ensures refused { IfErr result (λ refused. (refused.0 ≡ 0)
-        ⊎ RefusesWrite Backend.Holds Backend.WriteWords.own refused.1 (λ words. words ≡ Backend.words bulk.new)) }
+        ⊎ RefusesWrite Word.number Backend.Holds Backend.WriteWords.own
+        (fixed_digits (2 ^ Word.BITS) count (State.number head)) bulk.old refused.1 bulk.new) }
 {
     if count == 0 {
         return Ok(());

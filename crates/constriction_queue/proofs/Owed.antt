@@ -5,7 +5,7 @@ use Rattle.std.proofs.lemmas.Bool.{cases_lt}
 use Rattle.constriction_base.specs.Writing.{WritesAll}
 use Rattle.constriction_base.specs.declared.backends.reading.Holds as holding
 use Rattle.constriction_base.specs.declared.backends.writing.WriteWords as writing
-use Rattle.constriction_base.proofs.Written.{begun_none}
+use Rattle.constriction_base.proofs.Written.{begun_none, stops_at_once, stops_before, stops_later, written_one, written_then}
 use Rattle.constriction_queue.proofs.Begun.{held_more, held_part, length-words_held, more_begun, part_begun}
 use Rattle.constriction_queue.specs.Encoder.{words_held}
 
@@ -24,21 +24,23 @@ held_never x count first none = omega (arith, ap length none, words_some x count
 -- ---- words that are written one after another
 module _ {Word B E S : Type 0} (number : Word → ℕ) (holds : holding.Ghosts B Word S) (writes : writing.Ghosts B Word E) where
   pub none_written : (b : B) → WritesAll number holds writes [] b (Ok tt) b
-  none_written b = record { words = refl; room_used = omega arith; begun = tt; short = tt; error = tt }
+  none_written b = record { words = refl; in_turn = refl; room_used = omega arith; begun = tt; short = tt; error = tt }
 
   -- a write
-  pub one_written : (word : Word) (old new : B) → holds.words new ≡ word ∷ holds.words old → writes.room old ≤ writes.room new + 1 → WritesAll number holds writes (number word ∷ []) old (Ok tt) new
-  one_written word old new is room = record { words = ap (map number) is; room_used = room; begun = tt; short = tt; error = tt }
+  pub one_written : (word : Word) (old new : B) → writes.writes old word (Ok tt) new → holds.words new ≡ word ∷ holds.words old → writes.room old ≤ writes.room new + 1 → WritesAll number holds writes (number word ∷ []) old (Ok tt) new
+  one_written word old new wrote is room =
+      record { words = ap (map number) is; in_turn = written_one number holds writes word old new wrote; room_used = room; begun = tt; short = tt; error = tt }
 
-  pub one_refused : ((b : B) (e : E) → 0 < writes.room b → writes.write_fails b e → ⊥) → (word : Word) (old new : B) (e : E) → holds.words new ≡ holds.words old → writes.write_fails old e
+  pub one_refused : ((b : B) (e : E) → 0 < writes.room b → writes.write_fails b e → ⊥) → (word : Word) (old new : B) (e : E) → writes.writes old word (Err e) new → holds.words new ≡ holds.words old → writes.write_fails old e
       → WritesAll number holds writes (number word ∷ []) old (Err e) new
-  one_refused law word old new e same fails =
+  one_refused law word old new e refused same fails =
       record {
         words = tt;
+        in_turn = tt;
         room_used = tt;
         begun = rw same (begun_none (number word ∷ []) (map number (holds.words old)) (omega arith));
         short = elim (cases_lt (writes.room old) 1) [ inl less ↦ less | inr more ↦ absurd (law old e (omega (arith, more)) fails) ];
-        error = (old, fails, sym same);
+        error = stops_at_once number holds writes word old new e refused fails same;
       }
 
   -- a first part and the rest
@@ -47,6 +49,7 @@ module _ {Word B E S : Type 0} (number : Word → ℕ) (holds : holding.Ghosts B
   then_all first last old mid new (Ok done) i j =
       record {
         words = j.words ∙ ap (λ (ws : List ℕ). last ++ ws) i.words ∙ sym (append_assoc last first (map number (holds.words old)));
+        in_turn = written_then number holds writes last first old mid new i.in_turn j.in_turn;
         room_used = omega (arith, i.room_used, j.room_used, length-append last first);
         begun = tt;
         short = tt;
@@ -55,10 +58,11 @@ module _ {Word B E S : Type 0} (number : Word → ℕ) (holds : holding.Ghosts B
   then_all first last old mid new (Err e) i j =
       record {
         words = tt;
+        in_turn = tt;
         room_used = tt;
         begun = more_begun last first (map number (holds.words old)) (map number (holds.words new)) (rw i.words at j.begun);
         short = omega (arith, i.room_used, j.short, length-append last first);
-        error = j.error;
+        error = stops_later number holds writes last first old mid new e i.in_turn j.error;
       }
 
   -- a first part was refused
@@ -66,10 +70,11 @@ module _ {Word B E S : Type 0} (number : Word → ℕ) (holds : holding.Ghosts B
   part_refused first last old new e i =
       record {
         words = tt;
+        in_turn = tt;
         room_used = tt;
         begun = part_begun last first (map number (holds.words old)) (map number (holds.words new)) i.begun;
         short = omega (arith, i.short, length-append last first);
-        error = i.error;
+        error = stops_before number holds writes last first old new e i.error;
       }
 
   -- held words, the first of which were written

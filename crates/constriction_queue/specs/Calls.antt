@@ -2,7 +2,7 @@
 -- what a read may answer, and which errors a write and a `prepare` may answer.
 use Rattle.std.specs.Prelude.{◌≡◌, ℕ, ◌+◌, ◌<◌, ◌≤◌, ◌⊎◌, Bool, List, [], ◌++◌, Option, Result, Err, length, map, reverse, OnOk, OnErr, IfErr}
 use Rattle.constriction_base.specs.Steps.{Step}
-use Rattle.constriction_base.specs.Writing.{IsBegun, NotWritten}
+use Rattle.constriction_base.specs.Writing.{IsBegun, NotWritten, RefusesWrite}
 use Rattle.constriction_base.specs.declared.backends.semantics.Queue.{Queue}
 use Rattle.constriction_base.specs.declared.backends.reading.Holds as holding
 use Rattle.constriction_base.specs.declared.backends.reading.ReadWords as reading
@@ -33,7 +33,7 @@ pub record IsRefused {Word B E S : Type 0} (number : Word → ℕ) (holds : hold
   -- the backend had no room for all of them
   pub short : writes.room old.bulk < length owed
   -- it said so before any was written; or, where asking for room makes none, a write was refused
-  pub error : writes.prepare_fails old.bulk (length owed) e ⊎ ((writes.makes_room → ⊥) × ((last : B) × writes.write_fails last e × (map number (holds.words last) ≡ new.words)))
+  pub error : writes.prepare_fails old.bulk (length owed) e ⊎ RefusesWrite number holds writes owed old.bulk e new.bulk
   -- where no words are held, just one is owed
   pub one : old.held ≡ [] → writes.prepare_fails old.bulk 1 e ⊎ ((writes.makes_room → ⊥) × writes.write_fails old.bulk e)
 

@@ -1,9 +1,9 @@
 -- Words that a guard shows on a coder's backend, and takes off again.
-use Rattle.std.specs.Prelude.{◌≡◌, ◌⊎◌, ℕ, ◌^◌, List, Option, Result, drop, map}
+use Rattle.std.specs.Prelude.{◌≡◌, ◌⊎◌, ℕ, ◌^◌, List, Option, Result, drop}
 use Rattle.std.specs.Int.Digits.{digits_of}
 use Rattle.constriction_base.specs.Digits.{fixed_digits}
 use Rattle.constriction_base.specs.Readings.{NeverRefused}
-use Rattle.constriction_base.specs.Writing.{IsBegun, IsOneAbove, RefusesWrite}
+use Rattle.constriction_base.specs.Writing.{IsOneAbove, RefusedWrite}
 use Rattle.constriction_base.specs.declared.backends.reading.Holds as holding
 use Rattle.constriction_base.specs.declared.backends.writing.WriteWords as writing
 use Rattle.constriction_base.specs.declared.errors.CoderError.{CoderError}
@@ -29,7 +29,7 @@ abbrev pub LeftByRefusal : {W B E F S : Type 0} → (W → ℕ) → holding.Ghos
 LeftByRefusal number holds writes reads owed old e new =
     (new ≡ old.state)
     ⊎ ((new.head ≡ old.state.head) × (NeverRefused reads → new ≡ old.state)
-    × RefusesWrite holds writes e (λ words. IsBegun owed (map number (holds.words old.backend)) (map number words)))
+    × RefusedWrite number holds writes owed old.backend e)
 
 -- where the words of the export could not be
 abbrev pub ExportLeft : {W B E F S : Type 0} → (W → ℕ) → holding.Ghosts B W S → writing.Ghosts B W E → (B → Result (Option W) F → B → Type 0) → ℕ → AnsValue B → E → AnsValue B → Type 0

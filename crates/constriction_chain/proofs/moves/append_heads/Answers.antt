@@ -1,10 +1,10 @@
-use Rattle.std.specs.Prelude.{◌^◌, ◌+◌, ◌≡◌, ◌∷◌, List, length}
+use Rattle.std.specs.Prelude.{◌^◌, ◌+◌, ◌≡◌, [], ◌∷◌, List, length}
 use Rattle.std.proofs.Common.{arith, ap, sym, inl, inr}
 use Rattle.std.proofs.lemmas.Bool.{cases_lt}
 use Rattle.std.specs.Int.Digits.{digits_of}
 use Rattle.constriction_base.proofs.Exporting.{base_two, digits_within, no_room}
 use Rattle.constriction_base.proofs.Guards.{all_digits}
-use Rattle.constriction_base.proofs.Written.{begun_below, last_missing}
+use Rattle.constriction_base.proofs.Written.{begun_below, last_missing, prepared, stops_at_once, stops_before, stops_later}
 use Rattle.constriction_chain.proofs.moves.append_heads.Goals as goal
 
 pub returns-in-Err-clause-err : goal.returns-in-Err-clause-err
@@ -27,11 +27,16 @@ returns-in-Err-write_words-clause-err g c =
     let digits = digits_of (2 ^ w) r in
     let len : length (h ∷ digits) ≡ c.count_of_words-count.result + 1 = omega (arith, c.count_of_words-count.ensures) in
     let refused = rw (all_digits (2 ^ w) c.count_of_words-count.result r (base_two w c.requires.some_bits) (sym c.count_of_words-count.ensures)) at c.in-Err-write_words.ensures.written in
-    let room = c.in-Ok.ensures.room in (
+    let room = c.in-Ok.ensures.room in
+    let ready = prepared g.Word.BitArray.number g.B.Holds g.B.WriteWords (h ∷ digits) _ _ _ (sym len) c.prepare.ensures.words room c.in-Ok.ensures.made c.prepare.ensures.fails in (
       omega (arith, room, refused.short),
       inr (
-        λ m. (let made = c.in-Ok.ensures.made m in omega (arith, len, made, refused.short)),
-        (refused.error.0, refused.error.1, rw (refused.error.2, ← c.prepare.ensures.words) (begun_below h digits _ _ refused.begun)),
+        _,
+        rw (← c.prepare.ensures.words) (begun_below h digits _ _ refused.begun),
+        (
+          λ m. (let made = c.in-Ok.ensures.made m in omega (arith, len, made, refused.short)),
+          (c.prepare.new.self, ready, stops_before g.Word.BitArray.number g.B.Holds g.B.WriteWords (h ∷ []) digits _ _ _ refused.error),
+        ),
       ),
     )
 
@@ -53,12 +58,18 @@ returns-in-Err-write-clause-err g c =
     let len : length (h ∷ digits) ≡ c.count_of_words-count.result + 1 = omega (arith, c.count_of_words-count.ensures) in
     let done = rw (all_digits (2 ^ w) c.count_of_words-count.result r (base_two w c.requires.some_bits) (sym c.count_of_words-count.ensures)) at c.in-Ok-write_words.ensures.written in
     let words = rw c.prepare.ensures.words at done.words in
+    let at_once = stops_at_once g.Word.BitArray.number g.B.Holds g.B.WriteWords c.args.h _ _ _ c.in-Err-write.ensures.writes c.in-Err-write.ensures.err c.in-Err-write.ensures.kept in
     let none = no_room _ (λ some. g.met.B.WriteWords.room_law c.write_words.new.bulk c.in-Err-write.last some c.in-Err-write.ensures.err) in
-    let room = c.in-Ok.ensures.room in (
+    let room = c.in-Ok.ensures.room in
+    let ready = prepared g.Word.BitArray.number g.B.Holds g.B.WriteWords (h ∷ digits) _ _ _ (sym len) c.prepare.ensures.words room c.in-Ok.ensures.made c.prepare.ensures.fails in (
       omega (arith, room, none, done.room_used),
       inr (
-        λ m. (let made = c.in-Ok.ensures.made m in omega (arith, len, made, none, done.room_used)),
-        (c.write_words.new.bulk, c.in-Err-write.ensures.err, last_missing h digits _ _ words),
+        c.write.new.self,
+        rw c.in-Err-write.ensures.kept (last_missing h digits _ _ words),
+        (
+          λ m. (let made = c.in-Ok.ensures.made m in omega (arith, len, made, none, done.room_used)),
+          (c.prepare.new.self, ready, stops_later g.Word.BitArray.number g.B.Holds g.B.WriteWords (h ∷ []) digits _ _ _ _ done.in_turn at_once),
+        ),
       ),
     )
 

@@ -73,7 +73,7 @@ returns-in-Err-clause-err g c =
         short = c.in-Err.ensures.written.short;
         error = elim c.in-Err.ensures.written.error [
           | inl room ↦ inl room.0
-          | inr write ↦ inr (write.0, (write.1.0, write.1.1, ap (map number) write.1.2))
+          | inr write ↦ inr write
         ];
         one = λ none. c.in-Err.ensures.one (c.narrowed-part.ensures.none none);
       };

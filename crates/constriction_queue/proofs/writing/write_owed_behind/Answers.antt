@@ -1,5 +1,5 @@
 use Rattle.std.proofs.Common.{◌≡◌, ◌+◌, ◌++◌, ℕ, arith, length, length-append, subst}
-use Rattle.constriction_base.proofs.Written.{appended, not_prepared}
+use Rattle.constriction_base.proofs.Written.{appended, not_prepared, prepared}
 use Rattle.constriction_queue.specs.Encoder.{owed_of, released_of}
 use Rattle.constriction_queue.proofs.Owed.{part_refused, then_all}
 use Rattle.constriction_queue.proofs.writing.write_owed_behind.Goals as goal
@@ -23,7 +23,7 @@ returns-in-Err-write_parts g c =
     let behind = released_of number c.args.behind in
     let owed = owed_of number c.args.held c.args.top c.args.last in
     let count : c.owed_count.result + c.held_count.result ≡ length (behind ++ owed) = omega (arith, length-append behind owed, c.owed_count.ensures, c.held_count.ensures) in
-    appended number holds writes (behind ++ owed) c.args.bulk.now c.prepare.new.self _ _ c.in-Ok.ensures.room c.prepare.ensures.words (λ makes. omega (arith, count, c.in-Ok.ensures.made makes)) (omega (arith, count))
+    appended number holds writes (behind ++ owed) c.args.bulk.now c.prepare.new.self _ _ (prepared number holds writes (behind ++ owed) _ _ _ count c.prepare.ensures.words c.in-Ok.ensures.room c.in-Ok.ensures.made c.prepare.ensures.fails) (omega (arith, count))
     (part_refused number holds writes owed behind _ _ _ c.in-Err-write_parts.ensures)
 
 pub returns : goal.returns
@@ -34,5 +34,5 @@ returns g c =
     let behind = released_of number c.args.behind in
     let owed = owed_of number c.args.held c.args.top c.args.last in
     let count : c.owed_count.result + c.held_count.result ≡ length (behind ++ owed) = omega (arith, length-append behind owed, c.owed_count.ensures, c.held_count.ensures) in
-    appended number holds writes (behind ++ owed) c.args.bulk.now c.prepare.new.self _ _ c.in-Ok.ensures.room c.prepare.ensures.words (λ makes. omega (arith, count, c.in-Ok.ensures.made makes)) (omega (arith, count))
+    appended number holds writes (behind ++ owed) c.args.bulk.now c.prepare.new.self _ _ (prepared number holds writes (behind ++ owed) _ _ _ count c.prepare.ensures.words c.in-Ok.ensures.room c.in-Ok.ensures.made c.prepare.ensures.fails) (omega (arith, count))
     (then_all number holds writes owed behind _ _ _ _ c.in-Ok-write_parts.ensures c.write_released.ensures)
