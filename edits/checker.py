@@ -1,9 +1,10 @@
-"""Runs `rt check`, and reads in its lines which functions it blames."""
+"""Runs a check, and reads in its lines which functions it blames."""
 
 import os
 import re
 import subprocess
 
+ONLY = re.compile(r"only=\d+ proved=\d+")
 FUNCTION = re.compile(r"fn (\S+): (.+)")
 GOAL = re.compile(r"note: src/\S+ it is not proved that .*?\(`([^`]+)`\)")
 LAW = re.compile(r"impl (\S+): not proved; antt refuses (.+?) in `")
@@ -16,14 +17,15 @@ ANSWER = re.compile(r"`([^`]+)`: (.*)")
 class Ran:
     """What a check printed, its verdict ('proved', 'refused', or '' where it gives none) and the processor seconds that it took."""
 
-    def __init__(self, folder, jobs):
+    def __init__(self, words, folder):
         how = {"stdin": subprocess.DEVNULL, "stdout": subprocess.PIPE, "stderr": subprocess.STDOUT, "text": True, "errors": "replace"}
-        with subprocess.Popen(["rt", "check", "--jobs", str(jobs)], cwd=folder, **how) as running:
+        with subprocess.Popen(words, cwd=folder, **how) as running:
             self.lines = running.stdout.read().rstrip("\n").split("\n")
             _, status, used = os.wait4(running.pid, 0)
             running.returncode = os.waitstatus_to_exitcode(status)
         self.seconds = used.ru_utime + used.ru_stime
-        is_refused = any(it.startswith("logic=not-proved") for it in self.lines)
+        # A check of some functions alone ends with how many there are, and how many are proved.
+        is_refused = any(it.startswith("logic=not-proved") for it in self.lines) or bool(ONLY.fullmatch(self.lines[-1]) and running.returncode == 1)
         self.verdict = "refused" if is_refused else "" if running.returncode else "proved"
 
     def first_error(self):

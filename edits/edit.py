@@ -1,9 +1,10 @@
-"""Edits: files that say how to change a crate's sources for the worse."""
+"""Edits: blocks of a file of edits that say how to change a source for the worse."""
 
 import collections
 import os
 import re
 
+HEADING = re.compile(r"## (\w+)(, harmless)?: (\S.*)")
 # The line of a function or of a constant; a const parameter on a line of its own is neither.
 DECLARATION = re.compile(r"( *)(?:[a-z]+(?:\([^)]*\))? |extern \"C\" )*(?:fn|const) (\w+)\b(?!: \w+[,>]?$)")
 MEMBER = re.compile(r" *ghost (\w+) =")
@@ -27,30 +28,36 @@ def function_at(lines, number):
 
 
 class BadEdit(ValueError):
-    """An edit that cannot be applied, or whose name does not say which function it changes."""
+    """An edit that cannot be applied, or whose heading does not name a function that it changes."""
 
 
 class Edit:
-    """A file of edits: the names of the functions that it changes, and for each source the span that differs and its new text.
+    """A block of `edits/PATH.edits`: the functions that it changes in `src/PATH.rt`, and for each source the span that differs and its
+    new text. Where it changes what a function of `src/PATH.rt` shows, as a static of another file, that function is the one to be refused.
 
     `is_apart` where it changes what no function holds, as an impl's header, a ghost member or a definition: then no line of the checker is
     about it alone. A ghost member counts among the functions."""
 
-    def __init__(self, path, crate_folder):
-        self.path, self.name, self.folder = path, os.path.basename(path)[: -len(".edit")], crate_folder
+    def __init__(self, crate_folder, path, lines):
+        heading = HEADING.fullmatch(lines[0])
+        self.folder, self.path, self.lines = crate_folder, path, lines[1:]
+        self.name = f"{path} {lines[0].removeprefix('## ')}"
+        if not heading:
+            raise BadEdit(f"{self.name}: a heading is '## FUNCTION: WHAT IS WRONG', or '## FUNCTION, harmless: WHAT IT CHANGES'")
+        self.function, self.is_harmless = heading[1], bool(heading[2])
         self.functions, self.spans, self.is_apart = set(), {}, False
         self.said, self.is_settled = "", False  # what the last check said of the edit, and whether another could say more
-        texts = self.edited_texts()
-        for file, text in texts.items():
+        for file, text in self.edited_texts().items():
             self.spans[file] = difference(read(f"{crate_folder}/{file}"), text)
-        if self.name.partition(".")[0] not in self.functions or "." not in self.name:
-            names = ", ".join(sorted(self.functions))
-            raise BadEdit(f"{path}: its name must be FUNCTION.what_is_wrong.edit, with a function or ghost member that it changes: {names}")
+        if f"src/{path}.rt" not in self.spans and re.search(rf"\bfn {self.function}\b", read(f"{crate_folder}/src/{path}.rt")):
+            self.functions.add(self.function)
+        if self.function not in self.functions:
+            raise BadEdit(f"{self.name}: its heading must begin with a function or ghost member that it changes: {', '.join(sorted(self.functions))}")
 
     def edited_texts(self):
         """Returns the texts of the files that it changes, after all its pairs of lines."""
-        file, old, texts = "", "", {}
-        for line in read(self.path).split("\n"):
+        file, old, texts = f"src/{self.path}.rt", "", {}
+        for line in filter(None, self.lines):
             if line.startswith("file: "):
                 file = line[len("file: ") :].strip()
             elif line.startswith("old: "):
@@ -58,17 +65,19 @@ class Edit:
             elif line.startswith("new:"):
                 self.replace(texts, file, old, line[len("new:") :].removeprefix(" "))
                 old = ""
+            else:
+                raise BadEdit(f"{self.name}: a line begins with none of 'file: ', 'old: ' and 'new:': {line}")
         if not texts:
-            raise BadEdit(f"{self.path}: it has no 'old:' and 'new:' pair")
+            raise BadEdit(f"{self.name}: it has no 'old:' and 'new:' pair")
         return texts
 
     def replace(self, texts, file, old, new):
         """Applies one pair to the texts so far."""
         if not re.match(r"(src|specs|proofs)/", file) or ".." in file or not os.path.isfile(f"{self.folder}/{file}"):
-            raise BadEdit(f"{self.path}: a 'file:' line must name a file of src/, specs/ or proofs/")
+            raise BadEdit(f"{self.name}: there is no {file} in src/, specs/ or proofs/")
         text = texts.get(file) or read(f"{self.folder}/{file}")
         if not old or text.count(old) != 1:
-            raise BadEdit(f"{self.path}: an 'old:' text is in {file} {text.count(old) if old else 0} times, and not once")
+            raise BadEdit(f"{self.name}: an 'old:' text is in {file} {text.count(old) if old else 0} times, and not once")
         lines, number = text.split("\n"), text[: text.index(old)].count("\n")
         function = function_at(lines, number) if file.startswith("src/") else ""
         member = MEMBER.match(lines[number])
@@ -78,19 +87,57 @@ class Edit:
 
     def fits(self, other):
         """Returns whether one check can judge both: they change functions of different names, in places that do not meet."""
-        if self.is_apart or other.is_apart or self.functions & other.functions:
-            return False
-        shared = self.spans.keys() & other.spans.keys()
-        return all(self.spans[it][1] < other.spans[it][0] or other.spans[it][1] < self.spans[it][0] for it in shared)
+        return not (self.is_apart or other.is_apart or self.functions & other.functions or self.meets(other))
+
+    def meets(self, other):
+        """Returns whether both change one place."""
+        both = self.spans.keys() & other.spans.keys()
+        return any(self.spans[it][1] >= other.spans[it][0] and other.spans[it][1] >= self.spans[it][0] for it in both)
+
+
+def edits_of(folder):
+    """Returns the edits of a crate, by its folder, and what is wrong with those that cannot be applied and with other files among them."""
+    found, faults, names = [], [], collections.Counter()
+    for at, _, files in sorted(os.walk(f"{folder}/edits")):
+        for file in sorted(files):
+            path = os.path.relpath(f"{at}/{file}", f"{folder}/edits")
+            if not path.endswith(".edits"):
+                faults.append(f"{path}: it is no file of edits, whose name ends in .edits")
+                continue
+            for block in blocks(read(f"{at}/{file}")):
+                try:
+                    found.append(Edit(folder, path[: -len(".edits")], block))
+                    names[found[-1].name] += 1
+                except BadEdit as fault:
+                    faults.append(str(fault))
+    faults += [f"{name}: {count} edits have this heading" for name, count in names.items() if count > 1]
+    return found, faults
+
+
+def blocks(text):
+    """Returns the lines of each block of a file of edits, whose first one is its heading; of what stands above the first heading too."""
+    found = []
+    for line in text.rstrip("\n").split("\n"):
+        if line.startswith("#") or not found:
+            found.append([])
+        found[-1].append(line)
+    return found
 
 
 def difference(before, after):
     """Returns where the span of a text begins and ends that differs from another text, and what stands there in the other."""
-    start = len(os.path.commonprefix([before, after]))
-    same = len(os.path.commonprefix([before[start:][::-1], after[start:][::-1]]))
+    start = shared(before, after)
+    same = shared(before[start:][::-1], after[start:][::-1])
     return start, len(before) - same, after[start : len(after) - same]
 
 
+def shared(one, other):
+    """Returns how many characters two texts begin with together."""
+    low, high = 0, min(len(one), len(other))
+    while low < high:
+        middle = (low + high + 1) // 2
+        low, high = (middle, high) if one[:middle] == other[:middle] else (low, middle - 1)
+    return low
 
 
 def apply(edits, crate_folder):
@@ -102,13 +149,13 @@ def apply(edits, crate_folder):
             out.write(text[:start] + new + text[end:])
 
 
-def in_batches(edits, size):
+def in_batches(edits, size, fit=Edit.fits):
     """Returns lists of edits, of each of which one check can judge all. Where many edits change functions of one name, these come first,
     so that the others fill their batches."""
     counts = collections.Counter(name for edit in edits for name in edit.functions)
     batches = []
     for edit in sorted(edits, key=lambda it: -max((counts[name] for name in it.functions), default=0)):
-        batch = next((it for it in batches if len(it) < size and all(edit.fits(other) for other in it)), None)
+        batch = next((it for it in batches if len(it) < size and all(fit(edit, other) for other in it)), None)
         if batch is None:
             batches.append(batch := [])
         batch.append(edit)

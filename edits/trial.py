@@ -41,7 +41,7 @@ class Trial:
         shutil.rmtree(folder, ignore_errors=True)
         copy_crate(f"{self.proved}/crates/{self.crate}", folder)
         apply(batch, folder)
-        ran = Ran(folder, 1)
+        ran = Ran(["rt", "check", "--jobs", "1"], folder)
         self.note(batch, ran)
         for edit in batch:  # where all is proved, no other function hid one of them
             edit.is_settled = len(batch) == 1 or ran.verdict == "proved"

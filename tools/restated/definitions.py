@@ -8,7 +8,7 @@ from items import words_of
 from layout import said_by_definitions
 from renames import Renames
 from repository import Crates
-from since import checkout, texts_of
+from sources import checkout, texts_of
 from terms import Equation
 
 DEFINED = re.compile(r"((?:(?:pub|abbrev|record|data|lemma|instance) )*)([\w'-]+)")

@@ -1,6 +1,6 @@
 """What a folder tools/restated/COMMIT says of clauses and definitions that say otherwise now what they said at that commit.
 
-`renamed` is read as edits/renamed is. `rules` has lines of four kinds; `#` starts a comment:
+`renamed` is read as tools/renamed is. `rules` has lines of four kinds; `#` starts a comment:
 
     EARLIER => NOW      an earlier term and the one that says the same now; `$x` is any argument, `$x.words` a member of one, `$impl` an impl's members
     = ONE => OTHER      the same in both commits' texts

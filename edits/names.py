@@ -1,0 +1,68 @@
+"""The ends of the names that the checker has for functions, by the sources: `function` where a crate has one of that name alone, or else
+`Type::method`, `TypeTraitArguments::method`, and `Type+ARGUMENTS::method` for methods of a type with some arguments alone."""
+
+import functools
+import re
+
+from edit import read
+from items import IN_ANGLES, items
+from layout import without_comments
+from sources import files_below
+
+HEADER = re.compile(r"(?:unsafe )?impl\b(.*?)(?: where\b.*)? ?\{\}?")
+TRAIT = re.compile(r"(?:pub(?:\([^)]*\))? )?(?:unsafe )?trait (\w+)")
+# Functions of these names the checker has also where no source shows them.
+DERIVED = {"clone", "default", "drop", "eq", "fmt", "hash"}
+# A lifetime, a reference, a slice or array, or a word.
+PART = re.compile(r"'\w+|&mut\b|&|\[|\w+")
+
+
+@functools.lru_cache(maxsize=None)
+def functions(crate_folder):
+    """Returns the functions of a crate that have a body, each with its file."""
+    files = [it for it in files_below(f"{crate_folder}/src") if it.endswith(".rt")]
+    return [(file, it) for file in files for it in items(without_comments(read(file))) if it.kind == "fn" and it.text.endswith("}")]
+
+
+def name_of(crate_folder, path, function):
+    """Returns the end of the name of a function of `src/PATH.rt`, or more than one where the file has more functions of that name."""
+    named = [(file, it) for file, it in functions(crate_folder) if it.name == function]
+    if len(named) == 1 and function not in DERIVED:
+        return [function]
+    return sorted({"::".join([*owner(it.head), function]) for file, it in named if file == f"{crate_folder}/src/{path}.rt"})
+
+
+def owner(head):
+    """Returns what stands for the impl or trait of a header in a name, or nothing where there is none."""
+    if not head:
+        return []
+    if trait := TRAIT.match(head):
+        return [trait[1]]
+    own, rest = parameters(HEADER.match(head)[1].strip())
+    of_trait, _, of_type = rest.rpartition(" for ")
+    if of_trait in ("", "Drop"):
+        name, *arguments = parts(of_type)
+        return [name if set(arguments) <= own else "+".join([name, *arguments])]
+    return ["".join(it[0].upper() + it[1:] for text in (of_type, of_trait) for it in parts(text) if it not in own)]
+
+
+def parameters(header):
+    """Returns the names of an impl's type parameters, and what stands behind them."""
+    if not header.startswith("<"):
+        return set(), header
+    depth, at = 0, 0
+    for at, sign in enumerate(header):
+        depth += (sign == "<") - (sign == ">" and header[at - 1] not in "-=")
+        if not depth:
+            break
+    inside = re.sub(r"[-=]>", "", header[1:at])
+    while IN_ANGLES.search(inside):
+        inside = IN_ANGLES.sub("", inside)
+    return {it.partition(":")[0].replace("const ", "").strip() for it in inside.split(",")}, header[at + 1 :].strip()
+
+
+def parts(text):
+    """Returns the words of a type or trait as names have them, without paths and lifetimes."""
+    signs = {"&": "ref", "&mut": "refMut", "[": "slice"}
+    found = PART.findall(re.sub(r"\w+::|\w+ = ", "", text))
+    return [signs.get(it, it) for it in found if not it.startswith("'")]

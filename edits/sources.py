@@ -1,0 +1,158 @@
+"""What a crate and those below it say, and which of it gives the words of an item their meaning."""
+
+import collections
+import functools
+import os
+import re
+import subprocess
+
+from edit import read
+from items import implemented, is_of_trait, items, words_of
+from layout import said_by_definitions, without_comments
+
+# A line that begins a definition, or gives one of its cases.
+DEFINED = re.compile(r"(?:(?:pub|abbrev|record|data|lemma|instance) )*([\w'-]+)")
+LABEL = re.compile(r"\b(requires|ensures\*?) [\w']+ \{")
+TYPES = ("struct", "enum", "union", "type", "const", "static")
+USE = re.compile(r"^ *(?:pub(?:\([^)]*\))? |ghost )*use ([^;{\n]*)(\{[^}]*)?", re.MULTILINE)
+# A ghost member that an impl chooses, its trait, the impl's type, what it says, and its file.
+Member = collections.namedtuple("Member", "name trait type text file")
+
+
+def checkout(root, revision, to):
+    """Writes the crates of a commit into a folder."""
+    archive = subprocess.run(["git", "-C", root, "archive", revision, "crates", "crates.txt"], stdout=subprocess.PIPE, check=True)
+    subprocess.run(["tar", "-x", "-C", to], input=archive.stdout, check=True)
+
+
+def texts_of(crates, names):
+    """Returns the sources and specs of some crates, without comments, by their paths in crates/."""
+    paths = [path for it in names for part in ("src", "specs") for path in files_below(f"{crates.folder(it)}/{part}")]
+    return {os.path.relpath(it, f"{crates.root}/crates"): bare(it) for it in paths}
+
+
+def files_below(folder):
+    return [f"{at}/{name}" for at, _, names in os.walk(folder) for name in names]
+
+
+def bare(path):
+    """Returns the text of a file without its comments."""
+    return without_comments(read(path)) if path.endswith(".rt") else re.sub(r"^ *--.*\n?", "", read(path), flags=re.MULTILINE)
+
+
+class Sources:
+    """Some sources and files of specs/, by their paths in crates/."""
+
+    def __init__(self, texts):
+        self.texts = texts
+        self.files = {it: items(texts[it]) for it in texts if it.split("/")[1] == "src"}
+        self.blocks = {it: said_by_definitions(texts[it]) for it in texts if it.split("/")[1] == "specs"}
+
+    def items(self):
+        return [it for _, it in self.items_by_file()]
+
+    def items_by_file(self):
+        return [(file, it) for file, parts in self.files.items() for it in parts]
+
+    def defined(self):
+        """Returns the names that a definition of specs/ or an item has."""
+        return {name for parts in self.blocks.values() for it in parts for name in names_of(it)} | {it.name for it in self.items()}
+
+    def definitions(self):
+        """Returns by name the definitions of specs/, each with its file."""
+        found = collections.defaultdict(set)
+        for file, block in ((file, it) for file, parts in self.blocks.items() for it in parts):
+            for name in names_of(block):
+                found[name].add((block, file))
+        return found
+
+    def types(self):
+        """Returns by name types, aliases and constants, types with their `impl Model`, each with its file."""
+        found = collections.defaultdict(set)
+        for file, it in self.items_by_file():
+            of_trait, of_type = implemented(it.head)
+            if it.kind in TYPES and not it.head or of_trait == "Model":
+                for name in words_of(of_type) if of_type else [it.name]:
+                    found[name].add((f"{it.head} {it.text}", file))
+        return found
+
+    def traits(self):
+        """Returns by name the text of each trait, its header on the first line, and its file."""
+        texts = collections.defaultdict(list)
+        for file, it in self.items_by_file():
+            if is_of_trait(it):
+                texts[it.head, file].append(unlabelled(it.text))
+        return {implemented(head)[0]: ("\n".join([head, *texts[head, file]]), file) for head, file in texts}
+
+    def members(self):
+        """Returns the ghost members that impls choose and of which something is said, here or by a trait of another library."""
+        texts = [it.text for it in self.items()] + [it for parts in self.blocks.values() for it in parts]
+        told = collections.Counter(word for text in texts for word in words_of(text))
+        ghosts = [(file, it) for file, it in self.items_by_file() if it.kind == "ghost"]
+        own = collections.Counter(it.name for _, it in ghosts)
+        declared = {implemented(it.head)[0] for it in self.items() if is_of_trait(it)}
+        chosen = [(file, it) for file, it in ghosts if implemented(it.head)[0] not in declared or told[it.name] > own[it.name] and not is_of_trait(it)]
+        return [Member(it.name, *implemented(it.head), f"{it.head} {it.text}", file) for file, it in chosen]
+
+    def uses(self, file):
+        """Returns the names that a file has from elsewhere, and those of them that it may call otherwise."""
+        names, others = set(), set()
+        for path, braces in USE.findall(self.texts[file]):
+            names |= words_of(braces)
+            others |= words_of(braces) if " as " in braces else set()
+            if not braces:  # all that a module defines
+                module = path.partition(" as ")[0].strip().removeprefix("Rattle.").replace(".", "/")
+                names |= {name for block in self.blocks.get(f"{module}.antt", ()) for name in names_of(block)}
+        return names, others
+
+
+def names_of(block):
+    """Returns the names that a part of a file of specs/ defines."""
+    return {it[1] for it in map(DEFINED.match, block.split("\n")) if it}
+
+
+def unlabelled(text):
+    """Returns a text without what the clauses of functions are called, which is no part of what they say."""
+    return LABEL.sub(r"\1 {", text)
+
+
+class Meaning:
+    """What gives the words of a crate's contracts their meaning, here and in the crates below."""
+
+    def __init__(self, crates, name):
+        self.sources = Sources(texts_of(crates, [name, *crates.below(name)]))
+        self.definitions, self.types = self.sources.definitions(), self.sources.types()
+        self.traits, self.members = self.sources.traits(), self.sources.members()
+        self.of = functools.lru_cache(maxsize=None)(self.meant_by)
+        self.uses = functools.lru_cache(maxsize=None)(self.sources.uses)
+        self.named = functools.lru_cache(maxsize=None)(self.named_by)
+
+    def meant_by(self, it, file):
+        """Returns an item with the texts that its meaning rests on: the trait that it is of with those above it, the ghost members of types
+        that it names, where it or the trait speaks of them, and all definitions that one of these names, also by way of others."""
+        words = words_of(f"{it.head} {it.text}")
+        traits = self.traits_of(implemented(it.head)[0])
+        told = words | (words_of(traits[0][0]) if traits else set())
+        members = [(member.text, member.file) for member in self.members if told & {member.name, member.trait} and words & words_of(member.type)]
+        due = [(f"{it.head} {unlabelled(it.text)}", file), *traits, *members]
+        seen = set(due)
+        for text in due:
+            due += self.named(*text) - seen
+            seen |= self.named(*text)
+        return {text for text, _ in seen}
+
+    def traits_of(self, name):
+        """Returns a trait and then those that its header names, by way of others too."""
+        names = [name] if name in self.traits else []
+        for it in names:
+            names += sorted((words_of(self.traits[it][0].partition("\n")[0]) & self.traits.keys()) - set(names))
+        return [self.traits[it] for it in names]
+
+    def named_by(self, text, file):
+        """Returns the types that a text names, and the definitions, which its file uses or defines."""
+        used, others = self.uses(file)
+        words = words_of(text) | others
+        types = (self.types[it] for it in words & self.types.keys())
+        definitions = self.definitions
+        visible = {it for it in words & definitions.keys() if it in used or any(at == file for _, at in definitions[it])}
+        return set().union(*types, *(definitions[it] for it in visible))

@@ -1,0 +1,199 @@
+"""Tests which stamps differ after which changes, on two crates in temporary folders. No checker runs."""
+
+import os
+import sys
+import tempfile
+
+sys.dont_write_bytecode = True
+from edit import edits_of, function_at
+from layout import said
+from names import owner
+from repository import Crates
+from stamps import stamps_of
+
+VERSION = "kit logic 0123456789abcdef"
+LOWER, UPPER, SIZES, WIDE = "crates/lower/src/lib.rt", "crates/upper/src/lib.rt", "crates/lower/specs/Sizes.antt", "crates/upper/specs/Wide.antt"
+EDITS, PROOF = "crates/upper/edits/lib.edits", "crates/upper/proofs/Lib.antt"
+FILES = {
+    "crates.txt": "lower:\nupper: lower\n",
+    PROOF: "mod Lemmas\n",
+    SIZES: "-- how many\nabbrev pub size : ℕ\nsize = 1\n\nabbrev pub other : ℕ\nother = 2\n",
+    WIDE: "use Rattle.lower.specs.Sizes.{size}\n\nabbrev pub wide : ℕ\nwide = suc size\n\nabbrev pub below : ℕ → ℕ\nbelow most = most\n\nabbrev pub value : ℕ\nvalue = 9\n\n"
+    "pub record Kept (n : ℕ) : Type 0 where\n  pub any : 0 < n\n\n  -- and no more\n  pub few : n < 9\n",
+    LOWER: """pub trait Wide {
+    ghost width: { ℕ };
+
+    ghost some: { 0 < width };
+}
+
+pub trait Measured: Wide {
+    fn measure(&self) -> u32
+        ensures { result ≡ Self.width };
+}
+""",
+    UPPER: """//! A pile.
+ghost use Rattle.upper.specs.Wide.{wide, Kept};
+
+use lower::Measured;
+
+/// Words in a pile.
+pub struct Pile<Word> {
+    words: Vec<Word>,
+}
+
+impl<Word> Model for Pile<Word> {
+    ghost Value = { List Word };
+
+    ghost view = { λ pile. elements pile.words };
+}
+
+impl<Word> Pile<Word>
+where
+    Word: Copy,
+{
+    /// The first.
+    pub fn first(&self) -> u32
+        ensures kept { result ≡ wide }
+    {
+        let value = two(1); // two
+        value
+    }
+
+    pub fn second(&self) -> u32
+        ensures value { result ≡ 7 }
+        ensures again { Kept result }
+    {
+        let value = 7;
+        let same = same(value);
+        same
+    }
+}
+
+pub fn weigh(pile: &Pile<u8>) -> u32 {
+    5
+}
+
+impl<Word> Wide for Pile<Word> {
+    ghost width = { 3 };
+
+    ghost some = { omega arith };
+}
+
+impl<Word> Measured for Pile<Word> {
+    fn measure(&self) -> u32 {
+        3
+    }
+}
+
+impl<Word> Iterator for Pile<Word> {
+    ghost next_gives = { Yields };
+
+    fn next(&mut self) -> Option<Word> {
+        None
+    }
+}
+""",
+    EDITS: """## first: one more
+old: let value = two(1);
+new: let value = two(2);
+
+## second: one more
+old: let value = 7;
+new: let value = 8;
+
+## weigh: one more
+old:     5
+new:     6
+
+## next: forgets
+old:         None
+new:         none()
+
+## measure: one more
+old:         3
+new:         4
+""",
+}
+FIRST, ALL = ["first"], ["first", "measure", "next", "second", "weigh"]
+# Of each case the changes, each a file, an old text and a new one, and the functions of which the stamps differ.
+CASES = {
+    "layout": ([(UPPER, "same(value)", "same(\n            value,\n        )"), (UPPER, "first(&self)", "first(\n        &self,\n    )")], []),
+    "layout of a definition": ([(WIDE, "wide = suc size", "wide =\n    suc  size")], []),
+    "comments": ([(UPPER, " // two", ""), (UPPER, "The first.", "Not the last."), (SIZES, "-- how many\n", "-- how\n-- many\n")], []),
+    "what is used": ([(UPPER, "use lower::Measured;", "use lower::{Measured, Other};"), (UPPER, "{wide, Kept}", "{below, wide, Kept}")], []),
+    "a proof": ([(PROOF, "Lemmas", "Others")], []),
+    "another function": ([(UPPER, "same(value)", "same(value + 0)")], ["second"]),
+    "what a clause is called": ([(UPPER, "ensures kept", "ensures value")], []),
+    "the keyword of a clause": ([(UPPER, "ensures kept", "requires kept")], FIRST),
+    "the contract": ([(UPPER, "result ≡ wide", "result ≡ wide + 0")], FIRST),
+    "a definition": ([(WIDE, "wide = suc size", "wide = size + 1")], FIRST),
+    "a definition that nothing cites": ([(WIDE, "below most = most", "below most = suc most")], []),
+    "a definition with the name of a local": ([(WIDE, "value = 9", "value = 8")], []),
+    "a definition in another file": ([(WIDE, "abbrev pub wide : ℕ\nwide = suc size\n\n", ""), (SIZES, "-- how many\n", "abbrev pub wide : ℕ\nwide = suc size\n\n")], []),
+    "a field behind an empty line": ([(WIDE, "n < 9", "n < 10")], ["second"]),
+    "a definition below, by way of another": ([(SIZES, "size = 1", "size = suc 0")], FIRST),
+    "a definition below that nothing cites": ([(SIZES, "other = 2", "other = 3")], []),
+    "a where line": ([(UPPER, "Word: Copy", "Word: Clone")], ["first", "second"]),
+    "an impl Model": ([(UPPER, "elements pile.words", "reverse (elements pile.words)")], ALL),
+    "a struct": ([(UPPER, "words: Vec<Word>", "words: Vec<Word>, count: usize")], ALL),
+    "a ghost member of the type": ([(UPPER, "width = { 3 }", "width = { 1 + 2 }")], ["measure"]),
+    "a ghost member of another library's trait": ([(UPPER, "{ Yields }", "{ YieldsNone }")], ["next"]),
+    "the proof of a law": ([(UPPER, "omega arith", "zero_less")], []),
+    "a trait below": ([(LOWER, "≡ Self.width", "≡ Self.width + 0")], ["measure"]),
+    "a trait of that trait": ([(LOWER, "0 < width", "1 < width")], ["measure"]),
+    "a function that is called": ([(UPPER, "pub fn second", "fn two(x: u32) -> u32 {\n        x\n    }\n\n    pub fn second")], []),
+    "an edit": ([(EDITS, "two(2)", "two(3)")], FIRST),
+    "a heading": ([(EDITS, "first: one more", "first: one too many")], []),
+}
+# Texts that say the same, and those that don't.
+SAME = [("{ a }", "{\n    a\n}"), ("f  a\n  b", "f a b"), ("f(\n    a,\n    b,\n)", "f(a, b)"), ("F<\n    A,\n>::new()", "F<A>::new()"), ("a\n    .b()", "a.b()")]
+OTHER = [("(a,)", "(a)"), ("a && b", "a & &b"), ('"a  b"', '"a b"'), ("f x", "fx"), ("f (a, b)", "f (a, c)"), ("-x", "- x")]
+# What stands for the headers of impls in the checker's names.
+OWNERS = {
+    "": [],
+    "pub trait Decode<const P: usize>: Code {": ["Decode"],
+    "impl<Word: Copy, A> Pile<Word, A> where Word: Copy, {": ["Pile"],
+    "impl<Word> Pile<Word, Vec<Word>> {": ["Pile+Word+Vec+Word"],
+    "impl<'a, Word> Pile<Word, &'a [Word]> {": ["Pile+Word+ref+slice+Word"],
+    "impl<Word> ReadWords<Word, Stack> for &mut Vec<Word> {": ["RefMutVecReadWordsStack"],
+    "impl<Inner: Drop> Drop for Guard<'_, Inner> {": ["Guard"],
+}
+# Const parameters on lines of their own are no items.
+LEAST = "pub fn least<\n    Word: Copy,\n    const MOST: usize,\n>(word: Word) -> usize {\n    MOST\n}\n\npub const ROOM: usize = 7;".split("\n")
+
+
+def stamps(files, changes):
+    """Returns by function the sums of the stamps after changes of files."""
+    files = dict(files)
+    for path, old, new in changes:
+        if old not in files[path]:
+            raise ValueError(f"{path} has no '{old}'")
+        files[path] = files[path].replace(old, new)
+    with tempfile.TemporaryDirectory() as root:
+        for path, text in files.items():
+            os.makedirs(os.path.dirname(f"{root}/{path}"), exist_ok=True)
+            with open(f"{root}/{path}", "w", encoding="utf-8") as out:
+                out.write(text)
+        crates = Crates(root)
+        edits, faults = edits_of(crates.folder("upper"))
+        if faults:
+            raise ValueError(faults[0])
+        return {key.function: stamp.sum for key, stamp in stamps_of(crates, "upper", edits, VERSION).items()}
+
+
+def main():
+    before, faults = stamps(FILES, []), []
+    for name, (changes, wanted) in CASES.items():
+        now = stamps(FILES, changes)
+        got = sorted(it for it in now if now[it] != before[it])
+        faults += [] if got == wanted else [f"{name}: {got}, and not {wanted}"]
+    faults += [f"{pair} don't say the same" for pair in SAME if said(pair[0]) != said(pair[1])]
+    faults += [f"{pair} say the same" for pair in OTHER if said(pair[0]) == said(pair[1])]
+    faults += [f"{head}: {owner(head)}" for head in OWNERS if owner(head) != OWNERS[head]]
+    faults += [] if [function_at(LEAST, at) for at in (4, 7)] == ["least", "ROOM"] else ["a const parameter is taken for an item"]
+    print("\n".join(faults))
+    return bool(faults)
+
+
+if __name__ == "__main__":
+    sys.exit(main())

@@ -1,0 +1,73 @@
+"""Names that are others now, as a file of renames tells."""
+
+import collections
+import os
+import re
+
+from items import words_of
+from repository import read
+
+WORD = r"(?<![\w'-]){}(?![\w'-])"
+USE = re.compile(r"^ *(?:pub |ghost )*use ([^;{\n]*)(\{[^}]*)?", re.MULTILINE)
+NAME = r"[\w'-]+"
+
+
+def module_of(file):
+    """Returns the name that a file of specs/ has where it is used."""
+    return "Rattle." + os.path.splitext(file)[0].replace("/", ".")
+
+
+def lines_of(path):
+    """Returns the words of each line of a file that may be absent; `#` starts a comment."""
+    lines = read(path).split("\n") if os.path.exists(path) else []
+    return list(filter(None, (line.partition("#")[0].split() for line in lines)))
+
+
+class Renames:
+    """Lines `OLD NEW`, or `OLD NEW MODULE..` where OLD is meant in these files of specs/ alone, and where it is used from them."""
+
+    def __init__(self, path):
+        self.new, self.within = {}, collections.defaultdict(dict)
+        for old, new, *modules in map(self.checked, lines_of(path)):
+            for names in [self.within[it] for it in modules] or [self.new]:
+                if old in names or new in names.values():
+                    raise ValueError(f"renamed: '{old} {new}' names what another line names")
+                names[old] = new
+
+    def checked(self, words):
+        if len(words) < 2 or words[0] == words[1] or not all(re.fullmatch(NAME, it) for it in words[:2]) or not all("." in it for it in words[2:]):
+            raise ValueError(f"renamed: '{' '.join(words)}' is not a name and its new name")
+        return words
+
+    def names(self):
+        return [*self.new.items(), *(pair for names in self.within.values() for pair in names.items())]
+
+    def refuse_taken(self, texts, defined, revision):
+        """Fails where a new name was defined at that commit already, or where a text, by its file's name, had both names."""
+        for old, new in self.new.items():
+            both = next((file for file in sorted(texts) if {old, new} <= words_of(texts[file])), None)
+            self.refuse(old, new, revision if new in defined else "", f"{both} has both names at {revision}" if both else "")
+        for file in sorted(texts):
+            both = next((pair for pair in self.meant_in(file, texts[file]).items() if pair[1] in words_of(texts[file])), None)
+            if both:
+                self.refuse(*both, "", f"{file} has both names at {revision}")
+
+    def refuse(self, old, new, defined, both):
+        taken = f"{defined} has a definition {new} already" if defined else both
+        if taken:
+            raise ValueError(f"renamed: '{old} {new}', but {taken}: what was said of the two can't be told apart")
+
+    def meant_in(self, file, text):
+        """Returns the names that a text means by the modules that it uses, or is, with their new names."""
+        used = collections.defaultdict(set)
+        for path, names in USE.findall(text) if self.within else []:
+            used[path.strip(" .")] |= words_of(names)
+        here = {module: names if module == module_of(file) else {it: names[it] for it in names if it in used[module]} for module, names in self.within.items()}
+        return {old: new for names in here.values() for old, new in names.items()}
+
+    def applied(self, text, file=""):
+        """Returns an earlier text with the new names."""
+        names = {**self.new, **self.meant_in(file, text)}
+        if not names:
+            return text
+        return re.sub(WORD.format(f"(?:{'|'.join(map(re.escape, names))})"), lambda it: names[it[0]], text)
