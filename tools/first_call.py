@@ -1,64 +1,231 @@
-"""Proves the crates of a program from nothing, as the gate does, those that don't wait for each other side by side, and builds the program.
+"""Proves a program or a static library and the crates below it, those that don't wait for each other side by side, and builds it.
 
-A proof gets the processors that no other one waits for. Nothing is taken from earlier runs, and no quick pass goes before.
+A program's crates are all proved from nothing in the one run. For a static library, what an earlier run of this file proved from nothing is kept,
+where neither it nor anything below has changed; with --over-gate the libraries that `rt ci` has just left are taken as they are. How far it
+is goes to standard error: on a terminal as one line that is drawn again each second, elsewhere as a line for each crate and each half minute
+(PROGRESS_SECONDS: each so many seconds).
 
-usage: first_call.py KIT REPOSITORY PROGRAM"""
+usage: first_call.py KIT REPOSITORY CRATE [--over-gate]"""
 
-import copy
-import importlib.machinery
-import importlib.util
+import json
 import os
+import shutil
+import signal
 import sys
-import tempfile
 import time
+from concurrent.futures import FIRST_COMPLETED, ThreadPoolExecutor, wait
 
 sys.dont_write_bytecode = True
-kit, top, name = sys.argv[1:]
-sys.path.insert(0, f"{kit}/bin")
-loader = importlib.machinery.SourceFileLoader("rt", f"{kit}/bin/rt")
-rt = importlib.util.module_from_spec(importlib.util.spec_from_loader("rt", loader))
-loader.exec_module(rt)
-rtlib = rt.rtlib
-os.chdir(top)
-rtlib.guarded()
-rtlib.Crate = rt.Crate
-rt.Crate.cuts_libraries = True  # the crates above a library load its statements
-rt.Crate.allowed = rt.handles_of(top)
-program = next(it for it in rtlib.crates_below(top) if it.name == name)
-crates = [*program.below(), program]
-rtlib.lock(crates)
-began = time.time()
+from schedule import SPEEDS, Part, Schedule
+from toolchain import Toolchain
+
+# The processor time of each proof from nothing with one job, in multiples of that of constriction_words.
+WEIGHTS = {
+    "constriction_words": 1.0,
+    "constriction_base": 4.0,
+    "constriction_stream": 2.0,
+    "constriction_models": 2.5,
+    "constriction_stack": 4.3,
+    "constriction_queue": 6.0,
+    "constriction_chain": 5.2,
+    "constriction_symbol": 7.2,
+    "constriction_store": 2.5,
+    "constriction_commands": 4.0,
+    "constriction_cli": 0.8,
+    "constriction_inputs": 3.0,
+    "constriction_calls": 12.0,
+    "constriction_c": 6.0,
+}
 
 
-def build(crate, jobs):
-    words = crate.words(["--jobs", str(jobs)], keeps=False)
-    with tempfile.TemporaryDirectory(prefix=f"rt-proved-{os.getpid()}-") as room:
-        status = crate.prove(["check", *words, "-o", f"{room}/checked"])
-        for flag in ("--logic-built", "--jobs"):
-            at = words.index(flag)
-            words = [*words[:at], *words[at + 2 :]]
-        words = [*words, "--crate-checked", f"{room}/checked", "--toolchain", f"{kit}/toolchain"]
-        return status or crate.compile_by("llvm", words, f"out/{crate.name}")
+class Progress:
+    """What is said on standard error, each line under the name of the command that was called."""
+
+    def __init__(self, name):
+        self.name, self.stream, self.began = name, sys.stderr, time.time()
+        self.is_terminal = self.stream.isatty()
+        self.pause = 1.0 if self.is_terminal else float(os.environ.get("PROGRESS_SECONDS", "30"))
+        self.is_drawn = False
+
+    def seconds(self):
+        return time.time() - self.began
+
+    def say(self, text):
+        """Says a line that stays."""
+        print(f"{self.wiped()}{self.name}: {text}", file=self.stream, flush=True)
+
+    def wiped(self):
+        """Returns what takes away the line that is drawn, if there is one."""
+        was_drawn, self.is_drawn = self.is_drawn, False
+        return "\r\x1b[K" if was_drawn else ""
+
+    def draw(self, text):
+        """Draws a line over the one before, or says it where there is no terminal."""
+        if not self.is_terminal:
+            return self.say(text)
+        columns = shutil.get_terminal_size().columns - 1
+        print(f"\r\x1b[K{self.name}: {text}"[: columns + 4], end="", file=self.stream, flush=True)
+        self.is_drawn = True
 
 
-def work(crate, given, jobs):
-    if not all(given[it.name, "proof"] for it in crate.below()):
-        return False
-    crate, at, used = copy.copy(crate), time.time(), os.times()
-    os.makedirs(f"{crate.folder}/out", exist_ok=True)
-    with open(f"{crate.folder}/out/first_call.log", "w+", errors="replace") as crate.out:
-        status = build(crate, jobs) if crate.is_program else crate.build_rlib(["--jobs", str(jobs)], anew=True)
-        if status:
-            crate.out.seek(0)
-            print(crate.out.read(), file=sys.stderr)
-    now = os.times()
-    cpu = now.children_user + now.children_system - used.children_user - used.children_system
-    print(f"{crate.name} {'is proved' if not status else 'IS NOT PROVED'} at {time.time() - began:.0f} s (begun at {at - began:.0f}, {jobs} jobs, processor seconds of all meanwhile {cpu:.0f})", file=sys.stderr, flush=True)
-    return not status
+class Record:
+    """What a run of this file has proved and built of a crate: by a sum over its files and those below, and when these builds were made."""
+
+    def __init__(self, crate):
+        self.crate, self.path = crate, f"{crate.folder}/out/proved"
+        self.stamp = crate.stamp()
+
+    def made(self):
+        """Returns when each library below, and the crate itself, was built."""
+        return {it.name: os.stat(built(it)).st_mtime_ns for it in [*self.crate.below(), self.crate]}
+
+    def kept(self):
+        """Returns what was written, if it still holds."""
+        try:
+            with open(self.path, encoding="utf-8") as file:
+                said = json.load(file)
+            return said if said["stamp"] == self.stamp and said["made"] == self.made() else None
+        except (OSError, ValueError, KeyError, TypeError):
+            return None
+
+    def write(self, unit):
+        """Writes it, if no file has changed since the proof began, with the seconds that a unit of work takes here."""
+        if self.stamp == self.crate.stamp():
+            with open(self.path, "w", encoding="utf-8") as file:
+                json.dump({"stamp": self.stamp, "made": self.made(), "unit": unit}, file)
 
 
-tasks = {}
-for it in crates:
-    waits = [(below.name, "proof") for below in it.below()]
-    tasks[it.name, "proof"] = (waits, it.count(rb"\n"), rt.need(it), lambda given, jobs, it=it: work(it, given, jobs))
-sys.exit(not all(rt.in_lanes(tasks).values()))
+def built(crate):
+    """Returns where a crate's build lies."""
+    if crate.is_program:
+        return f"{crate.folder}/out/{crate.name}"
+    return f"{crate.folder}/out/lib{crate.name}.a" if crate.is_static else crate.rlib
+
+
+class Run:
+    """The proofs of some crates, of which those by the names of `done` need none."""
+
+    def __init__(self, toolchain, crates, done, unit, progress):
+        self.toolchain, self.crates, self.done, self.progress = toolchain, {it.name: it for it in crates}, set(done), progress
+        self.unit = unit  # the seconds of a proof of weight 1 with one job, once they are known
+        self.ended = []  # the seconds and the weight of each proof that ended here
+        self.running = {}  # a name leads to its jobs, and to when it began
+        parts = {it.name: Part({below.name for below in it.below()}, weight(it), toolchain.memory(it)) for it in crates}
+        self.schedule = Schedule(parts, toolchain.processors(), toolchain.free())
+
+    def all(self):
+        """Proves all crates, and tells whether that succeeded. The first that isn't proved ends the run."""
+        tasks, pool = {}, ThreadPoolExecutor(max(1, self.schedule.processors))
+        while len(self.done) < len(self.crates):
+            for name, jobs in self.schedule.starts(self.done, self.jobs()).items():
+                self.running[name] = jobs, time.time()
+                tasks[pool.submit(self.prove, self.crates[name], jobs)] = name
+            self.progress.draw(self.line())
+            for task in wait(tasks, timeout=self.progress.pause, return_when=FIRST_COMPLETED).done:
+                if not self.end(tasks.pop(task), task.result()):
+                    return False
+        return True
+
+    def jobs(self):
+        return {name: jobs for name, (jobs, _) in self.running.items()}
+
+    def prove(self, crate, jobs):
+        """Proves and builds a crate, and returns what is to be noted of it, or None where that failed."""
+        os.makedirs(f"{crate.folder}/out", exist_ok=True)
+        record = Record(crate)
+        return record if self.toolchain.prove(crate, jobs, log_of(crate)) else None
+
+    def end(self, name, record):
+        """Notes that a proof ended, and tells whether it succeeded."""
+        jobs, began = self.running.pop(name)
+        if record is None:
+            self.progress.say(f"{name} is not proved, as the toolchain says:")
+            with open(log_of(self.crates[name]), encoding="utf-8") as log:
+                shutil.copyfileobj(log, sys.stderr)
+            return False
+        self.ended.append(((time.time() - began) * SPEEDS[jobs], weight(self.crates[name])))
+        self.unit = sum(seconds for seconds, _ in self.ended) / sum(work for _, work in self.ended)
+        self.done.add(name)
+        record.write(self.unit)
+        return True
+
+    def rest(self, name):
+        """Returns the work that is left of a crate: of one that runs a fiftieth at least, however long it has taken."""
+        whole = weight(self.crates[name])
+        if name in self.done:
+            return 0.0
+        if name in self.running and self.unit:
+            jobs, began = self.running[name]
+            return max(whole - (time.time() - began) * SPEEDS[jobs] / self.unit, whole / 50)
+        return whole
+
+    def line(self):
+        """Returns how far the run is, by the work and not by the number of crates."""
+        rest = {name: self.rest(name) for name in self.crates}
+        whole = sum(map(weight, self.crates.values()))
+        at_work = ", ".join(self.running)
+        if not self.unit:
+            return f"at work on {at_work} for {self.progress.seconds():.0f} s"
+        left = about(self.unit * self.schedule.left(self.done, self.jobs(), rest))
+        return f"{100 * (1 - sum(rest.values()) / whole):.0f} % after {self.progress.seconds():.0f} s, {left} left; at work on {at_work}"
+
+
+def weight(crate):
+    return WEIGHTS.get(crate.name, 1.0)
+
+
+def log_of(crate):
+    return f"{crate.folder}/out/first_call.log"
+
+
+def about(seconds):
+    minutes = round(seconds / 60)
+    return f"about {minutes} minute{'s' * (minutes > 1)}" if minutes else "less than a minute"
+
+
+def kept_of(crates):
+    """Returns the crates that need no proof, since an earlier run of this file proved them and all below, and the seconds of a unit of work then."""
+    kept, unit = set(), None
+    for crate in crates:
+        said = Record(crate).kept() if kept.issuperset(it.name for it in crate.below()) else None
+        if said:
+            kept.add(crate.name)
+            unit = said["unit"]
+    return kept, unit
+
+
+def begin(progress, crate, count, kept):
+    """Says what is to be done, and what can be had meanwhile."""
+    if crate.is_program:
+        progress.say(
+            f"proving the {count} crates of the program from nothing and building it, once; the first one tells how long that takes here. "
+            "./constriction --trial COMMAND < INPUT answers in a minute, unproved"
+        )
+    else:
+        progress.say(f"proving {count} of the {count + kept} crates of {crate.name} and building it; the first one tells how long that takes here")
+
+
+def main(kit, top, name, *how):
+    signal.signal(signal.SIGINT, signal.SIG_DFL)  # the proofs end with this process
+    toolchain = Toolchain(kit, top)
+    crates = toolchain.crates(name)
+    toolchain.lock(crates)
+    crate, done, unit = crates[-1], set(), None
+    if how == ("--over-gate",):
+        done = {it.name for it in crates[:-1]}
+    elif not crate.is_program:
+        done, unit = kept_of(crates)
+    progress = Progress("constriction" if crate.is_program else "library")
+    if len(done) == len(crates):
+        progress.say(f"{name} is proved already")
+        return 0
+    begin(progress, crate, len(crates) - len(done), len(done))
+    if not Run(toolchain, crates, done, unit, progress).all():
+        sys.stderr.flush()
+        os._exit(1)  # what still runs is not waited for
+    progress.say(f"all is proved (after {progress.seconds():.0f} s)")
+    return 0
+
+
+if __name__ == "__main__":
+    sys.exit(main(*sys.argv[1:]))
