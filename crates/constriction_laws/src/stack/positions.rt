@@ -33,11 +33,11 @@ pub fn position_leads_back<Symbol>()
         EncodesAll w s items old new → sought (position_of old) new ≡ old }
 {}
 
-/// A decoder that seeks to a recorded position gives the symbols that were encoded before it, the last
-/// one first, where the coder was only encoded to since.
+/// Decoding from a position undoes the encodes up to the moment at which it was recorded, in reverse order.
+/// The coder may have encoded more since then, but decoded nothing.
 ///
-/// The decoder holds the coder's words, or has imported those that the coder exported. What is left is
-/// the state at which the coder started, as the empty one.
+/// The decoder may stand over the coder's own words or over its exported ones. It ends at the state from
+/// which the coder began, for instance the empty one.
 pub fn symbols_before_a_position<Symbol>()
     ensures decoded { (w s : ℕ) (before since : List (Item Symbol)) (start middle last : AnsState) →
         IsSizes w s → AreModels w since →

@@ -37,6 +37,15 @@ impl<'a, Word: WordOf<State>, State: BitArray, A: Allocator> Holds<Word, Queue>
     ghost is_list = { Unit {0} };
 }
 
+impl<'a, Word: WordOf<State>, State: BitArray, A: Allocator> Holds<Word, Stack>
+    for EncoderGuard<'a, Word, State, A> {
+    ghost use Rattle.constriction_queue.specs.Guarded.{lent_by};
+
+    ghost words = { λ g. reverse (lent_by g) };
+
+    ghost is_list = { Unit {0} };
+}
+
 impl<'a, Word: WordOf<State>, State: BitArray, A: Allocator> IntoReadWords<Word, Queue>
     for EncoderGuard<'a, Word, State, A> {
     type IntoReadWords = Cursor<Word, EncoderGuard<'a, Word, State, A>>;
@@ -48,6 +57,19 @@ impl<'a, Word: WordOf<State>, State: BitArray, A: Allocator> IntoReadWords<Word,
     }
 }
 
+impl<'a, Word: WordOf<State>, State: BitArray, A: Allocator> IntoReadWords<Word, Stack>
+    for EncoderGuard<'a, Word, State, A> {
+    type IntoReadWords = Cursor<Word, EncoderGuard<'a, Word, State, A>>;
+
+    ghost use Rattle.constriction_queue.specs.Guarded.{lent_by};
+
+    ghost becomes = { λ old new. (new.buf ≡ old) × (new.pos ≡ length (lent_by old)) };
+
+    fn into_read_words(self) -> Cursor<Word, EncoderGuard<'a, Word, State, A>> {
+        Cursor::new_at_write_end(self)
+    }
+}
+
 impl<'a, Word: WordOf<State>, State: BitArray, A: Allocator> IntoSeekReadWords<Word, Queue>
     for EncoderGuard<'a, Word, State, A> {
     type IntoSeekReadWords = Cursor<Word, EncoderGuard<'a, Word, State, A>>;
@@ -55,7 +77,20 @@ impl<'a, Word: WordOf<State>, State: BitArray, A: Allocator> IntoSeekReadWords<W
     ghost becomes = { λ old new. (new.buf ≡ old) × (new.pos ≡ 0) };
 
     fn into_seek_read_words(self) -> Cursor<Word, EncoderGuard<'a, Word, State, A>> {
-        Cursor::new_at_write_beginning(self)
+        IntoReadWords::<Word, Queue>::into_read_words(self)
+    }
+}
+
+impl<'a, Word: WordOf<State>, State: BitArray, A: Allocator> IntoSeekReadWords<Word, Stack>
+    for EncoderGuard<'a, Word, State, A> {
+    type IntoSeekReadWords = Cursor<Word, EncoderGuard<'a, Word, State, A>>;
+
+    ghost use Rattle.constriction_queue.specs.Guarded.{lent_by};
+
+    ghost becomes = { λ old new. (new.buf ≡ old) × (new.pos ≡ length (lent_by old)) };
+
+    fn into_seek_read_words(self) -> Cursor<Word, EncoderGuard<'a, Word, State, A>> {
+        IntoReadWords::<Word, Stack>::into_read_words(self)
     }
 }
 

@@ -40,12 +40,9 @@ where
     fn next(
         &mut self,
     ) -> Option<Result<M::Symbol, CoderError<Decoder::FrontendError, Decoder::BackendError>>> {
-        if self.amt != 0 {
-            self.amt -= 1;
-            Some(self.decoder.decode_symbol(self.model))
-        } else {
-            None
-        }
+        self.amt = self.amt.checked_sub(1)?;
+        let answer = self.decoder.decode_symbol(self.model);
+        Some(answer)
     }
 
     fn size_hint(&self) -> (usize, Option<usize>)
