@@ -145,7 +145,8 @@ impl<
     const PRECISION: usize,
 > Clone for ChainCoder<Word, State, C, R, PRECISION> {
     ghost is_clone = { λ old new. C.is_clone old.compressed new.compressed × R.is_clone old.remainders new.remainders
-        × (new.state.h ≡ old.state.h) × (new.state.r ≡ old.state.r) };
+        × (new.state.h ≡ old.state.h) × (new.state.r ≡ old.state.r)
+        × IsChainCoder Word.number C.Holds R.Holds Word.BITS State.BITS PRECISION new };
 
     ghost is_infallible = { λ coder. C.is_infallible coder.compressed × R.is_infallible coder.remainders };
 
@@ -153,10 +154,11 @@ impl<
     fn clone(&self) -> Result<Self, AllocError> {
         let compressed = self.compressed.clone()?;
         let remainders = self.remainders.clone()?;
+        let (left_over, number) = self.heads.parts();
         Ok(ChainCoder {
             compressed,
             remainders,
-            heads: self.heads,
+            heads: ChainCoderHeads::of(left_over, number),
         })
     }
 }

@@ -320,6 +320,7 @@ impl<'a, Word: WordOf<State>, State: BitArray, Backend: AsReadWords<'a, Word, St
     &'a AnsCoder<Word, State, Backend>,
 > for AnsCoder<Word, State, <Backend as AsReadWords<'a, Word, Stack>>::AsReadWords> {
     ghost from_gives = { λ coder result. (result.state ≡ coder.now.state)
+        × Backend.becomes coder.now.backend result.backend
         × IsCoder Word.number ⟦<<Backend as AsReadWords<'a, Word, Stack>>::AsReadWords as Holds<Word, Stack>>⟧
         Word.BITS State.BITS result };
 
