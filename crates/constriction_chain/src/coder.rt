@@ -154,11 +154,11 @@ impl<
     fn clone(&self) -> Result<Self, AllocError> {
         let compressed = self.compressed.clone()?;
         let remainders = self.remainders.clone()?;
-        let (left_over, number) = self.heads.parts();
+        let (rest, number) = self.heads.parts();
         Ok(ChainCoder {
             compressed,
             remainders,
-            heads: ChainCoderHeads::of(left_over, number),
+            heads: ChainCoderHeads::of(rest, number),
         })
     }
 }

@@ -5,6 +5,6 @@ use Rattle.constriction_chain.proofs.coder.ChainCoderClone.clone.Goals as goal
 pub returns : goal.returns
 returns g c =
     let law = g.met.Word.BitArray.number_law in
-    let parts = c.parts-left_over.ensures in
+    let parts = c.parts-rest.ensures in
     rw (← c.self.view_is, c.of.ensures, parts.parts)
     (record { cases = (c.in_ok-compressed.ensures.cases, c.in_ok-remainders.ensures.cases, refl, refl, coder_of _ _ _ g.Word.BitArray.number law _ _ _ _ _ _ parts.sized parts.some (law _) parts.window) })
