@@ -91,8 +91,11 @@ class Sources:
         ghosts = [(file, it) for file, it in self.items_by_file() if it.kind == "ghost"]
         own = collections.Counter(it.name for _, it in ghosts)
         declared = {implemented(it.head)[0] for it in self.items() if is_of_trait(it)}
-        chosen = [(file, it) for file, it in ghosts if implemented(it.head)[0] not in declared or told[it.name] > own[it.name] and not is_of_trait(it)]
-        return [Member(it.name, *implemented(it.head), f"{it.head} {it.text}", file) for file, it in chosen]
+        found = []
+        for file, it in ghosts:
+            if implemented(it.head)[0] not in declared or told[it.name] > own[it.name] and not is_of_trait(it):
+                found.append(Member(it.name, *implemented(it.head), f"{it.head} {it.text}", file))
+        return found
 
     def uses(self, file):
         """Returns the names that a file has from elsewhere, and those of them that it may call otherwise."""
