@@ -1,7 +1,5 @@
--- Lists of symbols turned round, and under one model; numbers of few bits.
+-- Lists of symbols turned round, and under one model.
 pub use Rattle.constriction_base.proofs.Turns.{map-reverse, all-append, all-reverse}
 pub use Rattle.constriction_base.proofs.SameModel.{are_models, models-alike, symbols-items_of}
-pub use Rattle.constriction_laws.proofs.of_chain.ListCalls.{models_at}
 pub use Rattle.constriction_base.proofs.WordLists.{own_remainders, sum_of_remainders}
-pub use Rattle.constriction_laws.proofs.of_symbol.least_cost.Books.{own_numbers}
 pub use Rattle.constriction_symbol.proofs.HuffmanMerge.{length_symbols}

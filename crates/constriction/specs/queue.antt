@@ -3,6 +3,7 @@ pub mod Concatenated
 pub mod Decoder
 pub mod Encoder
 pub mod Flagged
+pub mod Flagging
 pub mod Guarded
 pub mod Outcomes
 pub mod Range

@@ -129,28 +129,28 @@
 //!
 //! # [`laws`]: what holds for a whole run
 //!
-//! Functions whose contracts are theorems, for proofs of one's own. Most are called for their contract
-//! alone and do nothing.
+//! Functions whose contracts are theorems, for proofs of one's own. Most are laws over definitions: a caller names one
+//! for its contract, and the call does nothing. The functions in modules `round_trips` make the coders' calls for lists
+//! of symbols, one half of the way at a time.
 //!
 //! - [`laws::lists`]: where each step is undone, so is a list of them.
-//!   [`laws::round_trips`]: lists that any coder gives.
 //! - [`laws::bounds`]: the words of the stack coder and of the range coder are few, whatever the steps; and what may
 //!   follow those of a range coder.
 //! - [`laws::chain`]: the chain coder. [`laws::chain::isolation`] says that its symbols don't depend on one
 //!   another's models; [`laws::chain::steps`], [`laws::chain::lists`] and [`laws::chain::words`] are of one
-//!   step, of lists, and of words that come back by way of the remainders; [`laws::chain::round_trips`] are
-//!   the same by the coder's own calls.
-//! - [`laws::queue`]: the range coder. [`laws::queue::round_trips`] are whole lists there and back, by the
-//!   coder's own calls; [`laws::queue::words`], [`laws::queue::lists`] and [`laws::queue::positions`] are the
-//!   laws of sealed words, of lists of symbols, and of recorded positions; the others are of guards and room.
+//!   step, of lists, and of words that come back by way of the remainders; [`laws::chain::round_trips`] takes symbols
+//!   out, and puts them back.
+//! - [`laws::queue`]: the range coder. [`laws::queue::words`], [`laws::queue::lists`] and [`laws::queue::positions`] are
+//!   the laws of sealed words, of lists of symbols, and of recorded positions; [`laws::queue::round_trips`] codes
+//!   lists, and takes them from words; the others are of flags, guards and room.
 //! - [`laws::store`]: chunks come back from a store in any order, and what is read of its words for one of them.
 //! - [`laws::symbol`]: bit coders and codebooks: lists of symbols come back from queues and from stacks,
 //!   under mixed codebooks too, and no codeword of Exp-Golomb or of a Huffman tree begins another.
 //!   [`laws::symbol::costs`] and [`laws::symbol::huffman`]: a Huffman tree costs at most what any other codebook does.
-//! - [`laws::stack`]: the stack coder. [`laws::stack::round_trips`] are whole lists there and back, by
-//!   the coder's own calls; [`laws::stack::steps`], [`laws::stack::lists`] and [`laws::stack::words`] are
-//!   the laws of one symbol, of lists, and of words that are exported and imported; the others are of
-//!   binary forms, guards, positions, readings and sizes.
+//! - [`laws::stack`]: the stack coder. [`laws::stack::steps`], [`laws::stack::lists`] and [`laws::stack::words`] are
+//!   the laws of one symbol, of lists, and of words that are exported and imported; [`laws::stack::round_trips`] puts
+//!   lists on, and takes them from words; the others are of binary forms, guards, positions, readings and sizes.
+//! - [`laws::errors`]: why symbols weren't coded, or weren't taken.
 #![tactic(auto)]
 
 pub use constriction_base::backends::{Pos, PosSeek, Queue, Seek, Semantics, Stack};
@@ -251,7 +251,7 @@ pub mod symbol {
 
 pub mod laws {
     pub use constriction_laws::{
-        bounds, chain, errors, lists, queue, round_trips, stack, symbol,
+        bounds, chain, errors, lists, queue, stack, symbol,
     };
     pub use constriction_store::laws as store;
 }

@@ -1,73 +1,64 @@
-//! Callers of the coder that say in their own contracts that symbols come back, and a small run.
+//! Callers of the coder that say in their own contracts which symbols come back, and a small run.
 //! `docs/CALLING.md` goes through them.
 
-ghost use Rattle.std.specs.Prelude.{◌≡◌, ℕ, List, length, map, reverse, IfOk, IfErr, IfSome};
-ghost use Rattle.constriction.specs.Outcomes.{HasImpossible, UnlessImpossible};
-ghost use Rattle.constriction.specs.Tables.{model_of};
-ghost use Rattle.constriction.specs.stack.Ans.{exported};
+ghost use Rattle.std.specs.Prelude.{◌≡◌, ◌%◌, ◌^◌, ℕ, List, length, map, reverse, IfOk, IfErr, IfSome};
+ghost use Rattle.constriction.specs.Models.{pairs_of};
+ghost use Rattle.constriction.specs.Outcomes.{HasImpossibleItem, UnlessImpossible};
+ghost use Rattle.constriction.specs.Tables.{entries};
+ghost use Rattle.constriction.specs.stack.Ans.{AnsState, exported};
+ghost use Rattle.constriction.specs.stack.Positions.{Grows, position_of};
+ghost use Rattle.constriction.specs.stack.Symbols.{EncodesAll};
 ghost use Rattle.constriction_examples.specs.Packing.{ArePacked};
 
 use anyhow::{Result, bail};
 use constriction::BitArray;
+use constriction::backends::Cursor;
 use constriction::laws::errors::RoundTripError;
-use constriction::laws::stack::round_trips::positions::list_before_a_position;
-use constriction::laws::stack::round_trips::words::{
-    list_from_borrowed_words, list_through_words, words_of_list,
-};
+use constriction::laws::stack::round_trips::pairs::{pairs_from_words, words_with_pairs};
+use constriction::laws::stack::round_trips::positions::pairs_at_position;
 use constriction::stream::model::WeightTable;
 use constriction::stream::stack::DefaultAnsCoder;
 use constriction::stream::{Decode, Encode};
 use std::alloc::Global;
 
-/// Symbols that are encoded, the last one first, come back in order from the exported words.
+/// Packs symbols, each by its own table, into words: `unpack` gives the symbols back. There are as many tables as
+/// symbols.
 ///
 /// # Errors
-///
-/// `ImpossibleSymbol` where the table doesn't know a symbol, and `Refused` where memory runs out.
-pub fn there_and_back(
-    alloc: Global,
-    symbols: &[usize],
-    table: &WeightTable<u32, 24>,
-) -> Result<Vec<usize>, RoundTripError>
-    ensures back { IfOk result (λ again. again.items ≡ symbols.now) }
-    ensures err { IfErr result (UnlessImpossible (HasImpossible (model_of table.now).table symbols.now)) }
-{
-    let coder = DefaultAnsCoder::new(alloc);
-    let (again, _) = list_through_words(alloc, coder, symbols, table)?;
-    Ok(again)
-}
-
-/// Words for symbols: `unpack` gives them back.
-///
-/// # Errors
-///
-/// Those of [`there_and_back`].
+/// - `ImpossibleSymbol`: a table has no entry for its symbol.
+/// - `Refused`: memory was refused.
 pub fn pack(
     alloc: Global,
     symbols: &[usize],
-    table: &WeightTable<u32, 24>,
+    tables: &[WeightTable<u32, 24>],
 ) -> Result<Vec<u32>, RoundTripError>
-    ensures packed { IfOk result (λ words. ArePacked (model_of table.now) symbols.now words.items) }
-    ensures err { IfErr result (UnlessImpossible (HasImpossible (model_of table.now).table symbols.now)) }
+    requires { length symbols.now ≡ length tables.now }
+    ensures packed { IfOk result (λ words. ArePacked (pairs_of 24 entries symbols.now tables.now) words.items) }
+    ensures err { IfErr result (UnlessImpossible (HasImpossibleItem (pairs_of 24 entries symbols.now tables.now))) }
 {
-    words_of_list::<u32, u64, _, 24>(alloc, symbols, table)
+    words_with_pairs(DefaultAnsCoder::new(alloc), symbols, tables)
 }
 
-/// So many symbols from the words of `pack`, in order.
+/// Takes a symbol for each of the tables from words.
 ///
 /// # Errors
-///
-/// `InvalidData` where the words are no coder's, and `Refused` where memory runs out.
+/// - `InvalidData`: the last word is zero, so no coder wrote the words.
+/// - `Refused`: memory was refused.
 pub fn unpack(
     alloc: Global,
     words: &[u32],
-    count: usize,
-    table: &WeightTable<u32, 24>,
+    tables: &[WeightTable<u32, 24>],
 ) -> Result<Vec<usize>, RoundTripError>
-    ensures back { (symbols : List ℕ) → ArePacked (model_of table.now) symbols words.now → length symbols ≡ count →
-        IfOk result (λ again. again.items ≡ symbols) }
+    ensures count { IfOk result (λ again. length again.items ≡ length tables.now) }
+    ensures back { (symbols : List ℕ) → ArePacked (pairs_of 24 entries symbols tables.now) words.now →
+        length symbols ≡ length tables.now → IfOk result (λ again. again.items ≡ symbols) }
 {
-    list_from_borrowed_words::<u32, u64, _, 24>(alloc, words, count, table)
+    let (again, _) = pairs_from_words::<u32, u64, Cursor<u32, &[u32]>, _, 24>(
+        alloc,
+        Cursor::new_at_write_end(words),
+        tables,
+    )?;
+    Ok(again)
 }
 
 /// A copy of the words that a coder would export now. The coder goes on as before.
@@ -84,22 +75,25 @@ pub fn words_so_far(alloc: Global, coder: &mut DefaultAnsCoder) -> Option<Vec<u3
     guard.backend().as_slice().to_vec(alloc).ok()
 }
 
-/// Symbols that were encoded before a position was recorded come back from it, whatever symbols were
-/// encoded since.
+/// Takes a symbol for each of the tables from a coder's words at a position. The symbols that were encoded before the
+/// position was recorded come back, whatever symbols were encoded since.
 ///
 /// # Errors
-///
-/// `ImpossibleSymbol` where the table doesn't know one of the symbols, and `Refused` where memory runs out.
-pub fn back_to_a_position(
+/// - `InvalidData`: the coder holds fewer words below its head than the position says.
+/// - `Refused`: memory was refused.
+pub fn before_a_position(
     alloc: Global,
-    before: &[usize],
-    since: &[usize],
-    table: &WeightTable<u32, 24>,
+    coder: &DefaultAnsCoder,
+    position: (usize, u64),
+    tables: &[WeightTable<u32, 24>],
 ) -> Result<Vec<usize>, RoundTripError>
-    ensures back { IfOk result (λ again. again.items ≡ before.now) }
+    ensures count { IfOk result (λ again. length again.items ≡ length tables.now) }
+    ensures back { (symbols : List ℕ) (old there : AnsState) →
+        EncodesAll 32 64 (reverse (pairs_of 24 entries symbols tables.now)) old there →
+        record { held = position.0; head = position.1 % 2 ^ 64 } ≡ position_of there → Grows there coder.now.state →
+        length symbols ≡ length tables.now → IfOk result (λ again. again.items ≡ symbols) }
 {
-    let mut coder = DefaultAnsCoder::new(alloc);
-    list_before_a_position(alloc, &mut coder, before, since, table)
+    pairs_at_position(alloc, coder, position, tables)
 }
 
 /// Encodes three symbols, and prints them as they come back.

@@ -6,7 +6,6 @@ pub mod ProductBounds
 pub mod StepsOfSymbols
 pub mod FollowingWords
 mod BoundRows
-pub mod HavingRoom
 pub mod ListsGiven
 pub mod PairCalls
 pub mod Refused

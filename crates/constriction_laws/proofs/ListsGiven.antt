@@ -1,28 +1,15 @@
 -- What lists of decodes and iterators over slices gave, for any coder.
-use Rattle.std.proofs.Common.{◌≡◌, ◌<◌, ◌^◌, ℕ, List, [], ◌∷◌, ◌++◌, Result, Ok, Err, length, map, sym, ap, subst}
+use Rattle.std.proofs.Common.{◌≡◌, ℕ, List, [], ◌∷◌, ◌++◌, Result, Ok, Err, length, sym, ap, subst}
 use Rattle.std.specs.Prelude.{drop, IfOk}
 use Rattle.std.specs.List.{zip}
-use Rattle.constriction_base.specs.Steps.{Step, InTurn, AreWords}
+use Rattle.constriction_base.specs.Steps.{Step, InTurn}
 use Rattle.constriction_base.proofs.InTurn.{InTurn-more}
 use Rattle.constriction_stream.specs.Symbols.{DecodesSymbol, DecodesByModel}
 
 -- ---- any decoder
--- decodes that gave the symbols, one after the other; and by a model each
-abbrev pub GaveAll : {C S E : Type 0} → (C → Step → Result (Unit {0}) E → C → Type 0) → (C → E → C → Type 0) → ℕ → List (S × ℕ × ℕ) → List S → C → C → Type 0
-GaveAll decodes halts precision table = InTurn (λ symbol old new. DecodesSymbol decodes halts precision table old (Ok symbol) new)
 
 abbrev pub GavePairs : {C S M E : Type 0} → (C → Step → Result (Unit {0}) E → C → Type 0) → (C → E → C → Type 0) → ℕ → (M → List (S × ℕ × ℕ)) → List (S × M) → C → C → Type 0
 GavePairs decodes halts precision table = InTurn (λ pair old new. DecodesByModel decodes halts precision table old pair.1 (Ok pair.0) new)
-
--- one symbol more
-pub gives_more : {C S E : Type 0} (decodes : C → Step → Result (Unit {0}) E → C → Type 0) (halts : C → E → C → Type 0) (precision : ℕ) (table same : List (S × ℕ × ℕ))
-    (old : C) (xs : List S) (mid : C) (x : S) (answer : Result S E) (new : C)
-    → GaveAll decodes halts precision table xs old mid → same ≡ table → answer ≡ Ok x → DecodesSymbol decodes halts precision same mid answer new
-    → GaveAll decodes halts precision table (xs ++ x ∷ []) old new
-gives_more {C} {S} {E} decodes halts precision table same old xs mid x answer new all is given step =
-    let at : DecodesSymbol decodes halts precision table mid answer new = subst (λ (t : List (S × ℕ × ℕ)). DecodesSymbol decodes halts precision t mid answer new) is step in
-    let one : DecodesSymbol decodes halts precision table mid (Ok x) new = subst (λ (r : Result S E). DecodesSymbol decodes halts precision table mid r new) given at in
-    InTurn-more (λ (symbol : S) (old new : C). DecodesSymbol decodes halts precision table old (Ok symbol) new) xs x old mid new all one
 
 -- the same where each has a model of its own
 pub zip_more : {S M : Type 0} (xs : List S) (ms : List M) (x : S) (m : M) (rest : List M) → drop (length xs) ms ≡ m ∷ rest → zip (xs ++ x ∷ []) ms ≡ zip xs ms ++ (x, m) ∷ []
@@ -58,6 +45,3 @@ ok_both (Ok x) h i k = k x h i
 ok_both (Err e) h i k = tt
 
 -- ---- words whose numbers are below two to their bits
-pub words_fit : {W : Type 0} (number : W → ℕ) (w : ℕ) (ws : List W) → ((x : W) → number x < 2 ^ w) → AreWords w (map number ws)
-words_fit number w [] law = tt
-words_fit number w (x ∷ ws) law = (law x, words_fit number w ws law)

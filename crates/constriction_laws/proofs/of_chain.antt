@@ -5,6 +5,4 @@ pub mod Isolated
 pub mod Isolating
 pub mod ListCalls
 pub mod OneBinary
-pub mod Remaining
 pub mod Stepping
-pub mod Whole

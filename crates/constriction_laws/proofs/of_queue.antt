@@ -1,6 +1,5 @@
 pub mod AnyEncoder
 pub mod AnyWords
-pub mod Concatenating
 pub mod Flagging
 pub mod ListCalls
 pub mod Pairs

@@ -1,3 +1,2 @@
 pub mod bit_coders
 pub mod least_cost
-pub mod Costless

@@ -4,6 +4,5 @@ pub mod chain
 pub mod symbol
 pub mod Bounds
 pub mod Exchanges
-pub mod Stepping
 pub mod Readings
 pub mod Outcomes

@@ -4,39 +4,23 @@ use Rattle.std.specs.List.{zip}
 use Rattle.constriction_base.specs.Steps.{Step, InTurn}
 use Rattle.constriction_base.specs.Tables.{Impossible}
 use Rattle.constriction_base.specs.Models.{Item}
-use Rattle.constriction_base.specs.declared.errors.CoderError.{CoderError}
-use Rattle.constriction_base.specs.declared.errors.CoderError.TheVariants.{Frontend, Backend}
-use Rattle.constriction_stream.specs.Symbols.{DecodesSymbol, DecodesByModel}
+use Rattle.constriction_stream.specs.Symbols.{DecodesByModel}
 use Rattle.constriction_laws.specs.declared.errors.Stopped.{Stopped}
 use Rattle.constriction_laws.specs.declared.errors.Stopped.TheVariants.{Refused, NoMemory}
 use Rattle.constriction_laws.specs.declared.errors.RoundTripError.{RoundTripError}
 use Rattle.constriction_laws.specs.declared.errors.RoundTripError.TheVariants as trip
 
--- fewer symbols were given than asked for, and then a step was refused
-abbrev pub StopsShort : {C S E : Type 0} → (C → Step → Result (Unit {0}) E → C → Type 0) → (C → E → C → Type 0) → ℕ → List (S × ℕ × ℕ) → ℕ → C → Stopped E → C → Type 0
-StopsShort {C} {S} {E} decodes halts precision table amt old (Refused e) new = (given : List S) × (mid : C) × (length given < amt)
-    × InTurn (λ symbol old new. DecodesSymbol decodes halts precision table old (Ok symbol) new) given old mid × DecodesSymbol {S = S} decodes halts precision table mid (Err e) new
-StopsShort decodes halts precision table amt old NoMemory new = ⊤
-
--- the same where each symbol has a model of its own: symbols came by the first models, and the step by the next one was refused
-abbrev pub StopsAmong : {C S M E : Type 0} → (C → Step → Result (Unit {0}) E → C → Type 0) → (C → E → C → Type 0) → ℕ → (M → List (S × ℕ × ℕ)) → List M → C → Stopped E → C → Type 0
-StopsAmong {C} {S} {M} {E} decodes halts precision table models old (Refused e) new = (given : List S) × (mid : C) × (model : M) × (rest : List M)
-    × (drop (length given) models ≡ model ∷ rest) × InTurn (λ (pair : S × M) old new. DecodesByModel decodes halts precision table old pair.1 (Ok pair.0) new) (zip given models) old mid
+-- of symbols that have a model each so many came, by the first models, and the step by the next one was refused; of any decoder
+abbrev pub StopsAmong : {C S M E : Type 0} → (C → Step → Result (Unit {0}) E → C → Type 0) → (C → E → C → Type 0) → ℕ → (M → List (S × ℕ × ℕ)) → List M → ℕ → C → Stopped E → C → Type 0
+StopsAmong {C} {S} {M} {E} decodes halts precision table models taken old (Refused e) new = (given : List S) × (mid : C) × (model : M) × (rest : List M)
+    × (length given ≡ taken) × (taken < length models) × (drop (length given) models ≡ model ∷ rest)
+    × InTurn (λ (pair : S × M) old new. DecodesByModel decodes halts precision table old pair.1 (Ok pair.0) new) (zip given models) old mid
     × DecodesByModel {S = S} decodes halts precision table mid model (Err e) new
-StopsAmong decodes halts precision table models old NoMemory new = ⊤
-
--- a symbol of the list has no entry in the table
-abbrev pub HasImpossible : {S : Type 0} → List (S × ℕ × ℕ) → List S → Type 0
-HasImpossible {S} table symbols = (before after : List S) × (symbol : S) × (symbols ≡ before ++ symbol ∷ after) × Impossible table symbol
+StopsAmong decodes halts precision table models taken old NoMemory new = ⊤
 
 -- one of the symbols has no entry in the table of its own model
 abbrev pub HasImpossibleItem : {S : Type 0} → List (Item S) → Type 0
 HasImpossibleItem {S} items = (before after : List (Item S)) × (item : Item S) × (items ≡ before ++ item ∷ after) × Impossible item.model.table item.symbol
-
--- where the coder itself refused, and not what holds its words, this is known
-abbrev pub WhereFrontend : {F B : Type 0} → CoderError F B → Type 0 → Type 0
-WhereFrontend (Frontend e) known = known
-WhereFrontend (Backend e) known = ⊤
 
 -- why symbols didn't come back, with what is known in each case; a refusal tells nothing
 abbrev pub Reasons : Type 0 → Type 0 → Type 0 → (ℕ → Type 0) → RoundTripError → Type 0

@@ -1,3 +1,4 @@
 pub mod Concatenated
+pub mod Flagging
 pub mod Outcomes
 pub mod Undone

@@ -5,7 +5,7 @@
 //! - [`isolation`]: a symbol depends on the compressed words, the precisions and its own table alone.
 //! - [`lists`]: lists of symbols are undone, the last one first.
 //! - [`words`]: words come back by way of the remainders.
-//! - [`round_trips`]: the same through the coder's own calls.
+//! - [`round_trips`]: callers, each one half of the way of words through the remainders.
 
 pub mod errors;
 pub mod isolation;

@@ -9,9 +9,10 @@ pub enum Stopped<E> {
     NoMemory,
 }
 
-/// Why symbols don't come back through a coder.
+/// Why symbols weren't coded, or weren't taken from words.
 ///
-/// Each function says of its cases when they come. `Refused` tells nothing more: whoever has memory and room runs on.
+/// Each function says of its cases when they come. `Refused` tells nothing more: it doesn't come where there is memory
+/// and room.
 #[derive(Debug, Clone, Copy, PartialEq, Eq)]
 pub enum RoundTripError {
     /// The model has no entry for one of the symbols.
@@ -25,7 +26,3 @@ pub enum RoundTripError {
     /// Memory was refused, or a backend refused a word.
     Refused,
 }
-
-/// The coder says that it may be full, so that a step may be refused for lack of room.
-#[derive(Debug, Clone, Copy, PartialEq, Eq)]
-pub struct MaybeFull;

@@ -4,11 +4,11 @@
 //! - [`lists`]: lists of symbols come back from the sealed words, the first one first.
 //! - [`positions`]: a recorded position leads to the symbols that were encoded after it.
 //! - [`following`]: words that hold whatever follows them.
-//! - [`concatenated`]: lists in words that stand one behind the other, each decoded from its place.
+//! - [`concatenated`]: why no list was read from a place in words.
 //! - [`flagged`]: symbols under two models in one stream, which change behind a flag.
 //! - [`guards`]: the words that a guard shows are those of the export, and go again.
 //! - [`refusals`]: when a step isn't refused.
-//! - [`round_trips`]: whole lists there and back, by the coder's own calls.
+//! - [`round_trips`]: callers, each one half of the way of a list through words.
 
 pub mod concatenated;
 pub mod flagged;

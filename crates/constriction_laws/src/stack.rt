@@ -7,8 +7,7 @@
 //! - [`positions`]: a recorded position leads back to its moment.
 //! - [`readings`]: the same over backends of which reads tell the words, as iterators.
 //! - [`guards`]: the words that a guard shows go again.
-//! - [`refusals`]: when a step is refused, and when it isn't.
-//! - [`round_trips`]: whole lists there and back, by the coder's own calls.
+//! - [`round_trips`]: callers, each one half of the way of a list through words.
 //! - [`sizes`]: how many words and bits a state has.
 
 pub mod binary;

@@ -6,14 +6,12 @@
 //! - [`codewords`]: the suffix form of a codeword is the reverse of its prefix form.
 //! - [`huffman`]: merging gives one tree, whose codewords begin no other, and cost at most what those of any other
 //!   codebook do.
-//! - [`costs`]: trees that are made and codewords that are written cost at most what those of any other codebook do.
-//! - [`errors`]: why symbols do not come back by two trees, and why codewords have no cost.
+//! - [`costs`]: a tree that is made costs at most what any other codebook does.
 //! - [`golomb`]: no Exp-Golomb codeword begins another, and how they end in suffix form.
-//! - [`round_trips`]: symbols and bits there and back, by the coders' own calls.
+//! - [`round_trips`]: callers, each one half of the way of a list through a stream.
 
 pub mod codewords;
 pub mod costs;
-pub mod errors;
 pub mod golomb;
 pub mod huffman;
 pub mod lists;

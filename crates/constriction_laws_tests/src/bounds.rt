@@ -1,90 +1,22 @@
-//! The bounds on the number of words, evaluated at words of 8 bits and states of 16, and what may follow sealed words.
+//! What bounds say of runs of the coders, at words of 8 bits and states of 16.
 
-use constriction_base::cursor::Cursor;
 use constriction_base::weights::WeightTable;
-use constriction_laws::bounds;
-use constriction_laws::bounds::following::list_before_other_words;
-use constriction_laws::bounds::words::{exchange, few_sealed_words_of_list, few_words_of_list};
-use constriction_queue::{RangeDecoder, RangeEncoder};
+use constriction_laws::bounds::words::exchange;
+use constriction_laws::queue::round_trips::pairs::{compressed_words_of_pairs, pairs_from_words};
+use constriction_laws::stack::round_trips::pairs::words_with_pairs;
+use constriction_queue::RangeEncoder;
 use constriction_stack::coder::AnsCoder;
 use constriction_stream::coder::Code;
 use constriction_stream::decoding::Decode;
-use constriction_stream::encoding::Encode;
 use std::alloc::Global;
 use std::test::Fail;
 
 type Stack = AnsCoder<u8, u16, Vec<u8>>;
 
-type Range = RangeEncoder<u8, u16, Vec<u8>>;
-
-/// The symbols of two tables: their parts, those of the whole table, and two to the bits that a state has to spare.
-const KINDS: [(u128, u128, u128); 4] = [(255, 256, 1), (1, 256, 1), (5, 16, 16), (11, 16, 16)];
-
-/// The tables of these symbols, the first two of 8 bits and the others of 4.
-#[derive(Drop)]
-struct Tables {
-    fine: WeightTable<u8, 8>,
-    coarse: WeightTable<u8, 4>,
-}
-
-fn make_tables(alloc: Global) -> Option<Tables> {
-    let fine = WeightTable::<u8, 8>::new(alloc, &[255, 1]).ok()?;
-    let coarse = WeightTable::<u8, 4>::new(alloc, &[5, 11]).ok()?;
-    Some(Tables { fine, coarse })
-}
-
-fn put_on_stack(coder: &mut Stack, tables: &Tables, kind: usize) -> bool {
-    if kind < 2 {
-        Encode::<8>::encode_symbol(coder, &kind, &tables.fine).is_ok()
-    } else {
-        Encode::<4>::encode_symbol(coder, &(kind - 2), &tables.coarse).is_ok()
-    }
-}
-
-fn put_in_queue(coder: &mut Range, tables: &Tables, kind: usize) -> bool {
-    if kind < 2 {
-        Encode::<8>::symbols_left(coder) > 0
-            && Encode::<8>::encode_symbol(coder, &kind, &tables.fine).is_ok()
-    } else {
-        Encode::<4>::symbols_left(coder) > 0
-            && Encode::<4>::encode_symbol(coder, &(kind - 2), &tables.coarse).is_ok()
-    }
-}
-
-fn words_on_stack(alloc: Global, tables: &Tables, kinds: &[usize]) -> Option<usize> {
-    let mut coder = Stack::new(alloc);
-    for kind in kinds {
-        if !put_on_stack(&mut coder, tables, *kind) {
-            return None;
-        }
-    }
-    Some(coder.into_compressed().ok()?.len())
-}
-
-fn words_in_queue(alloc: Global, tables: &Tables, kinds: &[usize]) -> Option<usize> {
-    let mut coder = Range::new(alloc);
-    for kind in kinds {
-        if !put_in_queue(&mut coder, tables, *kind) {
-            return None;
-        }
-    }
-    Some(coder.into_compressed().ok()?.len())
-}
-
-/// The products of the shares and of the rounded wholes.
-fn products(kinds: &[usize]) -> Option<(u128, u128)> {
-    let mut share: u128 = 1;
-    let mut whole: u128 = 1;
-    for kind in kinds {
-        let (part, parts, spare) = *KINDS.get(*kind)?;
-        share = share.checked_mul(part)?.checked_mul(spare)?;
-        whole = whole.checked_mul(parts)?.checked_mul(spare + 1)?;
-    }
-    Some((share, whole))
-}
+type Table = WeightTable<u8, 8>;
 
 /// Two to the bits of so many words, times a number.
-fn above_words(words: usize, number: u128) -> Option<u128> {
+fn above_words(words: usize, number: u64) -> Option<u64> {
     let mut product = number;
     for _ in 0..words {
         product = product.checked_mul(256)?;
@@ -92,95 +24,52 @@ fn above_words(words: usize, number: u128) -> Option<u128> {
     Some(product)
 }
 
-/// Whether both coders keep their bounds for this list.
-fn is_short(alloc: Global, tables: &Tables, kinds: &[usize]) -> Option<bool> {
-    let (share, whole) = products(kinds)?;
-    let stacked = words_on_stack(alloc, tables, kinds)?;
-    let queued = words_in_queue(alloc, tables, kinds)?;
-    let on_stack = stacked < 1 || above_words(stacked - 1, share)? <= whole.checked_mul(256)?;
-    let in_queue = queued < 2
-        || above_words(queued - 2, share.checked_mul(65535)?)? < whole.checked_mul(65536)?;
-    Some(on_stack && in_queue)
-}
-
-/// Whether the bounds hold for all lists of one to three symbols.
-fn are_short_lists_short(alloc: Global, tables: &Tables) -> bool {
-    for first in 0usize..4 {
-        if is_short(alloc, tables, &[first]) != Some(true) {
-            return false;
-        }
-        for second in 0usize..4 {
-            if is_short(alloc, tables, &[first, second]) != Some(true) {
-                return false;
-            }
-            for third in 0usize..4 {
-                if is_short(alloc, tables, &[first, second, third]) != Some(true) {
-                    return false;
-                }
-            }
-        }
+/// How many words symbol 1 makes three times under `[255, 1]`, and whether they are all ones.
+fn words_of_three(alloc: Global) -> Option<usize> {
+    let tables = [
+        Table::new(alloc, &[255, 1]).ok()?,
+        Table::new(alloc, &[255, 1]).ok()?,
+        Table::new(alloc, &[255, 1]).ok()?,
+    ];
+    let words = words_with_pairs::<u8, u16, Vec<u8>, _, 8>(Stack::new(alloc), &[1, 1, 1], &tables)
+        .ok()?;
+    if words.as_slice() != [255u8, 255, 255].as_slice() {
+        return None;
     }
-    true
+    Some(words.len())
 }
 
-/// Whether they hold for forty lists of twelve symbols, drawn by a fixed generator.
-fn are_long_lists_short(alloc: Global, tables: &Tables) -> bool {
-    let mut drawn: u64 = 0x2545_f491_4f6c_dd1d;
-    for _ in 0..40 {
-        let mut kinds = [0usize; 12];
-        for place in 0usize..12 {
-            drawn ^= drawn << 13;
-            drawn ^= drawn >> 7;
-            drawn ^= drawn << 17;
-            kinds[place] = (drawn % 4) as usize;
-        }
-        if is_short(alloc, tables, &kinds) != Some(true) {
-            return false;
-        }
-    }
-    true
-}
-
-#[test]
-fn lists_are_short(rt: HostRuntime) -> Result<(), Fail> {
-    let Some(tables) = make_tables(rt.alloc()) else {
-        return Err(Fail::from("no table"));
-    };
-    assert!(rt; are_short_lists_short(rt.alloc(), &tables));
-    assert!(rt; are_long_lists_short(rt.alloc(), &tables));
-    Ok(())
-}
-
-/// The row's two sides, and that they are those of three words.
+/// Each step has the share 1 of 256, and no bit is spare: the wholes are 512.
 #[test]
 fn ans_product(rt: HostRuntime) -> Result<(), Fail> {
-    bounds::stack_bound();
-    bounds::stack_bound_at_one_precision();
-    let Some(tables) = make_tables(rt.alloc()) else {
-        return Err(Fail::from("no table"));
+    let Some(words) = words_of_three(rt.alloc()) else {
+        return Err(Fail::from("refused"));
     };
-    let Some((share, whole)) = products(&[1, 1, 1]) else {
-        return Err(Fail::from("no table"));
-    };
-    assert!(rt; words_on_stack(rt.alloc(), &tables, &[1, 1, 1]) == Some(3));
-    assert!(rt;
-        above_words(2, share) == Some(65536) && whole.checked_mul(256) == Some(34359738368)
-    );
-    let few = few_words_of_list::<u8, u16, _, 8>(rt.alloc(), &[1, 1, 1], &tables.fine);
-    assert!(rt; few.is_ok_and(|words| words.as_slice() == [255, 255, 255].as_slice()));
+    assert!(rt; words == 3);
+    let left = above_words(words - 1, 1);
+    let right = above_words(1, 512 * 512 * 512);
+    assert!(rt; left == Some(65536) && right == Some(34359738368) && left <= right);
     Ok(())
 }
 
-/// The row's state and its number of words; the two sides are computed from the definitions by the library's proofs.
+/// The coder of the words 1, 2 and 3.
+fn coder_of(alloc: Global) -> Option<Stack> {
+    Stack::from_compressed([1u8, 2, 3].as_slice().to_vec(alloc).ok()?).ok()
+}
+
+/// The symbol that is taken off has the share 16 of 256, and the one that is put on has 1.
 #[test]
 fn ans_net_product(rt: HostRuntime) -> Result<(), Fail> {
-    bounds::stack_net_bound();
-    let alloc = rt.alloc();
-    let off = WeightTable::<u8, 8>::new(alloc, &[16, 240])?;
-    let on = WeightTable::<u8, 8>::new(alloc, &[255, 1])?;
-    let words = [1u8, 2, 3].as_slice().to_vec(alloc)?;
-    let Ok(mut coder) = Stack::from_compressed(words) else {
+    let off = Table::new(rt.alloc(), &[16, 240])?;
+    let on = Table::new(rt.alloc(), &[255, 1])?;
+    let (Some(mut before), Some(mut coder)) = (coder_of(rt.alloc()), coder_of(rt.alloc())) else {
         return Err(Fail::from("no coder"));
+    };
+    assert!(rt; matches!(before.decode_symbol(&off), Ok(0)));
+    assert!(rt; before.state() == 12801 && before.bulk().is_empty());
+    let first = coder_of(rt.alloc()).and_then(|coder| coder.into_compressed().ok());
+    let Some(first) = first else {
+        return Err(Fail::from("no words"));
     };
     assert!(rt;
         matches!(
@@ -189,76 +78,68 @@ fn ans_net_product(rt: HostRuntime) -> Result<(), Fail> {
         )
     );
     assert!(rt; coder.state() == 13055 && coder.bulk().as_slice() == [1].as_slice());
-    assert!(rt; coder.into_compressed()?.len() == 3);
+    let words = coder.into_compressed()?;
+    let left = above_words(words.len().saturating_sub(1), 256);
+    let right = above_words(first.len(), 16 * 2 * 512);
+    assert!(rt; left == Some(16777216) && right == Some(274877906944) && left < right);
     Ok(())
 }
 
-/// Whether these symbols come back from the words, with others behind them.
+/// Whether these words, and four others behind them, are read as the symbols.
 fn goes_on_with(
     alloc: Global,
-    weights: &[u8],
     words: &[u8],
     others: u8,
     symbols: &[usize],
+    tables: &[Table],
 ) -> bool {
-    let Ok(table) = WeightTable::<u8, 8>::new(alloc, weights) else {
+    let Ok(mut all) = words.to_vec(alloc) else {
         return false;
     };
-    let four = [others; 4];
-    match list_before_other_words::<u8, u16, _, 8>(alloc, symbols, &four, &table) {
-        Ok((all, again)) => {
-            again.as_slice() == symbols
-                && all.len() == words.len() + 4
-                && sealed_are(alloc, &table, words, symbols)
-        }
+    for _ in 0..4 {
+        let Ok(()) = all.push(others) else {
+            return false;
+        };
+    }
+    match pairs_from_words::<u8, u16, Vec<u8>, _, 8>(alloc, all, tables) {
+        Ok((again, _)) => again.as_slice() == symbols,
         Err(_) => false,
     }
 }
 
-/// Whether these are the words of the symbols.
-fn sealed_are(alloc: Global, table: &WeightTable<u8, 8>, words: &[u8], symbols: &[usize]) -> bool {
-    match few_sealed_words_of_list::<u8, u16, _, 8>(alloc, symbols, table) {
-        Ok(sealed) => sealed.as_slice() == words,
-        Err(_) => false,
+/// The same of symbol 1 of two that are as likely, at words of 32 bits.
+fn one_symbol_goes_on_with(alloc: Global, others: u32) -> Option<bool> {
+    let tables = [WeightTable::<u32, 24>::new(alloc, &[8388608, 8388608]).ok()?];
+    let mut words = compressed_words_of_pairs::<u32, u64, Vec<u32>, _, 24>(
+        RangeEncoder::new(alloc),
+        &[1],
+        &tables,
+    ).ok()?;
+    for _ in 0..4 {
+        words.push(others).ok()?;
     }
-}
-
-fn one_symbol_goes_on_with(alloc: Global, others: u32) -> bool {
-    let Ok(table) = WeightTable::<u32, 24>::new(alloc, &[8388608, 8388608]) else {
-        return false;
-    };
-    let four = [others; 4];
-    match list_before_other_words::<u32, u64, _, 24>(alloc, &[1usize], &four, &table) {
-        Ok((_, again)) => again.as_slice() == [1].as_slice(),
-        Err(_) => false,
-    }
-}
-
-/// The zero word of a seal, which two tables of different precisions owe.
-fn zero_word_goes_on_with(alloc: Global, others: u8) -> bool {
-    let (Ok(first), Ok(second)) = (
-        WeightTable::<u8, 8>::new(alloc, &[129, 127]),
-        WeightTable::<u8, 8>::new(alloc, &[1, 2, 253]),
-    ) else {
-        return false;
-    };
-    let words = [1u8, 0, others, others, others, others];
-    let Ok(mut decoder) = RangeDecoder::<u8, u16, Cursor<u8, &[u8]>>::from_compressed(
-        words.as_slice(),
-    ) else {
-        return false;
-    };
-    matches!(decoder.decode_symbol(&first), Ok(0))
-        && matches!(decoder.decode_symbol(&second), Ok(1))
+    let (again, _) = pairs_from_words::<u32, u64, Vec<u32>, _, 24>(alloc, words, &tables).ok()?;
+    Some(again.as_slice() == [1usize].as_slice())
 }
 
 #[test]
 fn range_whatever_follows(rt: HostRuntime) -> Result<(), Fail> {
     let alloc = rt.alloc();
-    assert!(rt; one_symbol_goes_on_with(alloc, u32::MAX) && one_symbol_goes_on_with(alloc, 0));
+    let carries = [
+        Table::new(alloc, &[127, 1, 127, 1])?,
+        Table::new(alloc, &[127, 1, 127, 1])?,
+    ];
+    let owes_zero = [
+        Table::new(alloc, &[129, 127])?,
+        Table::new(alloc, &[1, 2, 253])?,
+    ];
+    assert!(rt;
+        one_symbol_goes_on_with(alloc, u32::MAX) == Some(true)
+            && one_symbol_goes_on_with(alloc, 0) == Some(true)
+    );
     for others in [0u8, 255] {
-        assert!(rt; goes_on_with(alloc, &[127, 1, 127, 1], &[127, 127, 1], others, &[1, 3]));
-        assert!(rt; zero_word_goes_on_with(alloc, others));
+        assert!(rt; goes_on_with(alloc, &[127, 127, 1], others, &[1, 3], &carries));
+        assert!(rt; goes_on_with(alloc, &[1, 0], others, &[0, 1], &owes_zero));
     }
     Ok(())
 }

@@ -1,8 +1,7 @@
-//! Tests of the laws' callers, and no code besides: each round trip once, at a concrete type.
+//! Tests of the laws' callers, and no code besides: each of them once, at a concrete type.
 //!
-//! What a law or a round trip says is proved in `constriction_laws` for all values. These tests stand for
-//! what no contract can say: that the calls succeed where there is memory, and give the numbers that a
-//! reader expects.
+//! What a caller promises is proved in `constriction_laws` for all values. These tests stand for what no contract can
+//! say: that the calls succeed where there is memory, and give the numbers that a reader expects.
 #![tactic(auto)]
 
 #[cfg(test)]
@@ -10,12 +9,8 @@ mod bounds;
 #[cfg(test)]
 mod chain;
 #[cfg(test)]
-mod flagged;
-#[cfg(test)]
 mod queue;
 #[cfg(test)]
 mod stack;
 #[cfg(test)]
 mod symbol;
-#[cfg(test)]
-mod trees;

@@ -1,2 +1,2 @@
 -- Symbols under models of their own, as decodings.
-pub use Rattle.constriction_laws.specs.chain.Isolating.{decoding_of, decodings_by, events_across}
+pub use Rattle.constriction_laws.specs.chain.Isolating.{decoding_of, decodings_by}

@@ -1,2 +1,2 @@
 -- Why round trips of a range coder stop, and what lies between their halves.
-pub use Rattle.constriction_laws.specs.queue.Outcomes.{NotCoded, NotRead, NotBack, ReadTo, HoldNone, GivesNone, SealsAll, StandsBefore, ReadsToEnd, LieWithin, NoneWithin, RecordsPlace, NoneAt, InvalidWhere}
+pub use Rattle.constriction_laws.specs.queue.Outcomes.{NotCoded, NotRead, ReadTo, HoldNone, GivesNone, SealsAll, ReadsToEnd, LieWithin, NoneAt, InvalidWhere}

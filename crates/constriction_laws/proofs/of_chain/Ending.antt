@@ -1,14 +1,14 @@
 -- Lists of steps of a chain coder that were refused.
 use Rattle.std.specs.List.{zip}
-use Rattle.std.proofs.Common.{◌≡◌, ◌∙◌, ℕ, ◌-◌, ◌*◌, ◌^◌, ◌<◌, List, [], ◌∷◌, ◌++◌, Result, Err, inl, inr, map, length, refl, sym, ap, subst}
-use Rattle.constriction_base.specs.Models.{Model, Item, item_of, items_of, pairs_of}
+use Rattle.std.proofs.Common.{◌≡◌, ◌∙◌, ℕ, ◌-◌, ◌*◌, ◌^◌, ◌<◌, List, ◌∷◌, ◌++◌, Result, Err, inl, inr, map, length, sym, ap, subst}
+use Rattle.constriction_base.specs.Models.{Item, item_of, pairs_of}
 use Rattle.constriction_base.specs.declared.backends.reading.Holds as holding
 use Rattle.constriction_base.specs.declared.backends.reading.ReadWords as reading
 use Rattle.constriction_base.specs.declared.backends.writing.WriteWords as writing
 use Rattle.constriction_base.specs.declared.errors.CoderError.{CoderError}
 use Rattle.constriction_base.specs.declared.errors.CoderError.TheVariants.{Frontend, Backend}
 use Rattle.constriction_stream.specs.Lists.{StepsAll}
-use Rattle.constriction_stream.specs.Symbols.{DecodesSymbol, EncodesSymbol}
+use Rattle.constriction_stream.specs.Symbols.{EncodesSymbol}
 use Rattle.constriction_chain.specs.Chain.{ChainState, ChainValue}
 use Rattle.constriction_chain.specs.Steps.{DecodeCall, EncodeCall, Halted}
 use Rattle.constriction_chain.specs.Symbols.{PutsBackAll, TakesOffAll}
@@ -17,9 +17,9 @@ use Rattle.constriction_chain.specs.declared.errors.BackendError.{BackendError}
 use Rattle.constriction_chain.specs.declared.errors.DecoderFrontendError.{DecoderFrontendError}
 use Rattle.constriction_chain.specs.declared.errors.EncoderFrontendError.{EncoderFrontendError}
 use Rattle.constriction_chain.specs.declared.errors.EncoderFrontendError.TheVariants.{OutOfRemainders, ImpossibleSymbol}
-use Rattle.constriction_laws.specs.declared.errors.RoundTripError.TheVariants as trip
 use Rattle.constriction_laws.specs.declared.errors.Stopped.TheVariants.{Refused}
-use Rattle.constriction_laws.specs.chain.Endings.{Ended, EndsEarly, IsImpossible, LacksWord, NotEncoded, StopsAfter, StopsAfterPairs}
+use Rattle.constriction_laws.specs.chain.Endings.{Ended, EndsEarly, IsImpossible, LacksWord, NotEncoded}
+use Rattle.constriction_laws.specs.Outcomes.{StopsAmong}
 use Rattle.constriction_laws.proofs.of_chain.ListCalls.{decodes_of, encodes_of}
 
 -- ---- decodes
@@ -37,19 +37,8 @@ module _ {S W C R O E F : Type 0} (number : W → ℕ) (compressed_holds : holdi
     none = halted.after.compressed_are ∙ ap (λ (ws : List W). map number ws) (halted.why.1.1 known).1;
   }
 
-  pub ends_early : (model : Model S) (amt taken : ℕ) (old new : ChainValue C R) (x : DecoderFrontendError)
-      → StopsAfter {E = CoderError DecoderFrontendError (BackendError E F)} (DecodeCall number compressed_holds compressed_reads remainders_holds remainders_writes w s)
-      (Halted number compressed_holds compressed_reads remainders_holds remainders_writes w s model.precision) model.precision model.table amt taken old (Refused (Frontend x)) new
-      → EndsEarly compressed_holds.is_list w s model.precision (items_of model) amt old.state taken new.state
-  ends_early model amt taken old new x (given, mid, count, fewer, all, inl halted) = (
-    fewer,
-    λ known. ended model.precision (items_of model) given taken x old.state mid new known count
-        (decodes_of number compressed_holds compressed_reads remainders_holds remainders_writes w s (item_of model) given old mid known all) halted,
-  )
-  ends_early model amt taken old new x (given, mid, count, fewer, all, inr (symbol, (left, p, has, call))) = absurd call.outcome
-
   pub pairs_end_early : {M : Type 0} (P : ℕ) (table : M → List (S × ℕ × ℕ)) (models : List M) (taken : ℕ) (old new : ChainValue C R) (x : DecoderFrontendError)
-      → StopsAfterPairs {E = CoderError DecoderFrontendError (BackendError E F)} (DecodeCall number compressed_holds compressed_reads remainders_holds remainders_writes w s)
+      → StopsAmong {E = CoderError DecoderFrontendError (BackendError E F)} (DecodeCall number compressed_holds compressed_reads remainders_holds remainders_writes w s)
       (Halted number compressed_holds compressed_reads remainders_holds remainders_writes w s P) P table models taken old (Refused (Frontend x)) new
       → EndsEarly compressed_holds.is_list w s P (λ given. pairs_of P table given models) (length models) old.state taken new.state
   pairs_end_early P table models taken old new x (given, mid, model, rest, count, fewer, next, all, inl halted) = (
@@ -58,15 +47,6 @@ module _ {S W C R O E F : Type 0} (number : W → ℕ) (compressed_holds : holdi
         (decodes_of number compressed_holds compressed_reads remainders_holds remainders_writes w s (λ pair. item_of (record { precision = P; table = table pair.1 }) pair.0) (zip given models) old mid known all) halted,
   )
   pairs_end_early P table models taken old new x (given, mid, model, rest, count, fewer, next, all, inr (symbol, (left, p, has, call))) = absurd call.outcome
-
-  -- the first of them
-  pub first_ends : {M : Type 0} (P : ℕ) (table : M → List (S × ℕ × ℕ)) (models : List M) (old new : ChainValue C R) (x : DecoderFrontendError) (t : List (S × ℕ × ℕ)) → compressed_holds.is_list
-      → DecodesSymbol {S = S} {E = CoderError DecoderFrontendError (BackendError E F)} (DecodeCall number compressed_holds compressed_reads remainders_holds remainders_writes w s)
-      (Halted number compressed_holds compressed_reads remainders_holds remainders_writes w s P) P t old (Err (Frontend x)) new
-      → Ended w s P (λ given. pairs_of P table given models) 0 old.state new.state
-  first_ends P table models old new x t known (inl halted) = (let none : length {A = S} [] ≡ 0 = refl in let here : TakesOffAll w s (pairs_of P table [] models) old.state old.state = refl in
-      ended P (λ given. pairs_of P table given models) [] 0 x old.state old new known none here halted)
-  first_ends P table models old new x t known (inr (symbol, (left, p, has, call))) = absurd call.outcome
 
 -- ---- encodes
 module _ {S W C R O E F : Type 0} (number : W → ℕ) (compressed_holds : holding.Ghosts C W O) (compressed_writes : writing.Ghosts C W E)

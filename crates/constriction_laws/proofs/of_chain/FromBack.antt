@@ -1,12 +1,11 @@
 -- What iterators over slices gave from the back, up to an item.
 use Rattle.std.specs.Iterator.{YieldsThen}
 use Rattle.std.specs.Iterator.Adapters.{zip_steps_back}
-use Rattle.std.specs.Slice.Iter.{iter_rest, iter_steps_back}
+use Rattle.std.specs.Slice.Iter.{iter_steps_back}
 use Rattle.std.specs.declared.iter.Zip.{Zip}
 use Rattle.std.proofs.Common.{◌≡◌, ◌∙◌, Bor, Iter, Some, List, [], ◌∷◌, ◌++◌, map, refl, ap, ap₂}
 use Rattle.std.specs.Prelude.{reverse}
 use Rattle.std.proofs.lemmas.List.{reverse-append, reverse-reverse}
-use Rattle.constriction_base.proofs.FromBack.{from_back}
 use Rattle.constriction_laws.proofs.PairCalls.{SameLength, both_now, left_in, pairs_from_back, rest_of}
 
 -- what is left, an item and those behind it, turned round
@@ -14,12 +13,6 @@ turned : {A : Type 0} (all mid rest given : List A) (x : A) → all ≡ mid ++ r
 turned {A} all mid rest given x is next =
     ap (λ (ys : List A). reverse ys) is ∙ (reverse-append mid (reverse given)
     ∙ ap₂ (λ (xs ys : List A). xs ++ ys) (reverse-reverse given) (ap (λ (ys : List A). reverse ys) next ∙ reverse-append rest (x ∷ [])))
-
--- the items that were given, the next one, and those that are left
-pub stopped_back : {A : Type 0} (i : Iter A) (xs : List (Bor A)) (x : Bor A) (rest : Iter A) → YieldsThen iter_steps_back i xs (Some x) rest
-    → reverse (iter_rest i) ≡ map (λ x. x.now) xs ++ x.now ∷ reverse (iter_rest rest)
-stopped_back i xs x rest gave =
-    turned (iter_rest i) (iter_rest gave.0) (iter_rest rest) (map (λ x. x.now) xs) x.now (from_back i xs gave.0 gave.1) gave.2
 
 -- the same of two slices
 pub stopped_pairs : {A B : Type 0} (i : Zip (Iter A) (Iter B)) (xs : List (Bor A × Bor B)) (x : Bor A × Bor B) (rest : Zip (Iter A) (Iter B)) → SameLength i

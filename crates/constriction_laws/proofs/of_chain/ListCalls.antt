@@ -1,7 +1,7 @@
 -- What list calls of a chain coder do, in the words of the laws.
 use Rattle.std.proofs.Common.{ℕ, List, [], ◌∷◌, Ok, map, ap}
 use Rattle.constriction_base.specs.declared.errors.CoderError.{CoderError}
-use Rattle.constriction_base.specs.Models.{Model, Item, items_of, pairs_of}
+use Rattle.constriction_base.specs.Models.{Model, Item, pairs_of}
 use Rattle.constriction_base.specs.Steps.{InTurn}
 use Rattle.constriction_base.specs.Tables.{AtEntry}
 use Rattle.constriction_base.specs.declared.backends.reading.Holds as holding
@@ -51,7 +51,3 @@ pub pairs_at : {S M : Type 0} (P : ℕ) (table : M → List (S × ℕ × ℕ)) (
 pairs_at P table [] ms at = tt
 pairs_at P table (x ∷ xs) [] at = tt
 pairs_at P table (x ∷ xs) (m ∷ ms) at = (at m, pairs_at P table xs ms at)
-
-pub models_at : {S : Type 0} (P : ℕ) (model : Model S) (xs : List S) → IsModelAt P model → AreModelsAt P (items_of model xs)
-models_at P model [] at = tt
-models_at P model (x ∷ xs) at = (at, models_at P model xs at)

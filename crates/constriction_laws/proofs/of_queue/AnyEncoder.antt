@@ -1,19 +1,13 @@
 -- The run of any encoder is an interval, whatever words were written before; and what it encodes has entries.
-use Rattle.std.proofs.Common.{ℕ, ◌+◌, ◌-◌, ◌*◌, ◌^◌, ◌<◌, ◌≤◌, List, [], ◌∷◌, ◌++◌, length}
-use Rattle.std.proofs.Common.{sym, ap, ◌∙◌, subst, arith, mul-le-mul_right, pow_pos}
+use Rattle.std.proofs.Common.{ℕ, ◌+◌, ◌-◌, ◌*◌, ◌^◌, ◌<◌, ◌≤◌, List, ◌++◌, length}
+use Rattle.std.proofs.Common.{arith, mul-le-mul_right, pow_pos}
 use Rattle.std.specs.Int.NonZero.{non_zero_usize_get}
-use Rattle.std.proofs.lemmas.List.{map-append}
 use Rattle.constriction_base.specs.declared.backends.reading.Holds as holding
 use Rattle.constriction_base.specs.Steps.{AreWords}
-use Rattle.constriction_base.specs.Tables.{Impossible}
-use Rattle.constriction_base.specs.Models.{Model, Item, item_of, items_of}
-use Rattle.constriction_base.proofs.InTurn.{InTurn-append}
-use Rattle.constriction_laws.specs.Outcomes.{HasImpossible, HasImpossibleItem}
 use Rattle.constriction_queue.specs.declared.situation.EncoderSituation.{EncoderSituation}
 use Rattle.constriction_queue.specs.declared.situation.EncoderSituation.TheVariants.{Normal, Inverted}
 use Rattle.constriction_queue.specs.Encoder.{Encoder, IsEncoder, PartsFit, held_of, number_of, run_by, words_held}
-use Rattle.constriction_queue.specs.Range.{Run, IsInterval}
-use Rattle.constriction_queue.specs.Symbols.{Narrows, NarrowsAll}
+use Rattle.constriction_queue.specs.Range.{IsInterval}
 use Rattle.constriction_queue.proofs.Below.{number_below}
 use Rattle.constriction_queue.proofs.Carry.{carry_held, length-held}
 use Rattle.constriction_queue.proofs.Seals.{words_held_fit, words_of_numbers}
@@ -51,27 +45,3 @@ encoder_interval number holds w s e law is = record {
 }
 
 -- ---- symbols that were encoded have entries, in both of two lists
-each_known : {S : Type 0} (w s : ℕ) (before after : List (Item S)) (item : Item S) (old last : Run)
-    → NarrowsAll w s (before ++ item ∷ after) old last → Impossible item.model.table item.symbol → ⊥
-each_known w s [] after item old last h never = never h.1.0 h.1.1 h.1.2
-each_known w s (first ∷ before) after item old last h never = each_known w s before after item h.0 last h.2 never
-
-pub items_known : {S : Type 0} (w s : ℕ) (first second : List (Item S)) (old middle last : Run)
-    → NarrowsAll w s first old middle → NarrowsAll w s second middle last → HasImpossibleItem (first ++ second) → ⊥
-items_known {S} w s first second old middle last h k (before, after, item, is, never) =
-    let all : NarrowsAll w s (first ++ second) old last =
-    InTurn-append (λ (i : Item S). Narrows w s i.model i.symbol) first second old middle last h k in
-    each_known w s before after item old last
-    (subst (λ (items : List (Item S)). NarrowsAll w s items old last) is all) never
-
-pub symbols_known : {S : Type 0} (w s : ℕ) (model : Model S) (first second : List S) (old middle last : Run)
-    → NarrowsAll w s (items_of model first) old middle → NarrowsAll w s (items_of model second) middle last → HasImpossible model.table (first ++ second) → ⊥
-symbols_known w s model first second old middle last h k (before, after, symbol, is, never) =
-    items_known w s (items_of model first) (items_of model second) old middle last h k (
-      items_of model before,
-      items_of model after,
-      item_of model symbol,
-      sym (map-append (item_of model) first second) ∙ ap (λ symbols. items_of model symbols) is
-          ∙ map-append (item_of model) before (symbol ∷ after),
-      never,
-    )

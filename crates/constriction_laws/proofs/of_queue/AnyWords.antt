@@ -1,8 +1,8 @@
 -- Symbols of any words: they are read exactly where the words lie within their run.
-use Rattle.std.proofs.Common.{◌≡◌, ◌↔◌, ℕ, zero, suc, ◌<◌, List, [], ◌∷◌, length, refl, arith}
-use Rattle.constriction_base.specs.Models.{Model, Item, AreModels, items_of, pairs_of}
+use Rattle.std.proofs.Common.{◌≡◌, ◌↔◌, ℕ, ◌<◌, List, [], ◌∷◌, length, arith}
+use Rattle.constriction_base.specs.Models.{Item, AreModels, pairs_of}
 use Rattle.constriction_queue.specs.Range.{Run, Within, initial}
-use Rattle.constriction_laws.specs.queue.Outcomes.{HoldNone, LieWithin, NoneWithin}
+use Rattle.constriction_laws.specs.queue.Outcomes.{LieWithin}
 use Rattle.constriction_queue.specs.Symbols.{NarrowsAll, FindsAll}
 use Rattle.constriction_queue.proofs.Entries.{as_encodes}
 
@@ -18,16 +18,6 @@ module _ {S : Type 0} (w s : ℕ) (words : List ℕ)
   lie_of (item ∷ items) last ms some found =
       let coded = as_encodes w s words (item ∷ items) (initial s) last found in
       (last, coded, (law item items last ms coded).0 found)
-
-  pub none_within : (items : List S → List (Item S)) (amt : ℕ) → ((symbols : List S) → AreModels w (items symbols)) → FindsAll w s words (items []) (initial s) (initial s)
-      → HoldNone w s words items amt (initial s) → NoneWithin w s words items amt
-  none_within items zero models empty none = absurd (none [] (initial s) refl empty)
-  none_within items (suc amt) models empty none = (omega arith, λ symbols count lie. none symbols lie.0 count (found_of (items symbols) (models symbols) lie))
-
--- some symbols are some items
-pub some_items : {S : Type 0} (model : Model S) (symbols : List S) → 0 < length symbols → 0 < length (items_of model symbols)
-some_items model [] some = absurd (omega (arith, some))
-some_items model (x ∷ xs) some = omega arith
 
 pub some_pairs : {S M : Type 0} (precision : ℕ) (table : M → List (S × ℕ × ℕ)) (symbols : List S) (models : List M) → length symbols ≡ length models → 0 < length models
     → 0 < length (pairs_of precision table symbols models)

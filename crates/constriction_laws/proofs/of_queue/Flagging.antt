@@ -1,30 +1,24 @@
 -- Symbols with a flag among them, as items of the range coder.
-use Rattle.std.specs.Prelude.{Ok, Err}
+use Rattle.std.specs.Prelude.{Err}
 use Rattle.std.proofs.Common.{◌≡◌, ◌<◌, ◌==◌, ◌||◌, ℕ, Bool, true, false, List, [], ◌∷◌, ◌++◌, length, map, refl, sym, ap, ap₂, ◌∙◌, subst, inl, inr, arith}
 use Rattle.constriction_base.specs.declared.backends.reading.Holds as holding
 use Rattle.constriction_base.specs.declared.backends.reading.ReadWords as reading
-use Rattle.constriction_base.specs.declared.backends.writing.WriteWords as writing
-use Rattle.constriction_base.specs.Steps.{InTurn}
 use Rattle.constriction_base.specs.declared.errors.CoderError.{CoderError}
 use Rattle.constriction_base.specs.declared.errors.CoderError.TheVariants.{Backend, Frontend}
-use Rattle.constriction_base.specs.declared.errors.DefaultEncoderFrontendError.{DefaultEncoderFrontendError}
 use Rattle.constriction_base.specs.Models.{Model, Item, IsModel, AreModels, item_of, items_of}
 use Rattle.constriction_base.proofs.InTurn.{InTurn-more}
-use Rattle.constriction_queue.specs.Encoder.{Encoder, run_by}
-use Rattle.constriction_queue.specs.Calls as calls
 use Rattle.constriction_queue.specs.Decoder.{Decoder}
-use Rattle.constriction_queue.specs.Flagged.{DecodesUnder, EncodesItem, HoldsNone, StepsToFault, flagged, has_flag, next_model}
+use Rattle.constriction_queue.specs.Flagged.{DecodesUnder, HoldsNone, flagged, has_flag, next_model}
+use Rattle.constriction_laws.specs.queue.Flagging.{flagged_behind}
 use Rattle.constriction_queue.specs.declared.decoder.symbols.DecoderFrontendError.{DecoderFrontendError}
 use Rattle.constriction_queue.specs.Range.{Run}
-use Rattle.constriction_queue.proofs.FlaggedRuns.{behind, flagged_more}
-use Rattle.constriction_stream.proofs.Outcomes.{frontend_by}
+use Rattle.constriction_queue.proofs.FlaggedRuns.{behind, flag_more, flagged_more}
+use Rattle.std.proofs.lemmas.List.{map-append}
 use Rattle.constriction_stream.specs.Symbols.{never_frontend}
 use Rattle.constriction_laws.specs.declared.errors.Stopped.TheVariants as stopped
 use Rattle.constriction_laws.specs.queue.Outcomes.{InvalidWhere}
-use Rattle.constriction_laws.specs.Outcomes.{HasImpossibleItem}
-use Rattle.constriction_queue.specs.Symbols.{Finds, FindsAll, NarrowsAll}
+use Rattle.constriction_queue.specs.Symbols.{Finds, FindsAll}
 use Rattle.constriction_queue.proofs.ComingBack.{one_decode, decodes_unique}
-use Rattle.constriction_queue.proofs.StepCalls.{encode_of}
 use Rattle.constriction_base.proofs.SameModel.{are_models, models-alike, symbols-items_of}
 
 -- ---- their models
@@ -59,35 +53,29 @@ module _ (w flag : ℕ) (first second : Model ℕ) (m : IsModel w first) (n : Is
           (sym (symbols-items_of second ys) ∙ ap (λ (items : List (Item ℕ)). map (λ i. i.symbol) items) back.0 ∙ symbols-items_of second xs, back.1)
 
 -- ---- one more
-pub finds_flagged : (w s flag : ℕ) (first second : Model ℕ) (words xs : List ℕ) (x : ℕ) (old mid new : Run) → FindsAll w s words (flagged flag first second xs) old mid
-    → Finds w s words (next_model (has_flag flag xs) first second) x mid new → FindsAll w s words (flagged flag first second (xs ++ x ∷ [])) old new
-finds_flagged w s flag first second words xs x old mid new all one =
-    subst (λ (items : List (Item ℕ)). FindsAll w s words items old new) (sym (flagged_more flag first second xs x))
-    (InTurn-more (λ (item : Item ℕ). Finds w s words item.model item.symbol) (flagged flag first second xs) (item_of (next_model (has_flag flag xs) first second) x) old mid new all one)
+module _ (flag : ℕ) (first second : Model ℕ) where
+  behind_more : (b : Bool) (xs : List ℕ) (x : ℕ)
+      → flagged_behind b flag first second (xs ++ x ∷ []) ≡ flagged_behind b flag first second xs ++ item_of (next_model (b || has_flag flag xs) first second) x ∷ []
+  behind_more true xs x = map-append (item_of second) xs (x ∷ [])
+  behind_more false xs x = flagged_more flag first second xs x
 
--- ---- encodes
-pub encodes_items : {S W B E Q : Type 0} (number : W → ℕ) (holds : holding.Ghosts B W Q) (writes : writing.Ghosts B W E) (w s : ℕ)
-    (items : List (Item S)) (old new : Encoder B)
-    → InTurn (λ item old new. EncodesItem number holds writes w s old item (Ok tt) new) items old new
-    → NarrowsAll w s items (run_by w s old) (run_by w s new)
-encodes_items {B = B} number holds writes w s [] old new all = ap (λ (c : Encoder B). run_by w s c) all
-encodes_items number holds writes w s (item ∷ items) old new all = (
-  run_by w s all.0,
-  encode_of number holds writes w s _ item.model item.symbol old all.0 all.1,
-  encodes_items number holds writes w s items all.0 new all.2,
-)
+pub finds_behind : (w s flag : ℕ) (first second : Model ℕ) (words : List ℕ) (b : Bool) (xs : List ℕ) (x : ℕ) (old mid new : Run) → FindsAll w s words (flagged_behind b flag first second xs) old mid
+    → Finds w s words (next_model (b || has_flag flag xs) first second) x mid new → FindsAll w s words (flagged_behind b flag first second (xs ++ x ∷ [])) old new
+finds_behind w s flag first second words b xs x old mid new all one =
+    subst (λ (items : List (Item ℕ)). FindsAll w s words items old new) (sym (behind_more flag first second b xs x))
+    (InTurn-more (λ (item : Item ℕ). Finds w s words item.model item.symbol) (flagged_behind b flag first second xs) (item_of (next_model (b || has_flag flag xs) first second) x) old mid new all one)
 
--- a refusal of the encoder itself is that of an item whose symbol its model doesn't know
-pub unknown_item : {S W B E Q : Type 0} (number : W → ℕ) (holds : holding.Ghosts B W Q) (writes : writing.Ghosts B W E) (w s : ℕ)
-    (items : List (Item S)) (old new : Encoder B) (refusal : DefaultEncoderFrontendError)
-    → StepsToFault (EncodesItem number holds writes w s) old items (Err (Frontend refusal)) new → HasImpossibleItem items
-unknown_item number holds writes w s items old new refusal (coded, item, rest, mid, parts, before, step) = (
-  coded,
-  rest,
-  item,
-  parts,
-  (frontend_by (calls.EncodeCall number holds writes w s) item.model.precision item.model.table item.symbol mid new refusal step).0,
-)
+pub none_behind : (w s : ℕ) (words : List ℕ) (flag : ℕ) (first second : Model ℕ) (b : Bool) (old : Run) → FindsAll w s words (flagged_behind b flag first second []) old old
+none_behind w s words flag first second true old = refl
+none_behind w s words flag first second false old = refl
+
+pub or_none : (b : Bool) → (b || false) ≡ b
+or_none true = refl
+or_none false = refl
+
+pub switched_more : (b : Bool) (flag : ℕ) (xs : List ℕ) (x : ℕ) → ((b || has_flag flag xs) || x == flag) ≡ (b || has_flag flag (xs ++ x ∷ []))
+switched_more true flag xs x = refl
+switched_more false flag xs x = sym (flag_more flag xs x)
 
 -- ---- decodes that were refused
 -- where more symbols are found, the next one is
@@ -102,7 +90,7 @@ module _ (w s : ℕ) (words : List ℕ) where
       found_next model m ys xs i.0 mid last (omega (arith, less)) i.2 (subst (λ (r : Run). FindsAll w s words (items_of model xs) r last) (sym same.1) j.2)
 
   module _ (flag : ℕ) (first second : Model ℕ) (m : IsModel w first) (n : IsModel w second) where
-    pub flagged_next : (ys xs : List ℕ) (old mid last : Run) → length ys < length xs → FindsAll w s words (flagged flag first second ys) old mid
+    flagged_next : (ys xs : List ℕ) (old mid last : Run) → length ys < length xs → FindsAll w s words (flagged flag first second ys) old mid
         → FindsAll w s words (flagged flag first second xs) old last → (x : ℕ) × (next : Run) × Finds w s words (next_model (has_flag flag ys) first second) x mid next
     flagged_next [] [] old mid last less i j = absurd (omega (arith, less))
     flagged_next [] (x ∷ xs) old mid last less i j = (x, j.0, subst (λ (r : Run). Finds w s words first x r j.0) (sym i) j.1)
@@ -120,6 +108,11 @@ module _ (w s : ℕ) (words : List ℕ) where
             → (x : ℕ) × (next : Run) × Finds w s words (next_model (b || has_flag flag ys) first second) x mid next
         rest_next r false less i j law = law i j
         rest_next r true less i j law = found_next second n ys xs r mid last less i j
+
+    pub behind_next : (b : Bool) (ys xs : List ℕ) (old mid last : Run) → length ys < length xs → FindsAll w s words (flagged_behind b flag first second ys) old mid
+        → FindsAll w s words (flagged_behind b flag first second xs) old last → (x : ℕ) × (next : Run) × Finds w s words (next_model (b || has_flag flag ys) first second) x mid next
+    behind_next true ys xs old mid last less i j = found_next second n ys xs old mid last less i j
+    behind_next false ys xs old mid last less i j = flagged_next ys xs old mid last less i j
 
     pub next_lawful : (b : Bool) → IsModel w (next_model b first second)
     next_lawful true = n

@@ -1,23 +1,21 @@
 -- What list calls of a range coder do, in the words of the laws.
-use Rattle.std.proofs.Common.{◌≡◌, ℕ, ◌-◌, List, [], ◌∷◌, length, map, refl, sym, ap, ◌∙◌, subst, arith}
-use Rattle.std.specs.Prelude.{Bool, IsTrue}
+use Rattle.std.proofs.Common.{◌≡◌, ℕ, List, [], ◌∷◌, length, map, refl, sym, ap, ◌∙◌, subst, arith}
 use Rattle.constriction_base.specs.declared.backends.reading.Holds as holding
 use Rattle.constriction_base.specs.declared.backends.reading.ReadWords as reading
 use Rattle.constriction_base.specs.declared.backends.writing.WriteWords as writing
 use Rattle.constriction_base.specs.declared.errors.CoderError.{CoderError}
 use Rattle.constriction_base.specs.Steps.{InTurn}
-use Rattle.constriction_base.specs.Models.{Model, Item, IsModel, AreModels, items_of, pairs_of}
+use Rattle.constriction_base.specs.Models.{Item, IsModel, pairs_of}
 use Rattle.constriction_stream.specs.Lists.{StepsAll}
 use Rattle.constriction_stream.specs.Symbols.{EncodesSymbol, ByBackend}
-use Rattle.constriction_queue.specs.Range.{Run, initial}
+use Rattle.constriction_queue.specs.Range.{Run}
 use Rattle.constriction_queue.specs.Encoder.{Encoder, run_by}
 use Rattle.constriction_queue.specs.Decoder.{Decoder, StandsAt}
 use Rattle.constriction_queue.specs.Calls as calls
 use Rattle.constriction_queue.proofs.StepCalls.{Given, decode_of, encode_of}
-use Rattle.constriction_laws.specs.queue.Outcomes.{ReadsToEnd, ReadTo}
-use Rattle.constriction_queue.specs.Symbols.{NarrowsAll, FindsAll, MayEnd}
+use Rattle.constriction_laws.specs.queue.Outcomes.{ReadTo}
+use Rattle.constriction_queue.specs.Symbols.{NarrowsAll, FindsAll}
 use Rattle.constriction_queue.proofs.ComingBack.{decodes_unique}
-use Rattle.constriction_base.proofs.SameModel.{are_models, models-alike, symbols-items_of}
 use Rattle.constriction_laws.proofs.PairCalls.{are_pairs, same_models, their_symbols}
 
 -- ---- encodes
@@ -44,15 +42,6 @@ module _ {S W B E Q : Type 0} (F : Type 0) (number : W → ℕ) (holds : holding
       (more.0, (first.0, first.1, more.1), more.2)
 
 -- ---- symbols that come back
--- under one model
-pub back_of : {S B : Type 0} (w s : ℕ) (words : List ℕ) (model : Model S) (symbols again : List S) (old last : Run) (new : Decoder B) → IsModel w model → length symbols ≡ length again
-    → FindsAll w s words (items_of model symbols) old last → ReadTo w s words (items_of model again) old new
-    → (again ≡ symbols) × StandsAt w s words last new
-back_of {S} w s words model symbols again old last new m count decoded read =
-    let back = decodes_unique w s words (items_of model symbols) (items_of model again) old last read.0 (are_models w model symbols m) (models-alike model again symbols (sym count)) decoded read.1 in (
-      sym (symbols-items_of model again) ∙ ap (λ (items : List (Item S)). map (λ i. i.symbol) items) back.0 ∙ symbols-items_of model symbols,
-      subst (λ (r : Run). StandsAt w s words r new) back.1 read.2,
-    )
 
 -- under a model each
 pub pairs_back : {S M B : Type 0} (precision : ℕ) (table : M → List (S × ℕ × ℕ)) (w s : ℕ) (words : List ℕ) (symbols again : List S) (ms : List M) (old last : Run) (new : Decoder B)
@@ -65,14 +54,6 @@ pairs_back {S} precision table w s words symbols again ms old last new lawful co
       sym (their_symbols precision table again ms many) ∙ ap (λ (is : List (Item S)). map (λ (i : Item S). i.symbol) is) back.0 ∙ their_symbols precision table symbols ms count,
       subst (λ (r : Run). StandsAt w s words r new) back.1 read.2,
     )
-
--- what was read of a list's own words is the list, and they have ended there
-pub sealed_back : {S : Type 0} (w s : ℕ) (items : List S → List (Item S)) (symbols again : List S) (words : List ℕ) (last : Run) (ended : Bool) → AreModels w (items symbols)
-    → FindsAll w s words (items symbols) (initial s) last → MayEnd w s words last → again ≡ symbols → ReadsToEnd w s words (items again) ended → (again ≡ symbols) × IsTrue ended
-sealed_back {S} w s items symbols again words last ended ms found may is read =
-    let here : FindsAll w s words (items symbols) (initial s) read.0 = subst (λ (xs : List S). FindsAll w s words (items xs) (initial s) read.0) is read.1 in
-    let same = decodes_unique w s words (items symbols) (items symbols) (initial s) last read.0 ms refl found here in
-    (is, read.2 (subst (λ (r : Run). MayEnd w s words r) (sym same.1) may))
 
 -- no words where there are no numbers of them
 pub none_mapped : {A B : Type 0} (f : A → B) (xs : List A) → map f xs ≡ [] → xs ≡ []

@@ -1,12 +1,12 @@
 -- Refused steps of a range coder: a decoder whose words hold more symbols refuses none, and an encoder knows all symbols
 -- but those that the table has not.
-use Rattle.std.specs.Iterator.{Yields, YieldsThen}
+use Rattle.std.specs.Iterator.{YieldsThen}
 use Rattle.std.specs.Iterator.Adapters.{zip_steps}
 use Rattle.std.specs.List.{zip}
 use Rattle.std.specs.declared.iter.Zip.{Zip}
-use Rattle.std.specs.Slice.Iter.{iter_rest, iter_steps}
-use Rattle.std.proofs.Common.{◌≡◌, ◌∙◌, ℕ, ◌<◌, ◌≤◌, ◌^◌, Bor, Iter, Some, List, [], ◌∷◌, ◌++◌, Result, Ok, Err, inl, inr, map, append_assoc, length, drop, refl, sym, ap, subst, arith}
-use Rattle.std.specs.Prelude.{IfErr, IfOk, IsErrAnd}
+use Rattle.std.specs.Slice.Iter.{iter_steps}
+use Rattle.std.proofs.Common.{◌≡◌, ◌∙◌, ℕ, ◌<◌, ◌≤◌, ◌^◌, Bor, Iter, Some, List, [], ◌∷◌, ◌++◌, Result, Ok, Err, inl, inr, map, length, drop, refl, sym, ap, subst, arith}
+use Rattle.std.specs.Prelude.{IfErr, IsErrAnd}
 use Rattle.std.proofs.lemmas.List.{map-append}
 use Rattle.constriction_base.specs.declared.backends.reading.Holds as holding
 use Rattle.constriction_base.specs.declared.backends.reading.ReadWords as reading
@@ -15,13 +15,13 @@ use Rattle.constriction_base.specs.declared.errors.CoderError.{CoderError}
 use Rattle.constriction_base.specs.declared.errors.CoderError.TheVariants.{Frontend}
 use Rattle.constriction_base.specs.declared.errors.DefaultEncoderFrontendError.{DefaultEncoderFrontendError}
 use Rattle.constriction_stream.proofs.Outcomes.{EncodesByBackend, frontend_by}
-use Rattle.constriction_laws.specs.Outcomes.{HasImpossible, HasImpossibleItem, Reasons, StopsAmong, StopsShort}
+use Rattle.constriction_laws.specs.Outcomes.{HasImpossibleItem, Reasons, StopsAmong}
 use Rattle.constriction_laws.specs.declared.errors.RoundTripError.{RoundTripError}
 use Rattle.constriction_laws.specs.declared.errors.RoundTripError.TheVariants as trip
 use Rattle.constriction_laws.specs.declared.errors.Stopped.TheVariants.{Refused}
 use Rattle.constriction_base.specs.Steps.{InTurn}
 use Rattle.constriction_base.specs.Tables.{AtEntry}
-use Rattle.constriction_base.specs.Models.{Model, Item, IsModel, item_of, items_of, pairs_of}
+use Rattle.constriction_base.specs.Models.{Model, Item, IsModel, item_of, pairs_of}
 use Rattle.constriction_base.proofs.Entries.{in_range}
 use Rattle.constriction_stream.specs.Symbols.{ByBackend, never_frontend}
 use Rattle.constriction_queue.specs.Range.{Run}
@@ -30,12 +30,11 @@ use Rattle.constriction_queue.specs.Calls as calls
 use Rattle.constriction_queue.specs.Encoder.{Encoder}
 use Rattle.constriction_queue.specs.declared.decoder.symbols.DecoderFrontendError.{DecoderFrontendError}
 use Rattle.constriction_queue.specs.declared.decoder.symbols.DecoderFrontendError.TheVariants.{InvalidData}
-use Rattle.constriction_laws.specs.queue.Outcomes.{NotCoded, NotRead}
+use Rattle.constriction_laws.specs.queue.Outcomes.{NotRead}
 use Rattle.constriction_queue.specs.Symbols.{Finds, FindsAll}
 use Rattle.constriction_queue.proofs.ComingBack.{one_decode}
 use Rattle.constriction_queue.proofs.StepCalls.{decode_of, distance_is}
 use Rattle.constriction_laws.proofs.of_queue.Pairs.{both_now, pairs_given, pairs_left}
-use Rattle.constriction_laws.proofs.Refused.{from_front}
 
 -- where a symbol is found, what is read is a quantile
 found_here : {S B : Type 0} (w s : ℕ) (words : List ℕ) (model : Model S) (x : S) (r next : Run) (d : Decoder B) → IsModel w model → 0 < 2 ^ s → StandsAt w s words r d
@@ -44,32 +43,7 @@ found_here w s words model x r next d m some at (left, p, has, (takes, is)) =
     let bound = in_range 0 (2 ^ model.precision) model.table x left p m.lawful.follow has in
     rw (distance_is w s words r d some at, at.range_is) (omega (arith, takes.below, bound.2))
 
-module _ {S W B E Q : Type 0} (F : Type 0) (number : W → ℕ) (holds : holding.Ghosts B W Q) (reads : reading.Ghosts B W Q E) (w s : ℕ) (words : List ℕ) (known : holds.is_list) where
-  pub more_to_read : (model : Model S) → IsModel w model → 0 < 2 ^ s → (given symbols : List S) (r last : Run) (old mid : Decoder B) → length given < length symbols → StandsAt w s words r old
-      → InTurn (λ symbol old new. AtEntry model.precision model.table symbol (λ step. ByBackend {F = F} (calls.DecodeCall number holds reads w s) old step (Ok tt) new)) given old mid
-      → FindsAll w s words (items_of model symbols) r last → quantile_read s model.precision mid < 2 ^ model.precision
-  more_to_read model m some [] [] r last old mid less at all found = absurd (omega (arith, less))
-  more_to_read model m some [] (x ∷ xs) r last old mid less at all found =
-      found_here w s words model x r found.0 mid m some (subst (λ (d : Decoder B). StandsAt w s words r d) (sym all) at) found.1
-  more_to_read model m some (y ∷ ys) [] r last old mid less at all found = absurd (omega (arith, less))
-  more_to_read model m some (y ∷ ys) (x ∷ xs) r last old mid less at all found =
-      let first = decode_of F number holds reads w s words known model y r old all.0 at all.1 in
-      let same = one_decode w s words model y x r first.0 found.0 m first.1 found.1 in
-      more_to_read model m some ys xs first.0 last all.0 mid (omega (arith, less)) first.2 all.2
-      (subst (λ (r : Run). FindsAll w s words (items_of model xs) r last) (sym same.1) found.2)
-
--- so a list of decodes isn't stopped by the decoder itself
-module _ {S W B E Q : Type 0} (number : W → ℕ) (holds : holding.Ghosts B W Q) (reads : reading.Ghosts B W Q E) (w s : ℕ) (words : List ℕ) (known : holds.is_list) where
-  pub never_stopped : (model : Model S) → IsModel w model → 0 < 2 ^ s → (symbols : List S) (r last : Run) (amt : ℕ) (old new : Decoder B) (f : DecoderFrontendError) → amt ≡ length symbols
-      → StandsAt w s words r old → FindsAll w s words (items_of model symbols) r last
-      → StopsShort {E = CoderError DecoderFrontendError E} (ByBackend {F = DecoderFrontendError} (calls.DecodeCall number holds reads w s))
-      (λ old error new. (error ≡ Frontend InvalidData) × (2 ^ model.precision ≤ quantile_read s model.precision old) × (new ≡ old)) model.precision model.table amt old (Refused (Frontend f)) new → ⊥
-  never_stopped model m some symbols r last amt old new f count at found (given, mid, less, all, inl halt) =
-      omega (arith, halt.1, more_to_read DecoderFrontendError number holds reads w s words known model m some given symbols r last old mid (omega (arith, less, count)) at all found)
-  never_stopped model m some symbols r last amt old new f count at found (given, mid, less, all, inr (symbol, (left, p, has, (answer, call, is)))) =
-      never_frontend answer f is
-
--- ---- the same where each symbol has a model of its own
+-- ---- where each symbol has a model of its own, and more of them are found, the decoder itself refuses none
 module _ {S M W B E Q : Type 0} (F : Type 0) (number : W → ℕ) (holds : holding.Ghosts B W Q) (reads : reading.Ghosts B W Q E) (w s : ℕ) (words : List ℕ) (known : holds.is_list)
     (precision : ℕ) (table : M → List (S × ℕ × ℕ)) (lawful : (m : M) → IsModel w (record { precision = precision; table = table m })) where
   pub more_by_models : 0 < 2 ^ s → (given symbols : List S) (models : List M) (model : M) (rest : List M) (r last : Run) (old mid : Decoder B)
@@ -91,30 +65,17 @@ module _ {S M W B E Q : Type 0} (F : Type 0) (number : W → ℕ) (holds : holdi
 
 module _ {S M W B E Q : Type 0} (number : W → ℕ) (holds : holding.Ghosts B W Q) (reads : reading.Ghosts B W Q E) (w s : ℕ) (words : List ℕ) (known : holds.is_list)
     (precision : ℕ) (table : M → List (S × ℕ × ℕ)) (lawful : (m : M) → IsModel w (record { precision = precision; table = table m })) where
-  pub never_among : 0 < 2 ^ s → (symbols : List S) (models : List M) (r last : Run) (old new : Decoder B) (f : DecoderFrontendError) → length symbols ≡ length models
+  pub never_among : 0 < 2 ^ s → (symbols : List S) (models : List M) (taken : ℕ) (r last : Run) (old new : Decoder B) (f : DecoderFrontendError) → length symbols ≡ length models
       → StandsAt w s words r old → FindsAll w s words (pairs_of precision table symbols models) r last
       → StopsAmong {E = CoderError DecoderFrontendError E} (ByBackend {F = DecoderFrontendError} (calls.DecodeCall number holds reads w s))
-      (λ old error new. (error ≡ Frontend InvalidData) × (2 ^ precision ≤ quantile_read s precision old) × (new ≡ old)) precision table models old (Refused (Frontend f)) new → ⊥
-  never_among some symbols models r last old new f count at found (given, mid, model, rest, next, all, inl halt) =
+      (λ old error new. (error ≡ Frontend InvalidData) × (2 ^ precision ≤ quantile_read s precision old) × (new ≡ old)) precision table models taken old (Refused (Frontend f)) new → ⊥
+  never_among some symbols models taken r last old new f count at found (given, mid, model, rest, is_taken, fewer, next, all, inl halt) =
       omega (arith, halt.1, more_by_models DecoderFrontendError number holds reads w s words known precision table lawful some given symbols models model rest r last old mid next count at all found)
-  never_among some symbols models r last old new f count at found (given, mid, model, rest, next, all, inr (symbol, (left, p, has, (answer, call, is)))) =
+  never_among some symbols models taken r last old new f count at found (given, mid, model, rest, is_taken, fewer, next, all, inr (symbol, (left, p, has, (answer, call, is)))) =
       never_frontend answer f is
 
 -- ---- encodes that were refused
 
-pub unknown_of : {S W B E Q : Type 0} (number : W → ℕ) (holds : holding.Ghosts B W Q) (writes : writing.Ghosts B W E) (w s : ℕ)
-    (P : ℕ) (table : List (S × ℕ × ℕ)) (symbols : List S) (i : Iter S) (coded : List (Bor S)) (item : Bor S) (rest : Iter S)
-    (old new : Encoder B) (refusal : DefaultEncoderFrontendError) → iter_rest i ≡ symbols → YieldsThen iter_steps i coded (Some item) rest
-    → EncodesByBackend (calls.EncodeCall number holds writes w s) P table item.now old (Err (Frontend refusal)) new → HasImpossible table symbols
-unknown_of {S = S} number holds writes w s P table symbols i coded item rest old new refusal is gave step = (
-  map (λ x. x.now) coded,
-  iter_rest rest,
-  item.now,
-  sym is ∙ (from_front i coded gave.0 gave.1 ∙ ap (λ (ys : List S). map (λ x. x.now) coded ++ ys) gave.2),
-  (frontend_by (calls.EncodeCall number holds writes w s) P table item.now old new refusal step).0,
-)
-
--- a list of pairs
 pub unknown_among : {S M W B E Q : Type 0} (number : W → ℕ) (holds : holding.Ghosts B W Q) (writes : writing.Ghosts B W E) (w s : ℕ)
     (P : ℕ) (table : M → List (S × ℕ × ℕ)) (symbols : List S) (models : List M) (i : Zip (Iter S) (Iter M)) (coded : List (Bor S × Bor M)) (pair : Bor S × Bor M) (rest : Zip (Iter S) (Iter M))
     (old new : Encoder B) (refusal : DefaultEncoderFrontendError) → pairs_left i ≡ zip symbols models → YieldsThen (zip_steps iter_steps iter_steps) i coded (Some pair) rest
@@ -134,13 +95,6 @@ unknown_among {S} {M} number holds writes w s P table symbols models i coded pai
 
 -- ---- reasons, of a call that is made behind others
 module _ (invalid : Type 0) where
-  pub while_coding : (impossible many some more : Type 0) (e : RoundTripError) → NotCoded impossible many e → (impossible → some) → (many → more) → Reasons some more invalid (λ taken. ⊥) e
-  while_coding impossible many some more trip.ImpossibleSymbol why one two = one why
-  while_coding impossible many some more trip.TooManySymbols why one two = two why
-  while_coding impossible many some more trip.InvalidData why one two = absurd why
-  while_coding impossible many some more (trip.OutOfData taken) why one two = why
-  while_coding impossible many some more trip.Refused why one two = tt
-
   pub while_reading : (impossible many none : Type 0) (e : RoundTripError) → NotRead none e → (none → invalid) → Reasons impossible many invalid (λ taken. ⊥) e
   while_reading impossible many none trip.ImpossibleSymbol why law = absurd why
   while_reading impossible many none trip.TooManySymbols why law = absurd why
@@ -156,21 +110,3 @@ err_weaker (Err e) h k = k e h
 pub passed : {T : Type 0} (answer : Result T RoundTripError) (e : RoundTripError) (reasons : RoundTripError → Type 0) → IsErrAnd answer (λ error. error ≡ e) → reasons e → IfErr answer reasons
 passed (Ok x) e reasons is why = tt
 passed (Err error) e reasons is why = rw is why
-
--- a list in which a symbol has no entry, and others before or behind it
-pub impossible_before : {S : Type 0} (table : List (S × ℕ × ℕ)) (xs ys : List S) → HasImpossible table xs → HasImpossible table (xs ++ ys)
-impossible_before {S} table xs ys (before, after, symbol, is, never) =
-    (before, after ++ ys, symbol, ap (λ (zs : List S). zs ++ ys) is ∙ append_assoc before (symbol ∷ after) ys, never)
-
-pub impossible_behind : {S : Type 0} (table : List (S × ℕ × ℕ)) (xs ys : List S) → HasImpossible table ys → HasImpossible table (xs ++ ys)
-impossible_behind {S} table xs ys (before, after, symbol, is, never) =
-    (xs ++ before, after, symbol, ap (λ (zs : List S). xs ++ zs) is ∙ sym (append_assoc xs before (symbol ∷ after)), never)
-
--- the same of items
-pub item_before : {S : Type 0} (xs ys : List (Item S)) → HasImpossibleItem xs → HasImpossibleItem (xs ++ ys)
-item_before {S} xs ys (before, after, item, is, never) =
-    (before, after ++ ys, item, ap (λ (zs : List (Item S)). zs ++ ys) is ∙ append_assoc before (item ∷ after) ys, never)
-
-pub item_behind : {S : Type 0} (xs ys : List (Item S)) → HasImpossibleItem ys → HasImpossibleItem (xs ++ ys)
-item_behind {S} xs ys (before, after, item, is, never) =
-    (xs ++ before, after, item, ap (λ (zs : List (Item S)). xs ++ zs) is ∙ sym (append_assoc xs before (item ∷ after)), never)

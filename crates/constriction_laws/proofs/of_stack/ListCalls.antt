@@ -1,6 +1,5 @@
 -- What list calls of a stack coder do, in the words of the laws.
-use Rattle.std.proofs.Common.{◌≡◌, ℕ, List, [], ◌∷◌, Ok, Err, length, map, sym, ap}
-use Rattle.std.specs.Prelude.{reverse}
+use Rattle.std.proofs.Common.{ℕ, List, [], ◌∷◌, Ok, Err, map, ap}
 use Rattle.constriction_base.specs.declared.errors.CoderError.{CoderError}
 use Rattle.constriction_base.specs.Steps.{InTurn}
 use Rattle.constriction_base.specs.declared.backends.reading.Holds as holding
@@ -9,15 +8,11 @@ use Rattle.constriction_base.specs.declared.backends.writing.WriteWords as writi
 use Rattle.constriction_base.specs.Tables.{AtEntry}
 use Rattle.constriction_stream.specs.Lists.{StepsAll}
 use Rattle.constriction_stream.specs.Symbols.{EncodesSymbol, ByBackend}
-use Rattle.constriction_stack.specs.Ans.{AnsState, AnsValue, IsValid}
+use Rattle.constriction_stack.specs.Ans.{AnsValue, IsValid}
 use Rattle.constriction_stack.specs.Ans as calls
 use Rattle.constriction_laws.specs.stack.Readings.{DecodesBy, DecodesAllBy}
-use Rattle.constriction_base.specs.Models.{Model, Item, items_of, IsModel}
-use Rattle.constriction_stack.specs.Symbols.{Encodes, Decodes, EncodesAll, DecodesAll}
-use Rattle.constriction_laws.specs.stack.Undone.{decode_back}
-use Rattle.constriction_laws.proofs.Undoing.{all_undone, all_free}
-use Rattle.constriction_laws.proofs.of_stack.ComingBack.{decodes_only}
-use Rattle.constriction_base.proofs.SameModel.{are_models, models_turned, symbols_turned}
+use Rattle.constriction_base.specs.Models.{Model, Item}
+use Rattle.constriction_stack.specs.Symbols.{Decodes, EncodesAll, DecodesAll}
 use Rattle.constriction_stack.proofs.StepCalls.{encode_of}
 
 -- ---- encodes
@@ -51,14 +46,3 @@ module _ {S W B E K : Type 0} (F : Type 0) (number : W → ℕ) (holds : holding
       let first = decode_of (item x).model (item x).symbol old all.0 all.1 in
       let more = decodes_of item xs all.0 new all.2 in
       ((λ known. (all.0.state, first.0 known, more.0 known)), (all.0, first.1, more.1))
-
--- symbols that were encoded come back, the last one first, and the state before
-pub back_of : {S : Type 0} (w s : ℕ) (model : Model S) (symbols again : List S) (before old new : AnsState) → IsModel w model → length symbols ≡ length again
-    → EncodesAll w s (items_of model symbols) before old → DecodesAll w s (items_of model again) old new
-    → (again ≡ reverse symbols) × (new ≡ before)
-back_of w s model symbols again before old new m count encoded decoded =
-    let items = items_of model symbols in
-    let undone = all_undone (λ item. Unit {0}) (λ state. Unit {0}) (λ item. Encodes w s item.model item.symbol) (λ item. Decodes w s item.model item.symbol)
-    (λ item x y free valid e. (decode_back w s item.model item.symbol x y e, tt)) items before old (all_free items) tt encoded in
-    let back = decodes_only w s items (items_of model again) before old new (are_models w model symbols m) (models_turned model symbols again (sym count)) undone.0 decoded in
-    (symbols_turned model symbols again back.0, back.1)

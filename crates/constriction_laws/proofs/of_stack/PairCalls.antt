@@ -12,6 +12,27 @@ use Rattle.constriction_laws.proofs.PairCalls.{are_pairs, same_models, their_sym
 use Rattle.constriction_base.proofs.Turns.{map-reverse, all-reverse}
 
 module _ {S M : Type 0} (precision : ℕ) (table : M → List (S × ℕ × ℕ)) where
+  -- the models of symbols that come back, one each, are those of the encodes the other way round
+  pub models_alike : (symbols again : List S) (ms : List M) → length symbols ≡ length ms → length again ≡ length ms
+      → models (pairs_of precision table again ms) ≡ reverse (models (reverse (pairs_of precision table symbols ms)))
+  models_alike symbols again ms count many =
+      let items : List (Item S) = pairs_of precision table symbols ms in
+      same_models precision table again symbols ms (omega (arith, count, many)) ∙ sym (reverse-reverse (models items))
+      ∙ ap (λ (ns : List (Model S)). reverse ns) (sym (map-reverse (λ (i : Item S). i.model) items))
+
+  -- the same items, turned twice, are the same symbols
+  pub symbols_alike : (symbols again : List S) (ms : List M) → length symbols ≡ length ms → length again ≡ length ms
+      → pairs_of precision table again ms ≡ reverse (reverse (pairs_of precision table symbols ms)) → again ≡ symbols
+  symbols_alike symbols again ms count many is =
+      sym (their_symbols precision table again ms many)
+      ∙ ap (λ (is : List (Item S)). map (λ (i : Item S). i.symbol) is) (is ∙ reverse-reverse (pairs_of precision table symbols ms)) ∙ their_symbols precision table symbols ms count
+
+  -- the models of encodes from the last to the first
+  pub are_turned : (w : ℕ) (symbols : List S) (ms : List M) → ((m : M) → IsModel w (record { precision = precision; table = table m }))
+      → AreModels w (reverse (pairs_of precision table symbols ms))
+  are_turned w symbols ms lawful =
+      all-reverse (λ item. IsModel w item.model) (pairs_of precision table symbols ms) (are_pairs precision table w symbols ms lawful)
+
   -- symbols that were encoded from the last to the first come back in order, and the state before
   pub pairs_back : (w s : ℕ) (symbols again : List S) (ms : List M) (before old new : AnsState) → ((m : M) → IsModel w (record { precision = precision; table = table m }))
       → length symbols ≡ length ms → length again ≡ length ms
@@ -23,9 +44,5 @@ module _ {S M : Type 0} (precision : ℕ) (table : M → List (S × ℕ × ℕ))
       let turned : List (Item S) = reverse items in
       let undone = all_undone (λ item. Unit {0}) (λ state. Unit {0}) (λ item. Encodes w s item.model item.symbol) (λ item. Decodes w s item.model item.symbol)
       (λ item x y free valid e. (decode_back w s item.model item.symbol x y e, tt)) turned before old (all_free turned) tt encoded in
-      let are : AreModels w turned = all-reverse (λ item. IsModel w item.model) items (are_pairs precision table w symbols ms lawful) in
-      let alike : models others ≡ reverse (models turned) =
-      same_models precision table again symbols ms (omega (arith, count, many)) ∙ sym (reverse-reverse (models items))
-      ∙ ap (λ (ns : List (Model S)). reverse ns) (sym (map-reverse (λ (i : Item S). i.model) items)) in
-      let back = decodes_only w s turned others before old new are alike undone.0 decoded in
-      (sym (their_symbols precision table again ms many) ∙ ap (λ (is : List (Item S)). map (λ (i : Item S). i.symbol) is) (back.0 ∙ reverse-reverse items) ∙ their_symbols precision table symbols ms count, back.1)
+      let back = decodes_only w s turned others before old new (are_turned w symbols ms lawful) (models_alike symbols again ms count many) undone.0 decoded in
+      (symbols_alike symbols again ms count many back.0, back.1)

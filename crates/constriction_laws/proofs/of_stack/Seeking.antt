@@ -1,11 +1,11 @@
 -- Encodes write words before those that are there.
-use Rattle.std.proofs.Common.{◌≡◌, ℕ, ◌-◌, ◌≤◌, List, [], ◌∷◌, ◌++◌, length, take, drop, refl, sym, ap, ◌∙◌, append_assoc, arith}
+use Rattle.std.proofs.Common.{◌≡◌, ℕ, ◌-◌, ◌≤◌, List, [], ◌∷◌, ◌++◌, length, take, drop, refl, sym, ap, ◌∙◌, arith}
 use Rattle.std.specs.Prelude.{reverse, map}
 use Rattle.std.proofs.lemmas.List.{take-append-drop, take-take, length-take, reverse-append, length-reverse, length-map, length-drop, drop-map}
 use Rattle.constriction_base.specs.Steps.{IsSizes}
 use Rattle.constriction_stack.specs.Ans.{AnsState}
-use Rattle.constriction_stack.specs.Positions.{AnsPosition, Grows, position_of, sought}
-use Rattle.constriction_stack.proofs.PositionsKept.{push_grows, grows_none, grows_more, sought_back}
+use Rattle.constriction_stack.specs.Positions.{Grows, sought}
+use Rattle.constriction_stack.proofs.PositionsKept.{push_grows, grows_none, grows_more}
 use Rattle.constriction_base.specs.Models.{Item, AreModels}
 use Rattle.constriction_stack.specs.Symbols.{EncodesAll}
 use Rattle.constriction_laws.proofs.of_stack.Choosing.{step_of}
@@ -32,15 +32,6 @@ kept_words {W} f xs n h =
     ap (λ (ys : List W). drop (length (reverse (drop n xs))) ys) parts ∙ drop_first (reverse (drop n xs)) (reverse (take n xs)) in
     sym (drop-map f (length (map f (reverse xs)) - n) (reverse xs) ∙ ap (λ k. map f (drop k (reverse xs))) count ∙ ap (λ (ys : List W). map f ys) front)
 
--- a vector that was cut to the number of words of a position, below its head, is the state that it names
-pub cut_is_sought : {W : Type 0} (f : W → ℕ) (xs : List W) (held : ℕ) (old new cut : AnsState) → held ≡ length old.words → new.words ≡ map f (reverse xs) → length old.words ≤ length new.words
-    → cut ≡ record { head = old.head; words = map f (reverse (take held xs)) } → cut ≡ sought (position_of old) new
-cut_is_sought f xs held old new cut count words more is =
-    let within : held ≤ length xs = omega (arith, ap length words, length-map (reverse xs) f, length-reverse xs) in
-    let kept : map f (reverse (take held xs)) ≡ drop (length new.words - length old.words) new.words =
-    kept_words f xs held within ∙ ap (λ (ws : List ℕ). drop (length ws - held) ws) (sym words) ∙ ap (λ k. drop (length new.words - k) new.words) count in
-    is ∙ ap (λ (ws : List ℕ). let x : AnsState = record { head = old.head; words = ws } in x) kept
-
 -- a cursor over all words of a state, which stands behind them, goes to a position: that is the state that the position names
 pub there_is_sought : {W : Type 0} (f : W → ℕ) (xs : List W) (place held head : ℕ) (old : AnsState) → place ≡ length xs → old.words ≡ map f (reverse (take place xs)) → held ≤ length xs
     → ◌≡◌ {A = AnsState} (record { head = head; words = map f (reverse (take held xs)) }) (sought (record { held = held; head = head }) old)
@@ -50,13 +41,3 @@ there_is_sought {W} f xs place held head old stands words within =
     let kept : map f (reverse (take held xs)) ≡ drop (length old.words - held) old.words =
     ap (λ (ys : List W). map f (reverse ys)) (sym inner) ∙ kept_words f (take place xs) held below ∙ ap (λ (ws : List ℕ). drop (length ws - held) ws) (sym words) in
     ap (λ (ws : List ℕ). let x : AnsState = record { head = head; words = ws } in x) kept
-
--- the last words of a vector that an export wrote: those of a state that it grew from, where the position was recorded
-pub words_sought : {W : Type 0} (f : W → ℕ) (xs : List W) (held head : ℕ) (front : List ℕ) (there last : AnsState) → held ≤ length xs
-    → ◌≡◌ {A = AnsPosition} (record { held = held; head = head }) (position_of there) → Grows there last → map f (reverse xs) ≡ front ++ last.words
-    → ◌≡◌ {A = AnsState} (record { head = head; words = map f (reverse (take held xs)) }) there
-words_sought {W} f xs held head front there last within named grows all =
-    let whole : AnsState = record { head = 0; words = map f (reverse xs) } in
-    let grown : Grows there whole = (front ++ grows.0, all ∙ ap (λ (ws : List ℕ). front ++ ws) grows.1 ∙ sym (append_assoc front grows.0 there.words)) in
-    ap (λ (ws : List ℕ). let x : AnsState = record { head = head; words = ws } in x) (kept_words f xs held within)
-    ∙ ap (λ (p : AnsPosition). sought p whole) named ∙ sought_back there whole grown

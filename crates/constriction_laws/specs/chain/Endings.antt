@@ -1,17 +1,13 @@
 -- Why symbols aren't taken out of a chain coder, or put back.
-use Rattle.std.specs.Prelude.{◌≡◌, ℕ, ◌*◌, ◌+◌, ◌<◌, ◌≤◌, ◌⊎◌, ⊤, List, [], ◌∷◌, ◌++◌, drop, Result, Ok, Err, length}
-use Rattle.std.specs.List.{zip}
-use Rattle.constriction_base.specs.Models.{Item, pairs_of}
-use Rattle.constriction_base.specs.Steps.{Step, InTurn}
+use Rattle.std.specs.Prelude.{◌≡◌, ℕ, ◌*◌, ◌+◌, ◌<◌, ⊤, List, [], ◌∷◌, ◌++◌, length}
+use Rattle.constriction_base.specs.Models.{Item}
 use Rattle.constriction_base.specs.Tables.{AtEntry, Impossible}
 use Rattle.constriction_base.specs.declared.errors.CoderError.{CoderError}
 use Rattle.constriction_base.specs.declared.errors.CoderError.TheVariants.{Frontend, Backend}
-use Rattle.constriction_stream.specs.Symbols.{DecodesSymbol, DecodesByModel}
 use Rattle.constriction_laws.specs.Outcomes.{Reasons}
 use Rattle.constriction_laws.specs.declared.errors.RoundTripError.{RoundTripError}
-use Rattle.constriction_laws.specs.declared.errors.Stopped.{Stopped}
-use Rattle.constriction_laws.specs.declared.errors.Stopped.TheVariants.{Refused, NoMemory}
-use Rattle.constriction_chain.specs.Chain.{ChainState, IsPrecisionChange, least}
+use Rattle.constriction_laws.specs.declared.errors.Stopped.TheVariants.{NoMemory}
+use Rattle.constriction_chain.specs.Chain.{ChainState, least}
 use Rattle.constriction_chain.specs.Imports.{AreBinaryWords, FromRemainders}
 use Rattle.constriction_chain.specs.Symbols.{TakesOffAll, PutsBackAll}
 use Rattle.constriction_chain.specs.Walk.{NeedsWord}
@@ -23,20 +19,6 @@ use Rattle.constriction_laws.specs.declared.chain.errors.PutBackError.TheVariant
 
 -- ---- taken out
 
--- so many symbols were given, fewer than asked for, and then a step was refused; of any decoder
-abbrev pub StopsAfter : {C S E : Type 0} → (C → Step → Result (Unit {0}) E → C → Type 0) → (C → E → C → Type 0) → ℕ → List (S × ℕ × ℕ) → ℕ → ℕ → C → Stopped E → C → Type 0
-StopsAfter {C} {S} {E} decodes halts precision table amt taken old (Refused e) new = (given : List S) × (mid : C) × (length given ≡ taken) × (taken < amt)
-    × InTurn (λ symbol old new. DecodesSymbol decodes halts precision table old (Ok symbol) new) given old mid × DecodesSymbol {S = S} decodes halts precision table mid (Err e) new
-StopsAfter decodes halts precision table amt taken old NoMemory new = ⊤
-
--- the same where each symbol has a model of its own
-abbrev pub StopsAfterPairs : {C S M E : Type 0} → (C → Step → Result (Unit {0}) E → C → Type 0) → (C → E → C → Type 0) → ℕ → (M → List (S × ℕ × ℕ)) → List M → ℕ → C → Stopped E → C → Type 0
-StopsAfterPairs {C} {S} {M} {E} decodes halts precision table models taken old (Refused e) new = (given : List S) × (mid : C) × (model : M) × (rest : List M)
-    × (length given ≡ taken) × (taken < length models) × (drop (length given) models ≡ model ∷ rest)
-    × InTurn (λ (pair : S × M) old new. DecodesByModel decodes halts precision table old pair.1 (Ok pair.0) new) (zip given models) old mid
-    × DecodesByModel {S = S} decodes halts precision table mid model (Err e) new
-StopsAfterPairs decodes halts precision table models taken old NoMemory new = ⊤
-
 -- so many symbols were taken, and then a word is needed and none is left
 pub record Ended {S : Type 0} (w s P : ℕ) (items : List S → List (Item S)) (taken : ℕ) (old new : ChainState) : Type 0 where
   pub given : List S
@@ -45,38 +27,9 @@ pub record Ended {S : Type 0} (w s P : ℕ) (items : List S → List (Item S)) (
   pub needs : NeedsWord w P new.h
   pub none : new.compressed ≡ []
 
--- a word is needed, and none is left
-abbrev pub WordsEnded : ℕ → ℕ → ChainState → Type 0
-WordsEnded w P x = NeedsWord w P x.h × (x.compressed ≡ [])
-
 -- fewer symbols were taken than asked for; over a backend that knows its words they ended there
 abbrev pub EndsEarly : {S : Type 0} → Type 0 → ℕ → ℕ → ℕ → (List S → List (Item S)) → ℕ → ChainState → ℕ → ChainState → Type 0
 EndsEarly is_list w s P items amt old taken new = (taken < amt) × (is_list → Ended w s P items taken old new)
-
--- so many symbols were taken, and then the change to a precision needs a word of the remainders, and none is left
-abbrev pub LacksChange : {S : Type 0} → ℕ → ℕ → ℕ → ℕ → (List S → List (Item S)) → ℕ → ChainState → Type 0
-LacksChange {S} w s P N items count old = (given : List S) × (mid : ChainState) × (length given ≡ count) × TakesOffAll w s (items given) old mid
-    × (N ≤ P) × (mid.r < least w s N) × (mid.remainders ≡ [])
-
--- symbols end early, or the change behind all of them lacks a word
-abbrev pub EndsBeforeChange : {S : Type 0} → ℕ → ℕ → ℕ → ℕ → (List S → List (Item S)) → ℕ → ChainState → ℕ → Type 0
-EndsBeforeChange w s P N items count old taken =
-    ((taken < count) × (after : ChainState) × Ended w s P items taken old after) ⊎ ((taken ≡ count) × LacksChange w s P N items count old)
-
--- the same, or the symbols behind the change end early
-abbrev pub EndsAcross : {S : Type 0} → ℕ → ℕ → ℕ → ℕ → (List S → List (Item S)) → ℕ → (List S → List (Item S)) → ℕ → ChainState → ℕ → Type 0
-EndsAcross {S} w s P N items count later amt old taken = EndsBeforeChange w s P N items count old taken
-    ⊎ ((given : List S) × (mid next after : ChainState) × (more : ℕ) × (length given ≡ count) × TakesOffAll w s (items given) old mid
-    × IsPrecisionChange w (least w s N) mid next × (taken ≡ count + more) × (more < amt) × Ended w s N later more next after)
-
--- the same of symbols under a model each
-abbrev pub PairsEndAcross : {S M L : Type 0} → ℕ → ℕ → ℕ → (M → List (S × ℕ × ℕ)) → List M → ℕ → (L → List (S × ℕ × ℕ)) → List L → ChainState → ℕ → Type 0
-PairsEndAcross w s P table models N later_table later old taken =
-    EndsAcross w s P N (λ given. pairs_of P table given models) (length models) (λ given. pairs_of N later_table given later) (length later) old taken
-
--- fewer symbols were taken than asked for from a coder of which this holds, and then its words ended
-abbrev pub EndsFrom : {S : Type 0} → (ChainState → Type 0) → ℕ → ℕ → ℕ → (List S → List (Item S)) → ℕ → ℕ → Type 0
-EndsFrom from w s P items amt taken = (taken < amt) × (x after : ChainState) × from x × Ended w s P items taken x after
 
 -- nothing stops the call but words that end, and a refusal
 abbrev pub UnlessEnded : (ℕ → Type 0) → RoundTripError → Type 0

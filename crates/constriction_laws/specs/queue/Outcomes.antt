@@ -12,7 +12,6 @@ use Rattle.constriction_laws.specs.declared.errors.Stopped.{Stopped}
 use Rattle.constriction_laws.specs.declared.errors.Stopped.TheVariants as stopped
 use Rattle.constriction_laws.specs.declared.queue.concatenated.DecodeError.{DecodeError}
 use Rattle.constriction_laws.specs.declared.queue.concatenated.DecodeError.TheVariants.{NoSuchPlace, InvalidData}
-use Rattle.constriction_laws.specs.queue.Concatenated.{ReadsItems}
 use Rattle.constriction_queue.specs.Symbols.{NarrowsAll, FindsAll, MayEnd, NearsEnd}
 
 -- symbols weren't coded: one has no entry, or they are more than the encoder counts
@@ -22,10 +21,6 @@ NotCoded impossible many e = Reasons impossible many ⊥ (λ taken. ⊥) e
 -- symbols weren't read: the words hold none such
 abbrev pub NotRead : Type 0 → RoundTripError → Type 0
 NotRead none e = Reasons ⊥ ⊥ none (λ taken. ⊥) e
-
--- symbols didn't come back; the words hold others only where the encoder didn't begin as a new one
-abbrev pub NotBack : Type 0 → Type 0 → Type 0 → RoundTripError → Type 0
-NotBack impossible many new e = Reasons impossible many (new → ⊥) (λ taken. ⊥) e
 
 -- items are read from these words, from a run on, and a decoder stands behind them
 abbrev pub ReadTo : {S B : Type 0} → ℕ → ℕ → List ℕ → List (Item S) → Run → Decoder B → Type 0
@@ -43,51 +38,14 @@ GivesNone is_list w s items amt decoder = is_list → (words : List ℕ) (old : 
 abbrev pub SealsAll : {S : Type 0} → ℕ → ℕ → List (Item S) → Run → List ℕ → Type 0
 SealsAll w s items old words = (last : Run) × NarrowsAll w s items old last × (words ≡ sealed w s last)
 
--- a decoder stands at the beginning of the sealed words of the items, behind those of a run
-abbrev pub StandsBefore : {S B : Type 0} → ℕ → ℕ → List (Item S) → Run → Decoder B → Type 0
-StandsBefore w s items old decoder = (last : Run) × NarrowsAll w s items old last × StandsAt w s (sealed w s last) (initial s) decoder
-
 -- a new decoder of the words reads these items, and then says whether the words may have ended
 abbrev pub ReadsToEnd : {S : Type 0} → ℕ → ℕ → List ℕ → List (Item S) → Bool → Type 0
 ReadsToEnd w s words items ended =
     (last : Run) × FindsAll w s words items (initial s) last × (MayEnd w s words last → IsTrue ended) × (IsTrue ended → NearsEnd w s words last)
 
--- as many symbols are read, by a new decoder, from the sealed words of these, which stand behind those of a run
-abbrev pub ReadsSealed : {S : Type 0} → ℕ → ℕ → (List S → List (Item S)) → Run → List S → List S → Type 0
-ReadsSealed w s items old symbols again =
-    (length again ≡ length symbols)
-    × ((words : List ℕ) × SealsAll w s (items symbols) old words × ReadsItems w s words (items again))
-
--- the same, and the decoder then says whether the words may have ended
-abbrev pub ReadsAllSealed : {S : Type 0} → ℕ → ℕ → (List S → List (Item S)) → Run → List S → List S → Bool → Type 0
-ReadsAllSealed w s items old symbols again ended =
-    (length again ≡ length symbols)
-    × ((words : List ℕ) × SealsAll w s (items symbols) old words × ReadsToEnd w s words (items again) ended)
-
--- where words that hold no such list stopped it: they are these sealed words, and hold none of so many symbols
-abbrev pub NoneSealed : {S : Type 0} → ℕ → ℕ → (List S → List (Item S)) → Run → List S → RoundTripError → Type 0
-NoneSealed w s items old symbols e =
-    Reasons ⊤ ⊤ ((words : List ℕ) × SealsAll w s (items symbols) old words
-    × HoldNone w s words items (length symbols) (initial s)) (λ taken. ⊥) e
-
--- the same of words that an encoder lends, which is behind these symbols then
-abbrev pub NoneLent : {S : Type 0} → ℕ → ℕ → (List S → List (Item S)) → Run → Run → List S → RoundTripError → Type 0
-NoneLent w s items old new symbols e =
-    Reasons ⊤ ⊤ (NarrowsAll w s (items symbols) old new
-    × HoldNone w s (sealed w s new) items (length symbols) (initial s)) (λ taken. ⊥) e
-
 -- the words lie within the run of the items
 abbrev pub LieWithin : {S : Type 0} → ℕ → ℕ → List ℕ → List (Item S) → Type 0
 LieWithin w s words items = (last : Run) × NarrowsAll w s items (initial s) last × Within w s words last
-
--- and within the run of none of so many symbols
-abbrev pub NoneWithin : {S : Type 0} → ℕ → ℕ → List ℕ → (List S → List (Item S)) → ℕ → Type 0
-NoneWithin {S} w s words items amt = (0 < amt) × ((symbols : List S) → length symbols ≡ amt → LieWithin w s words (items symbols) → ⊥)
-
--- words and a position that was recorded in them: behind the first items, and before the others
-abbrev pub RecordsPlace : {S : Type 0} → ℕ → ℕ → List (Item S) → List (Item S) → Run → List ℕ → ℕ → ℕ → ℕ → Type 0
-RecordsPlace w s before since old words place lower range =
-    (middle last : Run) × NarrowsAll w s before old middle × NarrowsAll w s since middle last × IsPosition s middle place lower range × (words ≡ sealed w s last)
 
 -- why so many symbols weren't read from a position in words; in the second case these hold none from any run at that position
 abbrev pub NoneAt : {S : Type 0} → ℕ → ℕ → List ℕ → (List S → List (Item S)) → ℕ → ℕ → ℕ → ℕ → DecodeError → Type 0

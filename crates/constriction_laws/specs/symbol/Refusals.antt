@@ -1,5 +1,5 @@
--- Why codewords weren't written or read, and why they have no cost.
-use Rattle.std.specs.Prelude.{◌≡◌, ℕ, ◌<◌, ◌≤◌, ◌-◌, ◌^◌, ◌⊎◌, ⊤, Bool, List, ◌∷◌, ◌++◌, Option, None, Some, Result, Err, length, drop}
+-- Why codewords weren't written or read, and why weights make no tree.
+use Rattle.std.specs.Prelude.{◌≡◌, ℕ, ◌<◌, ◌⊎◌, ⊤, Bool, List, ◌∷◌, ◌++◌, Option, None, Result, Err, length, drop}
 use Rattle.std.specs.List.{zip}
 use Rattle.constriction_base.specs.declared.errors.CoderError.{CoderError}
 use Rattle.constriction_base.specs.declared.errors.CoderError.TheVariants.{Frontend, Backend}
@@ -7,19 +7,11 @@ use Rattle.constriction_base.specs.declared.errors.DefaultEncoderFrontendError.{
 use Rattle.constriction_laws.specs.declared.errors.Stopped.{Stopped}
 use Rattle.constriction_laws.specs.declared.errors.Stopped.TheVariants as stopped
 use Rattle.constriction_symbol.specs.Codewords.{ReadsSymbol}
-use Rattle.constriction_symbol.specs.Huffman.{symbols_from}
 use Rattle.constriction_symbol.specs.Merging.{MakeNoTree}
 use Rattle.constriction_symbol.specs.declared.codebooks.SymbolCodeError.{SymbolCodeError}
 use Rattle.constriction_symbol.specs.declared.huffman.error.HuffmanError.{HuffmanError}
 use Rattle.constriction_symbol.specs.declared.huffman.error.HuffmanError.TheVariants as huffman_error
-use Rattle.constriction_laws.specs.symbol.Cost.{Costs}
 use Rattle.constriction_symbol.specs.Lists.{AreCodewords, ReadsAll, ReadsPairs}
-use Rattle.constriction_laws.specs.declared.symbol.errors.ByTreesError.{ByTreesError}
-use Rattle.constriction_laws.specs.declared.symbol.errors.ByTreesError.TheVariants as by_trees
-use Rattle.constriction_laws.specs.declared.symbol.errors.BesideError.{BesideError}
-use Rattle.constriction_laws.specs.declared.symbol.errors.BesideError.TheVariants as beside
-use Rattle.constriction_laws.specs.declared.symbol.errors.CostError.{CostError}
-use Rattle.constriction_laws.specs.declared.symbol.errors.CostError.TheVariants as costs
 
 -- one of the items has no codeword
 abbrev pub HasNoCodeword : {A : Type 0} → (A → Option (List Bool)) → List A → Type 0
@@ -60,37 +52,3 @@ StopsAtCodebook next codeword reads_on is_invalid books old stopped.NoMemory new
 -- the weights make no tree of so many symbols at most
 abbrev pub HaveNoTree : {P E : Type 0} → (P → ℕ) → ℕ → ℕ → List P → HuffmanError E → Type 0
 HaveNoTree number bits most weights e = (e ≡ huffman_error.Memory) ⊎ MakeNoTree number bits most weights e
-
--- why symbols don't come back by two trees
-abbrev pub NotByTrees : {P : Type 0} → (P → ℕ) → ℕ → List P → Type 0 → ByTreesError → Type 0
-NotByTrees number bits weights impossible (by_trees.NoTree e) =
-    HaveNoTree number bits (2 ^ 62 - 1) weights e ⊎ HaveNoTree number bits (2 ^ 63 - 1) weights e
-NotByTrees number bits weights impossible by_trees.ImpossibleSymbol = impossible
-NotByTrees number bits weights impossible by_trees.NoMemory = ⊤
-
--- why codewords have no cost
-abbrev pub HaveNoCost : {S : Type 0} → (S → Option (List Bool)) → List S → List ℕ → CostError → Type 0
-HaveNoCost codeword symbols weights costs.UnequalCounts = length symbols ≡ length weights → ⊥
-HaveNoCost codeword symbols weights costs.ImpossibleSymbol = HasNoCodeword codeword symbols
-HaveNoCost {S} codeword symbols weights costs.TooLong =
-    (before after : List S) × (symbol : S) × (bits : List Bool) × (symbols ≡ before ++ symbol ∷ after)
-    × (codeword symbol ≡ Some bits) × (2 ^ 64 ≤ length bits)
-HaveNoCost codeword symbols weights costs.TooLarge =
-    (place total : ℕ) × Costs codeword (drop place symbols) (drop place weights) total × (2 ^ 128 ≤ total)
-HaveNoCost codeword symbols weights costs.NoMemory = ⊤
-
--- why one codeword has none
-abbrev pub HasNoCost : Option (List Bool) → CostError → Type 0
-HasNoCost known costs.UnequalCounts = ⊥
-HasNoCost known costs.ImpossibleSymbol = known ≡ None
-HasNoCost known costs.TooLong = (bits : List Bool) × (known ≡ Some bits) × (2 ^ 64 ≤ length bits)
-HasNoCost known costs.TooLarge = ⊥
-HasNoCost known costs.NoMemory = ⊤
-
--- why there are no two costs: the tree knows all its symbols, of which there are as many as weights
-abbrev pub NotBeside : {S : Type 0} → (ℕ → ℕ) → (ℕ → Option (List Bool)) → (S → Option (List Bool)) → List S → List ℕ
-    → BesideError → Type 0
-NotBeside number own codeword symbols weights (beside.NoTree e) = HaveNoTree number 64 (2 ^ 62 - 1) weights e
-NotBeside number own codeword symbols weights (beside.Own e) =
-    HaveNoCost own (symbols_from 0 (length weights)) weights e
-NotBeside number own codeword symbols weights (beside.Other e) = HaveNoCost codeword symbols weights e

@@ -6,9 +6,9 @@ ghost use Rattle.constriction_base.specs.Steps.{IsSizes, AreWords};
 ghost use Rattle.constriction_queue.specs.Range.{Run, sealed, initial};
 ghost use Rattle.constriction_queue.specs.Symbols.{NarrowsAll, FindsAll};
 
+use crate::queue::lists::decodes_undo_encodes;
 use constriction_base::backends::Holds;
 use constriction_base::model::EntropyModel;
-use crate::queue::lists::decodes_undo_encodes;
 use constriction_words::BitArray;
 
 /// Symbols that a new encoder was given come back from its sealed words, whatever words follow them.

@@ -43,8 +43,9 @@ pub enum ExchangeError {
 /// two symbols cost, net, is then bounded.
 ///
 /// # Errors
-///
-/// Each case of [`ExchangeError`]. `LowHead` and `ImpossibleSymbol` come for no other reason than they tell.
+/// - `LowHead`: the head is low, and the coder is as before; or it is low behind the symbol that was taken off.
+/// - `ImpossibleSymbol`: the other model has no entry for the symbol. A symbol was taken off.
+/// - `Refused`: memory was refused, or a backend refused a word.
 pub fn exchange<
     Word: WordOf<State>,
     State: BitArray,
@@ -72,8 +73,12 @@ where
         coder.old.state mid
         × Encodes Word.BITS State.BITS record { precision = PRECISION; table = E.table on.now } symbol.now
         mid coder.new.state) }
-    ensures err { IfErr result (λ e. StopsExchange ((coder.old.state.head < 2 ^ (State.BITS - Word.BITS))
-        ⊎ (coder.new.state.head < 2 ^ (State.BITS - Word.BITS))) (Impossible (E.table on.now) symbol.now) e) }
+    ensures err { IfErr result (StopsExchange
+        (((coder.old.state.head < 2 ^ (State.BITS - Word.BITS)) × (coder.new.state ≡ coder.old.state))
+        ⊎ ((taken : D.Symbol) × Decodes Word.BITS State.BITS record { precision = PRECISION; table = D.table off.now }
+        taken coder.old.state coder.new.state × (coder.new.state.head < 2 ^ (State.BITS - Word.BITS))))
+        (Impossible (E.table on.now) symbol.now × (taken : D.Symbol) × Decodes Word.BITS State.BITS
+        record { precision = PRECISION; table = D.table off.now } taken coder.old.state coder.new.state)) }
 {
     if is_low::<Word, State>(coder.state()) {
         return Err(ExchangeError::LowHead);

@@ -1,24 +1,22 @@
 //! Symbols under two models in one stream, which change behind a flag.
 
-ghost use Rattle.std.specs.Prelude.{◌≡◌, ◌-◌, ◌<◌, ◌^◌, ◌++◌, ℕ, List, false, length, map, IfOk, IfErr};
+ghost use Rattle.std.specs.Prelude.{◌≡◌, ◌≤◌, ◌++◌, ◌||◌, ℕ, List, length, IfOk, IfErr};
 ghost use Rattle.constriction_base.specs.Models.{Model, IsModel};
 ghost use Rattle.constriction_base.specs.Steps.{IsSizes, AreWords};
-ghost use Rattle.constriction_laws.specs.Outcomes.{HasImpossibleItem};
 ghost use Rattle.constriction_queue.specs.Decoder.{StandsAt};
-ghost use Rattle.constriction_queue.specs.Flagged.{flagged};
+ghost use Rattle.constriction_queue.specs.Flagged.{flagged, has_flag};
+ghost use Rattle.constriction_laws.specs.queue.Flagging.{flagged_behind};
 ghost use Rattle.constriction_queue.specs.Range.{Run, initial};
 ghost use Rattle.constriction_queue.specs.SelfDelimiting.{SelfDelimits};
-ghost use Rattle.constriction_laws.specs.queue.Concatenated.{DelimitsItems};
-ghost use Rattle.constriction_laws.specs.queue.Outcomes.{HoldNone, InvalidWhere, NotCoded, ReadTo};
+ghost use Rattle.constriction_laws.specs.queue.Outcomes.{HoldNone, InvalidWhere, ReadTo};
 ghost use Rattle.constriction_queue.specs.Symbols.{FindsAll, NarrowsAll};
 
+use crate::errors::Stopped;
 use crate::queue::following::symbols_come_back_whatever_follows;
 use constriction_base::backends::{Queue, ReadWords};
 use constriction_base::errors::CoderError;
-use constriction_base::model::{DecoderModel, EncoderModel, EntropyModel};
-use crate::errors::{RoundTripError, Stopped};
-use constriction_queue::{DecoderFrontendError, FlagSwitch, RangeEncoder, encode_flagged};
-use constriction_stream::encoding::Encode;
+use constriction_base::model::{DecoderModel, EntropyModel};
+use constriction_queue::{DecoderFrontendError, FlagSwitch};
 use constriction_words::{BitArray, WordOf};
 use std::alloc::Global;
 
@@ -41,13 +39,13 @@ pub fn flagged_symbols_come_back()
     symbols_come_back_whatever_follows::<usize>()
 }
 
-/// So many symbols that a switch gives, the first one first. Where it stands before symbols with a flag among them, as
-/// many as these, they come back.
+/// Takes so many symbols from a switch: `next_symbol`. They are read under the models that the switch stands at and
+/// that the flag leads to.
 ///
 /// # Errors
 /// - `Refused(error)`: the switch answered this error. It is `InvalidData` only where the words hold no list of so
 ///   many symbols.
-/// - `NoMemory`: the symbols found no memory.
+/// - `NoMemory`: memory for the symbols was refused.
 pub fn decode_flagged<
     Word: WordOf<State>,
     State: BitArray,
@@ -66,18 +64,19 @@ pub fn decode_flagged<
 where
     M1::Probability: WordOf<Word>,
     M2::Probability: WordOf<Word>,
-    requires known { Backend.is_list }
-    requires before { switch.old.switched ≡ false }
     ensures count { IfOk result (λ again. length again.items ≡ amt) }
-    ensures decoded { Backend.is_list → switch.old.switched ≡ false → (words : List ℕ) (old : Run) →
+    ensures decoded { Backend.is_list → (words : List ℕ) (old : Run) →
         StandsAt Word.BITS State.BITS words old switch.old.decoder → IfOk result (λ again.
-        ReadTo Word.BITS State.BITS words (flagged switch.old.flag
+        ReadTo Word.BITS State.BITS words (flagged_behind switch.old.switched switch.old.flag
         record { precision = P1; table = M1.table first.now }
         record { precision = P2; table = M2.table second.now } again.items) old switch.new.decoder) }
-    ensures err { Backend.is_list → switch.old.switched ≡ false → (words : List ℕ) (old : Run) →
+    ensures switched { (given : List ℕ) × (length given ≤ amt) × IfOk result (λ again. again.items ≡ given)
+        × (switch.new.switched ≡ (switch.old.switched || has_flag switch.old.flag given)) }
+    ensures flag { switch.new.flag ≡ switch.old.flag }
+    ensures err { Backend.is_list → (words : List ℕ) (old : Run) →
         StandsAt Word.BITS State.BITS words old switch.old.decoder →
         IfErr result (InvalidWhere (HoldNone Word.BITS State.BITS words
-        (flagged switch.old.flag record { precision = P1; table = M1.table first.now }
+        (flagged_behind switch.old.switched switch.old.flag record { precision = P1; table = M1.table first.now }
         record { precision = P2; table = M2.table second.now }) amt old)) }
 {
     let mut symbols = Vec::new(alloc);
@@ -91,60 +90,4 @@ where
         };
     }
     Ok(symbols)
-}
-
-/// The words of symbols with a flag among them, which any words may follow: `encode_flagged` of a new encoder,
-/// `into_self_delimited`.
-///
-/// # Errors
-///
-/// - `ImpossibleSymbol`: a symbol has no entry in its model.
-/// - `TooManySymbols`: they are more than a new encoder counts, which are `usize::MAX - 17`.
-/// - `Refused`: memory was refused.
-pub fn words_of_flagged<
-    Word: WordOf<State>,
-    State: BitArray,
-    M1: EncoderModel<P1, Symbol = usize>,
-    M2: EncoderModel<P2, Symbol = usize>,
-    const P1: usize,
-    const P2: usize,
->(
-    alloc: Global,
-    symbols: &[usize],
-    flag: usize,
-    first: &M1,
-    second: &M2,
-) -> Result<Vec<Word>, RoundTripError>
-where
-    M1::Probability: WordOf<Word>,
-    M2::Probability: WordOf<Word>,
-    requires { IsSizes Word.BITS State.BITS }
-    ensures words { IfOk result (λ words. DelimitsItems Word.BITS State.BITS (flagged flag
-        record { precision = P1; table = M1.table first.now }
-        record { precision = P2; table = M2.table second.now } symbols.now)
-        (map Word.number words.items)) }
-    ensures err { IfErr result (NotCoded (HasImpossibleItem (flagged flag
-        record { precision = P1; table = M1.table first.now }
-        record { precision = P2; table = M2.table second.now } symbols.now))
-        (2 ^ 64 - 18 < length symbols.now)) }
-{
-    let mut encoder: RangeEncoder<Word, State, Vec<Word>> = RangeEncoder::new(alloc);
-    if Encode::<P1>::symbols_left(&encoder) < symbols.len() {
-        return Err(RoundTripError::TooManySymbols);
-    }
-    match encode_flagged::<Word, State, Vec<Word>, M1, M2, P1, P2>(
-        &mut encoder,
-        symbols,
-        flag,
-        first,
-        second,
-    ) {
-        Ok(()) => {}
-        Err(CoderError::Frontend(_)) => return Err(RoundTripError::ImpossibleSymbol),
-        Err(CoderError::Backend(_)) => return Err(RoundTripError::Refused),
-    }
-    match encoder.into_self_delimited() {
-        Ok(words) => Ok(words),
-        Err(_) => Err(RoundTripError::Refused),
-    }
 }

@@ -1,8 +1,8 @@
 //! Huffman trees beside other codebooks: what the codewords of symbols cost under weights, one for each, the sum of
 //! weight times length.
 //!
-//! [`least_cost`](crate::symbol::huffman::least_cost) compares definitions. Here the trees are those that the makers make, and
-//! the codewords those that codebooks emit.
+//! [`least_cost`](crate::symbol::huffman::least_cost) compares definitions. Here the tree is the one that its maker
+//! makes.
 
 ghost use Rattle.constriction_laws.specs.symbol.Cost.{AreApart, Costs, CostsFromZero};
 ghost use Rattle.constriction_laws.specs.symbol.Refusals.{HaveNoTree};

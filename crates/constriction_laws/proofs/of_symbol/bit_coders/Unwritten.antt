@@ -1,7 +1,7 @@
 -- Lists of codewords that weren't written.
 use Rattle.std.specs.Iterator.{YieldsThen}
 use Rattle.std.specs.Iterator.Adapters.{zip_steps, zip_steps_back}
-use Rattle.std.specs.Slice.Iter.{iter_rest, iter_steps, iter_steps_back}
+use Rattle.std.specs.Slice.Iter.{iter_steps, iter_steps_back}
 use Rattle.std.specs.declared.iter.Zip.{Zip}
 use Rattle.std.specs.Prelude.{reverse}
 use Rattle.std.proofs.Common.{◌≡◌, ◌∙◌, Bool, Bor, Iter, Option, None, Some, List, [], ◌∷◌, ◌++◌, Result, Err, map, refl, ap, append_assoc}
@@ -10,9 +10,8 @@ use Rattle.constriction_base.specs.declared.errors.CoderError.TheVariants.{Front
 use Rattle.constriction_base.specs.declared.errors.DefaultEncoderFrontendError.{DefaultEncoderFrontendError}
 use Rattle.constriction_symbol.specs.Codewords.{WritesCodeword, formed}
 use Rattle.constriction_laws.specs.symbol.Refusals.{SymbolNotWritten}
-use Rattle.constriction_base.proofs.FromBack.{from_back}
 use Rattle.constriction_laws.proofs.PairCalls.{SameLength, both_now, left_in, pairs_from_back, rest_of}
-use Rattle.constriction_laws.proofs.Refused.{from_front, pairs_from_front}
+use Rattle.constriction_laws.proofs.Refused.{pairs_from_front}
 
 -- a writer that refuses a symbol itself knows no codeword
 pub none_of : {C E : Type 0} (bits : C → List Bool) (puts : C → Bool → Result (Unit {0}) E → C → Type 0) (wants : E → Type 0) (form : List Bool → List Bool) (known : Option (List Bool)) (old new : C) (e : DefaultEncoderFrontendError)
@@ -27,14 +26,6 @@ not_written bits puts wants form codeword items before after item old new (Front
 not_written bits puts wants form codeword items before after item old new (Backend e) is h = tt
 
 -- ---- where the refused item stands
-pub stands_front : {A : Type 0} (i : Iter A) (xs : List (Bor A)) (x : Bor A) (rest : Iter A) → YieldsThen iter_steps i xs (Some x) rest
-    → iter_rest i ≡ map (λ x. x.now) xs ++ x.now ∷ iter_rest rest
-stands_front {A} i xs x rest gave = from_front i xs gave.0 gave.1 ∙ ap (λ (ys : List A). map (λ x. x.now) xs ++ ys) gave.2
-
-pub stands_back : {A : Type 0} (i : Iter A) (xs : List (Bor A)) (x : Bor A) (rest : Iter A) → YieldsThen iter_steps_back i xs (Some x) rest
-    → iter_rest i ≡ iter_rest rest ++ x.now ∷ reverse (map (λ x. x.now) xs)
-stands_back {A} i xs x rest gave =
-    from_back i xs gave.0 gave.1 ∙ (ap (λ (ys : List A). ys ++ reverse (map (λ x. x.now) xs)) gave.2 ∙ append_assoc (iter_rest rest) (x.now ∷ []) (reverse (map (λ x. x.now) xs)))
 
 pub pair_stands_front : {A B : Type 0} (i : Zip (Iter A) (Iter B)) (xs : List (Bor A × Bor B)) (x : Bor A × Bor B) (rest : Zip (Iter A) (Iter B)) → YieldsThen (zip_steps iter_steps iter_steps) i xs (Some x) rest
     → rest_of i ≡ map both_now xs ++ both_now x ∷ rest_of rest

@@ -1,11 +1,10 @@
 -- The tree's codewords beside those of any codebook, whatever its symbols are.
-use Rattle.std.proofs.Common.{Option, suc, zero, ◌≡◌, ◌+◌, ◌*◌, ◌%◌, ◌^◌, ◌≤◌, Fits, w64, ℕ, Bool, List, [], ◌∷◌, ap, sym, subst, refl, ◌∙◌, arith, inl, inr, length, map, ◌++◌, ◌<◌, get_or, Some}
+use Rattle.std.proofs.Common.{Option, suc, zero, ◌≡◌, ◌+◌, ◌≤◌, ℕ, Bool, List, [], ◌∷◌, ap, sym, subst, refl, ◌∙◌, arith, inl, inr, length, ◌++◌, ◌<◌, get_or, Some}
 use Rattle.std.proofs.lemmas.Bool.{cases_order}
 use Rattle.constriction_symbol.specs.Huffman.{huffman, symbols_from}
 use Rattle.constriction_laws.specs.symbol.Cost.{AreApart, AreCodewordsOf, AreLawful, Costs, HaveCodewords, cost}
 use Rattle.constriction_symbol.specs.Lists.{AreEach}
 use Rattle.constriction_laws.proofs.of_symbol.least_cost.Least.{least, own_codewords}
-use Rattle.constriction_base.proofs.WordLists.{own_remainders}
 
 -- what holds of the items at each place
 each_at : {A B : Type 0} (R : A → B → Type 0) (xs : List A) (ys : List B) (d : A) (e : B) → AreEach R xs ys → (k : ℕ) → k < length ys → R (get_or xs k d) (get_or ys k e)
@@ -90,40 +89,3 @@ least_of_books weights n codeword is other same prefix symbols total others own 
   where
     none : (s : ℕ) → s ≡ 0 + s
     none s = omega arith
-
--- what one symbol and one weight more cost
-pub one_more : {S : Type 0} (codeword : S → Option (List Bool)) (symbols : List S) (weights : List ℕ) (total : ℕ) (symbol : S) (bits : List Bool) (weight : ℕ)
-    → codeword symbol ≡ Some bits → Costs codeword symbols weights total → Costs codeword (symbol ∷ symbols) (weight ∷ weights) (weight * length bits + total)
-one_more codeword symbols weights total symbol bits weight is all =
-    (bits ∷ all.0, ap suc all.1, (is, all.2), ap (λ n. weight * length bits + n) all.3)
-
--- the symbols below one number more
-pub symbols_more : (from n : ℕ) → symbols_from from (n + 1) ≡ symbols_from from n ++ (from + n) ∷ []
-symbols_more from n = ap (symbols_from from) (next n) ∙ more from n
-  where
-    next : (n : ℕ) → n + 1 ≡ suc n
-    next n = omega arith
-
-    more : (from n : ℕ) → symbols_from from (suc n) ≡ symbols_from from n ++ (from + n) ∷ []
-    more from zero = ap (λ s. s ∷ []) (same from)
-      where
-        same : (from : ℕ) → from ≡ from + 0
-        same from = omega arith
-    more from (suc n) = ap (λ ss. from ∷ ss) (more (from + 1) n ∙ ap (λ s. symbols_from (from + 1) n ++ s ∷ []) (later from n))
-      where
-        later : (from n : ℕ) → from + 1 + n ≡ from + suc n
-        later from n = omega arith
-
--- what codewords cost by a codebook that has the same ones
-pub same_cost : {S : Type 0} (f g : S → Option (List Bool)) → ((s : S) → f s ≡ g s) → (symbols : List S) (weights : List ℕ) (total : ℕ) → Costs f symbols weights total → Costs g symbols weights total
-same_cost {S} f g same symbols weights total all = (all.0, all.1, each symbols all.0 all.2, all.3)
-  where
-    each : (symbols : List S) (codewords : List (List Bool)) → HaveCodewords f symbols codewords → HaveCodewords g symbols codewords
-    each [] [] have = have
-    each [] (bits ∷ codewords) have = absurd have
-    each (s ∷ symbols) [] have = absurd have
-    each (s ∷ symbols) (bits ∷ codewords) have = (sym (same s) ∙ have.0, each symbols codewords have.1)
-
--- weights of 64 bits are their own numbers
-pub own_numbers : (weights : List ℕ) → ((i : ℕ) → Fits w64 (get_or weights i 0)) → map (λ x. x % 2 ^ 64) weights ≡ weights
-own_numbers weights fits = own_remainders 64 weights (λ i. omega (arith, fits i))

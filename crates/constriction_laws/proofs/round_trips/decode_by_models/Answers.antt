@@ -47,6 +47,8 @@ returns-in-Err-clause-err g c =
       c.decode.answer-iterator.decoder.now,
       given.1.0.now,
       _,
+      search rules,
+      omega (arith, kept.4, ap length given.1.1, c.len.ensures),
       sym kept.3 ∙ given.1.1,
       subst (λ d. GavePairs g.C.Decode.decodes g.C.Decode.halts g.row.PRECISION g.M.EntropyModel.table (zip c.decode.symbols.items models) d c.decode.answer-iterator.decoder.now) begun kept.5,
       search (rules, given.1.2, c.in-Err.is),

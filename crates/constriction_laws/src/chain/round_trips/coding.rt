@@ -5,21 +5,21 @@ ghost use Rattle.constriction_base.specs.Models.{pairs_of};
 ghost use Rattle.constriction_chain.specs.Symbols.{TakesOffAll, PutsBackAll};
 ghost use Rattle.constriction_laws.specs.chain.Endings.{EndsEarly, NotEncoded, UnlessEnded};
 
-use crate::chain::round_trips::counting::decode_by_models_counting;
+use crate::errors::{RoundTripError, Stopped};
+use crate::round_trips as any_coder;
 use constriction_base::backends::{Holds, ReadWords, Stack, WriteWords};
 use constriction_base::errors::CoderError;
 use constriction_base::model::{DecoderModel, EncoderModel, EntropyModel};
 use constriction_chain::{ChainCoder, EncoderError};
-use crate::errors::{RoundTripError, Stopped};
 use constriction_stream::encoding::{Encode, EncodeReverse};
 use constriction_words::{BitArray, WordOf};
 use std::alloc::Global;
 
-/// A symbol that is taken out for each of the models: a decode of each, one after the other.
+/// Takes a symbol out of a coder for each of the models.
 ///
 /// # Errors
-///
-/// Those of [`decode_list`].
+/// - `OutOfData(count)`: after so many symbols a word is needed, and no compressed word is left.
+/// - `Refused`: a read, a write or memory was refused.
 pub fn decode_pairs<
     Word: WordOf<State>,
     State: BitArray,
@@ -43,7 +43,7 @@ where
         (λ given. pairs_of PRECISION M.table given models.now)
         (length models.now) coder.old.state taken coder.new.state)) }
 {
-    match decode_by_models_counting::<_, _, PRECISION>(alloc, coder, models) {
+    match any_coder::decode_by_models::<_, _, PRECISION>(alloc, coder, models) {
         Ok(symbols) => Ok(symbols),
         Err((taken, Stopped::Refused(CoderError::Frontend(_)))) => Err(RoundTripError::OutOfData(
             taken,
@@ -52,11 +52,12 @@ where
     }
 }
 
-/// Symbols that are put back, each by a model of its own, the last one first: an encode of each, one after the other.
+/// Puts symbols back to a coder, each by its own model and the last one first.
 ///
 /// # Errors
-///
-/// Those of [`encode_list_reverse`].
+/// - `Frontend(ImpossibleSymbol)`: a model has no entry for its symbol.
+/// - `Frontend(OutOfRemainders)`: a word of the remainders is needed, and none is left.
+/// - `Backend(error)`: a backend refused a word.
 pub fn encode_pairs_reverse<
     Word: WordOf<State>,
     State: BitArray,

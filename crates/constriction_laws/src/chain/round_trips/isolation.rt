@@ -1,4 +1,5 @@
-//! Isolation through the calls: where other models replace those of some symbols, all others stay.
+//! Isolation through the calls: where other models replace those of some symbols, all others stay. The law
+//! [`symbols_are_isolated`] says the same of runs that change the precision.
 
 ghost use Rattle.std.specs.Prelude.{◌≡◌, ◌⊎◌, length, IfErr, IfOk};
 ghost use Rattle.constriction_base.specs.Models.{pairs_of};
@@ -9,21 +10,20 @@ ghost use Rattle.constriction_laws.specs.chain.Isolating.{decodings_by};
 
 use crate::chain::isolation::symbols_are_isolated;
 use crate::chain::round_trips::coding::decode_pairs;
+use crate::errors::RoundTripError;
 use constriction_base::backends::{Holds, ReadWords, Stack, WriteWords};
 use constriction_base::model::{DecoderModel, EntropyModel};
 use constriction_chain::ChainCoder;
-use crate::errors::RoundTripError;
 use constriction_stream::decoding::Decode;
 use constriction_words::{BitArray, WordOf};
 use std::alloc::Global;
 
-/// Symbols of two coders over the same words, by a list of models each, which may be of two types: as far as both get,
-/// wherever the tables at a place are equal, so are the symbols there, whatever the other tables are.
+/// Takes symbols out of two coders over the same words, by a list of models each, which may be of two types:
+/// `decode_symbols`. Wherever the tables at a place are equal, so are the symbols there, whatever the other tables are.
 ///
 /// # Errors
-///
-/// `OutOfData(count)` after so many symbols of one of the coders, where it needs a word and none is left, and
-/// `Refused`, which tells nothing.
+/// - `OutOfData(count)`: after so many symbols one of the coders needs a word, and none is left.
+/// - `Refused`: a read, a write or memory was refused.
 pub fn decode_by_two<
     Word: WordOf<State>,
     State: BitArray,

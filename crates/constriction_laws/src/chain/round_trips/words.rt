@@ -1,4 +1,5 @@
-//! The two halves of the way of words there and back: what `words_come_back` says of their states is the rest.
+//! The two halves of the way of words there and back. The law
+//! [`words_come_back`](crate::chain::words::words_come_back) says what joins their states.
 
 ghost use Rattle.std.specs.Prelude.{◌≡◌, ◌<◌, ◌++◌, ℕ, List, length, map, reverse, IfErr, IfOk};
 ghost use Rattle.constriction_base.specs.Models.{pairs_of};
@@ -10,20 +11,20 @@ ghost use Rattle.constriction_laws.specs.chain.Endings.{ComesBackOver, Ended, No
 
 use crate::chain::errors::PutBackError;
 use crate::chain::round_trips::coding::{decode_pairs, encode_pairs_reverse};
+use crate::errors::RoundTripError;
 use constriction_base::backends::Holds;
 use constriction_base::errors::CoderError;
 use constriction_base::model::{DecoderModel, EncoderModel, EntropyModel};
 use constriction_chain::{ChainCoder, EncoderFrontendError};
-use crate::errors::RoundTripError;
 use constriction_words::{BitArray, WordOf};
 use std::alloc::Global;
 
-/// A symbol that is taken out of a coder for each of the models, and its words then: those that are left of the
-/// compressed ones, and the remainders with both heads.
+/// Takes a symbol out of a coder for each of the models, and returns the words that are left: those of the compressed
+/// words, and the remainders with both heads. The calls: `decode_symbols`, `into_remainders`.
 ///
 /// # Errors
-///
-/// Those of [`take_symbols`].
+/// - `OutOfData(count)`: after so many symbols a word is needed, and no compressed word is left.
+/// - `Refused`: memory was refused.
 pub fn take_pairs<
     Word: WordOf<State>,
     State: BitArray,
@@ -54,8 +55,8 @@ where
     }
 }
 
-/// The coder of remainders with symbols put back, each by its own model and the last one first. There have to be as
-/// many models as symbols.
+/// Returns the coder of remainders with symbols put back, each by its own model and the last one first:
+/// `from_remainders`, `encode_symbols_reverse`. There have to be as many models as symbols.
 ///
 /// # Errors
 ///

@@ -9,11 +9,11 @@ ghost use Rattle.constriction_queue.specs.Range.{Run};
 ghost use Rattle.constriction_laws.specs.queue.Outcomes.{GivesNone, NotCoded, NotRead, ReadTo};
 ghost use Rattle.constriction_queue.specs.Symbols.{NarrowsAll, FindsAll, MayEnd};
 
+use crate::errors::{RoundTripError, Stopped};
+use crate::round_trips as any_coder;
 use constriction_base::backends::{BoundedReadWords, Holds, Queue, ReadWords, WriteWords};
 use constriction_base::errors::CoderError;
 use constriction_base::model::{DecoderModel, EncoderModel, EntropyModel};
-use crate::errors::{RoundTripError, Stopped};
-use crate::round_trips as any_coder;
 use constriction_queue::{RangeDecoder, RangeEncoder};
 use constriction_stream::decoding::Decode;
 use constriction_stream::encoding::Encode;
@@ -97,9 +97,8 @@ where
 {
     match any_coder::decode_by_models::<_, _, PRECISION>(alloc, decoder, models) {
         Ok(again) => Ok(again),
-        Err(Stopped::Refused(CoderError::Frontend(_))) => Err(RoundTripError::InvalidData),
-        Err(Stopped::Refused(CoderError::Backend(_))) => Err(RoundTripError::Refused),
-        Err(Stopped::NoMemory) => Err(RoundTripError::Refused),
+        Err((_, Stopped::Refused(CoderError::Frontend(_)))) => Err(RoundTripError::InvalidData),
+        Err(_) => Err(RoundTripError::Refused),
     }
 }
 

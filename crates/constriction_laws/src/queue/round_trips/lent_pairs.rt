@@ -1,4 +1,4 @@
-//! Symbols that have a model each, and come back from the words or from the decoder that an encoder lends.
+//! Symbols that have a model each, from the words or from the decoder that an encoder lends.
 
 ghost use Rattle.std.specs.Prelude.{◌≡◌, ◌<◌, ℕ, List, length, IfOk, IfErr};
 ghost use Rattle.constriction_base.specs.Models.{pairs_of};
@@ -10,22 +10,22 @@ ghost use Rattle.constriction_laws.specs.queue.Outcomes.{GivesNone, HoldNone};
 ghost use Rattle.constriction_laws.specs.queue.Outcomes.{NotRead};
 ghost use Rattle.constriction_queue.specs.Symbols.{NarrowsAll, FindsAll};
 
+use crate::errors::RoundTripError;
 use crate::queue::lists::symbols_come_back;
 use crate::queue::round_trips::coding::decode_pairs;
 use constriction_base::backends::{Queue, ReadWords};
 use constriction_base::cursor::Cursor;
 use constriction_base::model::{DecoderModel, EntropyModel};
-use crate::errors::RoundTripError;
 use constriction_queue::{RangeDecoder, RangeEncoder};
 use constriction_words::{BitArray, WordOf};
 use std::alloc::{Allocator, Global};
 
-/// A symbol for each of the models from the words that an encoder lends by `get_compressed`: they are read from the
-/// words that it would export. Those that were put on it since it was new come back; and once the guard has gone, the
-/// encoder is as before, also where something is refused.
+/// Takes a symbol for each of the models from the words that an encoder lends: `get_compressed`, `from_compressed`,
+/// `decode_symbols`. The symbols that were put on it since it was new come back. The encoder is as before in every
+/// case.
 ///
 /// # Errors
-/// - `InvalidData`: the words that it would export hold no list of symbols of the models.
+/// - `InvalidData`: the words that the encoder would export hold no list of symbols of the models.
 /// - `Refused`: memory was refused.
 pub fn decode_lent_words_by_models<
     Word: WordOf<State>,
@@ -64,7 +64,7 @@ where
     decode_pairs(alloc, &mut decoder, models)
 }
 
-/// A symbol for each of the models of a decoder that is then dropped.
+/// Takes a symbol for each of the models of a decoder, and drops it.
 fn decode_by_models_and_drop<
     Word: WordOf<State>,
     State: BitArray,
@@ -94,11 +94,11 @@ where
     decode_pairs(alloc, &mut own, models)
 }
 
-/// A symbol for each of the models from the decoder that an encoder lends by `decoder`: they are read from the words
-/// that it would export. Those that were put on it since it was new come back.
+/// Takes a symbol for each of the models from the decoder that an encoder lends: `decoder`, `decode_symbols`. They are
+/// read from the words that the encoder would export, so those that were put on it since it was new come back.
 ///
 /// # Errors
-/// - `InvalidData`: the words that it would export hold no list of symbols of the models.
+/// - `InvalidData`: the words that the encoder would export hold no list of symbols of the models.
 /// - `Refused`: memory was refused.
 pub fn decode_through_decoder_by_models<
     Word: WordOf<State>,

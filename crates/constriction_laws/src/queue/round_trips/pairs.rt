@@ -1,35 +1,40 @@
-//! Symbols that have a model each, and come back from the words that an encoder exports.
+//! Symbols that have a model each, and the words that an encoder exports.
 //!
-//! [`compressed_words_of_pairs`] says what the words are, [`pairs_from_words`] takes any words and says what is in
-//! them, and [`pairs_through_words`] joins the two.
+//! [`compressed_words_of_pairs`] says what the words are. [`pairs_from_words`] takes any words, says what is in them,
+//! and joins the two: its clauses `sealed`, `followed` and `delimited` take the words of the other half.
 
-ghost use Rattle.std.specs.Prelude.{◌≡◌, ◌<◌, ◌/◌, ◌++◌, ℕ, List, length, map, reverse, IfOk, IfErr, IsTrue};
+ghost use Rattle.std.specs.Prelude.{◌≡◌, ◌<◌, ◌≤◌, ◌-◌, ◌*◌, ◌^◌, ◌/◌, ◌++◌, ℕ, List, length, map, reverse, IfOk, IfErr, IsTrue};
 ghost use Rattle.constriction_base.specs.Models.{pairs_of};
-ghost use Rattle.constriction_base.specs.Steps.{IsSizes};
+ghost use Rattle.constriction_base.specs.Steps.{Step, IsSizes};
+ghost use Rattle.constriction_laws.specs.Bounds.{AreEntries, product, rounded_whole, share};
 ghost use Rattle.constriction_laws.specs.Outcomes.{HasImpossibleItem};
 ghost use Rattle.constriction_queue.specs.Encoder.{left_to_encode, run_by};
 ghost use Rattle.constriction_queue.specs.Range.{Run, initial};
-ghost use Rattle.constriction_laws.specs.queue.Outcomes.{HoldNone, NotCoded};
+ghost use Rattle.constriction_laws.specs.queue.Outcomes.{HoldNone, LieWithin, NotCoded};
 ghost use Rattle.constriction_laws.specs.queue.Outcomes.{NotRead, ReadsToEnd, SealsAll};
 ghost use Rattle.constriction_laws.specs.queue.Concatenated.{DelimitsItems};
 ghost use Rattle.constriction_queue.specs.Symbols.{FindsAll};
 
 use crate::bounds::following::symbols_come_back_before_others;
-use crate::queue::following::symbols_come_back_whatever_follows;
-use crate::queue::lists::symbols_come_back;
-use crate::queue::round_trips::coding::{decode_pairs, encode_pairs, has_ended};
-use constriction_base::backends::{BoundedReadWords, Holds, IntoReadWords, Queue, ReadWords, WriteWords};
-use constriction_base::model::{DecoderModel, EncoderModel, EntropyModel};
+use crate::bounds::range_bound;
 use crate::errors::RoundTripError;
+use crate::queue::following::symbols_come_back_whatever_follows;
+use crate::queue::lists::{symbols_come_back, symbols_of_any_words};
+use crate::queue::round_trips::coding::{decode_pairs, encode_pairs, has_ended};
+use constriction_base::backends::{
+    BoundedReadWords, Holds, IntoReadWords, Queue, ReadWords, WriteWords,
+};
+use constriction_base::model::{DecoderModel, EncoderModel, EntropyModel};
 use constriction_queue::{RangeDecoder, RangeEncoder};
 use constriction_words::{BitArray, WordOf};
 use std::alloc::Global;
 
-/// The words that an encoder exports behind these symbols, each by its own model: `encode_symbols`, `into_compressed`.
+/// Codes symbols, each by its own model, and returns the words that the encoder then exports: `encode_symbols`,
+/// `into_compressed`. How many words a new encoder gives at most is bounded by the models.
 ///
 /// # Errors
 /// - `ImpossibleSymbol`: a model has no entry for its symbol.
-/// - `TooManySymbols`: they are more than the encoder counts.
+/// - `TooManySymbols`: the symbols are more than the encoder counts.
 /// - `Refused`: the backend refused a word.
 pub fn compressed_words_of_pairs<
     Word: WordOf<State>,
@@ -50,19 +55,26 @@ where
         (pairs_of PRECISION M.table symbols.now models.now)
         (run_by Word.BITS State.BITS encoder) (reverse (map Word.number (Backend.words all)))) }
     ensures sizes { IfOk result (λ _. IsSizes Word.BITS State.BITS) }
+    ensures few { run_by Word.BITS State.BITS encoder ≡ initial State.BITS → IfOk result (λ all. (steps : List Step)
+        × AreEntries (pairs_of PRECISION M.table symbols.now models.now) steps
+        × (2 ≤ length (Backend.words all) →
+        2 ^ (Word.BITS * (length (Backend.words all) - 2)) * (2 ^ State.BITS - 1)
+        * product (share Word.BITS State.BITS) steps
+        < 2 ^ State.BITS * product (rounded_whole Word.BITS State.BITS) steps)) }
     ensures err { IfErr result (NotCoded (HasImpossibleItem (pairs_of PRECISION M.table symbols.now models.now))
         (left_to_encode encoder < length symbols.now)) }
 {
     let mut encoder = encoder;
     encode_pairs(&mut encoder, symbols, models)?;
+    range_bound();
     match encoder.into_compressed() {
         Ok(words) => Ok(words),
         Err(_) => Err(RoundTripError::Refused),
     }
 }
 
-/// A symbol for each of the models from any words, by a new decoder, and whether it then says that it may be exhausted:
-/// `from_compressed`, `decode_symbols`, `maybe_exhausted`.
+/// Takes a symbol for each of the models from any words by a new decoder, and whether it then says that it may be
+/// exhausted: `from_compressed`, `decode_symbols`, `maybe_exhausted`.
 ///
 /// # Errors
 /// - `InvalidData`: the words hold no list of symbols of the models.
@@ -98,10 +110,16 @@ where
         DelimitsItems Word.BITS State.BITS (pairs_of PRECISION M.table symbols models.now) own →
         map Word.number (Words.words words) ≡ own ++ rest → length symbols ≡ length models.now →
         IfOk result (λ back. back.0.items ≡ symbols) }
+    ensures within { 0 < length models.now → IfOk result (λ back. LieWithin Word.BITS State.BITS
+        (map Word.number (Words.words words)) (pairs_of PRECISION M.table back.0.items models.now)) }
+    ensures lying { (symbols : List M.Symbol) → length symbols ≡ length models.now → LieWithin Word.BITS State.BITS
+        (map Word.number (Words.words words)) (pairs_of PRECISION M.table symbols models.now) →
+        IfOk result (λ back. back.0.items ≡ symbols) }
     ensures err { IfErr result (NotRead (HoldNone Word.BITS State.BITS (map Word.number (Words.words words))
         (λ symbols. pairs_of PRECISION M.table symbols models.now) (length models.now) (initial State.BITS))) }
 {
     symbols_come_back::<M::Symbol>();
+    symbols_of_any_words::<M::Symbol>();
     symbols_come_back_before_others::<M::Symbol>();
     symbols_come_back_whatever_follows::<M::Symbol>();
     let Ok(mut decoder) = RangeDecoder::<Word, State, Words::IntoReadWords>::from_compressed(words)

@@ -1,7 +1,5 @@
-//! Symbols that have a model each, and come back from a recorded position.
-//!
-//! [`words_and_position_of_pairs`] says what was recorded and what the words are, [`pairs_from_position`] takes any
-//! words and any position and says what is there, and [`pairs_after_a_position`] joins the two.
+//! Symbols that have a model each, from a recorded position. The law
+//! [`symbols_after_a_position`](crate::queue::positions::symbols_after_a_position) says which symbols are there.
 
 ghost use Rattle.std.specs.Prelude.{◌≡◌, ◌<◌, ◌≤◌, List, length, map, IfOk, IfErr};
 ghost use Rattle.constriction_base.specs.Models.{pairs_of};
@@ -11,21 +9,22 @@ ghost use Rattle.constriction_queue.specs.States.{IsPosition, lower_of, range_of
 ghost use Rattle.constriction_laws.specs.queue.Outcomes.{NoneAt};
 ghost use Rattle.constriction_queue.specs.Symbols.{FindsAll};
 
+use crate::errors::RoundTripError;
 use crate::queue::concatenated::DecodeError;
 use crate::queue::round_trips::coding::decode_pairs;
 use constriction_base::backends::{Pos, Seek};
 use constriction_base::cursor::Cursor;
 use constriction_base::model::{DecoderModel, EntropyModel};
-use crate::errors::RoundTripError;
 use constriction_queue::{RangeCoderState, RangeDecoder};
 use constriction_words::{BitArray, WordOf};
 use std::alloc::Global;
 
-/// A symbol for each of the models from a position in words: `from_compressed`, `seek`, `decode_symbols`.
+/// Takes a symbol for each of the models from a position in words: `from_compressed`, `seek`, `decode_symbols`.
 ///
 /// # Errors
-///
-/// Each case of [`DecodeError`]. `NoSuchPlace` and `InvalidData` come for no other reason than they tell.
+/// - `NoSuchPlace`: the words end before the position.
+/// - `InvalidData`: the words hold no list of symbols of the models there.
+/// - `NoMemory`: memory was refused.
 pub fn pairs_from_position<
     Word: WordOf<State>,
     State: BitArray,

@@ -8,23 +8,23 @@ ghost use Rattle.constriction_base.specs.Writing.{IsOneAbove};
 ghost use Rattle.constriction_stack.specs.Ans.{AnsState, IsValid};
 ghost use Rattle.constriction_stack.specs.Binary.{binary_state, binary_words};
 ghost use Rattle.constriction_stack.specs.Symbols.{DecodesAll, EncodesAll};
-ghost use Rattle.constriction_laws.specs.stack.Exporting.{ComesFromNoWords};
+ghost use Rattle.constriction_laws.specs.stack.Exporting.{ComesFromNoWords, LeadsToNoBinary};
 
+use crate::errors::RoundTripError;
 use crate::stack::binary::{binary_words_come_back, one_binary_form};
 use crate::stack::lists::encodes_undo_decodes;
-use crate::stack::round_trips::parts::{put_pairs, take_pairs};
+use crate::stack::round_trips::coding::{decode_pairs, encode_pairs_reverse};
 use constriction_base::backends::{Holds, ReadWords, Stack, WriteWords};
 use constriction_base::model::{DecoderModel, EncoderModel, EntropyModel};
-use crate::errors::RoundTripError;
 use constriction_stack::coder::AnsCoder;
 use constriction_words::{BitArray, WordOf};
 use std::alloc::Global;
 
-/// A symbol for each of the models from any words, and the coder that is left: `from_binary`, `decode_symbols`.
+/// Takes a symbol for each of the models from any words, and returns the coder that is left too: `from_binary`,
+/// `decode_symbols`.
 ///
 /// # Errors
-///
-/// `Refused` alone.
+/// - `Refused`: a read or memory was refused.
 pub fn pairs_from_binary_words<
     Word: WordOf<State>,
     State: BitArray,
@@ -49,17 +49,17 @@ where
     let Ok(mut coder) = AnsCoder::<Word, State, Backend>::from_binary(words) else {
         return Err(RoundTripError::Refused);
     };
-    let symbols = take_pairs(alloc, &mut coder, models)?;
+    let symbols = decode_pairs(alloc, &mut coder, models)?;
     Ok((symbols, coder))
 }
 
-/// The words of a coder on which symbols are put back, each by its own model and the last one first:
-/// `encode_symbols_reverse`, `into_binary`. Any words come back from which these symbols were decoded.
+/// Puts symbols back on a coder, each by its own model and the last one first, and returns its words in binary form:
+/// `encode_symbols_reverse`, `into_binary`. Any words from which these symbols were decoded come back.
 ///
 /// # Errors
-///
-/// `ImpossibleSymbol` where one of the symbols has no entry in its model, `InvalidData` where no words are those from
-/// which these symbols were decoded, and `Refused`.
+/// - `ImpossibleSymbol`: a model has no entry for its symbol.
+/// - `InvalidData`: the head that is left isn't a power of two to whole words, so the state has no binary form.
+/// - `Refused`: the backend refused a word.
 pub fn binary_words_with_pairs<
     Word: WordOf<State>,
     State: BitArray,
@@ -84,11 +84,12 @@ where
         (pairs_of PRECISION M.table symbols.now models.now) (binary_state Word.BITS State.BITS words) coder.state →
         IfOk result (λ again. map Word.number (Backend.words again) ≡ words) }
     ensures err { IfErr result (Reasons (HasImpossibleItem (pairs_of PRECISION M.table symbols.now models.now)) ⊥
-        (ComesFromNoWords Word.BITS State.BITS (pairs_of PRECISION M.table symbols.now models.now) coder.state)
-        (λ taken. ⊥)) }
+        (ComesFromNoWords Word.BITS State.BITS (pairs_of PRECISION M.table symbols.now models.now) coder.state
+        × (IsValid Word.BITS State.BITS coder.state → LeadsToNoBinary Word.BITS State.BITS
+        (reverse (pairs_of PRECISION M.table symbols.now models.now)) coder.state)) (λ taken. ⊥)) }
 {
     let mut coder = coder;
-    put_pairs(&mut coder, symbols, models)?;
+    encode_pairs_reverse(&mut coder, symbols, models)?;
     encodes_undo_decodes::<M::Symbol>();
     binary_words_come_back::<M::Symbol>();
     one_binary_form();

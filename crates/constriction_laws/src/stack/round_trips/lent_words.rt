@@ -1,28 +1,27 @@
-//! Symbols that come back from the words that a coder lends by a guard, and coders that are as before then.
+//! Symbols from the words that a coder lends by a guard, and the coder as it was.
 
 ghost use Rattle.std.specs.Prelude.{◌≡◌, List, length, reverse, IfOk, IfErr};
-ghost use Rattle.constriction_base.specs.Models.{items_of};
+ghost use Rattle.constriction_base.specs.Models.{pairs_of};
 ghost use Rattle.constriction_base.specs.Readings.{BeginsHigh};
 ghost use Rattle.constriction_laws.specs.Outcomes.{UnlessInvalid};
-ghost use Rattle.constriction_stack.specs.Ans.{AnsState, IsValid, exported};
+ghost use Rattle.constriction_stack.specs.Ans.{AnsState, IsValid, exported, filled};
 ghost use Rattle.constriction_stack.specs.Symbols.{DecodesAll, EncodesAll};
 
+use crate::errors::RoundTripError;
 use crate::stack::guards::shown_words_are_exported;
-use crate::stack::round_trips::parts::take_list;
+use crate::stack::round_trips::coding::decode_pairs;
 use constriction_base::cursor::Cursor;
 use constriction_base::model::{DecoderModel, EntropyModel};
-use crate::errors::RoundTripError;
 use constriction_stack::coder::AnsCoder;
 use constriction_words::{BitArray, WordOf};
 use std::alloc::{Allocator, Global};
 
-/// Symbols from the words that a coder lends by `get_compressed`. Those that were put on it come back, the
-/// last one first; and once the guard has gone, the coder is as before, also where something is refused.
+/// Takes a symbol for each of the models from the words that a coder lends: `get_compressed`, `from_compressed_slice`,
+/// `decode_symbols`. The symbols that were put on it come back. The coder's state is as before in every case.
 ///
 /// # Errors
-///
-/// `InvalidData` where the words that the coder would export end with a zero word, as those of no valid state do, and
-/// `Refused`.
+/// - `InvalidData`: the words that the coder would export end with a zero word, as those of no valid state do.
+/// - `Refused`: memory was refused.
 pub fn decode_lent_words<
     Word: WordOf<State>,
     State: BitArray,
@@ -32,19 +31,18 @@ pub fn decode_lent_words<
 >(
     alloc: Global,
     coder: &mut AnsCoder<Word, State, Vec<Word, A>>,
-    amt: usize,
-    model: &M,
+    models: &[M],
 ) -> Result<Vec<M::Symbol>, RoundTripError>
 where
     M::Probability: WordOf<Word>,
-    ensures count { IfOk result (λ again. length again.items ≡ amt) }
-    ensures read { IsValid Word.BITS State.BITS coder.old.state → IfOk result (λ again. (last : AnsState)
-        × DecodesAll Word.BITS State.BITS
-        (items_of record { precision = PRECISION; table = M.table model.now } again.items) coder.old.state last) }
+    ensures count { IfOk result (λ again. length again.items ≡ length models.now) }
+    ensures read { IfOk result (λ again. (last : AnsState) × DecodesAll Word.BITS State.BITS
+        (pairs_of PRECISION M.table again.items models.now)
+        (filled Word.BITS State.BITS 0 (exported Word.BITS coder.old.state)) last) }
     ensures back { (symbols : List M.Symbol) (before : AnsState) → IsValid Word.BITS State.BITS coder.old.state →
-        EncodesAll Word.BITS State.BITS (items_of record { precision = PRECISION; table = M.table model.now } symbols)
-        before coder.old.state → length symbols ≡ amt →
-        IfOk result (λ again. again.items ≡ reverse symbols) }
+        EncodesAll Word.BITS State.BITS (reverse (pairs_of PRECISION M.table symbols models.now))
+        before coder.old.state → length symbols ≡ length models.now →
+        IfOk result (λ again. again.items ≡ symbols) }
     ensures kept { coder.new.state ≡ coder.old.state }
     ensures err { IfErr result (UnlessInvalid (BeginsHigh (exported Word.BITS coder.old.state) → ⊥)) }
 {
@@ -58,5 +56,5 @@ where
         return Err(RoundTripError::InvalidData);
     };
     shown_words_are_exported();
-    take_list(alloc, &mut decoder, amt, model)
+    decode_pairs(alloc, &mut decoder, models)
 }

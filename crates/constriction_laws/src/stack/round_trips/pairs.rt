@@ -1,29 +1,31 @@
-//! Symbols that have a model each, and come back from the words that a coder exports.
+//! Symbols that have a model each, and the words that a coder exports.
 
-ghost use Rattle.std.specs.Prelude.{◌≡◌, List, length, map, reverse, IfOk, IfErr, OnOk};
+ghost use Rattle.std.specs.Prelude.{◌≡◌, ◌≤◌, ◌-◌, ◌*◌, ◌^◌, List, length, map, reverse, IfOk, IfErr, OnOk};
 ghost use Rattle.constriction_base.specs.Models.{pairs_of};
-ghost use Rattle.constriction_base.specs.Steps.{IsSizes};
+ghost use Rattle.constriction_base.specs.Steps.{Step, IsSizes};
+ghost use Rattle.constriction_laws.specs.Bounds.{AreEntries, product, rounded_whole, share};
 ghost use Rattle.constriction_laws.specs.Outcomes.{HasImpossibleItem, UnlessImpossible, UnlessInvalid};
-ghost use Rattle.constriction_stack.specs.Ans.{AnsState, IsValid, filled};
+ghost use Rattle.constriction_stack.specs.Ans.{AnsState, IsValid, empty, filled};
 ghost use Rattle.constriction_stack.specs.Imports.{ImportRefused};
 ghost use Rattle.constriction_stack.specs.Symbols.{DecodesAll};
 ghost use Rattle.constriction_laws.specs.stack.Exporting.{ExportsAll};
 
-use crate::stack::round_trips::parts::{put_pairs, take_pairs};
+use crate::bounds::stack_bound;
+use crate::errors::RoundTripError;
+use crate::stack::round_trips::coding::{decode_pairs, encode_pairs_reverse};
 use crate::stack::words::import_of_export;
 use constriction_base::backends::{Holds, ReadWords, Stack, WriteWords};
 use constriction_base::model::{DecoderModel, EncoderModel, EntropyModel};
-use crate::errors::RoundTripError;
 use constriction_stack::coder::AnsCoder;
 use constriction_words::{BitArray, WordOf};
 use std::alloc::Global;
 
-/// The words that a coder exports on which symbols were put, each by its own model and the last one first:
-/// `encode_symbols_reverse`, `into_compressed`.
+/// Puts symbols on a coder, each by its own model and the last one first, and returns the words that it then exports:
+/// `encode_symbols_reverse`, `into_compressed`. How many words an empty coder gives at most is bounded by the models.
 ///
 /// # Errors
-///
-/// `ImpossibleSymbol` where one of the symbols has no entry in its model, and `Refused`.
+/// - `ImpossibleSymbol`: a model has no entry for its symbol.
+/// - `Refused`: the backend refused a word.
 pub fn words_with_pairs<
     Word: WordOf<State>,
     State: BitArray,
@@ -43,24 +45,29 @@ where
         (reverse (pairs_of PRECISION M.table symbols.now models.now))
         coder.state (map Word.number (Backend.words words))) }
     ensures sizes { OnOk result (IsSizes Word.BITS State.BITS) }
+    ensures few { coder.state ≡ empty → IfOk result (λ words. (steps : List Step)
+        × AreEntries (reverse (pairs_of PRECISION M.table symbols.now models.now)) steps
+        × (2 ^ (Word.BITS * (length (Backend.words words) - 1)) * product (share Word.BITS State.BITS) steps
+        ≤ 2 ^ (State.BITS - Word.BITS) * product (rounded_whole Word.BITS State.BITS) steps)) }
     ensures err { IfErr result (UnlessImpossible
         (HasImpossibleItem (pairs_of PRECISION M.table symbols.now models.now))) }
 {
     let mut coder = coder;
-    put_pairs(&mut coder, symbols, models)?;
+    encode_pairs_reverse(&mut coder, symbols, models)?;
+    stack_bound();
     match coder.into_compressed() {
         Ok(words) => Ok(words),
         Err(_) => Err(RoundTripError::Refused),
     }
 }
 
-/// A symbol for each of the models from words, and the coder that is left: `from_compressed`, `decode_symbols`. Where
-/// the words are those of a coder on which as many symbols were put by these models, from the last to the first, the
-/// symbols come back in order, and the state before.
+/// Takes a symbol for each of the models from words, and returns the coder that is left too: `from_compressed`,
+/// `decode_symbols`. Where the words are those of a coder on which as many symbols were put by these models, from the
+/// last to the first, the symbols come back in order, and the state before.
 ///
 /// # Errors
-///
-/// `InvalidData` where the words aren't imported, since the last one is zero or a read is refused, and `Refused`.
+/// - `InvalidData`: the words aren't imported, because the last one is zero or a read is refused.
+/// - `Refused`: a read or memory was refused.
 pub fn pairs_from_words<
     Word: WordOf<State>,
     State: BitArray,
@@ -91,6 +98,6 @@ where
         return Err(RoundTripError::InvalidData);
     };
     import_of_export();
-    let again = take_pairs(alloc, &mut decoder, models)?;
+    let again = decode_pairs(alloc, &mut decoder, models)?;
     Ok((again, decoder))
 }

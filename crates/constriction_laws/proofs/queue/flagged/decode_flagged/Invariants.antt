@@ -1,12 +1,13 @@
-use Rattle.std.proofs.Common.{◌≡◌, ℕ, List, false, length}
+use Rattle.std.proofs.Common.{◌≡◌, ◌||◌, ℕ, List, length}
 use Rattle.constriction_base.specs.Models.{Model}
 use Rattle.constriction_queue.specs.Decoder.{StandsAt}
-use Rattle.constriction_queue.specs.Flagged.{flagged, has_flag}
+use Rattle.constriction_queue.specs.Flagged.{has_flag}
 use Rattle.constriction_queue.specs.Range.{Run}
 use Rattle.constriction_queue.specs.Symbols.{FindsAll}
+use Rattle.constriction_laws.specs.queue.Flagging.{flagged_behind}
 use Rattle.constriction_laws.proofs.queue.flagged.decode_flagged.Given as goal
 
--- the symbols so far are read, and the flag is among them where the models were switched
+-- the symbols so far are read, and the models were switched before, or where the flag is among them
 abbrev pub invariant-decode : goal.invariant-decode
 invariant-decode g l =
     let w = g.Word.BitArray.BITS in
@@ -16,7 +17,7 @@ invariant-decode g l =
     record {
       count : length l.symbols.items ≡ l.counter;
       flag : l.switch.flag ≡ l.fn.switch.flag;
-      switched : l.fn.switch.switched ≡ false → l.switch.switched ≡ has_flag l.fn.switch.flag l.symbols.items;
-      read : g.Backend.Holds.is_list → l.fn.switch.switched ≡ false → (words : List ℕ) (old : Run) → StandsAt w s words old l.fn.switch.decoder
-          → (last : Run) × FindsAll w s words (flagged l.fn.switch.flag first second l.symbols.items) old last × StandsAt w s words last l.switch.decoder;
+      switched : l.switch.switched ≡ (l.fn.switch.switched || has_flag l.fn.switch.flag l.symbols.items);
+      read : g.Backend.Holds.is_list → (words : List ℕ) (old : Run) → StandsAt w s words old l.fn.switch.decoder
+          → (last : Run) × FindsAll w s words (flagged_behind l.fn.switch.switched l.fn.switch.flag first second l.symbols.items) old last × StandsAt w s words last l.switch.decoder;
     }

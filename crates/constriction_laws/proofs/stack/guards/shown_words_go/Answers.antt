@@ -1,6 +1,5 @@
-use Rattle.std.proofs.Common.{◌≡◌, ◌∙◌, ℕ, zero, suc, ◌/◌, ◌%◌, ◌^◌, List, [], ◌∷◌, ◌++◌, length, drop, refl, ap, subst, arith}
+use Rattle.std.proofs.Common.{◌≡◌, ◌∙◌, ℕ, ◌^◌, List, ◌++◌, length, drop, refl, ap, subst}
 use Rattle.std.specs.Int.Digits.{digits_of}
-use Rattle.std.proofs.lemmas.List.{length-append}
 use Rattle.constriction_base.specs.Digits.{fixed_digits}
 use Rattle.constriction_stack.specs.Ans.{AnsState}
 use Rattle.constriction_stack.specs.Guards.{without}

@@ -23,12 +23,13 @@ returns-in-Ok-clause-back g c = λ known words symbols old last at decoded count
     (decodes_of _ g.Word.BitArray.number g.Backend.Holds g.Backend.ReadWords w s words known
     (λ pair. item_of (record { precision = g.row.PRECISION; table = table pair.1 }) pair.0) (zip again c.args.models.now) old c.args.decoder.now c.decode_by_models.new.decoder at c.in-Ok.ensures.steps)
 
-pub returns-in-Err-Refused-Frontend-clause-err : goal.returns-in-Err-Refused-Frontend-clause-err
-returns-in-Err-Refused-Frontend-clause-err g c = λ known words old at symbols last count found.
+pub returns-in-Err-default-Refused-Frontend-clause-err : goal.returns-in-Err-default-Refused-Frontend-clause-err
+returns-in-Err-default-Refused-Frontend-clause-err g c = λ known words old at symbols last count found.
     let w = g.Word.BitArray.BITS in
     let s = g.State.BitArray.BITS in
     let table = g.M.EntropyModel.table in
-    let stopped = rw c.in-Err-Refused-Frontend.field-0-0-is at (rw c.in-Err-Refused-Frontend.field-0-is at c.in-Err-Refused-Frontend.ensures.err) in
+    let here = c.in-Err-default-Refused-Frontend in
+    let stopped = rw here.field-0-1-0-is at (rw here.field-0-1-is at here.ensures.err) in
     never_among g.Word.BitArray.number _ _ w s words known g.row.PRECISION table
     (λ m. (let sized = g.met.M.EntropyModel.sized m in record { some_bits = sized.0; within_word = omega (arith, sized.1, g.met.M.Probability.WordOf.width_law); lawful = g.M.EntropyModel.lawful m }))
-    (pow_pos s) symbols c.args.models.now old last c.args.decoder.now c.decode_by_models.new.decoder _ count at found stopped
+    (pow_pos s) symbols c.args.models.now _ old last c.args.decoder.now c.decode_by_models.new.decoder _ count at found stopped

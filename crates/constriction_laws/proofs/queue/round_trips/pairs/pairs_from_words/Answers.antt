@@ -1,14 +1,15 @@
-use Rattle.std.proofs.Common.{◌≡◌, ◌∙◌, ◌++◌, ℕ, [], refl, subst, ap, arith, map, pow_pos, List, length}
-use Rattle.constriction_queue.specs.Range.{initial}
+use Rattle.std.proofs.Common.{◌≡◌, ◌∙◌, ◌∷◌, ◌++◌, ◌↔◌, ℕ, [], refl, subst, ap, arith, map, pow_pos, List, length}
+use Rattle.constriction_queue.specs.Range.{Run, Within, initial}
 use Rattle.constriction_laws.specs.queue.Outcomes.{GivesNone}
-use Rattle.constriction_base.specs.Models.{Item, IsModel, pairs_of}
+use Rattle.constriction_base.specs.Models.{Item, IsModel, AreModels, pairs_of}
 use Rattle.constriction_base.specs.Steps.{AreWords}
 use Rattle.constriction_base.proofs.WordLists.{words_behind}
 use Rattle.constriction_queue.proofs.Seals.{words_of_numbers}
 use Rattle.constriction_queue.specs.Range.{sealed}
-use Rattle.constriction_queue.specs.Symbols.{FindsAll}
+use Rattle.constriction_queue.specs.Symbols.{FindsAll, NarrowsAll}
 use Rattle.constriction_laws.proofs.PairCalls.{are_pairs}
 use Rattle.constriction_queue.proofs.StepCalls.{nears_of}
+use Rattle.constriction_laws.proofs.of_queue.AnyWords.{found_of, lie_of, some_pairs}
 use Rattle.constriction_laws.proofs.of_queue.Told.{passed, while_reading}
 use Rattle.constriction_laws.proofs.queue.round_trips.pairs.pairs_from_words.Goals as goal
 
@@ -83,3 +84,35 @@ returns-clause-delimited g c = λ symbols own rest delimits all count.
     let fit : AreWords w rest = words_behind w own rest (subst (λ (ws : List ℕ). AreWords w ws) all (words_of_numbers number w g.met.Word.BitArray.number_law (g.Words.Holds.words c.args.words))) in
     let found : FindsAll w s words items (initial s) delimits.0 = rw all (c.symbols_come_back_whatever_follows.ensures w s [] items (initial s) delimits.0 own rest c.requires tt models fit refl delimits.1 delimits.2) in
     (c.in_ok-again.ensures.back known words symbols (initial s) delimits.0 (c.in-Ok.ensures.ok known) found count).0
+
+pub returns-clause-within : goal.returns-clause-within
+returns-clause-within g c = λ some.
+    let w = g.Word.BitArray.BITS in
+    let s = g.State.BitArray.BITS in
+    let table = g.M.EntropyModel.table in
+    let known = g.met.Words.IntoReadWords.BoundedReadWords.knows_words in
+    let lawful : (m : g.row.M.Denot) → IsModel w (record { precision = g.row.PRECISION; table = table m }) =
+    λ m. (let sized = g.met.M.EntropyModel.sized m in record { some_bits = sized.0; within_word = omega (arith, sized.1, g.met.M.Probability.WordOf.width_law); lawful = g.M.EntropyModel.lawful m }) in
+    let words : List ℕ = map g.Word.BitArray.number (g.Words.Holds.words c.args.words) in
+    let fit = words_of_numbers g.Word.BitArray.number w g.met.Word.BitArray.number_law (g.Words.Holds.words c.args.words) in
+    let law : (first : Item g.row.M-Symbol.Denot) (others : List (Item g.row.M-Symbol.Denot)) (last : Run) → AreModels w (first ∷ others) → NarrowsAll w s (first ∷ others) (initial s) last
+    → FindsAll w s words (first ∷ others) (initial s) last ↔ Within w s words last = λ first others last ms coded. c.symbols_of_any_words.ensures w s words first others last c.requires fit ms coded in
+    let again = c.in_ok-again.again.items in
+    let read = c.in_ok-again.ensures.decoded known words (initial s) (c.in-Ok.ensures.ok known) in
+    lie_of w s words law (pairs_of g.row.PRECISION table again c.args.models.now) read.0 (are_pairs g.row.PRECISION table w again c.args.models.now lawful)
+    (some_pairs g.row.PRECISION table again c.args.models.now c.in_ok-again.ensures.count some) read.1
+
+pub returns-clause-lying : goal.returns-clause-lying
+returns-clause-lying g c = λ symbols count lie.
+    let w = g.Word.BitArray.BITS in
+    let s = g.State.BitArray.BITS in
+    let table = g.M.EntropyModel.table in
+    let known = g.met.Words.IntoReadWords.BoundedReadWords.knows_words in
+    let lawful : (m : g.row.M.Denot) → IsModel w (record { precision = g.row.PRECISION; table = table m }) =
+    λ m. (let sized = g.met.M.EntropyModel.sized m in record { some_bits = sized.0; within_word = omega (arith, sized.1, g.met.M.Probability.WordOf.width_law); lawful = g.M.EntropyModel.lawful m }) in
+    let words : List ℕ = map g.Word.BitArray.number (g.Words.Holds.words c.args.words) in
+    let fit = words_of_numbers g.Word.BitArray.number w g.met.Word.BitArray.number_law (g.Words.Holds.words c.args.words) in
+    let law : (first : Item g.row.M-Symbol.Denot) (others : List (Item g.row.M-Symbol.Denot)) (last : Run) → AreModels w (first ∷ others) → NarrowsAll w s (first ∷ others) (initial s) last
+    → FindsAll w s words (first ∷ others) (initial s) last ↔ Within w s words last = λ first others last ms coded. c.symbols_of_any_words.ensures w s words first others last c.requires fit ms coded in
+    let found = found_of w s words law (pairs_of g.row.PRECISION table symbols c.args.models.now) (are_pairs g.row.PRECISION table w symbols c.args.models.now lawful) lie in
+    (c.in_ok-again.ensures.back known words symbols (initial s) lie.0 (c.in-Ok.ensures.ok known) found count).0

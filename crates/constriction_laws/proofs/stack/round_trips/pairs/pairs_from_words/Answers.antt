@@ -9,7 +9,7 @@ use Rattle.constriction_laws.proofs.stack.round_trips.pairs.pairs_from_words.Goa
 pub returns-clause-read : goal.returns-clause-read
 returns-clause-read g c = λ known.
     let items = pairs_of g.row.PRECISION g.M.EntropyModel.table c.in_ok-again.again.items c.args.models.now in
-    subst (λ x. DecodesAll g.Word.BitArray.BITS g.State.BitArray.BITS items x c.take_pairs.new.coder.state) (c.in-Ok.ensures.ok known) (c.in_ok-again.ensures.decoded known)
+    subst (λ x. DecodesAll g.Word.BitArray.BITS g.State.BitArray.BITS items x c.decode_pairs.new.coder.state) (c.in-Ok.ensures.ok known) (c.in_ok-again.ensures.decoded known)
 
 pub returns-clause-back : goal.returns-clause-back
 returns-clause-back g c = λ known symbols old valid exports count.

@@ -1,8 +1,11 @@
-use Rattle.std.proofs.Common.{◌≡◌, ◌∙◌, [], ◌∷◌, ◌++◌, length, drop, sym, ap, subst, arith, rules}
+use Rattle.std.proofs.Common.{◌≡◌, ◌∙◌, [], ◌∷◌, ◌++◌, Ok, length, drop, sym, ap, subst, arith, rules}
 use Rattle.std.specs.List.{zip}
 use Rattle.std.specs.Slice.Iter.{iter_rest}
 use Rattle.std.proofs.lemmas.List.{length-append}
-use Rattle.constriction_symbol.specs.Lists.{ReadsPairs}
+use Rattle.constriction_symbol.specs.Codewords.{ReadsSymbol}
+use Rattle.constriction_symbol.specs.Lists.{IsSamePair, ReadsPairs}
+use Rattle.constriction_symbol.proofs.ReadBack.{symbol_back}
+use Rattle.constriction_symbol.proofs.CodewordLists.{all_back, each_zip}
 use Rattle.constriction_laws.proofs.ListsGiven.{rest_after}
 use Rattle.constriction_laws.proofs.of_symbol.bit_coders.Pairs.{reads_pairs_more}
 use Rattle.constriction_laws.proofs.symbol.round_trips.pairs.decode_pairs.Goals as goal
@@ -58,3 +61,20 @@ returns-in-Err-clause-err g c =
       subst (λ d. ReadsPairs g.R.ReadBitStream.gives g.C.Codebook.codeword g.C.DecoderCodebook.reads_on g.C.DecoderCodebook.is_invalid (zip c.decode.symbols.items books) d c.decode.answer-iterator.bit_stream.now) begun kept.5,
       search (rules, given.1.2, c.in-Err.is),
     )
+
+pub returns-clause-back : goal.returns-clause-back
+returns-clause-back g c = λ known symbols code rest first_count coded is.
+    let gives = g.R.ReadBitStream.gives in
+    let unread = g.R.ReadBitStream.unread in
+    let codeword = g.C.Codebook.codeword in
+    let same = g.C.Codebook.is_same in
+    let on = g.C.DecoderCodebook.reads_on in
+    let invalid = g.C.DecoderCodebook.is_invalid in
+    let books = c.args.codebooks.now in
+    let again = c.decode.symbols.items in
+    all_back unread (λ p. codeword p.1 p.0) (λ p before after. ReadsSymbol gives (codeword p.1) (on p.1) (invalid p.1) before (Ok p.0) after) (IsSamePair same) (λ p q. p.1 ≡ q.1)
+    (λ p q first more before after alike here_known here given.
+    let read = subst (λ k. ReadsSymbol gives (codeword k) (on k) (invalid k) before (Ok p.0) after) alike given in
+    symbol_back gives unread (codeword q.1) (same q.1) (on q.1) (invalid q.1) (g.met.R.ReadBitStream.list_law known) (g.C.Codebook.prefix_law q.1) (g.C.Codebook.same_law q.1) (g.met.C.DecoderCodebook.on_law q.1) (g.met.C.DecoderCodebook.invalid_law q.1)
+    q.0 first more before after (Ok p.0) here_known here read)
+    (zip again books) (zip symbols books) code rest c.args.stream.now _ (each_zip again symbols books (returns-clause-count g c) first_count) coded is (returns-clause-steps g c)

@@ -1,0 +1,37 @@
+"""docs/HEADLINE.md: each law, each clause of a call and each other name that it has is there, in 400 words at most."""
+
+from __future__ import annotations
+
+import os
+import re
+
+from judging import TOP, judge, read
+from proved import parts_of, sources
+
+PAGE = "docs/HEADLINE.md"
+MOST = 400
+
+
+def judge_law(path):
+    """A law stands in the file of its module, below the source of the laws."""
+    *modules, name = path.split("::")
+    file = "crates/constriction_laws/src/" + "/".join(modules) + ".rt"
+    judge(os.path.exists(f"{TOP}/{file}"), f"{PAGE}: there is no {file}")
+    if os.path.exists(f"{TOP}/{file}"):
+        judge(re.search(rf"^pub fn {name}\b", read(file), flags=re.M), f"{PAGE}: {file} has no law {name}")
+
+
+def test():
+    text = read(PAGE)
+    judge(len(text.split()) <= MOST, f"{PAGE} has {len(text.split())} words, more than {MOST}")
+    crates = sorted(it for it in os.listdir(f"{TOP}/crates") if it.startswith("constriction"))
+    parts = parts_of(crates)
+    words = set(re.findall(r"\w+", " ".join(sources(crates, ["src", "specs"]))))
+    laws = re.findall(r"`(\w+(?:::\w+)+)`", text)
+    judge(len(laws) > 5, f"{PAGE} names {len(laws)} laws")
+    for path in laws:
+        judge_law(path)
+    for name, clause in re.findall(r"`(\w+)`: `(\w+)`", text):
+        judge(clause in parts.get(name, set()), f"{PAGE}: {name} has no clause {clause}")
+    for name in re.findall(r"`(\w+)`", text):
+        judge(name in words or re.fullmatch(r"[A-Z]|\d\w*", name), f"{PAGE}: there is no {name}")
