@@ -196,13 +196,12 @@ def kept_of(crates):
 
 def begin(progress, crate, count, kept):
     """Says what is to be done, and what can be had meanwhile."""
+    first = "; the first one tells how long that takes here" if count > 1 else ""
     if crate.is_program:
-        progress.say(
-            f"proving the {count} crates of the program from nothing and building it, once; the first one tells how long that takes here. "
-            "./constriction --trial COMMAND < INPUT answers in a minute, unproved"
-        )
+        trial = "./constriction --trial COMMAND < INPUT answers in a minute, unproved"
+        progress.say(f"proving the {count} crates of the program from nothing and building it, once{first}. {trial}")
     else:
-        progress.say(f"proving {count} of the {count + kept} crates of {crate.name} and building it; the first one tells how long that takes here")
+        progress.say(f"proving {count} of the {count + kept} crates of {crate.name} and building it{first}")
 
 
 def main(kit, top, name, *how):

@@ -38,6 +38,11 @@
 //!   and [`DefaultEncoderFrontendError`] are those of an encoder; [`ReadWriteError`] is that of a call
 //!   that reads and writes.
 //!
+//! # [`base`]: words, backends and models
+//!
+//! What coders are written over, under one name: the numbers, the backends, the errors and the models that stand at the
+//! root, in [`backends`] and in [`stream::model`] too.
+//!
 //! # [`backends`]: where words come from and go to
 //!
 //! - [`backends::ReadWords`], [`backends::WriteWords`]: reading and writing a word, over what a
@@ -46,6 +51,10 @@
 //!   [`backends::AsSeekReadWords`]: a reader made of a list of words, or over a lent one.
 //! - [`backends::IntoReversed`]: a cursor whose words are turned round, for the same stack.
 //! - [`backends::Words`], [`backends::WordsMut`]: a buffer that lends its words.
+//! - [`backends::BothWays`], [`backends::CountsWords`], [`backends::SeeksBack`]: what some calls ask of a backend. It holds
+//!   the same words as a stack and as a queue; its position is the number of its words; it can go to where it stands.
+//! - [`backends::written_to_queue`]: what was written, to be read from its first word on. [`backends::take_back`]: words
+//!   are taken off again.
 //! - [`backends::Cursor`]: a buffer and a position in it. [`backends::Reverse`]: the same, read the
 //!   other way. [`backends::FallibleIteratorReadWords`]: the items of an iterator. `Vec` is a backend
 //!   too.
@@ -159,10 +168,28 @@ pub use constriction_base::errors::{
 };
 pub use constriction_words::{BitArray, Reciprocal, WordOf};
 
+pub mod base {
+    pub use constriction_base::backends::{
+        AsReadWords, AsSeekReadWords, BoundedReadWords, IntoReadWords, IntoSeekReadWords, Pos,
+        PosSeek, Queue, ReadWords, Seek, Semantics, Stack, Words, WordsMut, WriteWords,
+    };
+    pub use constriction_base::cursor::Cursor;
+    pub use constriction_base::errors::{
+        BoundedWriteError, CoderError, DefaultEncoderError, DefaultEncoderFrontendError,
+        ReadWriteError,
+    };
+    pub use constriction_base::iterators::FallibleIteratorReadWords;
+    pub use constriction_base::model::{DecoderModel, EncoderModel, EntropyModel};
+    pub use constriction_base::reverse::Reverse;
+    pub use constriction_base::weights::{TableError, WeightTable};
+    pub use constriction_words::{BitArray, Reciprocal, WordOf};
+}
+
 pub mod backends {
     pub use constriction_base::backends::{
-        AsReadWords, AsSeekReadWords, BoundedReadWords, Holds, IntoReadWords, IntoReversed,
-        IntoSeekReadWords, ReadWords, Words, WordsMut, WriteWords,
+        AsReadWords, AsSeekReadWords, BothWays, BoundedReadWords, CountsWords, Holds,
+        IntoReadWords, IntoReversed, IntoSeekReadWords, ReadWords, SeeksBack, Words, WordsMut,
+        WriteWords, take_back, written_to_queue,
     };
     pub use constriction_base::cursor::Cursor;
     pub use constriction_base::errors::{BoundedWriteError, ReadWriteError};
@@ -250,8 +277,6 @@ pub mod symbol {
 }
 
 pub mod laws {
-    pub use constriction_laws::{
-        bounds, chain, errors, lists, queue, stack, symbol,
-    };
+    pub use constriction_laws::{bounds, chain, errors, lists, queue, stack, symbol};
     pub use constriction_store::laws as store;
 }

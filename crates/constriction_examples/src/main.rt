@@ -4,6 +4,7 @@
 //! run.
 #![tactic(auto)]
 
+mod any_backend;
 mod bits_back;
 mod isolation;
 mod laws_of_each_coder;
@@ -22,5 +23,6 @@ fn main(rt: HostRuntime) -> Result<()> {
     programs::bits::run(&rt, alloc)?;
     programs::huffman::run(&rt, alloc)?;
     programs::models::run(&rt, alloc)?;
+    any_backend::run(&rt, alloc)?;
     Ok(())
 }
