@@ -171,17 +171,22 @@ fn ans_product(rt: HostRuntime) -> Result<(), Fail> {
     Ok(())
 }
 
-/// The row's state and its number of words; the two sides are computed from the definitions by the library's proofs.
+/// The head after the decode, the state after the encode, and both sides of the bound by the words of the run.
 #[test]
 fn ans_net_product(rt: HostRuntime) -> Result<(), Fail> {
     bounds::stack_net_bound();
     let alloc = rt.alloc();
-    let off = WeightTable::<u8, 8>::new(alloc, &[16, 240])?;
-    let on = WeightTable::<u8, 8>::new(alloc, &[255, 1])?;
-    let words = [1u8, 2, 3].as_slice().to_vec(alloc)?;
-    let Ok(mut coder) = Stack::from_compressed(words) else {
+    let (given, decoded, encoded) = ([1u8, 2, 3], [16u8, 240], [255u8, 1]);
+    let off = WeightTable::<u8, 8>::new(alloc, &decoded)?;
+    let on = WeightTable::<u8, 8>::new(alloc, &encoded)?;
+    let (Ok(mut between), Ok(mut coder)) = (
+        Stack::from_compressed(given.as_slice().to_vec(alloc)?),
+        Stack::from_compressed(given.as_slice().to_vec(alloc)?),
+    ) else {
         return Err(Fail::from("no coder"));
     };
+    assert!(rt; matches!(Decode::<8>::decode_symbol(&mut between, &off), Ok(0)));
+    assert!(rt; between.state() == 12801 && between.bulk().is_empty());
     assert!(rt;
         matches!(
             exchange::<u8, u16, Vec<u8>, _, _, 8>(&mut coder, &off, &1, &on),
@@ -189,7 +194,12 @@ fn ans_net_product(rt: HostRuntime) -> Result<(), Fail> {
         )
     );
     assert!(rt; coder.state() == 13055 && coder.bulk().as_slice() == [1].as_slice());
-    assert!(rt; coder.into_compressed()?.len() == 3);
+    let Some(below) = coder.into_compressed()?.len().checked_sub(1) else {
+        return Err(Fail::from("no words"));
+    };
+    let (part, taken) = (u128::from(encoded[1]), u128::from(decoded[0]));
+    assert!(rt; above_words(below, part * 256) == Some(16777216));
+    assert!(rt; above_words(given.len(), 512 * (taken * 2)) == Some(274877906944));
     Ok(())
 }
 
