@@ -107,7 +107,8 @@ fn writer_that_fails(rt: HostRuntime) -> Result<(), Fail> {
     Ok(())
 }
 
-/// A fault line that can't be written changes no status, and a fault writes no answer.
+/// The status is the same where standard error refuses the line. A run that stops at a fault leaves standard output
+/// empty.
 #[test]
 fn fault_line_that_cannot_be_written(rt: HostRuntime) -> Result<(), Fail> {
     let alloc = rt.alloc();

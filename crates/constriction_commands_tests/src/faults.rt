@@ -156,8 +156,8 @@ fn symbols_past_the_table(rt: HostRuntime) -> Result<(), Fail> {
     Ok(())
 }
 
-/// Where two faults meet, the first in order comes: the numbers of line 1, those of line 2, the missing
-/// count, the table, the coder.
+/// A run with two faults reports the earlier one. The program parses both lines, then takes the count, then makes the
+/// table, and codes last.
 #[test]
 fn order_of_faults(rt: HostRuntime) -> Result<(), Fail> {
     let cases: [(&str, &[u8], &[u8]); 11] = [

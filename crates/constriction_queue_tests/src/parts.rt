@@ -116,22 +116,32 @@ fn a_seal_with_a_carry(rt: HostRuntime) {
     assert!(rt; is_carried(rt.alloc(), &at));
 }
 
-/// The words that an encoder of a state of four words exports.
-fn is_sealed_with(alloc: Global, words: &[u8]) -> bool {
+/// An encoder of a state of four words, over no words.
+fn wide(alloc: Global) -> Option<RangeEncoder<u8, u32>> {
     let Ok(state) = RangeCoderState::<u8, u32>::new(1, 16777216) else {
-        return false;
+        return None;
     };
     if !RangeEncoder::<u8, u32>::parts_fit(state, EncoderSituation::Normal) {
-        return false;
+        return None;
     }
-    let encoder = RangeEncoder::from_raw_parts(Vec::new(alloc), state, EncoderSituation::Normal);
-    exports_words(encoder, words)
+    Some(RangeEncoder::from_raw_parts(Vec::new(alloc), state, EncoderSituation::Normal))
 }
 
-/// A state of four words.
+/// Whether an encoder's two exports are these words.
+fn is_sealed_with(alloc: Global, words: &[u8], delimited: &[u8]) -> bool {
+    match (wide(alloc), wide(alloc)) {
+        (Some(first), Some(second)) => match second.into_self_delimited() {
+            Ok(all) => exports_words(first, words) && all.as_slice() == delimited,
+            Err(_) => false,
+        },
+        _ => false,
+    }
+}
+
+/// A state of four words, by both exports.
 #[test]
 fn range_wide_state(rt: HostRuntime) {
-    assert!(rt; is_sealed_with(rt.alloc(), &[1, 0]));
+    assert!(rt; is_sealed_with(rt.alloc(), &[1, 0], &[1, 0, 0, 0]));
 }
 
 /// A decoder of parts over no more words, or the place of its backend where the point isn't in the

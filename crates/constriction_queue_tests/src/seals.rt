@@ -3,7 +3,7 @@
 ghost use Rattle.constriction_base.specs.Steps.{IsSizes};
 
 use crate::coders::{HeapEncoder, encoder_with, inverted};
-use crate::expect::exports_words;
+use crate::expect::{exports_words, is_interval};
 use crate::put::puts;
 use crate::reading::gives;
 use constriction_base::backends::Pos;
@@ -87,10 +87,26 @@ fn come_from(words: &[u8], coded: &[Coded<'_>], tables: &[WeightTable<u8, 8>]) -
     true
 }
 
+/// The number whose digits are sealed: of an encoder without words the low end over 2^24, rounded up. The low end and
+/// the range are 16809856.
+fn sealed_number(alloc: Global, coded: &[Coded<'_>], tables: &[WeightTable<u8, 8>]) -> Option<u64> {
+    let (bulk, state, situation) = encoder_of(alloc, coded, tables)?.into_raw_parts();
+    if !bulk.is_empty() || situation != EncoderSituation::Normal {
+        return None;
+    }
+    if !is_interval(state, 16809856, 16809856) {
+        return None;
+    }
+    Some((u64::from(state.lower()) + 16777215) / 16777216)
+}
+
 #[test]
 fn seal_two_zero_words(rt: HostRuntime) -> Result<(), Fail> {
     let coded: [Coded<'_>; 3] = [(0, &[27, 229]), (0, &[19, 237]), (1, &[128, 128])];
     let tables = tables_of(rt.alloc(), &coded)?;
+    assert!(rt; sealed_number(rt.alloc(), &coded, tables.as_slice()) == Some(2));
+    let others: [Coded<'_>; 2] = [(0, &[27, 229]), (1, &[19, 237])];
+    assert!(rt; come_from(&[2, 0, 255, 255], &others, tables.as_slice()));
     assert!(rt;
         is_sealed(rt.alloc(), &coded, tables.as_slice(), (&[2, 0], &[2, 0, 0]))
             && !come_from(&[2, 0, 255, 255], &coded, tables.as_slice())

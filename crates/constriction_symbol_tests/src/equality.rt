@@ -8,6 +8,7 @@ use constriction_base::backends::{Holds, Queue, ReadWords, Stack};
 use constriction_symbol::codebooks::{BitOrder, SymbolCodeError};
 use constriction_symbol::coder::{QueueEncoder, SymbolCoder};
 use constriction_symbol::exp_golomb::{ExpGolomb, InvalidCodeword};
+use constriction_symbol::huffman::{DecoderHuffmanTree, EncoderHuffmanTree};
 use constriction_symbol::queue::QueueDecoder;
 use std::alloc::{AllocError, Global};
 use std::convert::Infallible;
@@ -153,5 +154,23 @@ fn clones_of_codebooks(rt: HostRuntime) -> Result<(), Fail> {
     let copy = codebook.clone()?;
     let error = InvalidCodeword;
     assert!(rt; prints(rt.alloc(), &copy, "ExpGolomb { number: ") && error == error.clone()?);
+    Ok(())
+}
+
+/// Clones of both trees equal them: the text of a tree shows all its parts.
+#[test]
+fn clones_of_trees(rt: HostRuntime) -> Result<(), Fail> {
+    let weights = [2u32, 2, 4, 1, 1];
+    let encoder = EncoderHuffmanTree::from_probabilities(rt.alloc(), &weights)?;
+    let decoder = DecoderHuffmanTree::from_probabilities(rt.alloc(), &weights)?;
+    let texts = [
+        format!(in rt.alloc(); "{encoder:?}")?,
+        format!(in rt.alloc(); "{decoder:?}")?,
+    ];
+    let copies = [
+        format!(in rt.alloc(); "{:?}", encoder.clone()?)?,
+        format!(in rt.alloc(); "{:?}", decoder.clone()?)?,
+    ];
+    assert!(rt; texts == copies);
     Ok(())
 }
