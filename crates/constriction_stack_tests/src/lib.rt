@@ -31,8 +31,6 @@ mod guards;
 #[cfg(test)]
 mod lists;
 #[cfg(test)]
-mod memory;
-#[cfg(test)]
 mod put;
 #[cfg(test)]
 mod readers;
