@@ -11,11 +11,12 @@ use constriction_symbol::exp_golomb::ExpGolomb;
 use constriction_symbol::huffman::DecoderHuffmanTree;
 use constriction_symbol::queue::QueueDecoder;
 use constriction_symbol::reading::ReadBitStream;
+use constriction_words::BitArray;
 use std::convert::Infallible;
 
-type QueueOf<'a> = QueueDecoder<u8, Cursor<u8, &'a [u8]>>;
+type QueueOf<'a, Word> = QueueDecoder<Word, Cursor<Word, &'a [Word]>>;
 
-type StackOf<'a> = StackCoder<u8, Cursor<u8, &'a [u8]>>;
+type StackOf<'a, Word> = StackCoder<Word, Cursor<Word, &'a [Word]>>;
 
 /// The weights of the tree.
 pub const WEIGHTS: [u32; 5] = [2, 2, 4, 1, 1];
@@ -75,8 +76,8 @@ fn symbols<S: Semantics, Stream: ReadBitStream<S, ReadError = Infallible>>(
 }
 
 /// What a queue gives.
-fn from_queue(words: &[u8], tree: Option<&DecoderHuffmanTree>, sum: &mut Sum) {
-    let mut queue: QueueOf<'_> = QueueDecoder::from_compressed(Cursor::new_at_write_beginning(
+fn from_queue<Word: BitArray>(words: &[Word], tree: Option<&DecoderHuffmanTree>, sum: &mut Sum) {
+    let mut queue: QueueOf<'_, Word> = QueueDecoder::from_compressed(Cursor::new_at_write_beginning(
         words,
     ));
     match tree {
@@ -87,8 +88,8 @@ fn from_queue(words: &[u8], tree: Option<&DecoderHuffmanTree>, sum: &mut Sum) {
 }
 
 /// What a stack gives.
-fn from_stack(words: &[u8], tree: Option<&DecoderHuffmanTree>, sum: &mut Sum) {
-    match StackOf::from_compressed(Cursor::new_at_write_end(words)) {
+fn from_stack<Word: BitArray>(words: &[Word], tree: Option<&DecoderHuffmanTree>, sum: &mut Sum) {
+    match StackOf::<'_, Word>::from_compressed(Cursor::new_at_write_end(words)) {
         Ok(mut stack) => match tree {
             Some(tree) => symbols::<Stack, _>(&mut stack, tree, sum),
             None => numbers::<Stack, _>(&mut stack, sum),
@@ -97,8 +98,8 @@ fn from_stack(words: &[u8], tree: Option<&DecoderHuffmanTree>, sum: &mut Sum) {
     }
 }
 
-impl Reader for Bits<'_> {
-    fn read(&self, words: &[u8], sum: &mut Sum) {
+impl<Word: BitArray> Reader<Word> for Bits<'_> {
+    fn read(&self, words: &[Word], sum: &mut Sum) {
         match self.form {
             Form::QueueOfNumbers => from_queue(words, None, sum),
             Form::StackOfNumbers => from_stack(words, None, sum),

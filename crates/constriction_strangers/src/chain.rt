@@ -129,7 +129,7 @@ fn coder_of<'a>(alloc: Global, words: &'a [u8], form: Form, sum: &mut Sum) -> Op
     }
 }
 
-impl Reader for Chain<'_> {
+impl Reader<u8> for Chain<'_> {
     fn read(&self, words: &[u8], sum: &mut Sum) {
         if let Form::Remainders = self.form {
             return put_back(self.alloc, words, self.table, sum);

@@ -1,7 +1,8 @@
 //! Words, positions and raw parts from strangers: what each decoder makes of lists of words.
 //!
-//! Words are all lists of at most two bytes, and each beginning and each rest of some exports. Raw parts and positions
-//! of other coders are tried over the lists of at most one byte and those of the exports. Each answer and each number
+//! Words are all lists of at most two bytes, and each beginning and each rest of some exports; of bit coders also those
+//! of two exports in words of 32 bits. Raw parts and positions of other coders are tried over the lists of at most one
+//! byte and those of the exports. Each answer and each number
 //! that a coder shows goes into a sum that depends on their order, and the program prints a line for each kind: how
 //! many cases there were, and the sum. `tests/strangers` computes the same lines apart, from the definitions.
 #![tactic(auto)]
@@ -32,20 +33,23 @@ const EXPORTS: [&[u8]; 5] = [
     &[7, 255, 1],
 ];
 
+/// Exports of bit coders in words of 32 bits, of which each beginning and each rest is tried.
+const WIDE_EXPORTS: [&[u32]; 2] = [&[4294967295, 1], &[256]];
+
 /// What is made of words.
-pub trait Reader {
+pub trait Reader<Word> {
     /// Makes a decoder of the words, and adds what it gives.
-    fn read(&self, words: &[u8], sum: &mut Sum);
+    fn read(&self, words: &[Word], sum: &mut Sum);
 }
 
 /// Reads a list.
-fn read_one<R: Reader>(reader: &R, words: &[u8], sum: &mut Sum) {
+fn read_one<Word, R: Reader<Word>>(reader: &R, words: &[Word], sum: &mut Sum) {
     sum.begin();
     reader.read(words, sum);
 }
 
 /// Reads the lists of at most one byte, and each beginning and each rest of the exports.
-fn read_short<R: Reader>(reader: &R, sum: &mut Sum) {
+fn read_short<R: Reader<u8>>(reader: &R, sum: &mut Sum) {
     read_one(reader, &[], sum);
     for first in 0..=255u8 {
         read_one(reader, &[first], sum);
@@ -61,7 +65,7 @@ fn read_short<R: Reader>(reader: &R, sum: &mut Sum) {
 }
 
 /// Reads all lists of two bytes.
-fn read_pairs<R: Reader>(reader: &R, sum: &mut Sum) {
+fn read_pairs<R: Reader<u8>>(reader: &R, sum: &mut Sum) {
     for first in 0..=255u8 {
         for second in 0..=255u8 {
             read_one(reader, &[first, second], sum);
@@ -70,7 +74,7 @@ fn read_pairs<R: Reader>(reader: &R, sum: &mut Sum) {
 }
 
 /// Prints what is made of words.
-fn show_words<R: Reader>(rt: &impl Print, name: &str, reader: &R) -> Result<()> {
+fn show_words<R: Reader<u8>>(rt: &impl Print, name: &str, reader: &R) -> Result<()> {
     let mut sum = Sum::new();
     read_short(reader, &mut sum);
     read_pairs(reader, &mut sum);
@@ -79,9 +83,24 @@ fn show_words<R: Reader>(rt: &impl Print, name: &str, reader: &R) -> Result<()> 
 }
 
 /// Prints what is made of raw parts or a position.
-fn show_parts<R: Reader>(rt: &impl Print, name: &str, reader: &R) -> Result<()> {
+fn show_parts<R: Reader<u8>>(rt: &impl Print, name: &str, reader: &R) -> Result<()> {
     let mut sum = Sum::new();
     read_short(reader, &mut sum);
+    println!(rt; "{name}: {} {}", sum.cases, sum.value)?;
+    Ok(())
+}
+
+/// Prints what is made of the beginnings and rests of the exports in words of 32 bits.
+fn show_wide<R: Reader<u32>>(rt: &impl Print, name: &str, reader: &R) -> Result<()> {
+    let mut sum = Sum::new();
+    for export in WIDE_EXPORTS {
+        for place in 0..=2usize {
+            if let Some((begin, rest)) = export.split_at_checked(place) {
+                read_one(reader, begin, &mut sum);
+                read_one(reader, rest, &mut sum);
+            }
+        }
+    }
     println!(rt; "{name}: {} {}", sum.cases, sum.value)?;
     Ok(())
 }
@@ -257,44 +276,26 @@ fn of_chain(rt: &impl Print, alloc: Global) -> Result<()> {
     Ok(())
 }
 
-/// The bit coders.
+/// What bits are read as, and its name.
+const FORMS: [(&str, bits::Form); 4] = [
+    ("queue of numbers", bits::Form::QueueOfNumbers),
+    ("stack of numbers", bits::Form::StackOfNumbers),
+    ("queue of symbols", bits::Form::QueueOfSymbols),
+    ("stack of symbols", bits::Form::StackOfSymbols),
+];
+
+/// The bit coders, over words of 8 bits and of 32.
 fn of_bits(rt: &impl Print, alloc: Global) -> Result<()> {
     let Ok(tree) = DecoderHuffmanTree::from_probabilities(alloc, &bits::WEIGHTS) else {
         bail!("no tree");
     };
     let tree = &tree;
-    show_words(
-        rt,
-        "queue of numbers",
-        &Bits {
-            tree,
-            form: bits::Form::QueueOfNumbers,
-        },
-    )?;
-    show_words(
-        rt,
-        "stack of numbers",
-        &Bits {
-            tree,
-            form: bits::Form::StackOfNumbers,
-        },
-    )?;
-    show_words(
-        rt,
-        "queue of symbols",
-        &Bits {
-            tree,
-            form: bits::Form::QueueOfSymbols,
-        },
-    )?;
-    show_words(
-        rt,
-        "stack of symbols",
-        &Bits {
-            tree,
-            form: bits::Form::StackOfSymbols,
-        },
-    )?;
+    'bytes: for (name, form) in FORMS {
+        show_words(rt, name, &Bits { tree, form })?;
+    }
+    'wide: for (name, form) in FORMS {
+        show_wide(rt, name, &Bits { tree, form })?;
+    }
     Ok(())
 }
 

@@ -67,7 +67,7 @@ fn decoded(mut decoder: Decoder<'_>, table: &WeightTable<u8, 8>, sum: &mut Sum) 
     sum.add_whether(decoder.maybe_exhausted());
 }
 
-impl Reader for Range<'_> {
+impl Reader<u8> for Range<'_> {
     fn read(&self, words: &[u8], sum: &mut Sum) {
         let decoder = match self.form {
             Form::Compressed => RangeDecoder::with_backend(Cursor::new_at_write_beginning(

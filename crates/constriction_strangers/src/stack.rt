@@ -60,7 +60,7 @@ fn decoded(mut coder: Coder<'_>, table: &WeightTable<u8, 8>, sum: &mut Sum) {
     }
 }
 
-impl Reader for Stack<'_> {
+impl Reader<u8> for Stack<'_> {
     fn read(&self, words: &[u8], sum: &mut Sum) {
         match coder_of(words, self.form, sum) {
             Some(coder) => decoded(coder, self.table, sum),

@@ -45,7 +45,7 @@ fn looked_up(alloc: Global, store: &Bytes<'_>, sum: &mut Sum) {
     }
 }
 
-impl Reader for Chunk<'_> {
+impl Reader<u8> for Chunk<'_> {
     fn read(&self, words: &[u8], sum: &mut Sum) {
         match store_of(self.alloc, self.table, words, self.entry) {
             Some(store) => {
