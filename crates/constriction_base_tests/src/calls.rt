@@ -26,32 +26,6 @@ where
     }
 }
 
-/// The words are the ones that reads as a stack give, and no word is left behind them.
-pub fn pops_all<B: ReadWords<u32, Stack>>(backend: &mut B, words: &[u32]) -> bool
-where
-    B::ReadError: Drop,
-{
-    for word in words {
-        if !pops(backend, Some(*word)) {
-            return false;
-        }
-    }
-    pops(backend, None)
-}
-
-/// The words are the ones that reads as a queue give, and no word is left behind them.
-pub fn takes_all<B: ReadWords<u32, Queue>>(backend: &mut B, words: &[u32]) -> bool
-where
-    B::ReadError: Drop,
-{
-    for word in words {
-        if !takes(backend, Some(*word)) {
-            return false;
-        }
-    }
-    takes(backend, None)
-}
-
 /// As a stack the backend may be exhausted.
 pub fn seems_popped<B: ReadWords<u32, Stack>>(backend: &B) -> bool {
     backend.maybe_exhausted()

@@ -8,7 +8,6 @@ use constriction_base::head_words::{
     append_words, count_of_words, fill, words_below_one, write_words,
 };
 use std::convert::Infallible;
-use std::test::Fail;
 
 /// What became of a call that writes words.
 #[derive(PartialEq, Eq, Drop)]
@@ -75,15 +74,6 @@ fn the_lowest_word_is_written_first(rt: HostRuntime) {
     assert!(rt; appends(&mut cursor, 0x0504, 0) == Wrote::All);
     assert!(rt; writes(&mut cursor, 0x0403, 1) == Wrote::All);
     assert!(rt; buffer == [9, 1, 2, 3]);
-}
-
-#[test]
-fn a_refused_word_leaves_those_before_it(rt: HostRuntime) {
-    let mut buffer = [0u8, 0];
-    let mut cursor = Cursor::new_at_write_beginning(&mut buffer[1..]);
-    assert!(rt; appends(&mut cursor, 0x0201, 2) == Wrote::OutOfSpaceAfter(1));
-    assert!(rt; writes(&mut cursor, 0x0403, 2) == Wrote::OutOfSpaceAfter(0));
-    assert!(rt; buffer == [0, 1]);
 }
 
 #[test]

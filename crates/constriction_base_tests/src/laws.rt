@@ -1,10 +1,9 @@
 //! What the laws of backends say to a caller, by the bounds alone and at concrete types.
 
-ghost use Rattle.std.specs.Prelude.{◌≡◌, ◌↔◌, ◌≤◌, false, length, drop, reverse, vec_len, IsOk, OnOk, OnErr, IfErr};
+ghost use Rattle.std.specs.Prelude.{◌≡◌, ◌↔◌, ◌≤◌, false, length, vec_len, IsOk, OnErr, IfErr};
 
 use constriction_base::backends::{
-    BothWays, CountsWords, Holds, IntoReadWords, Pos, Queue, Seek, SeeksBack, Stack, WriteWords,
-    written_to_queue,
+    CountsWords, Pos, Seek, SeeksBack, WriteWords, written_to_queue,
 };
 use constriction_base::cursor::Cursor;
 use std::alloc::Allocator;

@@ -1,6 +1,6 @@
 //! What the bounds alone say of a backend: a word is read, and two are written in its place.
 
-ghost use Rattle.std.specs.Prelude.{◌≡◌, ◌+◌, ◌-◌, ◌<◌, ◌≤◌, ◌∷◌, ◌⊎◌, [], ℕ, List, Option, Result, Ok, Err, Some, None, OnOk, OnErr, IfOk, IfErr, length, reverse, take, drop, vec_len, vec_capacity, slice_get};
+ghost use Rattle.std.specs.Prelude.{◌≡◌, ◌+◌, ◌-◌, ◌<◌, ◌≤◌, ◌∷◌, ◌⊎◌, Option, Result, Ok, Err, Some, None, OnOk, OnErr, IfOk, IfErr, length, reverse, take, drop, slice_get};
 ghost use Rattle.constriction_base_tests.specs.declared.two_for_one.Refusal.TheVariants as refusal;
 ghost use Rattle.constriction_base.specs.declared.errors.BoundedWriteError.TheVariants.{OutOfSpace};
 
@@ -9,7 +9,6 @@ use constriction_base::cursor::Cursor;
 use constriction_base::errors::BoundedWriteError;
 use constriction_words::BitArray;
 use std::alloc::{AllocError, Allocator};
-use std::convert::Infallible;
 
 /// Which call of the backend was refused. A refused `prepare` hands back the word that was read.
 #[derive(Debug, Drop)]

@@ -1,10 +1,9 @@
-//! A vector as a stack, in memory enough and in a small heap, and the words that buffers lend.
+//! A vector as a stack, and the words that buffers lend.
 
-use crate::calls::{filled, pops, prepares, puts, seeks, seems_full, seems_popped, stacks, stands};
+use crate::calls::{pops, prepares, puts, seeks, seems_full, seems_popped, stacks, stands};
 use constriction_base::backends::{
     BoundedReadWords, Pos, PosSeek, ReadWords, Seek, Stack, Words, WordsMut, WriteWords,
 };
-use linked_list_allocator::LocalHeap;
 use std::alloc::AllocError;
 use std::convert::Infallible;
 use std::test::Fail;
@@ -62,34 +61,6 @@ where
         & stands(backend, 1)
 }
 
-/// Where a backend is full it is refused memory, and takes the word for which it has room.
-fn is_refused<B>(backend: &mut B) -> bool
-where
-    B: BoundedReadWords<u32, Stack> + ReadWords<u32, Stack, ReadError = Infallible>,
-    B: WriteWords<u32, WriteError = AllocError>,
-{
-    let count = filled(backend);
-    if count == 0 {
-        return false;
-    }
-    stacks(backend, count as usize)
-        & pops(backend, Some(count - 1))
-        & !prepares(backend, 200)
-        & stacks(backend, count as usize - 1)
-        & puts(backend, 6)
-        & !puts(backend, 7)
-        & pops(backend, Some(6))
-}
-
-/// A backend that was refused memory goes on once there is some.
-fn goes_on<B>(backend: &mut B) -> bool
-where
-    B: ReadWords<u32, Stack, ReadError = Infallible>,
-    B: WriteWords<u32, WriteError = AllocError>,
-{
-    prepares(backend, 4) & puts(backend, 7) & pops(backend, Some(7))
-}
-
 /// A vector's words `[1, 2, 3]` are changed and turned round.
 fn vector_is_changed(words: &mut Vec<u32>) -> bool {
     if words.len() != 3 {
@@ -118,17 +89,6 @@ fn a_vector_is_a_stack(rt: HostRuntime) {
 fn a_vector_seeks_by_its_length(rt: HostRuntime) -> Result<(), Fail> {
     let mut words = [7u32, 8, 9].to_vec(rt.alloc())?;
     assert!(rt; seeks_by_length(&mut words));
-    Ok(())
-}
-
-#[test]
-fn a_vector_s_memory_is_refused(rt: HostRuntime) -> Result<(), Fail> {
-    let heap = LocalHeap::new(rt.alloc(), 512)?;
-    let mut words: Vec<u32, &LocalHeap> = Vec::new(&heap);
-    let filler: Vec<u8, &LocalHeap> = Vec::with_capacity(&heap, 400)?;
-    assert!(rt; is_refused(&mut words));
-    drop(filler);
-    assert!(rt; goes_on(&mut words));
     Ok(())
 }
 

@@ -3,7 +3,8 @@
 //!
 //! What a contract of `constriction_models` says is proved there for all values. These tests stand for what no contract
 //! can say: that the definitions give the numbers that a reader expects, that calls which take memory succeed where
-//! there is some, and that a caller reaches each call at each width of words.
+//! there is some, and that a caller reaches them. `tests/cases/constriction_models_tests` has tests that run without a proof,
+//! by `tests/unproved`: of many ranges at each width of words, and of many symbols.
 //!
 //! `tests/models expected` prints the worked values of [`intervals`] and [`weights`]: it makes them of the formulas of the
 //! distributions, and of another program for weights, and not of this library.
@@ -19,8 +20,6 @@ mod lists;
 mod lookups;
 #[cfg(test)]
 mod own;
-#[cfg(test)]
-mod ranges;
 #[cfg(test)]
 mod small;
 #[cfg(test)]

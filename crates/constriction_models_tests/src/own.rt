@@ -1,6 +1,5 @@
 //! A distribution of a program's own, and references to one.
 
-ghost use Rattle.constriction_models.specs.Quantized.{IsDistribution};
 ghost use Rattle.std.proofs.Common.{arith};
 
 use crate::cuts::{cuts, interval_of};

@@ -1,50 +1,9 @@
 //! Models of equal symbols and of two.
 
-use crate::cuts::{cuts, interval_of, is_unknown};
+use crate::cuts::{cuts, interval_of};
 use constriction_models::bernoulli::BernoulliModel;
 use constriction_models::errors::SupportError;
 use constriction_models::uniform::UniformModel;
-use std::alloc::{AllocError, Global};
-use std::test::Fail;
-
-/// The symbols below a count.
-fn symbols_below(alloc: Global, count: usize) -> Result<Vec<usize>, AllocError> {
-    let mut symbols = Vec::new(alloc);
-    for symbol in 0..count {
-        symbols.push(symbol)?;
-    }
-    Ok(symbols)
-}
-
-/// At 8, 12, 24 and 32 bits, where so many symbols fit.
-fn is_cut(count: usize, symbols: &[usize]) -> bool {
-    let eight = match UniformModel::<u8, 8>::new(count) {
-        Ok(model) => cuts(&model, 256, symbols) && is_unknown(&model, &count),
-        Err(error) => error == SupportError::TooMany && count > 256,
-    };
-    let twelve = match UniformModel::<u16, 12>::new(count) {
-        Ok(model) => cuts(&model, 4096, symbols) && is_unknown(&model, &usize::MAX),
-        Err(_) => false,
-    };
-    let twenty_four = match UniformModel::<u32, 24>::new(count) {
-        Ok(model) => cuts(&model, 16777216, symbols),
-        Err(_) => false,
-    };
-    let thirty_two = match UniformModel::<u32, 32>::new(count) {
-        Ok(model) => cuts(&model, 4294967296, symbols),
-        Err(_) => false,
-    };
-    eight & twelve & twenty_four & thirty_two
-}
-
-#[test]
-fn equal_symbols_are_cut(rt: HostRuntime) -> Result<(), Fail> {
-    for count in [2, 3, 7, 10, 100, 255, 256, 257, 300, 4096] {
-        let symbols = symbols_below(rt.alloc(), count)?;
-        assert!(rt; is_cut(count, symbols.as_slice()), "{count} symbols");
-    }
-    Ok(())
-}
 
 /// Whether so many symbols are refused for this reason, at a precision of 8 bits.
 fn refuses(count: usize, expected: SupportError) -> bool {

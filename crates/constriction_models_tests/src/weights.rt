@@ -1,29 +1,18 @@
-//! Weights of counts: shares, remainders, ties, weights that are raised to 1, and what is refused.
+//! Weights of counts: shares, and ties.
 
 use constriction_base::weights::WeightTable;
-use constriction_models::counts::{CountsError, weights_of_counts};
+use constriction_models::counts::weights_of_counts;
 use std::alloc::Global;
 use std::test::Fail;
 
 /// Whether the counts have these weights.
-fn are(alloc: Global, counts: &[u64], precision: u32, expected: &[u32]) -> bool {
+pub fn are(alloc: Global, counts: &[u64], precision: u32, expected: &[u32]) -> bool {
     if precision > 31 {
         return false;
     }
     match weights_of_counts(alloc, counts, precision) {
         Ok(weights) => weights.as_slice() == expected,
         Err(_) => false,
-    }
-}
-
-/// Whether the counts make no weights for this reason.
-fn refuses(alloc: Global, counts: &[u64], precision: u32, expected: CountsError) -> bool {
-    if precision > 31 {
-        return false;
-    }
-    match weights_of_counts(alloc, counts, precision) {
-        Ok(_) => false,
-        Err(error) => error == expected,
     }
 }
 
@@ -50,31 +39,6 @@ fn weights_are_shares(rt: HostRuntime) {
 fn ties_go_to_the_first(rt: HostRuntime) {
     assert!(rt; are(rt.alloc(), &[1, 1, 1], 3, &[3, 3, 2]));
     assert!(rt; are(rt.alloc(), &[u64::MAX, u64::MAX, 1], 8, &[128, 127, 1]));
-}
-
-#[test]
-fn small_counts_are_raised(rt: HostRuntime) {
-    assert!(rt; are(rt.alloc(), &[1000, 1, 1, 1], 2, &[1, 1, 1, 1]));
-    assert!(rt; are(rt.alloc(), &[1000000, 1, 2, 3], 4, &[13, 1, 1, 1]));
-    let high = 9223372036854775808;
-    assert!(rt;
-        are(
-            rt.alloc(),
-            &[high, high + 1, u64::MAX, 0, 12345],
-            16,
-            &[16384, 16384, 32767, 0, 1],
-        )
-    );
-}
-
-#[test]
-fn counts_are_refused(rt: HostRuntime) {
-    let alloc = rt.alloc();
-    assert!(rt; refuses(alloc, &[], 12, CountsError::Empty));
-    assert!(rt; refuses(alloc, &[0, 0], 12, CountsError::Empty));
-    assert!(rt; refuses(alloc, &[1, 1, 0, 1], 1, CountsError::TooMany));
-    assert!(rt; refuses(alloc, &[1, u64::MAX, 1, 1, 1], 2, CountsError::TooMany));
-    assert!(rt; refuses(alloc, &[1, 1], 0, CountsError::TooMany));
 }
 
 /// Whether the weights of a histogram are those of a table.

@@ -22,7 +22,6 @@ pub enum Write {
     Bits,
     Each,
     List,
-    Pairs,
 }
 
 /// A call that reads bits.
@@ -31,7 +30,6 @@ pub enum Read {
     Bits,
     Each,
     List,
-    Codebooks,
 }
 
 /// A call of a bit coder.
@@ -42,17 +40,9 @@ pub enum Form {
     QueueIntoCompressed,
     QueueIntoDecoder,
     StackWrites(Write),
-    StackListBack,
-    StackPairsBack,
     StackReads(Read),
     StackIntoCompressed,
     StackFromCompressed,
-}
-
-/// Four numbers, each with its codebook.
-fn pairs(codebook: &ExpGolomb<u8>) -> [(&u8, &ExpGolomb<u8>); 4] {
-    let [a, b, c, d] = &NUMBERS;
-    [(a, codebook), (b, codebook), (c, codebook), (d, codebook)]
 }
 
 /// Writes a 1 and then zeros and ones in turn, up to the first that is refused.
@@ -92,7 +82,6 @@ where
         Write::Bits => writes_bits::<S, W>(stream),
         Write::Each => writes_each::<S, W>(stream),
         Write::List => answer_of(stream.encode_iid_symbols(&NUMBERS, &codebook)),
-        Write::Pairs => answer_of(stream.encode_symbols(pairs(&codebook))),
     }
 }
 
@@ -139,23 +128,6 @@ fn reads_list<S: Semantics, R: ReadBitStream<S, ReadError = Refused>>(
     }
 }
 
-/// Four numbers, each by a codebook.
-fn reads_each<S: Semantics, R: ReadBitStream<S, ReadError = Refused>>(
-    stream: &mut R,
-    sum: &mut Sum,
-) {
-    let codebooks = [
-        ExpGolomb::<u8>::new(),
-        ExpGolomb::<u8>::new(),
-        ExpGolomb::<u8>::new(),
-        ExpGolomb::<u8>::new(),
-    ];
-    let mut given = stream.decode_symbols(codebooks.iter());
-    for _ in 0..4 {
-        add_given(given.next(), sum);
-    }
-}
-
 /// Reads by a call, also behind what is refused.
 fn reads<S: Semantics, R: ReadBitStream<S, ReadError = Refused>>(
     stream: &mut R,
@@ -171,7 +143,6 @@ fn reads<S: Semantics, R: ReadBitStream<S, ReadError = Refused>>(
             }
         }
         Read::List => reads_list::<S, R>(stream, &codebook, sum),
-        Read::Codebooks => reads_each::<S, R>(stream, sum),
     }
 }
 
@@ -227,26 +198,16 @@ fn queue_decoder(backend: Refusing<'_>, call: Read, budget: &Budget, sum: &mut S
     add_bits::<Queue, _>(&mut decoder, 60, sum);
 }
 
-/// Writes to a stack by a call.
-fn writes_stack(coder: &mut StackCoder<u8, Refusing<'_>>, form: Form) -> Answer {
-    let codebook = ExpGolomb::<u8>::new();
-    match form {
-        Form::StackWrites(call) => writes::<Stack, _>(coder, call),
-        Form::StackListBack => answer_of(coder.encode_iid_symbols_reverse(&NUMBERS, &codebook)),
-        _ => answer_of(coder.encode_symbols_reverse(pairs(&codebook))),
-    }
-}
-
 /// Makes a call of a stack, and adds its words then.
 fn stack(mut coder: StackCoder<u8, Refusing<'_>>, form: Form, budget: &Budget, sum: &mut Sum) {
     match form {
         Form::StackReads(call) => reads::<Stack, _>(&mut coder, call, sum),
         Form::StackIntoCompressed => return close_stack(coder, sum),
-        Form::StackFromCompressed => {}
-        _ => {
-            let answer = writes_stack(&mut coder, form);
+        Form::StackWrites(call) => {
+            let answer = writes::<Stack, _>(&mut coder, call);
             sum.add_answer(answer);
         }
+        _ => {}
     }
     budget.refuse_nothing();
     close_stack(coder, sum);

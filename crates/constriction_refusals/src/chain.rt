@@ -1,7 +1,7 @@
 //! The chain coder over backends that refuse, both of which share the calls that pass.
 
 use crate::backend::Refusing;
-use crate::putting::{Put, PutBack, Table, Take, put_on_chain, puts, takes};
+use crate::putting::{Put, Table, Take, puts, takes};
 use crate::sum::Sum;
 use constriction_base::backends::Seek;
 use constriction_base::errors::CoderError;
@@ -16,7 +16,6 @@ type Coder<'a> = At<'a, 4>;
 #[derive(Clone, Copy)]
 pub enum Form {
     Put(Put),
-    PutBack(PutBack),
     Take(Take),
     Seek,
     IntoRemainders,
@@ -60,12 +59,6 @@ fn seeks(coder: &mut Coder<'_>) -> bool {
     }
 }
 
-/// Puts symbols on from the last to the first.
-fn put_back(coder: &mut Coder<'_>, call: PutBack, table: &Table, sum: &mut Sum) {
-    let answer = put_on_chain(coder, table, call);
-    sum.add_answer(answer);
-}
-
 /// Makes a call of a coder that is lent, and adds what is left of the coder.
 fn lent(mut coder: Coder<'_>, form: Form, table: &Table, sum: &mut Sum) {
     match form {
@@ -73,7 +66,6 @@ fn lent(mut coder: Coder<'_>, form: Form, table: &Table, sum: &mut Sum) {
             let answer = puts(&mut coder, table, call);
             sum.add_answer(answer);
         }
-        Form::PutBack(call) => put_back(&mut coder, call, table, sum),
         Form::Take(call) => takes(&mut coder, table, call, sum),
         _ => {
             let is_done = seeks(&mut coder);

@@ -1,5 +1,7 @@
 //! Calls of backends that are refused.
 //!
+//! Of list calls those by one model or codebook are tried: the others go by the same steps, as their contracts say.
+//!
 //! Each call is made over backends that pass no call, one, two, .. until a run meets no refusal: once where
 //! `prepare` makes room, and once where it makes none. Each answer, the numbers of the coder and the words that the
 //! backends hold then go into a sum that depends on their order, with the words that backends took that are gone,
@@ -21,7 +23,7 @@ use anyhow::{Result, bail};
 use backend::Refusing;
 use budget::Budget;
 use constriction_base::weights::WeightTable;
-use putting::{Put, PutBack, Table, Take, WEIGHTS};
+use putting::{Put, Table, Take, WEIGHTS};
 use std::alloc::{AllocError, Global};
 use sum::Sum;
 
@@ -42,7 +44,7 @@ const WORDS: [u8; 5] = [9, 200, 31, 7, 1];
 const REMAINDERS: [u8; 4] = [77, 3, 250, 18];
 
 /// All calls.
-const CASES: [(&str, Case); 78] = [
+const CASES: &[(&str, Case)] = &[
     (
         "stack, encode_symbol",
         Case::Stack(stack::Form::Put(Put::Each)),
@@ -52,40 +54,12 @@ const CASES: [(&str, Case); 78] = [
         Case::Stack(stack::Form::Put(Put::List)),
     ),
     (
-        "stack, encode_symbols",
-        Case::Stack(stack::Form::Put(Put::Pairs)),
-    ),
-    (
-        "stack, try_encode_symbols",
-        Case::Stack(stack::Form::Put(Put::Items)),
-    ),
-    (
-        "stack, encode_iid_symbols_reverse",
-        Case::Stack(stack::Form::PutBack(PutBack::List)),
-    ),
-    (
-        "stack, encode_symbols_reverse",
-        Case::Stack(stack::Form::PutBack(PutBack::Pairs)),
-    ),
-    (
-        "stack, try_encode_symbols_reverse",
-        Case::Stack(stack::Form::PutBack(PutBack::Items)),
-    ),
-    (
         "stack, decode_symbol",
         Case::Stack(stack::Form::Take(Take::Each)),
     ),
     (
         "stack, decode_iid_symbols",
         Case::Stack(stack::Form::Take(Take::List)),
-    ),
-    (
-        "stack, decode_symbols",
-        Case::Stack(stack::Form::Take(Take::Models)),
-    ),
-    (
-        "stack, try_decode_symbols",
-        Case::Stack(stack::Form::Take(Take::Items)),
     ),
     ("stack, seek", Case::Stack(stack::Form::Seek)),
     (
@@ -111,14 +85,6 @@ const CASES: [(&str, Case); 78] = [
         "range, encode_iid_symbols",
         Case::Range(range::Form::Put(Put::List)),
     ),
-    (
-        "range, encode_symbols",
-        Case::Range(range::Form::Put(Put::Pairs)),
-    ),
-    (
-        "range, try_encode_symbols",
-        Case::Range(range::Form::Put(Put::Items)),
-    ),
     ("range, encode_flagged", Case::Range(range::Form::Flagged)),
     (
         "range, into_compressed",
@@ -137,14 +103,6 @@ const CASES: [(&str, Case); 78] = [
         "range, decode_iid_symbols",
         Case::Range(range::Form::Take(Take::List)),
     ),
-    (
-        "range, decode_symbols",
-        Case::Range(range::Form::Take(Take::Models)),
-    ),
-    (
-        "range, try_decode_symbols",
-        Case::Range(range::Form::Take(Take::Items)),
-    ),
     ("range, next_symbol", Case::Range(range::Form::FlagSwitch)),
     ("range, seek", Case::Range(range::Form::Seek)),
     ("range, with_backend", Case::Range(range::Form::WithBackend)),
@@ -161,40 +119,12 @@ const CASES: [(&str, Case); 78] = [
         Case::Chain(chain::Form::Put(Put::List)),
     ),
     (
-        "chain, encode_symbols",
-        Case::Chain(chain::Form::Put(Put::Pairs)),
-    ),
-    (
-        "chain, try_encode_symbols",
-        Case::Chain(chain::Form::Put(Put::Items)),
-    ),
-    (
-        "chain, encode_iid_symbols_reverse",
-        Case::Chain(chain::Form::PutBack(PutBack::List)),
-    ),
-    (
-        "chain, encode_symbols_reverse",
-        Case::Chain(chain::Form::PutBack(PutBack::Pairs)),
-    ),
-    (
-        "chain, try_encode_symbols_reverse",
-        Case::Chain(chain::Form::PutBack(PutBack::Items)),
-    ),
-    (
         "chain, decode_symbol",
         Case::Chain(chain::Form::Take(Take::Each)),
     ),
     (
         "chain, decode_iid_symbols",
         Case::Chain(chain::Form::Take(Take::List)),
-    ),
-    (
-        "chain, decode_symbols",
-        Case::Chain(chain::Form::Take(Take::Models)),
-    ),
-    (
-        "chain, try_decode_symbols",
-        Case::Chain(chain::Form::Take(Take::Items)),
     ),
     ("chain, seek", Case::Chain(chain::Form::Seek)),
     (
@@ -247,10 +177,6 @@ const CASES: [(&str, Case); 78] = [
         Case::Bits(bits::Form::QueueWrites(bits::Write::List)),
     ),
     (
-        "queue of bits, encode_symbols",
-        Case::Bits(bits::Form::QueueWrites(bits::Write::Pairs)),
-    ),
-    (
         "queue of bits, read_bit",
         Case::Bits(bits::Form::QueueReads(bits::Read::Bits)),
     ),
@@ -261,10 +187,6 @@ const CASES: [(&str, Case); 78] = [
     (
         "queue of bits, decode_iid_symbols",
         Case::Bits(bits::Form::QueueReads(bits::Read::List)),
-    ),
-    (
-        "queue of bits, decode_symbols",
-        Case::Bits(bits::Form::QueueReads(bits::Read::Codebooks)),
     ),
     (
         "queue of bits, into_compressed",
@@ -287,18 +209,6 @@ const CASES: [(&str, Case); 78] = [
         Case::Bits(bits::Form::StackWrites(bits::Write::List)),
     ),
     (
-        "stack of bits, encode_symbols",
-        Case::Bits(bits::Form::StackWrites(bits::Write::Pairs)),
-    ),
-    (
-        "stack of bits, encode_iid_symbols_reverse",
-        Case::Bits(bits::Form::StackListBack),
-    ),
-    (
-        "stack of bits, encode_symbols_reverse",
-        Case::Bits(bits::Form::StackPairsBack),
-    ),
-    (
         "stack of bits, read_bit",
         Case::Bits(bits::Form::StackReads(bits::Read::Bits)),
     ),
@@ -309,10 +219,6 @@ const CASES: [(&str, Case); 78] = [
     (
         "stack of bits, decode_iid_symbols",
         Case::Bits(bits::Form::StackReads(bits::Read::List)),
-    ),
-    (
-        "stack of bits, decode_symbols",
-        Case::Bits(bits::Form::StackReads(bits::Read::Codebooks)),
     ),
     (
         "stack of bits, from_compressed",
@@ -382,8 +288,8 @@ fn show(rt: &impl Print, alloc: Global, table: &Table, name: &str, case: Case) -
 fn main(rt: HostRuntime) -> Result<()> {
     let alloc = rt.alloc();
     let table = &WeightTable::<u8, 4>::new(alloc, &WEIGHTS)?;
-    'cases: for (name, case) in CASES {
-        show(&rt, alloc, table, name, case)?;
+    'cases: for (name, case) in CASES.iter() {
+        show(&rt, alloc, table, name, *case)?;
     }
     Ok(())
 }

@@ -1,7 +1,7 @@
 //! The stack coder over backends that refuse.
 
 use crate::backend::Refusing;
-use crate::putting::{Put, PutBack, Table, Take, put_on_stack, puts, takes};
+use crate::putting::{Put, Table, Take, puts, takes};
 use crate::sum::Sum;
 use constriction_base::backends::Seek;
 use constriction_stack::AnsCoder;
@@ -13,7 +13,6 @@ type Coder<'a> = AnsCoder<u8, u32, Refusing<'a>>;
 #[derive(Clone, Copy)]
 pub enum Form {
     Put(Put),
-    PutBack(PutBack),
     Take(Take),
     Seek,
     Compressed,
@@ -78,12 +77,6 @@ fn get_binary(coder: &mut Coder<'_>, sum: &mut Sum) {
     }
 }
 
-/// Puts symbols on from the last to the first.
-fn put_back(coder: &mut Coder<'_>, call: PutBack, table: &Table, sum: &mut Sum) {
-    let answer = put_on_stack(coder, table, call);
-    sum.add_answer(answer);
-}
-
 /// Makes a call of a coder that is lent.
 fn borrowed(coder: &mut Coder<'_>, form: Form, table: &Table, sum: &mut Sum) {
     match form {
@@ -91,7 +84,6 @@ fn borrowed(coder: &mut Coder<'_>, form: Form, table: &Table, sum: &mut Sum) {
             let answer = puts(coder, table, call);
             sum.add_answer(answer);
         }
-        Form::PutBack(call) => put_back(coder, call, table, sum),
         Form::Take(call) => takes(coder, table, call, sum),
         Form::Seek => {
             let is_done = coder.seek((2, 9)).is_ok();

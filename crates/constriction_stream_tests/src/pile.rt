@@ -10,11 +10,11 @@ ghost use Rattle.constriction_stream.specs.Symbols.{HasRoom, never_backend};
 ghost use Rattle.constriction_stream_tests.specs.declared.pile.Empty.TheVariants as empty;
 
 use constriction_base::errors::{CoderError, DefaultEncoderFrontendError};
-use constriction_base::model::{DecoderModel, EncoderModel, EntropyModel};
+use constriction_base::model::{DecoderModel, EncoderModel};
 use constriction_stream::coder::Code;
 use constriction_stream::decoding::Decode;
 use constriction_stream::encoding::{Encode, EncodeReverse};
-use constriction_words::{BitArray, WordOf};
+use constriction_words::WordOf;
 use std::alloc::{AllocError, Global};
 
 /// Nothing is on the pile.
