@@ -114,11 +114,13 @@ _PARAMETERS: dict[str, list[Any]] = {
 }
 
 
+_LIBRARY = _load()
+
+
 def _functions() -> dict[str, Any]:
-    library = _load()
     functions = {}
     for name, parameters in _PARAMETERS.items():
-        function = getattr(library, f"constriction_{name}_u32", None)
+        function = getattr(_LIBRARY, f"constriction_{name}_u32", None)
         if function is None:
             continue  # The library is of another version; a call says so.
         function.argtypes, function.restype = parameters, c_uint32
@@ -127,6 +129,18 @@ def _functions() -> dict[str, Any]:
 
 
 _FUNCTIONS = _functions()
+
+
+def plain_function(name: str) -> Any:
+    """A C function whose arguments all come as instances of their types, which is quicker than a conversion of each.
+
+    Where the library has none of this name, the answer calls nothing, and says that nothing was done.
+    """
+    if name not in _FUNCTIONS:
+        return lambda *arguments: 1
+    function = _LIBRARY[f"constriction_{name}_u32"]  # Of its own: what comes by its name as an attribute has types of arguments.
+    function.restype = c_uint32
+    return function
 
 
 def call(name: str, *arguments: Any, texts: dict[int, str] | None = None) -> None:

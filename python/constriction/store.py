@@ -54,11 +54,18 @@ def _entry(given: Sequence[Any]) -> Entry:
     return Entry(whole(position), (whole(lower), whole(length)), whole(count))
 
 
+#: The formats of memory that holds bytes, or words in this machine's byte order.
+_BYTES, _WORDS = frozenset(("B", "b", "c")), frozenset(("I", "L", "=I", "<I" if sys.byteorder == "little" else ">I"))
+
+
 def _as_bytes(words: Any) -> memoryview:
     """The buffer of words, byte by byte and without a copy."""
     view = memoryview(words)
-    if view.ndim != 1 or view.itemsize not in (1, 4):
-        raise TypeError("a buffer of words of 32 bits is wanted, or one of their bytes, the lowest first")
+    if view.ndim != 1 or view.format not in (_BYTES if view.itemsize == 1 else _WORDS if view.itemsize == 4 else ()):
+        raise TypeError(
+            "a buffer of words of 32 bits is wanted, without a sign and in this machine's byte order, as array('I') or a numpy array of "
+            f"uint32, or their bytes, the lowest first; and this one has numbers of the form {view.format!r}"
+        )
     return view.cast("B") if view.nbytes else memoryview(b"")
 
 
