@@ -13,6 +13,7 @@ compute weights in floats.
 
 from . import errors, stream, symbol
 from . import store  # It needs the coders of `stream`, which come first.
+from ._version import VERSION
 
-__version__ = "0.5.0"
+__version__ = VERSION
 __all__ = ["errors", "store", "stream", "symbol"]
