@@ -12,7 +12,7 @@ from ._buffers import NUMBER, SYMBOL, WORD, List, numpy_module, room
 from .errors import IMPOSSIBLE_SYMBOL, ImpossibleSymbolError, InvalidDataError, Refusal
 
 __all__ = [
-    "count_of", "floats_of", "is_one", "listed_of", "places_of", "real", "rows_of", "sequence_of", "whole", "wholes_of",
+    "count_of", "floats_of", "is_one", "listed_of", "places_of", "real", "rows_of", "sequence_of", "table_of", "whole", "wholes_of",
     "words_of",
 ]  # fmt: skip
 
@@ -220,6 +220,12 @@ def floats_of(numbers: Any) -> array[float]:
     if table.dtype.kind not in "iubf":
         raise TypeError(f"floats are wanted, and not those of the type {table.dtype}")
     return _filled(NUMBER, table)
+
+
+def table_of(numbers: Any) -> Any:
+    """An array of numpy of two dimensions, where these are floats in such a one; else None."""
+    table = _as_numpy(numbers)
+    return table if table is not None and table.ndim == 2 and table.dtype.kind == "f" and table.size else None
 
 
 def _listed_rows(numbers: Any) -> Any:

@@ -12,7 +12,7 @@ from ._buffers import NUMBER, SYMBOL, WORD, numpy_module, room
 from ._numbers import real
 
 __all__ = [
-    "FARTHEST", "NARROWEST", "UNITS_OF_ONE", "WIDEST", "counts_of", "counts_of_wholes", "locations_of", "moved", "parts_of", "scales_of",
+    "FARTHEST", "NARROWEST", "UNITS_OF_ONE", "WIDEST", "counts_of", "counts_of_rows", "counts_of_wholes", "locations_of", "moved", "parts_of", "scales_of",
     "unit_of",
 ]  # fmt: skip
 
@@ -132,6 +132,20 @@ def counts_of(probabilities: array[float]) -> array[int]:
         numpy.copyto(numpy.frombuffer(counts, dtype="uint64"), numpy.maximum(table, 1.0, out=table), casting="unsafe")
         return counts
     return array("Q", [round(ldexp(it, shift)) or 1 for it in probabilities])
+
+
+def counts_of_rows(table: Any) -> array[int] | None:
+    """The counts of each row of an array of numpy, one behind another; None where a row has no such counts."""
+    numpy = numpy_module()
+    rows = table.astype("float64")
+    greatest = rows.max(axis=1)
+    if not (numpy.isfinite(rows).all() and rows.min() >= 0 and greatest.min() > 0):
+        return None
+    shifts = _COUNT_BITS - numpy.frexp(greatest)[1]
+    rows = numpy.rint(numpy.ldexp(rows, shifts[:, None]))
+    counts = room("Q", rows.size)
+    numpy.copyto(numpy.frombuffer(counts, dtype="uint64"), numpy.maximum(rows, 1.0, out=rows).ravel(), casting="unsafe")
+    return counts
 
 
 def counts_of_wholes(counts: list[int]) -> array[int]:

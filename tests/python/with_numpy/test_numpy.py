@@ -241,6 +241,25 @@ class Numpy(unittest.TestCase):
             with mock.patch.object(_units, "numpy_module", return_value=None):
                 self.assertEqual(ours, _units.counts_of(array("d", chances)))
 
+    def test_rows_that_are_rounded_together(self) -> None:
+        """As each alone, in several parts, and with the errors of each alone."""
+        dice = numpy.random.default_rng(6)
+        for width, count in ((1, 3), (3, 40), (300, 500)):
+            rows = dice.random((count, width)) ** dice.uniform(1, 300, (count, 1)) + 1e-300
+            rows[:, 0] *= dice.choice([0.0, 1.0, 1e300, 5e-24], count)
+            rows[:, -1] += 1e-9
+            for kind in ("float64", "float32", ">f8"):
+                some = numpy.minimum(rows, 1e38 if kind == "float32" else 1e300).astype(kind)
+                together = [list(row) for weights, _, _ in Categorical().rows((some,)) for row in numpy.asarray(weights).reshape(-1, width).tolist()]
+                self.assertEqual(together, [list(Categorical(row).table()) for row in some.tolist()])
+        for wrong in (-1.0, numpy.nan, numpy.inf):
+            rows = numpy.full((4, 3), 0.25)
+            rows[2, 1] = wrong
+            with self.assertRaisesRegex(ValueError, "^probability 1 is "):
+                AnsCoder().decode(Categorical(), rows)
+        with self.assertRaisesRegex(ValueError, "^no probability is above 0$"):
+            AnsCoder().decode(Categorical(), numpy.zeros((2, 3)))
+
     def test_one_symbol(self) -> None:
         """Numbers of numpy alone, as symbols and as parameters."""
         family, coder, wanted = QuantizedGaussian(-9, 9), AnsCoder(), AnsCoder()

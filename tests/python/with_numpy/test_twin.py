@@ -3,8 +3,12 @@ arrays out. What words there are is compared with the definitions in whole numbe
 
 from __future__ import annotations
 
+import json
 import math
+import os
+import re
 import sys
+import tempfile
 import unittest
 from pathlib import Path
 from typing import Any
@@ -215,6 +219,22 @@ class Readings(unittest.TestCase):
         decoder, top = encoder.get_decoder(), constriction.symbol.StackCoder(pile.get_compressed()[0])
         for letter in letters:
             self.assertEqual((decoder.decode_symbol(reading), top.decode_symbol(reading)), (letter, letter))
+
+    def test_weights_that_are_taken_along(self) -> None:
+        """The script of python/README.md, which is for the original package, writes a model's weights out by the calls that both have."""
+        page = (Path(__file__).resolve().parents[3] / "python/README.md").read_text()
+        script = next(it for it in re.findall(r"```python\n(.*?)```", page, re.DOTALL) if "weights.json" in it)
+        self.assertLessEqual(len(script.splitlines()), 11)
+        before = os.getcwd()
+        with tempfile.TemporaryDirectory() as folder:
+            os.chdir(folder)
+            try:
+                exec(script, {})
+            finally:
+                os.chdir(before)
+            weights = json.loads(Path(folder, "weights.json").read_text())
+        self.assertEqual(weights, models.table_of(models.GAUSSIAN, 1.5, 8.0, -50, 50))
+        self.assertEqual(model.WeightTable(weights).table(), model.QuantizedGaussian(-50, 50, 1.5, 8.0).table())
 
     def test_symbols_that_no_model_has(self) -> None:
         coder, shares = stack.AnsCoder(), model.Categorical(floats(0.5, 0.25, 0.25))

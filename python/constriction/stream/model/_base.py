@@ -70,8 +70,8 @@ class Model:
         return ""
 
     def _compared(self) -> dict[str, Any]:
-        """What equal models have alike: all but tables that others follow from."""
-        return self.__getstate__()
+        """What equal models have alike: all but a table that follows from the rest."""
+        return {name: it for name, it in self.__getstate__().items() if name != "_fixed"}
 
     def __repr__(self) -> str:
         return f"{type(self).__name__}({self._said()})"

@@ -56,9 +56,6 @@ class _Quantized(Model):
         }
         return shown_range(self.first, self._count, **given)
 
-    def _compared(self) -> dict[str, Any]:
-        return {name: it for name, it in super()._compared().items() if name != "_fixed"}
-
     def _units_of_locations(self, name: str, locations: array[float]) -> array[int]:
         return locations_of(name, moved(locations, self._origin))
 

@@ -8,8 +8,8 @@ from typing import Any
 
 from ..._buffers import WORD, List, Reals, listed, room
 from ..._library import call
-from ..._numbers import floats_of, is_one, listed_of, rows_of, sequence_of, words_of
-from ..._units import counts_of, counts_of_wholes
+from ..._numbers import floats_of, is_one, listed_of, rows_of, sequence_of, table_of, words_of
+from ..._units import counts_of, counts_of_rows, counts_of_wholes
 from ...errors import WrongWeightsError
 from ._base import ROW, Model, sized
 
@@ -26,6 +26,9 @@ class Rows(Model):
     """Symbols 0, 1, .. by a row of weights, which is the model's own or comes with each symbol."""
 
     has_rows = True
+
+    def _compared(self) -> dict[str, Any]:
+        return self.__getstate__()
 
     def _said(self) -> str:
         """The weights of the symbols."""
@@ -117,6 +120,26 @@ class Categorical(Rows):
         weights = room(WORD, len(counts))
         call("weights_of_counts", *listed(counts), *listed(weights))
         return weights
+
+    def rows(self, given: Sequence[Any]) -> Iterator[tuple[array[int], int, int]]:
+        """The same; those of an array of numpy are rounded together."""
+        table = table_of(given[0]) if len(given) == 1 else None
+        if table is None or not self.missing:
+            yield from super().rows(given)
+            return
+        width = sized(table.shape[1])
+        size = max(ROWS_AT_A_TIME // width, 1)
+        for start in range(0, len(table), size):
+            some = table[start : start + size]
+            counts = counts_of_rows(some)
+            if counts is None:
+                yield from super().rows((some,))  # It says which probability is wrong.
+                continue
+            weights = room(WORD, len(counts))
+            at, to = counts.buffer_info()[0], weights.buffer_info()[0]
+            for i in range(0, len(counts), width):
+                call("weights_of_counts", at + counts.itemsize * i, width, to + weights.itemsize * i, width)
+            yield weights, width, len(some)
 
 
 def _are_whole(numbers: Any) -> bool:
