@@ -15,6 +15,7 @@ import definitions as by
 import definitions_of_models as models
 from constriction import _single, errors
 from constriction.stream.chain import ChainCoder
+
 from constriction.stream.model import (
     Bernoulli, Categorical, CustomModel, Model, QuantizedCauchy, QuantizedGaussian, QuantizedLaplace, QuantizedLogistic, Uniform, WeightTable,
 )  # fmt: skip
@@ -41,7 +42,13 @@ def some_steps(dice: random.Random, count: int) -> list[Step]:
             (WeightTable(weights), ()), (WeightTable(), (weights,)), (Bernoulli(), (dice.random(),)), (QuantizedCauchy(-9, 9), (mean, std)),
             (kind(-9, 9, -1e9, 1e-9), ()),
         ))  # fmt: skip
-        row = list(model.table()) if not given else weights if isinstance(model, WeightTable) else [1] * (2 if isinstance(model, Bernoulli) else 19)
+        row = (
+            list(model.table())
+            if not given
+            else weights
+            if isinstance(model, WeightTable)
+            else [1] * (2 if isinstance(model, Bernoulli) else 19)
+        )
         steps.append((model.first + by.random_symbol(dice, row), model, given))
     return steps
 
@@ -96,7 +103,9 @@ class Single(unittest.TestCase):
     def test_beside_the_definition(self) -> None:
         """Words of single calls, by the definitions in whole numbers."""
         dice, family, count = random.Random(23), QuantizedGaussian(-20, 20), 200
-        means, stds = [dice.uniform(-15, 15) for _ in range(count)], [math.exp(dice.uniform(-3, 3)) for _ in range(count)]
+        means, stds = [dice.uniform(-15, 15) for _ in range(count)], [
+            math.exp(dice.uniform(-3, 3)) for _ in range(count)
+        ]
         rows = [models.table_of(models.GAUSSIAN, mean, std, -20, 20) for mean, std in zip(means, stds)]
         symbols = [dice.randint(-20, 20) for _ in range(count)]
         coder, encoder = AnsCoder(), RangeEncoder()
@@ -113,12 +122,22 @@ class Single(unittest.TestCase):
 
     def test_it_is_the_quick_way(self) -> None:
         """Plain calls of one symbol never go the way of lists."""
-        table, family, fixed = WeightTable([3, 2, 16777211]), QuantizedGaussian(-9, 9), QuantizedLaplace(-9, 9, 0.5, 2.0)
+        table, family, fixed = (
+            WeightTable([3, 2, 16777211]),
+            QuantizedGaussian(-9, 9),
+            QuantizedLaplace(-9, 9, 0.5, 2.0),
+        )
         slow = mock.patch("constriction._coder.Coder._changed", side_effect=AssertionError("the way of lists"))
         coder, encoder, chain = AnsCoder(), RangeEncoder(), ChainCoder(array("I", range(1, 50)))
         decoder = encoder.get_decoder()
         with slow:
-            for model, given, symbol in ((table, (), 1), (family, (0.5, 2.0), 3), (family, (1, 2), 3), (fixed, (), 4), (Bernoulli(), (0.5,), 1)):
+            for model, given, symbol in (
+                (table, (), 1),
+                (family, (0.5, 2.0), 3),
+                (family, (1, 2), 3),
+                (fixed, (), 4),
+                (Bernoulli(), (0.5,), 1),
+            ):
                 for _ in range(5):
                     coder.encode_reverse(symbol, model, *given), encoder.encode(symbol, model, *given)
                     self.assertEqual(coder.decode(model, *given), symbol)
