@@ -1,6 +1,5 @@
+#!/usr/bin/env python3
 """Nanoseconds a symbol of encodes and decodes from Python: lines `name ns_per_symbol`, each the least of some runs.
-"""Nanoseconds a symbol of encodes and decodes from Python: lines `name ns_per_symbol`, each the least of so many
-runs.
 
 usage: PYTHONPATH=python bench/python.py [PART_OF_A_NAME]
 

@@ -137,8 +137,8 @@ class ChainCoder(Coder):
         ...
 
     @overload
-    def decode(self, model: Model, parameter: float, /, *parameters: float) -> int:
-        ...  # type: ignore[misc]
+    def decode(self, model: Model, parameter: float, /, *parameters: float) -> int:  # type: ignore[misc]
+        ...
 
     @overload
     def decode(self, model: Model, parameter: Parameter, /, *parameters: Parameter) -> Answer:

@@ -133,8 +133,8 @@ class AnsCoder(Coder):
         ...
 
     @overload
-    def decode(self, model: Model, parameter: float, /, *parameters: float) -> int:
-        ...  # type: ignore[misc]
+    def decode(self, model: Model, parameter: float, /, *parameters: float) -> int:  # type: ignore[misc]
+        ...
 
     @overload
     def decode(self, model: Model, parameter: Parameter, /, *parameters: Parameter) -> Answer:
