@@ -100,7 +100,7 @@ def _explained_weights(refused: Refusal, model: Model, given: tuple[Any, ...]) -
     for place, row in enumerate(_rows(model, given) if given else (model.table(),)):
         which = f"row {place} of the weights" if given else "the weights"
         if not len(row):
-            return WrongLengthError(f"{which} has no weight" if given else "there are no weights")
+            return type(refused)(f"{which} has no weight" if given else "there are no weights")
         if sum(row) != TOTAL:
             return WrongWeightsError(f"{WRONG_WEIGHTS}, but to {sum(row)}" + (f", in row {place}" if given else ""))
     return refused

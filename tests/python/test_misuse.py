@@ -76,6 +76,10 @@ for coder in (AnsCoder([1, 2, 3]), RangeDecoder([1, 2, 3]), ChainCoder([1, 2, 3]
             print(type(it).__name__, end=" ")
         assert coder._plain(coder._state) == before
     print()
+try:
+    QueueDecoder([1, 2, 3]).decode(DecoderHuffmanTree([1]), 1 << 40)  # Codewords of no bits.
+except MemoryError:
+    print("MemoryError")
 print(perf_counter() - begun < 1)
 """
         path = {"PYTHONPATH": str(Path(_library.__file__).parents[1]), "CONSTRICTION_LIBRARY": str(_library.PATH)}
@@ -83,7 +87,7 @@ print(perf_counter() - begun < 1)
             [sys.executable, "-c", program], env={**os.environ, **path}, capture_output=True, text=True
         )
         line = "MemoryError MemoryError MemoryError ValueError ValueError ValueError ValueError \n"
-        self.assertEqual((ran.stdout, ran.stderr), (line * 3 + "True\n", ""))
+        self.assertEqual((ran.stdout, ran.stderr), (line * 3 + "MemoryError\nTrue\n", ""))
 
     def test_what_is_no_count(self) -> None:
         text = "^a number of symbols is wanted, a whole one, and not "
@@ -297,7 +301,7 @@ class Places(Misuse):
         text = "^weights do not sum to 16777216, but to 8388613, in row 1$"
         self.unchanged(errors.WrongWeightsError, text, lambda it: it.decode(WeightTable(), rows))
         self.unchanged(errors.WrongWeightsError, text, lambda it: it.encode_reverse([0, 0], WeightTable(), rows))
-        self.unchanged(errors.WrongLengthError, "^there are no weights$", lambda it: it.decode(WeightTable([])))
+        self.unchanged(errors.Refusal, "^there are no weights$", lambda it: it.decode(WeightTable([])))
         for wrong in (-1, 1 << 32):
             self.refused(
                 errors.WrongWeightsError,
