@@ -6,6 +6,7 @@ import copy
 import math
 import pickle
 import random
+import signal
 import unittest
 from array import array
 from typing import Any
@@ -190,6 +191,46 @@ class Single(unittest.TestCase):
         for symbol in range(5000):
             coder.encode_reverse(symbol, model)
         self.assertEqual([coder.decode(model) for _ in range(5000)], list(range(5000))[::-1])
+
+    @unittest.skipUnless(hasattr(signal, "setitimer"), "the system has no timer for a process")
+    def test_interrupts(self) -> None:
+        """A call that a signal interrupts is done or not, and the coder goes on from there."""
+
+        class Interrupt(Exception):
+            pass
+
+        def raise_it(*_: Any) -> None:
+            if armed:
+                raise Interrupt
+
+        armed, dice, coder = False, random.Random(24), AnsCoder(array("I", range(1, 9)))
+        uniform, family, before = Uniform(500), QuantizedGaussian(-500, 500), signal.getsignal(signal.SIGALRM)
+        signal.signal(signal.SIGALRM, raise_it)
+        try:
+            for _ in range(400):
+                steps: list[Step] = []
+                start = coder.pos()
+                signal.setitimer(signal.ITIMER_REAL, dice.uniform(1e-5, 3e-4))
+                try:
+                    armed = True
+                    while True:
+                        symbol = dice.randrange(500)
+                        steps.append(dice.choice(((symbol, uniform, ()), (symbol, family, (symbol + 0.25, 3.0)))))
+                        coder.encode_reverse(steps[-1][0], steps[-1][1], *steps[-1][2])
+                except Interrupt:
+                    armed = False
+                twin = coder.clone()
+                for symbol, model, given in reversed(steps if self.is_done(coder, steps) else steps[:-1]):
+                    self.assertEqual((coder.decode(model, *given), twin.decode(model, *given)), (symbol, symbol))
+                self.assertEqual((coder.pos(), twin.pos()), (start, start))
+        finally:
+            signal.setitimer(signal.ITIMER_REAL, 0)
+            signal.signal(signal.SIGALRM, before)
+
+    def is_done(self, coder: AnsCoder, steps: list[Step]) -> bool:
+        """Whether the last one is on the stack, as the list of all of them gives it back."""
+        twin = coder.clone()
+        return all(twin.decode(model, *given) == symbol for symbol, model, given in reversed(steps))
 
     def test_its_own_call(self) -> None:
         """A number that calls the coder is asked before the coder is at work."""
