@@ -220,17 +220,17 @@ class Single(unittest.TestCase):
                 except Interrupt:
                     armed = False
                 twin = coder.clone()
-                for symbol, model, given in reversed(steps if self.is_done(coder, steps) else steps[:-1]):
+                for symbol, model, given in reversed(steps if self.is_done(coder, steps, start) else steps[:-1]):
                     self.assertEqual((coder.decode(model, *given), twin.decode(model, *given)), (symbol, symbol))
                 self.assertEqual((coder.pos(), twin.pos()), (start, start))
         finally:
             signal.setitimer(signal.ITIMER_REAL, 0)
             signal.signal(signal.SIGALRM, before)
 
-    def is_done(self, coder: AnsCoder, steps: list[Step]) -> bool:
-        """Whether the last one is on the stack, as the list of all of them gives it back."""
+    def is_done(self, coder: AnsCoder, steps: list[Step], start: tuple[int, int]) -> bool:
+        """Whether the last one is on the stack: all of them come back, and below them is what was there at the start."""
         twin = coder.clone()
-        return all(twin.decode(model, *given) == symbol for symbol, model, given in reversed(steps))
+        return all(twin.decode(*it[1:2], *it[2]) == it[0] for it in reversed(steps)) and twin.pos() == start
 
     def test_its_own_call(self) -> None:
         """A number that calls the coder is asked before the coder is at work."""
