@@ -200,7 +200,9 @@ class Single(unittest.TestCase):
             pass
 
         def raise_it(*_: Any) -> None:
+            nonlocal armed
             if armed:
+                armed = False
                 raise Interrupt
 
         armed, dice, coder = False, random.Random(24), AnsCoder(array("I", range(1, 9)))
@@ -210,15 +212,15 @@ class Single(unittest.TestCase):
             for _ in range(400):
                 steps: list[Step] = []
                 start = coder.pos()
-                signal.setitimer(signal.ITIMER_REAL, dice.uniform(1e-5, 3e-4))
                 try:
                     armed = True
+                    signal.setitimer(signal.ITIMER_REAL, dice.uniform(1e-5, 3e-4), 1e-3)
                     while True:
                         symbol = dice.randrange(500)
                         steps.append(dice.choice(((symbol, uniform, ()), (symbol, family, (symbol + 0.25, 3.0)))))
                         coder.encode_reverse(steps[-1][0], steps[-1][1], *steps[-1][2])
                 except Interrupt:
-                    armed = False
+                    signal.setitimer(signal.ITIMER_REAL, 0)
                 twin = coder.clone()
                 for symbol, model, given in reversed(steps if self.is_done(coder, steps, start) else steps[:-1]):
                     self.assertEqual((coder.decode(model, *given), twin.decode(model, *given)), (symbol, symbol))
