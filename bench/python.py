@@ -1,13 +1,19 @@
 #!/usr/bin/env python3
-"""Nanoseconds a symbol of encodes and decodes from Python: lines `name ns_per_symbol`, each the least of so many runs.
+"""Nanoseconds a symbol of encodes and decodes from Python: lines `name ns_per_symbol`, each the least of some runs.
 
 usage: PYTHONPATH=python bench/python.py [PART_OF_A_NAME]
 
-The million symbols and their weights are those of bench/driver, so its lines `ans_encode_u32u64p24_table` and the like stand beside
-these. `array`: symbols come and go as array('Q'); `numpy`: as numpy arrays, where numpy is there; `list`: as a list of Python's. An encode
-begins with a new coder and ends with its words as an array; a decode begins with such words. A case begins with the model made. Cases of
-`gaussian` have a mean and a deviation for each symbol of -100 .. 100, as bench/models.c has; in those of `array` the package doesn't see
-numpy, and all comes as array('d') and array('q').
+The million symbols and their weights are those of bench/driver, so its lines `ans_encode_u32u64p24_table` and the
+like stand beside these. `array`: symbols come and go as array('Q'); `numpy`: as numpy arrays, where numpy is there;
+`list`: as a list of Python's. An encode begins with a new coder and ends with its words as an array; a decode begins
+with such words. A case begins with the model made. Cases of `gaussian` have a mean and a deviation for each symbol
+of -100 .. 100, as bench/models.c has; in those of `array` the package doesn't see numpy, and all comes as array('d')
+and array('q').
+
+Cases of `one` are a symbol a call, 20,000 of them, in nanoseconds a call: `table` under a fixed model of 256
+symbols, `gaussian` with a mean and a deviation of its own over -100 .. 100, `row` by a row of 16 weights that is
+handed in (a decode makes a model of it). `bare` is a call of the C function alone, ans_decode of one symbol under
+three weights, by ctypes with all its arguments made before.
 """
 
 from __future__ import annotations
@@ -17,17 +23,21 @@ import sys
 from array import array
 from bisect import bisect_right
 from collections.abc import Callable
+from ctypes import byref, c_int64, c_size_t, c_uint32, c_uint64
 from itertools import accumulate
 from time import perf_counter_ns
 from typing import Any
 from unittest import mock
 
+from constriction._library import plain_function
 from constriction.stream.chain import ChainCoder
 from constriction.stream.model import Model, QuantizedGaussian, WeightTable
 from constriction.stream.queue import RangeDecoder, RangeEncoder
 from constriction.stream.stack import AnsCoder
 
 COUNT, RUNS, PRECISION = 1_000_000, 11, 24
+#: So many calls of one symbol are timed together.
+CALLS = 20_000
 
 
 def random_numbers(x: int, count: int) -> list[int]:
@@ -42,7 +52,8 @@ def random_numbers(x: int, count: int) -> list[int]:
 
 
 def driver_weights() -> list[int]:
-    """The driver's weights: near to 1 / ((i + 4) * (i + 16)), each 1 at least, and the first takes what rounding leaves."""
+    """The driver's weights: near to 1 / ((i + 4) * (i + 16)), each 1 at least, and the first takes what rounding
+    leaves."""
     shares = [1_000_000_000 // ((i + 4) * (i + 16)) for i in range(256)]
     weights = [1 + share * ((1 << PRECISION) - 256) // sum(shares) for share in shares]
     weights[0] += (1 << PRECISION) - sum(weights)
@@ -55,7 +66,7 @@ def driver_symbols(weights: list[int]) -> array[int]:
     return array("Q", (bisect_right(ends, x >> 40) for x in random_numbers(0x123456789ABCDEF1, COUNT)))
 
 
-def least(run: Callable[[], Any]) -> float:
+def least(run: Callable[[], Any], count: int = COUNT) -> float:
     """The least time of a run, in nanoseconds a symbol. What a run answered is dropped behind its time."""
     times = []
     for _ in range(RUNS):
@@ -63,7 +74,7 @@ def least(run: Callable[[], Any]) -> float:
         answer = run()
         times.append(perf_counter_ns() - start)
         del answer
-    return min(times) / COUNT
+    return min(times) / count
 
 
 def encoded(symbols: Any, model: Model, coder: str, *given: Any) -> Any:
@@ -117,9 +128,88 @@ def gaussian_cases(numpy: Any) -> list[Case]:
     return cases
 
 
+def bare() -> None:
+    """Calls of the C function alone, each of which decodes one symbol; the head is brought back before each."""
+    words, head, length, place = (c_uint32 * 8)(), c_uint64(), c_size_t(0), c_int64()
+    weights, one, three, eight = (
+        (c_uint32 * 3)(5, 1 << 20, (1 << 24) - 5 - (1 << 20)),
+        c_size_t(1),
+        c_size_t(3),
+        c_size_t(8),
+    )
+    arguments = byref(head), byref(words), eight, byref(length), byref(weights), three, byref(place), one
+    function = plain_function("ans_decode")
+    for _ in range(CALLS):
+        head.value = 0x123456789ABCDEF
+        function(*arguments)
+
+
+def single_cases(weights: list[int]) -> list[Case]:
+    """One symbol a call."""
+    dice, table, family, given = random.Random(2), WeightTable(weights), QuantizedGaussian(-100, 100), WeightTable()
+    places = dice.choices(range(256), weights, k=CALLS)
+    means, stds = [dice.uniform(-30, 30) for _ in places], [dice.uniform(0.3, 20.3) for _ in places]
+    near = [max(-100, min(100, round(dice.gauss(mean, std)))) for mean, std in zip(means, stds)]
+    row = [1 << 20] * 16
+    few = [dice.randrange(16) for _ in places]
+
+    def encoder(coder: str) -> tuple[Any, Callable[..., None]]:
+        it: Any = AnsCoder() if coder == "ans" else RangeEncoder()
+        return it, it.encode_reverse if coder == "ans" else it.encode
+
+    def by_table(coder: str) -> Any:
+        it, encode = encoder(coder)
+        for place in places:
+            encode(place, table)
+        return it
+
+    def by_parameters(coder: str) -> Any:
+        it, encode = encoder(coder)
+        for symbol, mean, std in zip(near, means, stds):
+            encode(symbol, family, mean, std)
+        return it
+
+    def by_row(coder: str) -> Any:
+        it, encode = encoder(coder)
+        for place in few:
+            encode(place, given, row)
+        return it
+
+    def decode_by_table(make: Any, words: Any) -> list[int]:
+        decode = make(words).decode
+        return [decode(table) for _ in places]
+
+    def decode_by_parameters(make: Any, words: Any) -> list[int]:
+        decode = make(words).decode
+        return [decode(family, mean, std) for mean, std in zip(means, stds)]
+
+    def decode_by_row(make: Any, words: Any) -> list[int]:
+        decode = make(words).decode
+        return [decode(WeightTable(row)) for _ in few]
+
+    cases: list[Case] = [("python_one_bare", bare)]
+    ways = (
+        ("table", by_table, decode_by_table, places),
+        ("gaussian", by_parameters, decode_by_parameters, near),
+        ("row", by_row, decode_by_row, few),
+    )
+    for coder, make in (("ans", AnsCoder), ("range", RangeDecoder)):
+        for name, encode, decode, symbols in ways:
+            words = encode(coder).get_compressed()
+            assert coder == "ans" or decode(make, words) == symbols
+            cases.append((f"python_one_{coder}_encode_{name}", lambda e=encode, c=coder: e(c)))
+            cases.append((f"python_one_{coder}_decode_{name}", lambda d=decode, m=make, w=words: d(m, w)))
+    return cases
+
+
 def main() -> None:
     wanted = sys.argv[1] if len(sys.argv) > 1 else ""
     weights = driver_weights()
+    if "_one_" in wanted:
+        for name, run in single_cases(weights):
+            if wanted in name:
+                print(f"{name} {least(run, CALLS):.0f}", flush=True)
+        return
     symbols, model = driver_symbols(weights), WeightTable(weights)
     kinds: dict[str, Any] = {"array": symbols, "list": symbols.tolist()}
     numpy: Any
@@ -136,7 +226,9 @@ def main() -> None:
         words = encoded(symbols, model, coder)
         assert make(words).decode(model, COUNT).tobytes() == symbols.tobytes()
         for kind, given in kinds.items():
-            cases.append((f"python_{coder}_encode_u32u64p24_table_{kind}", lambda s=given, c=coder: encoded(s, model, c)))
+            cases.append(
+                (f"python_{coder}_encode_u32u64p24_table_{kind}", lambda s=given, c=coder: encoded(s, model, c))
+            )
         cases.append((f"python_{coder}_decode_u32u64p24_table", lambda m=make, w=words: m(w).decode(model, COUNT)))
     data = array("I", (x >> 32 for x in random_numbers(7, COUNT * 3 // 4 + 100)))
     data.append(1)
@@ -155,6 +247,9 @@ def main() -> None:
     for name, run in cases:
         if wanted in name:
             print(f"{name} {least(run):.3f}", flush=True)
+    for name, run in single_cases(weights):
+        if wanted in name:
+            print(f"{name} {least(run, CALLS):.0f}", flush=True)
 
 
 if __name__ == "__main__":

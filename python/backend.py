@@ -1,70 +1,129 @@
-"""Builds the wheel: this package's files, and the shared object among them. It needs nothing but Python, and no network.
+"""Builds the wheel, the archive of sources, and what `pip install -e` wants. It needs nothing but Python, and no
+network.
 
-The shared object is what CONSTRICTION_LIBRARY says, else build/libconstriction.so of the repository, which tools/library makes first
-where it is not there.
+Each holds the shared object: what CONSTRICTION_LIBRARY says, else the one that lies in the package, else
+build/libconstriction.so of the repository, which tools/library makes first where it is not there. All that is known
+of the project stands in pyproject.toml, and its version in constriction/_version.py.
 """
 
 from __future__ import annotations
 
 import base64
 import hashlib
+import io
 import os
+import re
 import subprocess
 import sysconfig
+import tarfile
 import zipfile
 from pathlib import Path
 
 HERE = Path(__file__).resolve().parent
-NAME, VERSION = "constriction_proved", "0.5.0"
+PROJECT = (HERE / "pyproject.toml").read_text()
+NAME = "constriction_proved"
+LIBRARY = "constriction/libconstriction.so"
+
+
+def _said(pattern: str, text: str) -> str:
+    found = re.search(pattern, text, re.MULTILINE)
+    if found is None:
+        raise SystemExit(f"nothing fits {pattern}")
+    return found.group(1)
+
+
+VERSION = _said(r'^VERSION = "(.*)"$', (HERE / "constriction/_version.py").read_text())
 INFO = f"{NAME}-{VERSION}.dist-info"
-METADATA = f"""Metadata-Version: 2.1
-Name: constriction-proved
-Version: {VERSION}
-Summary: Proved entropy coders: ANS, range coding, chain coding, Huffman and Exp-Golomb codewords
-Requires-Python: >=3.9
-Description-Content-Type: text/markdown
-
-"""
 
 
-def _tag() -> str:
-    """Any Python 3, on this system."""
-    return "py3-none-" + sysconfig.get_platform().replace("-", "_").replace(".", "_")
+def _metadata() -> bytes:
+    """What pyproject.toml says, in the form of a wheel."""
+    lists = {name: _said(rf"(?s)^{name} = \[(.*?)\]", PROJECT) for name in ("keywords", "classifiers")}
+    urls = re.findall(r'^"(.*)" = "(.*)"$', PROJECT.split("[project.urls]")[1], re.MULTILINE)
+    lines = ["Metadata-Version: 2.1", "Name: constriction-proved", f"Version: {VERSION}"]
+    lines += [
+        "Summary: " + _said(r'^description = "(.*)"$', PROJECT),
+        "Keywords: " + ",".join(re.findall('"(.*?)"', lists["keywords"])),
+    ]
+    lines += [f"Project-URL: {name}, {url}" for name, url in urls]
+    lines += [f"Classifier: {it}" for it in re.findall('"(.*?)"', lists["classifiers"])]
+    lines += [
+        "Requires-Python: " + _said(r'^requires-python = "(.*)"$', PROJECT),
+        "Description-Content-Type: text/markdown",
+        "",
+        "",
+    ]
+    return "\n".join(lines).encode() + (HERE / "README.md").read_bytes()
 
 
-def _library() -> Path:
+def _library() -> bytes:
     said = os.environ.get("CONSTRICTION_LIBRARY")
-    path = Path(said).absolute() if said else HERE.parent / "build" / "libconstriction.so"
-    if not path.is_file() and not said:
-        subprocess.run([HERE.parent / "tools" / "library"], check=True)
+    path = Path(said).absolute() if said else HERE / LIBRARY
+    if not said and not path.is_file():
+        path = HERE.parent / "build" / "libconstriction.so"
+        if not path.is_file():
+            subprocess.run([HERE.parent / "tools" / "library"], check=True)
     if not path.is_file():
         raise SystemExit(f"there is no {path}")
-    return path
+    return path.read_bytes()
 
 
-def _files() -> dict[str, bytes]:
-    """What the wheel holds, by its names there."""
-    package = HERE / "constriction"
-    names = sorted(it for it in package.rglob("*") if it.suffix == ".py" or it.name == "py.typed")
-    files = {it.relative_to(HERE).as_posix(): it.read_bytes() for it in names}
-    files["constriction/libconstriction.so"] = _library().read_bytes()
-    files[f"{INFO}/METADATA"] = METADATA.encode() + (HERE / "README.md").read_bytes()
-    files[f"{INFO}/WHEEL"] = f"Wheel-Version: 1.0\nGenerator: backend\nRoot-Is-Purelib: false\nTag: {_tag()}\n".encode()
-    return files
+def _tag(library: bytes) -> str:
+    """Any Python 3, on this system; on Linux on each whose C library is as old as the shared object allows."""
+    system = sysconfig.get_platform().replace("-", "_").replace(".", "_")
+    asked = [(int(a), int(b)) for a, b in re.findall(rb"GLIBC_(\d+)\.(\d+)", library)]
+    if system.startswith("linux_") and asked:
+        least = (2, 5) if system == "linux_x86_64" else (2, 17)  # What there is no older tag of.
+        system = "manylinux_{}_{}_".format(*max(least, *asked)) + system[len("linux_") :]
+    return f"py3-none-{system}"
 
 
-def build_wheel(wheel_directory: str, config_settings: object = None, metadata_directory: str | None = None) -> str:
-    """Writes the wheel to this folder, and answers its name."""
-    files, record = _files(), ""
+def _sources() -> dict[str, bytes]:
+    """The package's files."""
+    names = sorted(it for it in (HERE / "constriction").rglob("*") if it.suffix == ".py" or it.name == "py.typed")
+    return {it.relative_to(HERE).as_posix(): it.read_bytes() for it in names}
+
+
+def _wheel(folder: str, tag: str, files: dict[str, bytes]) -> str:
+    """Writes a wheel with these files to this folder, and answers its name."""
+    files[f"{INFO}/METADATA"] = _metadata()
+    files[f"{INFO}/WHEEL"] = f"Wheel-Version: 1.0\nGenerator: backend\nRoot-Is-Purelib: false\nTag: {tag}\n".encode()
+    record = ""
     for name, data in files.items():
         checksum = base64.urlsafe_b64encode(hashlib.sha256(data).digest()).rstrip(b"=").decode()
         record += f"{name},sha256={checksum},{len(data)}\n"
     files[f"{INFO}/RECORD"] = (record + f"{INFO}/RECORD,,\n").encode()
-    wheel = f"{NAME}-{VERSION}-{_tag()}.whl"
-    with zipfile.ZipFile(Path(wheel_directory) / wheel, "w", zipfile.ZIP_DEFLATED) as archive:
+    wheel = f"{NAME}-{VERSION}-{tag}.whl"
+    with zipfile.ZipFile(Path(folder) / wheel, "w", zipfile.ZIP_DEFLATED) as archive:
         for name, data in files.items():
             archive.writestr(zipfile.ZipInfo(name, (2020, 1, 1, 0, 0, 0)), data, zipfile.ZIP_DEFLATED)
     return wheel
+
+
+def build_wheel(wheel_directory: str, config_settings: object = None, metadata_directory: str | None = None) -> str:
+    """Writes the wheel to this folder, and answers its name."""
+    library = _library()
+    return _wheel(wheel_directory, _tag(library), {**_sources(), LIBRARY: library})
+
+
+def build_editable(wheel_directory: str, config_settings: object = None, metadata_directory: str | None = None) -> str:
+    """The same for `pip install -e`: a path to this folder, whose library is found in build/ or in the package."""
+    _library()
+    return _wheel(wheel_directory, "py3-none-any", {f"{NAME}.pth": f"{HERE}\n".encode()})
+
+
+def build_sdist(sdist_directory: str, config_settings: object = None) -> str:
+    """Writes the archive of sources to this folder, and answers its name. The library is in it as it is: the
+    toolchain builds it."""
+    top = f"{NAME}-{VERSION}"
+    files = {**_sources(), LIBRARY: _library(), "PKG-INFO": _metadata()}
+    files.update({name: (HERE / name).read_bytes() for name in ("README.md", "backend.py", "pyproject.toml")})
+    with tarfile.open(Path(sdist_directory) / f"{top}.tar.gz", "w:gz", format=tarfile.PAX_FORMAT) as archive:
+        for name, data in files.items():
+            it = tarfile.TarInfo(f"{top}/{name}")
+            it.size, it.mtime = len(data), 1577836800
+            archive.addfile(it, io.BytesIO(data))
+    return f"{top}.tar.gz"
 
 
 if __name__ == "__main__":

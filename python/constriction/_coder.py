@@ -4,8 +4,12 @@ from __future__ import annotations
 
 import copy
 from collections.abc import Callable
+from operator import index
 from threading import RLock
 from typing import Any, TypeVar
+
+from ._single import Lane
+from .stream.model._base import Model
 
 __all__ = ["Coder"]
 
@@ -26,10 +30,16 @@ class Coder:
     _lock: Any
     _busy: bool
     _state: Any
+    #: The memory of calls of one symbol, once there is such a call.
+    _lane: Lane | None
 
     def _begin(self, state: Any) -> None:
         """Makes a coder of this state."""
-        self._lock, self._busy, self._state = RLock(), False, state
+        self._lock, self._busy, self._state, self._lane = RLock(), False, state, None
+
+    def _made_lane(self) -> Lane:
+        """Makes the memory of calls of one symbol."""
+        raise NotImplementedError
 
     def _changed(self, change: Callable[[Any], tuple[Any, Found]]) -> Found:
         """Asks ``change`` for a new state and an answer. Where it raises, the state is as before."""
@@ -48,6 +58,40 @@ class Coder:
         """Asks for something that can need the buffers, and changes nothing."""
         return self._changed(lambda state: (state, ask(state)))
 
+    def _encoded_alone(self, symbol: Any, model: Any, given: tuple[Any, ...]) -> bool:
+        """Whether this is one symbol that a quick call encoded. Else nothing changed."""
+        if type(symbol) is not int:
+            try:
+                symbol = index(symbol)
+            except TypeError:
+                return False
+        return isinstance(model, Model) and (self._lane or self._made_lane()).encode(self, symbol, model, given)
+
+    def _decoded_alone(self, model: Any, given: tuple[Any, ...]) -> int | None:
+        """One symbol that a quick call decoded, or None, where nothing changed."""
+        if not isinstance(model, Model) or given and not model.missing:
+            return None
+        return (self._lane or self._made_lane()).decode(self, model, given)
+
+    def _compared(self, state: Any) -> Any:
+        """What equal coders have alike."""
+        return self._plain(state)
+
+    def __eq__(self, other: object) -> bool:
+        if type(self) is not type(other):
+            return NotImplemented
+        return self is other or self._asked(self._compared) == other._asked(other._compared)  # type: ignore[attr-defined]
+
+    #: A coder changes, so it is no key of a dict.
+    __hash__ = None  # type: ignore[assignment]
+
+    def __repr__(self) -> str:
+        return f"<{type(self).__name__}: {self._said(self._state)}>"
+
+    def _said(self, state: Any) -> str:
+        """How much a state holds."""
+        raise NotImplementedError
+
     def _plain(self, state: Any) -> tuple[Any, ...]:
         """The state as a copy of numbers and bytes."""
         raise NotImplementedError
@@ -58,7 +102,7 @@ class Coder:
 
     def _extras(self) -> dict[str, Any]:
         """What a class below or a caller put beside."""
-        return {name: it for name, it in vars(self).items() if name not in ("_lock", "_busy", "_state")}
+        return {name: it for name, it in vars(self).items() if name not in ("_lock", "_busy", "_state", "_lane")}
 
     def clone(self: Self) -> Self:
         """A copy, which goes its own way."""

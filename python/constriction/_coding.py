@@ -2,18 +2,21 @@
 
 from __future__ import annotations
 
-from collections.abc import Callable, Iterator
-from typing import Any, Union
+from collections.abc import Callable, Iterator, Sequence
+from itertools import repeat
+from typing import Any, NoReturn
 
-from ._buffers import SYMBOL, List, Numbers, answered, listed, numpy_module, room
-from ._numbers import count_of, is_one, places_of
+from ._buffers import SYMBOL, Numbers, Symbols, answered, listed, numpy_module, room
+from ._numbers import count_of, is_one, listed_of, places_of, sequence_of, whole
+
+from .errors import (
+    WRONG_WEIGHTS, ImpossibleSymbolError, Refusal, WrongLengthError, WrongWeightsError, impossible,
+)  # fmt: skip
 from .stream.model import Model
-from .stream.model._base import Located
+from .stream.model._base import TOTAL, Located
 
-__all__ = ["Call", "Symbols", "decoded", "encoded"]
+__all__ = ["Call", "decoded", "encoded"]
 
-#: One symbol, or a list of them.
-Symbols = Union[int, List]
 #: So many symbols are handed over at a time at least, and so many times the weights: what a call needs for them stays
 #: in the cache.
 _SYMBOLS_AT_A_TIME, _WEIGHTS_AT_A_TIME = 1 << 16, 4
@@ -29,10 +32,33 @@ def _parts(count: int, weights: int) -> Iterator[slice]:
         yield slice(start, min(start + size, count))
 
 
+def model_wanted(model: Any, symbols: Any = None) -> NoReturn:
+    """Raises what a call means that hands in something else in a model's place."""
+    if isinstance(symbols, Model):
+        raise TypeError("the symbols come first, and their model behind them")
+    raise TypeError(f"a model is wanted, such as those of constriction.stream.model, and not a {type(model).__name__}")
+
+
 def encoded(
     state: Any, symbols: Symbols, model: Model, parameters: tuple[Any, ...], encode: Call, backwards: bool
 ) -> Any:
     """The state behind these symbols. ``backwards``: the last one is encoded first."""
+    if not isinstance(model, Model):
+        model_wanted(model, symbols)
+    one = is_one(symbols)
+    if not one:
+        symbols = sequence_of(symbols)
+        parameters = tuple(it if is_one(it) else sequence_of(it) for it in parameters)
+    try:
+        return _encoded(state, symbols, model, parameters, encode, backwards)
+    except Refusal as refused:
+        given = tuple([it] for it in parameters) if one else parameters
+        raise _explained(refused, symbols, model, given) from None
+
+
+def _encoded(
+    state: Any, symbols: Symbols, model: Model, parameters: tuple[Any, ...], encode: Call, backwards: bool
+) -> Any:
     if parameters and model.has_rows:
         return _encoded_under_rows(state, symbols, model, parameters, encode, backwards)
     located = model.located(parameters) if parameters else None
@@ -42,7 +68,7 @@ def encoded(
     weights = model.table() if located is None else ()
     places = places_of(symbols, model.first)
     if located is not None and len(places) != len(located.scales):
-        raise ValueError("there have to be as many symbols as sets of parameters")
+        raise _other_lengths(len(places), len(located.scales), "sets of parameters")
     parts = list(_parts(len(places), len(weights)))
     for part in reversed(parts) if backwards else parts:
         some = places if len(parts) == 1 else places[part]
@@ -51,6 +77,46 @@ def encoded(
         else:
             state = encode("_quantized", state, len(some), (*located.part(part).lent(), *listed(some)))
     return state
+
+
+def _other_lengths(symbols: int, others: int, names: str) -> WrongLengthError:
+    return WrongLengthError(f"there are {symbols} symbols and {others} {names}: each symbol has one")
+
+
+def _explained(refused: Refusal, symbols: Any, model: Model, given: tuple[Any, ...]) -> Refusal:
+    """The same refusal, with what it is of: the symbol and its place, or what weights add up to."""
+    if isinstance(refused, ImpossibleSymbolError) and refused.symbol is None:
+        for place, (symbol, row) in enumerate(zip(map(whole, listed_of(symbols)), _rows(model, given))):
+            at = symbol - model.first
+            if not 0 <= at < len(row) or not row[at]:
+                return impossible(symbol, None if is_one(symbols) else place, model.first, len(row))
+    if isinstance(refused, (WrongWeightsError, WrongLengthError)) and (not given or model.has_rows):
+        return _explained_weights(refused, model, given)
+    return refused
+
+
+def _explained_weights(refused: Refusal, model: Model, given: tuple[Any, ...]) -> Refusal:
+    """What the first row of weights adds up to that isn't one."""
+    for place, row in enumerate(_rows(model, given) if given else (model.table(),)):
+        which = f"row {place} of the weights" if given else "the weights"
+        if not len(row):
+            return type(refused)(f"{which} has no weight" if given else "there are no weights")
+        if sum(row) != TOTAL:
+            return WrongWeightsError(f"{WRONG_WEIGHTS}, but to {sum(row)}" + (f", in row {place}" if given else ""))
+    return refused
+
+
+def _rows(model: Model, given: tuple[Any, ...]) -> Iterator[Sequence[int]]:
+    """For each symbol a row that is above 0 where the model has it."""
+    if not given:
+        yield from repeat(model.table())
+    elif model.has_rows:
+        for weights, width, count in model.rows(given):
+            yield from (weights[i * width : (i + 1) * width] for i in range(count))
+    else:
+        located = model.located(given)
+        if located is not None:
+            yield from repeat(range(1, located.greatest - located.least + 2))
 
 
 def _encoded_under_rows(
@@ -63,7 +129,7 @@ def _encoded_under_rows(
         parts.append((weights, width, slice(end, end + count)))
         end += count
     if len(places) != end:
-        raise ValueError(f"there have to be as many symbols as rows of {model.missing[0]}")
+        raise _other_lengths(len(places), end, f"rows of {model.missing[0]}")
     for weights, width, part in reversed(parts) if backwards else parts:
         some = places[part]
         state = encode("_each", state, len(some), (*listed(weights), width, *listed(some)))
@@ -81,13 +147,16 @@ def shifted(places: Numbers, first: int) -> Numbers:
     return Numbers(SYMBOL, map(first.__add__, places))
 
 
-def _in_parts(state: Any, count: int, weights: int, decode: Callable[[Any, slice, Numbers], Any]) -> tuple[Any, Numbers]:
+def _in_parts(
+    state: Any, count: int, weights: int, decode: Callable[[Any, slice, Numbers], Any]
+) -> tuple[Any, Numbers]:
     """The state behind so many symbols, some of which are decoded at a time, and they."""
-    parts, symbols = list(_parts(count, weights)), room(SYMBOL, count)
-    if len(parts) == 1:
-        return decode(state, parts[0], symbols), symbols
+    symbols = room(SYMBOL, count)  # First of all: where there is no room for all of them, none is decoded.
+    size = next(_parts(count, weights)).stop
+    if size == count:
+        return decode(state, slice(0, count), symbols), symbols
     view = memoryview(symbols)
-    for part in parts:
+    for part in _parts(count, weights):
         some = room(SYMBOL, part.stop - part.start)
         state = decode(state, part, some)
         view[part] = memoryview(some)
@@ -152,18 +221,39 @@ def _under_parameters(
 
 
 def decoded(
-    state: Any, model: Model, rest: tuple[Any, ...], decode: Call, quantile: Callable[[Any], int]
+    state: Any,
+    model: Model,
+    rest: tuple[Any, ...],
+    amt: Any,
+    decode: Call,
+    quantile: Callable[[Any], int],
 ) -> tuple[Any, Any]:
     """The state behind the next symbols, and they: one, or so many, or one for each set of parameters.
 
     ``quantile`` is where in 0 .. 2^24 - 1 the next symbol's interval lies.
     """
+    if not isinstance(model, Model):
+        model_wanted(model)
+    if amt is not None:
+        if rest:
+            raise TypeError("a number of symbols was handed in beside parameters, of which each is for one symbol")
+        rest = (count_of(amt),)
+        if model.missing:
+            raise TypeError(f"the model has no {' and no '.join(model.missing)}: hand in a list of each, and no amt")
     # A model by a function can go with and without parameters: there a single whole number is a number of symbols.
     counted = len(rest) == 1 and not model.missing and is_one(rest[0]) and hasattr(rest[0], "__index__")
-    if not rest or counted:
-        state, places = _under_table(state, model, count_of(rest[0]) if rest else 1, decode)
-    else:
-        state, places = _under_parameters(state, model, rest, decode, quantile)
+    if len(rest) == 1 and model.complete and not counted:
+        raise TypeError(f"a number of symbols is wanted, a whole one, and not {rest[0]!r}")
+    given = rest
+    try:
+        if not rest or counted:
+            given = ()
+            state, places = _under_table(state, model, count_of(rest[0]) if rest else 1, decode)
+        else:
+            given = tuple(it if is_one(it) else sequence_of(it) for it in rest)
+            state, places = _under_parameters(state, model, given, decode, quantile)
+    except (WrongWeightsError, WrongLengthError) as refused:
+        raise (_explained_weights(refused, model, given) if not given or model.has_rows else refused) from None
     symbols = shifted(places, model.first)
     one = not counted and all(is_one(it) for it in rest)
     return state, symbols[0] if one else answered(symbols)

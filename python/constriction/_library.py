@@ -32,8 +32,8 @@ class ChainHeads(Structure):
 
 
 def _path() -> Path:
-    """Where the shared object is: what CONSTRICTION_LIBRARY says, from the current folder on; or in this package, where it was
-    installed; or in the repository's folder build/."""
+    """Where the shared object is: what CONSTRICTION_LIBRARY says, from the current folder on; or in this package,
+    where it was installed; or in the repository's folder build/."""
     said = os.environ.get("CONSTRICTION_LIBRARY")
     if said:
         return Path(said).absolute()
@@ -47,7 +47,8 @@ PATH = _path()
 
 
 def _load() -> ctypes.CDLL:
-    """The shared object by its whole path, so that it is never one of the system's. Calls let go of the interpreter's lock."""
+    """The shared object by its whole path, so that it is never one of the system's. Calls let go of the
+    interpreter's lock."""
     if not PATH.is_file():
         raise ImportError(f"there is no {PATH}: build it by tools/library, or set CONSTRICTION_LIBRARY to where it is")
     return ctypes.CDLL(str(PATH))
@@ -114,11 +115,13 @@ _PARAMETERS: dict[str, list[Any]] = {
 }
 
 
+_LIBRARY = _load()
+
+
 def _functions() -> dict[str, Any]:
-    library = _load()
     functions = {}
     for name, parameters in _PARAMETERS.items():
-        function = getattr(library, f"constriction_{name}_u32", None)
+        function = getattr(_LIBRARY, f"constriction_{name}_u32", None)
         if function is None:
             continue  # The library is of another version; a call says so.
         function.argtypes, function.restype = parameters, c_uint32
@@ -129,8 +132,23 @@ def _functions() -> dict[str, Any]:
 _FUNCTIONS = _functions()
 
 
+def plain_function(name: str) -> Any:
+    """A C function whose arguments all come as instances of their types, which is quicker than a conversion of each.
+
+    Where the library has none of this name, the answer calls nothing, and says that nothing was done.
+    """
+    if name not in _FUNCTIONS:
+        return lambda *arguments: 1
+    function = _LIBRARY[
+        f"constriction_{name}_u32"
+    ]  # Of its own: what comes by its name as an attribute has types of arguments.
+    function.restype = c_uint32
+    return function
+
+
 def call(name: str, *arguments: Any, texts: dict[int, str] | None = None) -> None:
-    """Calls the C function of this name, and raises what its result means, with these texts in place of the usual ones."""
+    """Calls the C function of this name, and raises what its result means, with these texts in place of the usual
+    ones."""
     function = _FUNCTIONS.get(name)
     if function is None:
         raise NotImplementedError(f"{PATH} is the library of another version: it has no constriction_{name}_u32")

@@ -2,21 +2,27 @@
 
 from __future__ import annotations
 
+import sys
 from array import array
-from collections.abc import Callable, Iterable
+from collections.abc import Callable, Iterable, Mapping, Set
 from operator import index
 from typing import Any
 
 from ._buffers import NUMBER, SYMBOL, WORD, List, numpy_module, room
-from .errors import IMPOSSIBLE_SYMBOL, ImpossibleSymbolError
+from .errors import IMPOSSIBLE_SYMBOL, ImpossibleSymbolError, InvalidDataError, Refusal
 
-__all__ = ["count_of", "floats_of", "is_one", "places_of", "rows_of", "whole", "wholes_of", "words_of"]
+__all__ = [
+    "count_of", "floats_of", "is_one", "listed_of", "places_of", "real", "rows_of", "sequence_of", "table_of", "whole", "wholes_of",
+    "words_of",
+]  # fmt: skip
 
 #: The numbers that words and symbols can be.
 _RANGES = {WORD: (0, (1 << 32) - 1), SYMBOL: (-(1 << 63), (1 << 63) - 1)}
 _WANTED = "whole numbers are wanted, and not {}: round them, and make integers of them, as by array.astype('int64')"
 #: The formats of memory that holds such numbers. What is past 63 bits is no place in a table, by either sign.
 _ALIKE = {WORD: ("I", "L"), SYMBOL: ("q", "Q", "l", "L", "n", "N"), NUMBER: ("d",)}
+#: No list has more symbols than this: they would take 2^51 bytes.
+_MOST = 1 << 48
 #: Tables that begin within this are shifted by numpy, since their symbols lie within twice of it.
 _NEAR = 1 << 61
 
@@ -34,12 +40,34 @@ def whole(number: Any) -> int:
         raise TypeError(_WANTED.format(f"a {type(number).__name__}")) from None
 
 
+def real(number: Any) -> float:
+    """A float. Text is refused, which ``float`` would read."""
+    kind = type(number)
+    if kind is float:
+        return number  # type: ignore[no-any-return]
+    _unmasked(number)
+    if issubclass(kind, (str, bytes, bytearray)) or not (hasattr(kind, "__float__") or hasattr(kind, "__index__")):
+        raise TypeError(f"a number is wanted, and not a {kind.__name__}")
+    return float(number)
+
+
 def count_of(number: Any) -> int:
     """How many symbols are wanted."""
-    count = whole(number)
-    if count < 0:
-        raise ValueError("a count is wanted, which isn't negative")
+    try:
+        count = index(number)
+    except TypeError:
+        raise TypeError(f"a number of symbols is wanted, a whole one, and not {number!r}") from None
+    if not 0 <= count <= _MOST:
+        raise ValueError(f"a number of symbols lies between 0 and 2^48, and {count} doesn't")
     return count
+
+
+def _unmasked(numbers: Any) -> None:
+    masked = sys.modules.get("numpy.ma")
+    if masked is not None and isinstance(numbers, masked.MaskedArray):
+        raise TypeError(
+            "numbers are wanted, and not a masked array: array.filled(0) or array.compressed() has them all"
+        )
 
 
 def _as_numpy(numbers: Any) -> Any:
@@ -47,6 +75,7 @@ def _as_numpy(numbers: Any) -> Any:
     numpy = numpy_module()
     if numpy is None or isinstance(numbers, (list, tuple, range, array)):
         return None
+    _unmasked(numbers)
     if isinstance(numbers, numpy.ndarray):
         return numbers
     return numpy.asarray(numbers) if hasattr(numbers, "__array__") else None
@@ -54,8 +83,12 @@ def _as_numpy(numbers: Any) -> Any:
 
 def _listed(numbers: Any) -> Any:
     """Numbers that are no array of numpy, as something to go through."""
-    if isinstance(numbers, (bytes, bytearray, str)):
-        raise TypeError("bytes are no list of numbers: array('I', data) makes words of them")
+    if isinstance(numbers, str):
+        raise TypeError("a list of numbers is wanted, and not text")
+    if isinstance(numbers, (bytes, bytearray)):
+        raise TypeError("a list of numbers is wanted, and not bytes: array('I', data) makes words of them")
+    if isinstance(numbers, (Mapping, Set)):
+        raise TypeError(f"a list of numbers is wanted, and not a {type(numbers).__name__}: list(..) makes one")
     try:
         view = memoryview(numbers)
     except TypeError:
@@ -66,6 +99,19 @@ def _listed(numbers: Any) -> Any:
     except NotImplementedError:
         text = f"numbers of the form {view.format!r} are not known: import numpy, or convert them"
         raise TypeError(text) from None
+
+
+def sequence_of(numbers: Any) -> Any:
+    """The same list of numbers, or where it can be gone through once only, a list of them."""
+    return numbers if hasattr(numbers, "__len__") else list(_listed(numbers))
+
+
+def listed_of(numbers: Any) -> list[Any]:
+    """A list of numbers, or one alone, as a list of Python's. It says where a fault lies."""
+    if is_one(numbers):
+        return [numbers]
+    table = _as_numpy(numbers)
+    return list(_listed(numbers)) if table is None else table.tolist()  # type: ignore[no-any-return]
 
 
 def _flat(dimensions: int) -> None:
@@ -91,13 +137,18 @@ def _filled(code: str, numbers: Any) -> array[Any]:
     return memory
 
 
+def _wholes(table: Any) -> None:
+    """Refuses an array of numpy that is no list of whole numbers."""
+    _flat(table.ndim)
+    if table.dtype.kind not in "iub" and not (table.dtype.kind == "f" and not table.size):
+        raise TypeError(_WANTED.format(f"of the type {table.dtype}"))
+
+
 def wholes_of(code: str, numbers: List) -> array[Any]:
     """A copy of whole numbers. Raises TypeError of others, and OverflowError of those past the type."""
     table = _as_numpy(numbers)
     if table is not None:
-        _flat(table.ndim)
-        if table.dtype.kind not in "iub" and not (table.dtype.kind == "f" and not table.size):
-            raise TypeError(_WANTED.format(f"of the type {table.dtype}"))
+        _wholes(table)
         if _past(code, table):
             raise OverflowError("a number is past its type")
         return _filled(code, table)
@@ -118,9 +169,17 @@ def _copied(code: str, numbers: Any) -> array[Any] | None:
     return memory
 
 
-def words_of(words: List) -> array[Any]:
-    """A copy of words, each below 2^32."""
-    return wholes_of(WORD, words)
+def words_of(words: List, name: str = "word", refused: type[Refusal] = InvalidDataError) -> array[Any]:
+    """A copy of words, each below 2^32. Raises TypeError of what is no whole number, and this refusal of one past a
+    word."""
+    if is_one(words):
+        raise TypeError(f"a list of {name}s is wanted, and not a {type(words).__name__}")
+    given = sequence_of(words)
+    try:
+        return wholes_of(WORD, given)
+    except OverflowError:
+        place, number = next((i, it) for i, it in enumerate(map(whole, listed_of(given))) if it >> 32)
+        raise refused(f"{name} {place} is {number}: a {name} is at least 0 and below 2^32") from None
 
 
 def _signed(symbols: Any) -> Iterable[int]:
@@ -135,7 +194,10 @@ def places_of(symbols: Any, first: int) -> array[Any]:
     try:
         if is_one(symbols):
             return array(SYMBOL, (whole(symbols) - first,))
-        table = _as_numpy(symbols) if abs(first) < _NEAR else None
+        table = _as_numpy(symbols)
+        if table is not None and abs(first) >= _NEAR:
+            _wholes(table)
+            symbols, table = table.tolist(), None
         if first and table is None:
             return array(SYMBOL, map((-first).__add__, _signed(symbols)))
         places = wholes_of(SYMBOL, symbols)
@@ -152,15 +214,27 @@ def places_of(symbols: Any, first: int) -> array[Any]:
 def floats_of(numbers: Any) -> array[float]:
     """A copy of a list of floats, or of one alone."""
     if is_one(numbers):
-        return array(NUMBER, (float(numbers),))
+        return array(NUMBER, (real(numbers),))
     table = _as_numpy(numbers)
     if table is None:
         memory = _copied(NUMBER, numbers)
-        return array(NUMBER, map(float, _listed(numbers))) if memory is None else memory
+        return array(NUMBER, map(real, _listed(numbers))) if memory is None else memory
     _flat(table.ndim)
     if table.dtype.kind not in "iubf":
         raise TypeError(f"floats are wanted, and not those of the type {table.dtype}")
     return _filled(NUMBER, table)
+
+
+def table_of(numbers: Any) -> Any:
+    """An array of numpy of two dimensions, where these are floats in such a one; else None."""
+    table = _as_numpy(numbers)
+    return table if table is not None and table.ndim == 2 and table.dtype.kind == "f" and table.size else None
+
+
+def _listed_rows(numbers: Any) -> Any:
+    if isinstance(numbers, (str, bytes, bytearray, Mapping, Set)) or is_one(numbers):
+        raise TypeError(f"a list of rows is wanted, one for each symbol, and not a {type(numbers).__name__}")
+    return numbers
 
 
 def rows_of(numbers: Any, row: Callable[[Any], array[Any]]) -> list[array[Any]]:
@@ -173,7 +247,7 @@ def rows_of(numbers: Any, row: Callable[[Any], array[Any]]) -> list[array[Any]]:
                 numbers = view.tolist() if view.ndim == 2 else numbers
             except TypeError:
                 pass
-        return [row(it) for it in numbers]
+        return [row(it) for it in _listed_rows(numbers)]
     if table.ndim != 2:
         raise TypeError(f"a row for each symbol is wanted, and not a list of {table.ndim} dimensions")
     return [row(it) for it in table]

@@ -5,19 +5,23 @@ from __future__ import annotations
 
 from array import array
 from collections.abc import Callable, Iterable
-from math import frexp, isfinite, isnan, ldexp, nan
+from math import frexp, inf, isfinite, isnan, ldexp, nan
 from typing import Any
 
 from ._buffers import NUMBER, SYMBOL, WORD, numpy_module, room
+from ._numbers import real
 
-__all__ = ["counts_of", "locations_of", "moved", "parts_of", "scales_of"]
+__all__ = [
+    "FARTHEST", "NARROWEST", "UNITS_OF_ONE", "WIDEST", "counts_of", "counts_of_rows", "counts_of_wholes", "locations_of", "moved", "parts_of", "scales_of",
+    "unit_of",
+]  # fmt: skip
 
 #: A location or a scale of 1 has so many units.
-_UNITS = 65536.0
+UNITS_OF_ONE = 65536.0
 #: Locations are brought within this. A table is the same for all that lie so far outside of its range.
-_FARTHEST = 2.0**46
+FARTHEST = 2.0**46
 #: The least scale, a unit, and the greatest, 2^32 - 1 units.
-_NARROWEST, _WIDEST = 1 / _UNITS, 65536.0 - 1 / _UNITS
+NARROWEST, WIDEST = 1 / UNITS_OF_ONE, 65536.0 - 1 / UNITS_OF_ONE
 #: Two weights add up to so much.
 _TOTAL = 16777216.0
 #: The count of the greatest probability of a list has so many bits.
@@ -36,7 +40,8 @@ def _numpy_for(floats: array[float]) -> Any:
 
 
 def _ends(floats: array[float]) -> Ends:
-    """The least and the greatest of these floats, both 1 where there are none. Where one isn't finite, both are NaN."""
+    """The least and the greatest of these floats, both 1 where there are none. Where one isn't finite, both are
+    NaN."""
     numpy = _numpy_for(floats)
     if not len(floats):
         return 1.0, 1.0
@@ -44,6 +49,13 @@ def _ends(floats: array[float]) -> Ends:
         table = numpy.frombuffer(floats, dtype="float64")
         return (float(table.min()), float(table.max())) if numpy.isfinite(table).all() else (nan, nan)
     return (min(floats), max(floats)) if all(map(isfinite, floats)) else (nan, nan)
+
+
+def _fault(name: str, floats: array[float], good: Callable[[float], bool], wanted: str) -> ValueError:
+    """The error of the first float that isn't good."""
+    place, number = next((i, it) for i, it in enumerate(floats) if not good(it))
+    which = f"{name} {place}" if len(floats) > 1 else f"a {name}"
+    return ValueError(f"{which} is {number}, and has to {wanted}")
 
 
 def _rounded(code: str, floats: array[float], unit: float, within: Ends, ends: Ends) -> array[int]:
@@ -67,12 +79,23 @@ def moved(floats: array[float], origin: float) -> array[float]:
     return array(NUMBER, map((-origin).__add__, floats)) if origin else floats
 
 
+def unit_of(number: Any, origin: float, least: float, greatest: float) -> int | None:
+    """One float less an origin, in units, as lists of them are rounded; None of a list, and of what isn't within
+    these bounds."""
+    if type(number) is not float:
+        if not hasattr(number, "__float__") and type(number) is not int or hasattr(number, "__len__"):
+            return None
+        number = real(number)
+    number -= origin
+    return round(number * UNITS_OF_ONE) if least <= number <= greatest else None
+
+
 def locations_of(name: str, floats: array[float]) -> array[int]:
     """Locations in units of 2^-16. Raises ValueError of what isn't finite."""
     ends = _ends(floats)
     if isnan(ends[0]):
-        raise ValueError(f"a {name} is finite")
-    return _rounded(SYMBOL, floats, _UNITS, (-_FARTHEST, _FARTHEST), ends)
+        raise _fault(name, floats, isfinite, "be finite")
+    return _rounded(SYMBOL, floats, UNITS_OF_ONE, (-FARTHEST, FARTHEST), ends)
 
 
 def scales_of(name: str, floats: array[float]) -> array[int]:
@@ -80,15 +103,15 @@ def scales_of(name: str, floats: array[float]) -> array[int]:
     positive and finite."""
     ends = _ends(floats)
     if not ends[0] > 0:
-        raise ValueError(f"a {name} is positive and finite")
-    return _rounded(WORD, floats, _UNITS, (_NARROWEST, _WIDEST), ends)
+        raise _fault(name, floats, lambda it: 0 < it < inf, "be positive and finite")
+    return _rounded(WORD, floats, UNITS_OF_ONE, (NARROWEST, WIDEST), ends)
 
 
 def parts_of(probabilities: array[float]) -> array[int]:
     """Probabilities in parts of 2^-24, from 1 to 2^24 - 1. Raises ValueError of what doesn't lie between 0 and 1."""
     ends = _ends(probabilities)
     if not (ends[0] >= 0 and ends[1] <= 1):
-        raise ValueError("a probability lies between 0 and 1")
+        raise _fault("probability", probabilities, lambda it: 0 <= it <= 1, "lie between 0 and 1")
     return _rounded(WORD, probabilities, _TOTAL, (1 / _TOTAL, 1 - 1 / _TOTAL), ends)
 
 
@@ -100,9 +123,54 @@ def counts_of(probabilities: array[float]) -> array[int]:
     """
     least, greatest = _ends(probabilities)
     if not least >= 0:
-        raise ValueError("a probability is negative, or no finite number")
+        raise _fault("probability", probabilities, lambda it: 0 <= it < inf, "be at least 0 and finite")
     if not len(probabilities) or not greatest:
         raise ValueError("no probability is above 0")
     shift = _COUNT_BITS - frexp(greatest)[1]
-    counts: list[Any] = [round(ldexp(it, shift)) or 1 for it in probabilities]
-    return array("Q", counts)
+    numpy = _numpy_for(probabilities)
+    if numpy is not None:
+        counts = room("Q", len(probabilities))
+        table = numpy.rint(numpy.ldexp(numpy.frombuffer(probabilities, dtype="float64"), shift))
+        numpy.copyto(numpy.frombuffer(counts, dtype="uint64"), numpy.maximum(table, 1.0, out=table), casting="unsafe")
+        return counts
+    return array("Q", [round(ldexp(it, shift)) or 1 for it in probabilities])
+
+
+def counts_of_rows(table: Any) -> array[int] | None:
+    """The counts of each row of an array of numpy, one behind another; None where a row has no such counts."""
+    numpy = numpy_module()
+    rows = table.astype("float64")
+    greatest = rows.max(axis=1)
+    if not (numpy.isfinite(rows).all() and rows.min() >= 0 and greatest.min() > 0):
+        return None
+    shifts = _COUNT_BITS - numpy.frexp(greatest)[1]
+    rows = numpy.rint(numpy.ldexp(rows, shifts[:, None]))
+    counts = room("Q", rows.size)
+    numpy.copyto(numpy.frombuffer(counts, dtype="uint64"), numpy.maximum(rows, 1.0, out=rows).ravel(), casting="unsafe")
+    return counts
+
+
+def counts_of_wholes(counts: list[int]) -> array[int]:
+    """Counts as they are, but that 0 counts as the least share that there is, and that from 2^64 on the greatest
+    gets 62 bits.
+
+    Raises ValueError where there is none above 0, or one that is negative.
+    """
+    for place, count in enumerate(counts):
+        if count < 0:
+            raise ValueError(f"probability {place} is {count}, and has to be at least 0")
+    bits = max(counts, default=0).bit_length()
+    if not bits:
+        raise ValueError("no probability is above 0")
+    if bits > 64:
+        down = bits - _COUNT_BITS
+        return array("Q", [_halved(count, down) or 1 for count in counts])
+    up = max(_COUNT_BITS - bits, 0)
+    return array("Q", [count << up or 1 for count in counts])
+
+
+def _halved(count: int, times: int) -> int:
+    """A whole number less so many bits, to the nearest, and from the middle to the even one."""
+    quotient, rest = count >> times, count & (1 << times) - 1
+    middle = 1 << times - 1
+    return quotient + (rest > middle or rest == middle and quotient & 1)

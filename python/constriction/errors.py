@@ -22,7 +22,13 @@ class Refusal(ValueError):
 
 
 class ImpossibleSymbolError(Refusal, KeyError):
-    """A model doesn't know its symbol. It is also a :class:`KeyError`, as in the Rust crate's package."""
+    """A model doesn't know its symbol. It is also a :class:`KeyError`, as in the Rust crate's package.
+
+    ``symbol`` is the first such symbol, and ``place`` where in the list it stands; of a single symbol that is None.
+    """
+
+    symbol: int | None = None
+    place: int | None = None
 
     def __str__(self) -> str:
         return Exception.__str__(self)  # That of KeyError would put the text in quotes.
@@ -65,6 +71,19 @@ CODEWORD_ENDED = "The compressed data ended before the current codeword was comp
 INVALID_CODEWORD = "Invalid codeword for this codebook: Invalid Exp-Golomb codeword."
 NO_WHOLE_WORDS = "the coder holds no whole number of words"
 NO_SUCH_POSITION = "there is no such position"
+
+
+def impossible(symbol: int, place: int | None, first: int, count: int) -> ImpossibleSymbolError:
+    """The refusal of a symbol, of which the model has so many from the first one on."""
+    where = "" if place is None else f" at place {place}"
+    if 0 <= symbol - first < count:
+        text = f"{IMPOSSIBLE_SYMBOL} Its model gives symbol {symbol}{where} the weight 0."
+    else:
+        text = f"{IMPOSSIBLE_SYMBOL} Its model has {first} .. {first + count - 1}, and symbol {symbol}{where} is none of them."
+    it = ImpossibleSymbolError(text)
+    it.symbol, it.place = symbol, place
+    return it
+
 
 _CLASSES: dict[int, tuple[type[Exception], str]] = {
     1: (ImpossibleSymbolError, IMPOSSIBLE_SYMBOL),

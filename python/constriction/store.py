@@ -54,18 +54,27 @@ def _entry(given: Sequence[Any]) -> Entry:
     return Entry(whole(position), (whole(lower), whole(length)), whole(count))
 
 
+#: The formats of memory that holds bytes, or words in this machine's byte order.
+_BYTES, _WORDS = frozenset(("B", "b", "c")), frozenset(("I", "L", "=I", "<I" if sys.byteorder == "little" else ">I"))
+
+
 def _as_bytes(words: Any) -> memoryview:
     """The buffer of words, byte by byte and without a copy."""
     view = memoryview(words)
-    if view.ndim != 1 or view.itemsize not in (1, 4):
-        raise TypeError("a buffer of words of 32 bits is wanted, or one of their bytes, the lowest first")
+    if view.ndim != 1 or view.format not in (_BYTES if view.itemsize == 1 else _WORDS if view.itemsize == 4 else ()):
+        raise TypeError(
+            "a buffer of words of 32 bits is wanted, without a sign and in this machine's byte order, as array('I') or a numpy array of "
+            f"uint32, or their bytes, the lowest first; and this one has numbers of the form {view.format!r}"
+        )
     return view.cast("B") if view.nbytes else memoryview(b"")
 
 
 class Store:
-    """Chunks under one model. Its words may lie in any buffer: an ``array.array('I')``, a numpy array of ``uint32``, or their
-    bytes, the lowest of each word first, in ``bytes`` or a file that was mapped by ``mmap``. Of these a look-up reads those of
-    its chunk alone, which it copies; none is looked at before. The buffer must not change as long as the store is used."""
+    """Chunks under one model. Its words may lie in any buffer: an ``array.array('I')``, a numpy array of ``uint32``,
+    or their bytes, the lowest of each word first, in ``bytes`` or a file that was mapped by ``mmap``. Of these a
+    look-up reads those of its chunk alone, which it copies; none is looked at before. The buffer must not change as
+    long as the store is used.
+    """
 
     def __init__(self, words: Any, index: Iterable[Sequence[Any]], model: Model) -> None:
         """As :meth:`from_parts`."""
@@ -81,10 +90,11 @@ class Store:
 
     @classmethod
     def build(cls, chunks: Iterable[List], model: Model) -> Store:
-        """A store of these chunks: one range coder takes them in order, and its words are sealed so that any may follow them.
+        """A store of these chunks: one range coder takes them in order, and its words are sealed so that any may
+        follow them.
 
-        Raises :class:`ImpossibleSymbolError`, and :class:`WrongLengthError` where the chunks have more than ``MOST_SYMBOLS``
-        symbols together.
+        Raises :class:`ImpossibleSymbolError`, and :class:`WrongLengthError` where the chunks have more than
+        ``MOST_SYMBOLS`` symbols together.
         """
         encoder, index, left = RangeEncoder(), [], MOST_SYMBOLS
         for chunk in chunks:
@@ -99,10 +109,11 @@ class Store:
 
     @classmethod
     def from_parts(cls, words: Any, index: Iterable[Sequence[Any]], model: Model) -> Store:
-        """The store of these words and this index, such as ``words`` and ``index`` of a store are. The words are not copied.
+        """The store of these words and this index, such as ``words`` and ``index`` of a store are. The words are not
+        copied.
 
-        Raises :class:`WrongLengthError` where an entry begins past the words, or the chunks have more than ``MOST_SYMBOLS``
-        symbols together.
+        Raises :class:`WrongLengthError` where an entry begins past the words, or the chunks have more than
+        ``MOST_SYMBOLS`` symbols together.
         """
         return cls(words, index, model)
 
@@ -128,8 +139,8 @@ class Store:
     def chunk(self, i: int) -> Any:
         """The symbols of a chunk, of which 0 is the first.
 
-        Raises :class:`IndexError` where there are fewer chunks, and :class:`InvalidDataError` where the words hold no such
-        symbols, which doesn't come in a store that was built.
+        Raises :class:`IndexError` where there are fewer chunks, and :class:`InvalidDataError` where the words hold
+        no such symbols, which doesn't come in a store that was built.
         """
         place = whole(i)
         if not 0 <= place < len(self._index):

@@ -21,7 +21,7 @@ import definitions
 from constriction import _library, _words, errors
 from constriction.stream.chain import ChainCoder
 from constriction.stream.model import (
-    Bernoulli, Categorical, CustomModel, QuantizedGaussian, QuantizedLaplace, QuantizedLogistic, Uniform, WeightTable,
+    Bernoulli, Binomial, Categorical, CustomModel, QuantizedCauchy, QuantizedGaussian, QuantizedLaplace, QuantizedLogistic, Uniform, WeightTable,
 )  # fmt: skip
 from constriction.stream.queue import RangeDecoder, RangeEncoder
 from constriction.stream.stack import AnsCoder
@@ -128,6 +128,54 @@ class Copies(unittest.TestCase):
         model = WeightTable(weights)
         weights[0] = 1
         AnsCoder().encode_reverse([0, 1], model)
+
+
+class Equal(unittest.TestCase):
+    """``repr`` and ``==`` of coders and models."""
+
+    def test_coders(self) -> None:
+        kinds: list[Any] = [it[0] for it in coders().values()]
+        for coder, twin in zip(kinds, [it[0] for it in coders().values()]):
+            self.assertEqual(coder, twin)
+            self.assertEqual(coder, copy.deepcopy(coder))
+            self.assertFalse(coder != coder.clone())
+            self.assertRegex(repr(coder), f"^<{type(coder).__name__}: .*[0-9].*>$")
+            self.assertNotEqual(coder, 5)
+            self.assertRaises(TypeError, hash, coder)
+        for (_, change, _), coder, twin in zip(coders().values(), kinds, [it[0] for it in coders().values()]):
+            change(twin)
+            self.assertNotEqual(coder, twin)
+        self.assertEqual(repr(AnsCoder([1, 2, 3])), "<AnsCoder: 1 words, and a head of 34 bits>")
+
+    def test_a_decode_and_its_converse(self) -> None:
+        coder, other = AnsCoder(array("I", range(1, 100))), AnsCoder(array("I", range(1, 100)))
+        other.encode_reverse(other.decode(Uniform(7), 200), Uniform(7))
+        self.assertEqual(coder, other)
+
+    def test_models(self) -> None:
+        def made() -> list[Any]:
+            return [
+                QuantizedGaussian(-9, 9), QuantizedGaussian(-9, 9, 0.5), QuantizedGaussian(-9, 9, 0.5, 2.0), QuantizedGaussian(-9, 9, std=2.0),
+                QuantizedLaplace(-9, 9, 0.5, 2.0), QuantizedLogistic(-9, 9), Uniform(7), Uniform(), Uniform(8), Bernoulli(0.25), Bernoulli(),
+                WeightTable([1, (1 << 24) - 1]), WeightTable(), Categorical([1, 3]), Categorical(), WeightTable([1 << 20] * 16), Binomial(5, 0.5),
+                QuantizedCauchy(0, 9, 1.0), CustomModel(abs, None, 0, 9),
+            ]  # fmt: skip
+
+        models = made()
+        for i, (model, twin) in enumerate(zip(models, made())):
+            self.assertEqual((model, hash(model)), (twin, hash(twin)))
+            self.assertEqual([k for k, it in enumerate(models) if it == model], [i])
+            if model.complete:
+                AnsCoder([5]).decode(twin, 3), AnsCoder([5]).decode(twin)
+                self.assertEqual(model, twin)  # Tables that were made in between make no difference.
+        self.assertEqual([repr(it) for it in models], [
+            "QuantizedGaussian(-9, 9)", "QuantizedGaussian(-9, 9, mean=0.5)", "QuantizedGaussian(-9, 9, mean=0.5, std=2.0)",
+            "QuantizedGaussian(-9, 9, std=2.0)", "QuantizedLaplace(-9, 9, mean=0.5, scale=2.0)", "QuantizedLogistic(-9, 9)", "Uniform(7)", "Uniform()",
+            "Uniform(8)", "Bernoulli(0.25)", "Bernoulli()", "WeightTable([1, 16777215])", "WeightTable()", "Categorical([4194304, 12582912])",
+            "Categorical()", "WeightTable(<16 weights>)", "Binomial(n=5, p=0.5)", "QuantizedCauchy(0, 9, loc=1.0)", "CustomModel(abs, 0, 9)",
+        ])  # fmt: skip
+        for model in models:
+            self.assertGreater(len(type(model).__init__.__doc__ or ""), 40)
 
 
 class Threads(unittest.TestCase):

@@ -3,6 +3,7 @@
 from __future__ import annotations
 
 import doctest
+import pickle
 import random
 import unittest
 from array import array
@@ -19,44 +20,49 @@ TWO = WeightTable([3, 2, 16777211])
 HALVES = WeightTable([8388608, 8388608])
 SEVERAL = WeightTable([1, 2, 16777213])
 TEN = [0, 1, 2, 0, 1, 2, 0, 0, 0, 1]
-MESSAGE = [6, 10, -4, 2, 5, 2, 1, 0, 2]
-MEANS = [3.2, 11.5, -2.25, 0.0, 5.5, 1.0, 1.0, -3.0, 2.0]
-STDS = [9.6, 3.0, 1.5, 0.25, 20.0, 0.01, 4.0, 2.0, 1e6]
+#: Depths of a tide, in tenths of a metre around 0, what a forecast says of each, and how sure it is.
+TIDE = [-31, -12, 8, 27, 40, 33, 14, -7, -60, 60]
+FORECAST = [-28.5, -15.75, 6.0, 29.25, 38.0, 35.5, 11.0, -4.5, -58.0, 70.0]
+SPREAD = [4.0, 4.0, 2.5, 2.5, 0.01, 6.0, 3.25, 3.25, 12.0, 1e6]
+#: How often there was sun, rain, snow.
+WEATHER = [11, 6, 1]
 
 
-class TwinsExamples(unittest.TestCase):
-    """What stands at the front of the Rust crate's twin, with another import."""
+class RoundTrips(unittest.TestCase):
+    """Lists under one model, under a forecast for each symbol, and under both in turn, through both coders."""
 
-    def test_ans(self) -> None:
-        model = QuantizedGaussian(-50, 50, 3.2, 9.6)
-        coder = AnsCoder()
-        coder.encode_reverse(MESSAGE, model)
-        compressed = coder.get_compressed()
-        self.assertTrue(AnsCoder(compressed).decode(model, 9) == MESSAGE)
+    def test_one_model(self) -> None:
+        model = QuantizedGaussian(-60, 60, 4.5, 31.0)
+        stack, queue = AnsCoder(), RangeEncoder()
+        for some in (TIDE[:4], TIDE[4:]):
+            queue.encode(some, model)
+        for some in (TIDE[4:], TIDE[:4]):
+            stack.encode_reverse(some, model)
+        for words, make in ((stack.get_compressed(), AnsCoder), (queue.get_compressed(), RangeDecoder)):
+            self.assertEqual(make(words).decode(model, amt=len(TIDE)), TIDE)
+            coder = make(words)
+            self.assertEqual([coder.decode(model) for _ in TIDE], TIDE)
 
-    def test_range(self) -> None:
-        model = QuantizedGaussian(-50, 50, 3.2, 9.6)
-        encoder = RangeEncoder()
-        encoder.encode(MESSAGE, model)
-        self.assertTrue(RangeDecoder(encoder.get_compressed()).decode(model, 9) == MESSAGE)
+    def test_a_forecast_for_each(self) -> None:
+        family, stack, queue = QuantizedGaussian(-60, 60), AnsCoder(), RangeEncoder()
+        for _ in range(3):
+            stack.encode_reverse(TIDE, family, FORECAST, SPREAD)
+            queue.encode(TIDE, family, FORECAST, SPREAD)
+        reader = queue.get_decoder()
+        for _ in range(3):
+            self.assertEqual(stack.decode(family, FORECAST, SPREAD), TIDE)
+            self.assertEqual(reader.decode(family, FORECAST, SPREAD), TIDE)
+        self.assertTrue(stack.is_empty() and reader.maybe_exhausted())
 
-    def test_parameters_for_each_symbol(self) -> None:
-        family = QuantizedGaussian(-50, 50)
-        coder, encoder = AnsCoder(), RangeEncoder()
-        coder.encode_reverse(MESSAGE, family, MEANS, STDS)
-        encoder.encode(MESSAGE, family, MEANS, STDS)
-        self.assertEqual(coder.decode(family, MEANS, STDS), MESSAGE)
-        self.assertTrue(coder.is_empty())
-        self.assertEqual(encoder.get_decoder().decode(family, MEANS, STDS), MESSAGE)
-
-    def test_two_models_in_one_stack(self) -> None:
-        head, tail = QuantizedGaussian(-100, 100), Categorical([0.2, 0.4, 0.1, 0.3])
-        coder = AnsCoder()
-        coder.encode_reverse([1, 3, 0], tail)
-        coder.encode_reverse(array("q", MESSAGE), head, array("d", MEANS), array("d", STDS))
-        decoder = AnsCoder(coder.get_compressed())
-        self.assertEqual(decoder.decode(head, MEANS, STDS), MESSAGE)
-        self.assertEqual(decoder.decode(tail, 3), [1, 3, 0])
+    def test_two_kinds_of_symbols_in_turn(self) -> None:
+        tide, weather, days = QuantizedGaussian(-60, 60), Categorical(WEATHER), [0, 2, 0, 1, 1, 0, 0, 1, 0, 0]
+        stack = AnsCoder()
+        for day, depth, mean, std in reversed(list(zip(days, TIDE, FORECAST, SPREAD))):
+            stack.encode_reverse(depth, tide, mean, std)
+            stack.encode_reverse(day, weather)
+        twin = AnsCoder(array("I", stack.get_compressed()))
+        found = [(twin.decode(weather), twin.decode(tide, mean, std)) for mean, std in zip(FORECAST, SPREAD)]
+        self.assertEqual(found, list(zip(days, TIDE)))
 
     def test_docstrings(self) -> None:
         for module in (stack, queue, chain):
@@ -125,11 +131,40 @@ class Ans(unittest.TestCase):
         with self.assertRaises(errors.WrongLengthError):
             coder.seek(1000, 0)
 
+    def test_seek_forth_and_back(self) -> None:
+        """Positions in any order, over words that are never copied, until a word is written over."""
+        dice, writer, marks = random.Random(31), AnsCoder(), []
+        lists = [[dice.randrange(3) for _ in range(dice.randrange(1, 40))] for _ in range(60)]
+        for it in lists:
+            writer.encode_reverse(it, SEVERAL)
+            marks.append(writer.pos())
+        reader = AnsCoder(writer.get_compressed())
+        memory = reader._state.words.memory
+        for copy in (reader, reader.clone(), pickle.loads(pickle.dumps(reader))):
+            for i in [dice.randrange(60) for _ in range(200)]:
+                copy.seek(*marks[i])
+                self.assertEqual(copy.decode(SEVERAL), lists[i][0])
+                self.assertEqual(copy.decode(SEVERAL, len(lists[i]) - 1), lists[i][1:])
+                self.assertEqual(copy.pos(), marks[i - 1] if i else (0, 0))
+                if i % 7 == 0:  # An export between leaves the words above as they are.
+                    self.assertEqual(AnsCoder(copy.get_compressed()).pos(), copy.pos())
+                    copy = pickle.loads(pickle.dumps(copy)) if copy is not reader else copy
+        self.assertIs(reader._state.words.memory, memory)
+        reader.seek(*marks[30])
+        reader.encode_reverse([1] * 40, SEVERAL)  # Forty symbols of two chances in 2^24 are past a word.
+        self.assertGreater(reader.pos()[0], marks[30][0])
+        with self.assertRaises(errors.WrongLengthError):
+            reader.seek(*marks[59])
+        self.assertEqual(reader.decode(SEVERAL, 40), [1] * 40)
+        self.assertEqual(reader.decode(SEVERAL, len(lists[30])), lists[30])
+        reader.clear()
+        self.assertRaises(errors.WrongLengthError, reader.seek, 1, 5)
+
     def test_refusals(self) -> None:
         coder = AnsCoder()
         coder.encode_reverse(TEN, SEVERAL)
         before = coder.pos(), coder.get_compressed()
-        with self.assertRaisesRegex(errors.ImpossibleSymbolError, r"^Impossible symbol\.$"):
+        with self.assertRaisesRegex(errors.ImpossibleSymbolError, r"^Impossible symbol\. "):
             coder.encode_reverse([0, 1, 3], SEVERAL)
         for symbol in (-1, 3, 1 << 63, 1 << 64, -(1 << 70)):
             for model in (SEVERAL, QuantizedGaussian(3, 5, 4.0, 1.0)):
@@ -137,7 +172,7 @@ class Ans(unittest.TestCase):
                     self.assertRaises(errors.ImpossibleSymbolError, coder.encode_reverse, [symbol], model)
         with self.assertRaises(errors.ImpossibleSymbolError):
             coder.encode_reverse([51], QuantizedGaussian(-50, 50), [0.0], [1.0])
-        with self.assertRaisesRegex(errors.WrongWeightsError, "^weights do not sum to 16777216$"):
+        with self.assertRaisesRegex(errors.WrongWeightsError, "^weights do not sum to 16777216, but to 3$"):
             coder.encode_reverse(0, WeightTable([1, 2]))
         with self.assertRaises(errors.WrongWeightsError):
             coder.decode(WeightTable(), [[16777216, 0], [16777216, 1]])

@@ -3,13 +3,14 @@
 from __future__ import annotations
 
 from ctypes import byref, c_size_t
-from typing import Any, NamedTuple
+from typing import Any, NamedTuple, SupportsIndex, overload
 
 from .. import errors
-from .._buffers import List, Numbers, answered, lent
+from .._buffers import Answer, List, Numbers, Parameter, Symbols, answered, lent
 from .._coder import Coder
-from .._coding import Symbols, decoded, encoded
+from .._coding import decoded, encoded
 from .._library import ChainHeads, call
+from .._single import Buffer, Lane
 from .._words import Words, copied, packed, unpacked
 from .model import Model
 
@@ -65,8 +66,42 @@ def _quantile(state: _State) -> int:
     return bits & 0xFFFFFF
 
 
+class _Lane(Lane):
+    def __init__(self) -> None:
+        self._heads, self._below, self._above = ChainHeads(), Buffer(), Buffer()
+        self._lengths = c_size_t(), c_size_t()
+        below = self._below.address, self._below.capacity, byref(self._lengths[0])
+        above = self._above.address, self._above.capacity, byref(self._lengths[1])
+        lead = byref(self._heads), *below, *above
+        super().__init__(lead, "chain_encode{}_reverse", "chain_decode{}", (byref(c_size_t()),))
+
+    def load(self, state: _State) -> _State:
+        """Each step moves one word at most, by a decode to the remainders, by an encode back."""
+        compressed, remainders = state.compressed.reserve(1), state.remainders.reserve(1)
+        self._below.take(compressed.memory)
+        self._above.take(remainders.memory)
+        self._lengths[0].value, self._lengths[1].value = compressed.length, remainders.length
+        self._heads.remainders, self._heads.compressed = state.heads
+        self._spare = min(len(it.memory) - it.length for it in (compressed, remainders))
+        return _State(compressed, remainders, state.heads)
+
+    def loaded(self, before: _State) -> _State:
+        below, above = (it.value for it in self._lengths)
+        heads = self._heads.remainders, self._heads.compressed
+        return _State(Words(before.compressed.memory, below), Words(before.remainders.memory, above), heads)
+
+    def quantile(self, state: _State) -> int:
+        bits, words = state.heads[1], state.compressed
+        if bits < 1 << 24:
+            if not words.length:
+                return 1 << 24
+            bits = words.memory[words.length - 1]
+        return bits & 0xFFFFFF
+
+
 class ChainCoder(Coder):
-    """Two stacks of words: a decode takes from ``compressed`` and puts what is left over on ``remainders``, an encode the other way.
+    """Two stacks of words: a decode takes from ``compressed`` and puts what is left over on ``remainders``, an
+    encode the other way.
 
     >>> from constriction.stream.model import Uniform
     >>> coder = ChainCoder([0x11223344, 0x100])
@@ -80,8 +115,8 @@ class ChainCoder(Coder):
     def __init__(self, data: List, is_remainders: bool = False, seal: bool = False) -> None:
         """A coder over a copy of these words, the last of which isn't 0.
 
-        With ``seal`` they may be any words, and ``get_data(unseal=True)`` gives them back. With ``is_remainders`` they are what
-        ``get_remainders`` gave, its two lists put together, or the second one alone.
+        With ``seal`` they may be any words, and ``get_data(unseal=True)`` gives them back. With ``is_remainders``
+        they are what ``get_remainders`` gave, its two lists put together, or the second one alone.
         Raises :class:`InvalidDataError` where they are too few or end with a zero word.
         """
         if is_remainders and seal:
@@ -93,24 +128,61 @@ class ChainCoder(Coder):
         words, numbers = Words(words.memory, length.value), (heads.remainders, heads.compressed)
         self._begin(_State(copied(), words, numbers) if is_remainders else _State(words, copied(), numbers))
 
-    def decode(self, model: Model, *amt_or_parameters: Any) -> Any:
+    @overload
+    def decode(self, model: Model) -> int:
+        ...
+
+    @overload
+    def decode(self, model: Model, amt: SupportsIndex) -> Answer:
+        ...
+
+    @overload
+    def decode(self, model: Model, parameter: float, /, *parameters: float) -> int:  # type: ignore[misc]
+        ...
+
+    @overload
+    def decode(self, model: Model, parameter: Parameter, /, *parameters: Parameter) -> Answer:
+        ...
+
+    def decode(self, model: Model, *amt_or_parameters: Any, amt: Any = None) -> Any:
         """Decodes symbols: one, or a list of ``amt``, or one for each set of parameters.
 
         Raises :class:`OutOfDataError` where the words end; the coder is as before then.
         """
-        return self._changed(lambda it: decoded(it, model, amt_or_parameters, _decode, _quantile))
+        if amt is None:
+            lane = self._lane
+            if lane is not None and not amt_or_parameters and isinstance(model, Model):
+                symbol = lane.decode(self, model, ())
+            else:
+                symbol = self._decoded_alone(model, amt_or_parameters)
+            if symbol is not None:
+                return symbol
+        return self._changed(lambda it: decoded(it, model, amt_or_parameters, amt, _decode, _quantile))
 
-    def encode_reverse(self, symbols: Symbols, model: Model, *parameters: Any) -> None:
+    def _made_lane(self) -> Lane:
+        self._lane = _Lane()
+        return self._lane
+
+    def encode_reverse(self, symbols: Symbols, model: Model, *parameters: Parameter) -> None:
         """Encodes a symbol, or a list of them from the last one to the first: the converse of ``decode``.
 
-        Raises :class:`ImpossibleSymbolError`, :class:`WrongWeightsError`, and :class:`OutOfDataError` where the remainders end; the coder is as
-        before then.
+        Raises :class:`ImpossibleSymbolError`, :class:`WrongWeightsError`, and :class:`OutOfDataError` where the
+        remainders end; the coder is as before then.
         """
-        self._changed(lambda it: (encoded(it, symbols, model, parameters, _encode, True), None))
+        lane = self._lane
+        if (
+            lane is not None
+            and type(symbols) is int
+            and isinstance(model, Model)
+            and lane.encode(self, symbols, model, parameters)
+        ):
+            return
+        if not self._encoded_alone(symbols, model, parameters):
+            self._changed(lambda it: (encoded(it, symbols, model, parameters, _encode, True), None))
 
-    def get_data(self, unseal: bool = False) -> tuple[Any, Any]:
-        """The remainders left, and the data: put together, the second behind the first, they are what the coder began with, once
-        all that was decoded is encoded again. The coder stays as it is.
+    def get_data(self, unseal: bool = False) -> tuple[Answer, Answer]:
+        """The remainders left, and the data: put together, the second behind the first, they are what the coder
+        began with, once all that was decoded is encoded again. The coder stays as it is.
 
         Raises :class:`InvalidDataError` where the coder holds no whole number of words.
         """
@@ -122,14 +194,20 @@ class ChainCoder(Coder):
         left, data = self._asked(ask)
         return answered(left), answered(data)
 
-    def get_remainders(self) -> tuple[Any, Any]:
-        """The data left, and the remainders: each alone, or put together, can be handed to a coder. This one stays as it is."""
+    def get_remainders(self) -> tuple[Answer, Answer]:
+        """The data left, and the remainders: each alone, or put together, can be handed to a coder. This one stays
+        as it is."""
 
         def ask(state: _State) -> tuple[Numbers, Numbers]:
-            return state.compressed.numbers(), _export("chain_into_remainders", state.remainders.reserve(3), state.heads)
+            return state.compressed.numbers(), _export(
+                "chain_into_remainders", state.remainders.reserve(3), state.heads
+            )
 
         left, remainders = self._asked(ask)
         return answered(left), answered(remainders)
+
+    def _said(self, state: _State) -> str:
+        return f"{state.compressed.length} words, and {state.remainders.length} of remainders"
 
     def _plain(self, state: _State) -> tuple[Any, ...]:
         return packed(state.compressed), packed(state.remainders), state.heads

@@ -2,15 +2,15 @@
 
 from __future__ import annotations
 
-from typing import Any, NamedTuple
+from collections.abc import Callable
+from typing import Any, NamedTuple, SupportsIndex, overload
 
 from .. import errors
-from .._buffers import SYMBOL, List, Numbers, answered, room
+from .._buffers import SYMBOL, Answer, List, Numbers, Symbols, answered, room
 from .._coder import Coder
-from .._coding import Symbols
 from .._numbers import count_of, is_one, whole, words_of
 from ._bits import Bits, bits_of, words_with
-from ._codebook import Codebook
+from ._codebook import Codebook, codebook_wanted
 
 __all__ = ["QueueDecoder", "QueueEncoder", "StackCoder"]
 
@@ -19,7 +19,16 @@ _LONG = 64
 
 
 def _symbol_codeword(symbol: Any, codebook: Codebook) -> tuple[int, int]:
+    codebook_wanted(codebook)
     return codebook.codeword(whole(symbol))
+
+
+def _all_or_nothing(coder: Coder, listed: Any, codebook: Codebook, change: Callable[[Bits], tuple[Bits, None]]) -> None:
+    """Makes this change, whose refusal says which of the symbols it is of."""
+    try:
+        coder._changed(change)
+    except errors.ImpossibleSymbolError:
+        raise codebook.impossible(listed) from None
 
 
 class _Place(NamedTuple):
@@ -38,6 +47,7 @@ class QueueEncoder(Coder):
 
     def encode(self, symbols: Symbols, codebook: Codebook) -> None:
         """Puts symbols behind those before. Raises :class:`ImpossibleSymbolError`; the encoder is as before then."""
+        codebook_wanted(codebook)
         if is_one(symbols):
             return self.encode_symbol(symbols, codebook)  # type: ignore[arg-type]
         listed = codebook.symbols(symbols)
@@ -51,14 +61,14 @@ class QueueEncoder(Coder):
             count = sum(codebook.codeword(it)[1] for it in listed)
             return bits.put(words.part(0, count), count), None
 
-        self._changed(change)
+        _all_or_nothing(self, listed, codebook, change)
 
-    def encode_symbol(self, symbol: int, codebook: Codebook) -> None:
+    def encode_symbol(self, symbol: SupportsIndex, codebook: Codebook) -> None:
         """Puts one symbol behind those before."""
         codeword = _symbol_codeword(symbol, codebook)
         self._changed(lambda bits: (bits.put(*codeword), None))
 
-    def get_compressed(self) -> tuple[Any, int]:
+    def get_compressed(self) -> tuple[Answer, int]:
         """The words of the codewords, filled up with zero bits, and how many bits the codewords have."""
         words, count = self._asked(lambda bits: (words_with(bits.part(0, bits.length), bits.length), bits.length))
         return answered(words), count
@@ -66,6 +76,9 @@ class QueueEncoder(Coder):
     def get_decoder(self) -> QueueDecoder:
         """A decoder of the symbols up to now."""
         return QueueDecoder(self._asked(lambda bits: words_with(bits.part(0, bits.length), bits.length)))
+
+    def _said(self, state: Bits) -> str:
+        return f"{state.length} bits"
 
     def _plain(self, state: Bits) -> tuple[Any, ...]:
         return bytes(state.clone().memory), state.length
@@ -75,23 +88,37 @@ class QueueEncoder(Coder):
 
 
 class QueueDecoder(Coder):
-    """Reads codewords from the beginning of words, and keeps its place. Each symbol can have a codebook of its own."""
+    """Reads codewords from the beginning of words, and keeps its place. Each symbol can have a codebook of its
+    own."""
 
     def __init__(self, compressed: List) -> None:
         """A decoder at the beginning of these words, which are copied."""
         self._begin(_Place(bits_of(compressed), 0))
 
-    def decode(self, codebook: Codebook, amt: int | None = None) -> Any:
-        """The next symbol, or a list of ``amt``. Raises :class:`OutOfDataError` and :class:`InvalidDataError`; the decoder is as before
-        then."""
+    @overload
+    def decode(self, codebook: Codebook, amt: None = None) -> int:
+        ...
+
+    @overload
+    def decode(self, codebook: Codebook, amt: SupportsIndex) -> Answer:
+        ...
+
+    def decode(self, codebook: Codebook, amt: SupportsIndex | None = None) -> int | Answer:
+        """The next symbol, or a list of ``amt``. Raises :class:`OutOfDataError` and :class:`InvalidDataError`; the
+        decoder is as before then."""
+        codebook_wanted(codebook)
         if amt is None:
             return self.decode_symbol(codebook)
         count = count_of(amt)
-        return answered(self._changed(lambda state: _read_list(state, codebook, count)))
+        found: Answer = answered(self._changed(lambda state: _read_list(state, codebook, count)))
+        return found
 
     def decode_symbol(self, codebook: Codebook) -> int:
         """The next symbol."""
         return self._changed(lambda state: _read(state, codebook))
+
+    def _said(self, state: _Place) -> str:
+        return f"at bit {state.place} of {state.bits.length}"
 
     def _plain(self, state: _Place) -> tuple[Any, ...]:
         return bytes(state.bits.memory), state.place
@@ -146,7 +173,8 @@ def _by_library(codebook: Codebook, bits: int, length: int, count: int, stack: b
 
 
 class StackCoder(Coder):
-    """A stack of codewords: the last one put on is the first one taken off. Each symbol can have a codebook of its own."""
+    """A stack of codewords: the last one put on is the first one taken off. Each symbol can have a codebook of its
+    own."""
 
     def __init__(self, compressed: List | None = None) -> None:
         """An empty stack, or the one whose ``get_compressed`` gave these words, which are copied.
@@ -162,7 +190,9 @@ class StackCoder(Coder):
         self._begin(Bits(bits.memory, length))
 
     def encode_reverse(self, symbols: Symbols, codebook: Codebook) -> None:
-        """Puts symbols on top, from the last one to the first. Raises :class:`ImpossibleSymbolError`; the stack is as before then."""
+        """Puts symbols on top, from the last one to the first. Raises :class:`ImpossibleSymbolError`; the stack is
+        as before then."""
+        codebook_wanted(codebook)
         if is_one(symbols):
             return self.encode_symbol(symbols, codebook)  # type: ignore[arg-type]
         listed = codebook.symbols(symbols)
@@ -175,20 +205,30 @@ class StackCoder(Coder):
             words = StackCoder(codebook.encoded(listed, True))._state
             return bits.put(words.part(0, words.length), words.length), None
 
-        self._changed(change)
+        _all_or_nothing(self, listed, codebook, change)
 
-    def encode_symbol(self, symbol: int, codebook: Codebook) -> None:
+    def encode_symbol(self, symbol: SupportsIndex, codebook: Codebook) -> None:
         """Puts one symbol on top."""
         codeword = _turned(*_symbol_codeword(symbol, codebook))
         self._changed(lambda bits: (bits.put(*codeword), None))
 
-    def decode(self, codebook: Codebook, amt: int | None = None) -> Any:
+    @overload
+    def decode(self, codebook: Codebook, amt: None = None) -> int:
+        ...
+
+    @overload
+    def decode(self, codebook: Codebook, amt: SupportsIndex) -> Answer:
+        ...
+
+    def decode(self, codebook: Codebook, amt: SupportsIndex | None = None) -> int | Answer:
         """Takes off the symbol on top, or a list of the ``amt`` topmost. Raises :class:`OutOfDataError` and
         :class:`InvalidDataError`; the stack is as before then."""
+        codebook_wanted(codebook)
         if amt is None:
             return self.decode_symbol(codebook)
         count = count_of(amt)
-        return answered(self._changed(lambda bits: _take_list(bits, codebook, count)))
+        found: Answer = answered(self._changed(lambda bits: _take_list(bits, codebook, count)))
+        return found
 
     def decode_symbol(self, codebook: Codebook) -> int:
         """Takes off the symbol on top."""
@@ -198,13 +238,18 @@ class StackCoder(Coder):
         """Whether there is nothing to decode."""
         return not self._state.length
 
-    def get_compressed(self) -> tuple[Any, int]:
-        """The words of the codewords, closed by a bit 1 and filled up with zero bits, and how many bits the codewords have."""
+    def get_compressed(self) -> tuple[Answer, int]:
+        """The words of the codewords, closed by a bit 1 and filled up with zero bits, and how many bits the
+        codewords have."""
+
         def export(bits: Bits) -> tuple[Numbers, int]:
             return words_with(bits.part(0, bits.length) | 1 << bits.length, bits.length + 1), bits.length
 
         words, count = self._asked(export)
         return answered(words), count
+
+    def _said(self, state: Bits) -> str:
+        return f"{state.length} bits"
 
     def _plain(self, state: Bits) -> tuple[Any, ...]:
         return bytes(state.clone().memory), state.length

@@ -10,7 +10,7 @@ from typing import Any
 from .. import errors
 from .._buffers import WORD, Numbers, lent, room
 from .._library import call
-from .._numbers import is_one, whole, words_of
+from .._numbers import is_one, sequence_of, whole, wholes_of
 from .._words import Words
 from ._codebook import Codebook
 
@@ -22,7 +22,7 @@ class ExpGolomb(Codebook):
 
     def codeword(self, symbol: int) -> tuple[int, int]:
         if not 0 <= symbol < 1 << 32:
-            raise errors.ImpossibleSymbolError(errors.IMPOSSIBLE_SYMBOL)
+            raise self.impossible(symbol)
         digits = format(symbol + 1, "b")
         return int(digits[::-1], 2) << (len(digits) - 1), 2 * len(digits) - 1
 
@@ -42,11 +42,15 @@ class ExpGolomb(Codebook):
     def longest(self) -> int:
         return 65
 
+    def num_symbols(self) -> int:
+        return 1 << 32
+
     def symbols(self, symbols: Any) -> array[Any]:
+        given = symbols if is_one(symbols) else sequence_of(symbols)
         try:
-            return array(WORD, (whole(symbols),)) if is_one(symbols) else words_of(symbols)
+            return array(WORD, (whole(given),)) if is_one(given) else wholes_of(WORD, given)
         except OverflowError:
-            raise errors.ImpossibleSymbolError(errors.IMPOSSIBLE_SYMBOL) from None
+            raise self.impossible(given) from None
 
     def encoded(self, symbols: array[Any], stack: bool) -> Numbers:
         count = len(symbols)

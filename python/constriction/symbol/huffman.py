@@ -12,7 +12,7 @@ from typing import Any
 from .. import errors
 from .._buffers import SYMBOL, WORD, List, Numbers, lent, room
 from .._library import call
-from .._numbers import floats_of, places_of, wholes_of, words_of
+from .._numbers import floats_of, is_one, listed_of, places_of, sequence_of, whole, wholes_of
 from .._words import Words
 from ._bits import bits_of
 from ._codebook import Codebook
@@ -21,34 +21,43 @@ __all__ = ["DecoderHuffmanTree", "EncoderHuffmanTree"]
 
 #: Floats are taken as weights out of this many, so that many symbols have a sum below 2^32.
 _SHARES = 1 << 31
+_TOO_LARGE = "sum of weights too large"
 
 
 def _weights(probabilities: List) -> array[int]:
     """Whole numbers of any type as they are; floats by their share."""
-    listed = probabilities if hasattr(probabilities, "__len__") else list(probabilities)
+    if is_one(probabilities):
+        raise TypeError(f"a list of weights is wanted, and not a {type(probabilities).__name__}")
+    given = sequence_of(probabilities)
     try:
-        return wholes_of(WORD, listed)
+        return wholes_of(WORD, given)
+    except OverflowError:
+        for place, weight in enumerate(map(whole, listed_of(given))):
+            if weight < 0:
+                raise errors.WrongWeightsError(f"weight {place} is {weight}: no weight is negative") from None
+        raise errors.WrongWeightsError(_TOO_LARGE) from None
     except TypeError:
-        shares = floats_of(listed)
-    whole = sum(shares)
-    if not 0 < whole < math.inf or min(shares) < 0:
-        raise ValueError("the probabilities have no positive sum, or one is negative")
-    return array(WORD, (int(it / whole * _SHARES) for it in shares))
+        shares = floats_of(given)
+    total = sum(shares)
+    for place, share in enumerate(shares):
+        if not 0 <= share < math.inf:
+            raise errors.WrongWeightsError(f"probability {place} is {share}, and has to be at least 0 and finite")
+    if not 0 < total < math.inf:
+        raise errors.WrongWeightsError(f"the probabilities have no positive sum, but {total}")
+    return array(WORD, (int(it / total * _SHARES) for it in shares))
 
 
 class _Tree(Codebook):
     """Weights, whose tree each call of a C function makes; and the same tree in Python for single symbols."""
 
     def __init__(self, probabilities: List) -> None:
-        """Whole weights whose sum is below 2^32 are taken as they are; floats by their share, in Python, which isn't proved.
+        """Whole weights whose sum is below 2^32 are taken as they are; floats by their share, in Python, which isn't
+        proved.
 
         Raises :class:`WrongWeightsError` where there are none, or their sum is too large.
         """
-        try:
-            self._weights = _weights(probabilities)
-        except OverflowError:
-            raise errors.WrongWeightsError("sum of weights too large") from None
-        self._texts = {2: "sum of weights too large" if len(self._weights) else "no weights", 8: errors.CODEWORD_ENDED}
+        self._weights = _weights(probabilities)
+        self._texts = {2: _TOO_LARGE if len(self._weights) else "no weights", 8: errors.CODEWORD_ENDED}
         self._grown: tuple[list[tuple[int, int]], list[tuple[int, int]]] | None = None
         # No symbols: this only tests the weights.
         self.encoded(array(SYMBOL), False)
@@ -58,8 +67,8 @@ class _Tree(Codebook):
         return len(self._weights)
 
     def _tree(self) -> tuple[list[tuple[int, int]], list[tuple[int, int]]]:
-        """The codewords, and the two children of each union. It is made where it is first asked for, and compared with the words of the
-        C function."""
+        """The codewords, and the two children of each union. It is made where it is first asked for, and compared
+        with the words of the C function."""
         if self._grown is None:
             unions, codewords = _merged(self._weights)
             found = bits_of(self.encoded(array(SYMBOL, range(len(codewords))), False))
@@ -75,7 +84,7 @@ class _Tree(Codebook):
 
     def codeword(self, symbol: int) -> tuple[int, int]:
         if not 0 <= symbol < len(self._weights):
-            raise errors.ImpossibleSymbolError(errors.IMPOSSIBLE_SYMBOL)
+            raise self.impossible(symbol)
         return self._tree()[0][symbol]
 
     def read(self, bit: Callable[[], int]) -> int:
@@ -89,7 +98,11 @@ class _Tree(Codebook):
         return max(count for _, count in self._tree()[0])
 
     def symbols(self, symbols: Any) -> array[Any]:
-        return places_of(symbols, 0)
+        given = symbols if is_one(symbols) else sequence_of(symbols)
+        try:
+            return places_of(given, 0)
+        except errors.ImpossibleSymbolError:
+            raise self.impossible(given) from None
 
     def encoded(self, symbols: array[Any], stack: bool) -> Numbers:
         weights, length, needed = self._weights, c_size_t(0), c_size_t(0)
@@ -113,7 +126,8 @@ class _Tree(Codebook):
 
 
 def _merged(weights: array[int]) -> tuple[list[tuple[int, int]], list[tuple[int, int]]]:
-    """The children of each union, and the codewords: the two least by (weight, index) are merged, and a union comes behind all others."""
+    """The children of each union, and the codewords: the two least by (weight, index) are merged, and a union comes
+    behind all others."""
     leaves = len(weights)
     heap = [(weight, i) for i, weight in enumerate(weights)]
     heapify(heap)

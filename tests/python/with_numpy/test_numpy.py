@@ -12,6 +12,7 @@ from typing import Any
 from unittest import mock
 
 from constriction import _units, errors
+from constriction.store import Store
 from constriction.stream.chain import ChainCoder
 from constriction.stream.model import (
     Bernoulli, Categorical, QuantizedGaussian, QuantizedLaplace, QuantizedLogistic, Uniform, WeightTable,
@@ -187,6 +188,91 @@ class Numpy(unittest.TestCase):
         for given in ([3, 2, 4000000000], numpy.array([3, 2, 4000000000])):
             self.assertEqual([EncoderHuffmanTree(given).codeword(i)[1] for i in range(3)], [2, 2, 1])
             self.assertEqual(list(DecoderHuffmanTree(given)._weights), [3, 2, 4000000000])
+
+    def test_masked_arrays(self) -> None:
+        masked = numpy.ma.masked_array([1, 0, 2], mask=[False, True, False])
+        family, model = QuantizedGaussian(-9, 9), WeightTable(WEIGHTS)
+        for call in (
+            lambda: AnsCoder().encode_reverse(masked, model), lambda: AnsCoder(masked), lambda: WeightTable(masked), lambda: Categorical(masked),
+            lambda: AnsCoder().encode_reverse([1, 2, 3], family, masked, [1.0] * 3), lambda: AnsCoder().decode(family, [0.0] * 3, masked),
+            lambda: EncoderHuffmanTree(masked), lambda: QuantizedGaussian(-9, 9, masked[1], 1.0), lambda: AnsCoder().decode(Categorical(), [masked]),
+        ):  # fmt: skip
+            self.assertRaisesRegex(TypeError, "^numbers are wanted, and not a masked array: ", call)
+
+    def test_text_is_no_number(self) -> None:
+        for wrong in (numpy.array(["1", "2"]), [numpy.str_("1"), numpy.str_("2")], numpy.array([None, 1.0]), numpy.array([1j])):
+            for call in (
+                lambda: Categorical(wrong), lambda: WeightTable(wrong), lambda: AnsCoder().decode(QuantizedGaussian(-9, 9), wrong, [1.0, 2.0]),
+                lambda: AnsCoder().encode_reverse(wrong, WeightTable(WEIGHTS)),
+            ):  # fmt: skip
+                self.assertRaises(TypeError, call)
+        self.assertRaises(TypeError, QuantizedGaussian, -9, 9, numpy.str_("1"), 2.0)
+
+    def test_stores_in_another_byte_order(self) -> None:
+        built = Store.build([TEN, TEN[::-1]], WeightTable(WEIGHTS))
+        for kind in (">u4", "int32", "float32", "uint16"):
+            with self.assertRaisesRegex(TypeError, "^a buffer of words of 32 bits is wanted, "):
+                Store.from_parts(built.words.astype(kind), built.index, WeightTable(WEIGHTS))
+        for words in (built.words, built.words.astype("<u4"), built.words.view("uint8"), built.words.tobytes()):
+            self.assertEqual(Store.from_parts(words, built.index, WeightTable(WEIGHTS))[1].tolist(), TEN[::-1])
+
+    def test_ranges_far_off(self) -> None:
+        """Arrays of each byte order, where a range begins past what numpy shifts."""
+        for least in (1 << 61, (1 << 63) - 9, -(1 << 63), (1 << 61) - 1):
+            model, symbols = QuantizedGaussian(least, least + 8, float(least), 3.0), [least, least + 8, least + 2]
+            wanted = AnsCoder()
+            wanted.encode_reverse(symbols, model)
+            for kind in ("int64", ">i8", "uint64", ">u8"):
+                if least > 0 or "u" not in kind:
+                    coder = AnsCoder()
+                    coder.encode_reverse(numpy.array(symbols, dtype=kind), model)
+                    self.assertEqual(coder.pos(), wanted.pos())
+                    self.assertEqual(coder.decode(model, 3).tolist(), symbols)
+            self.assertRaises(TypeError, AnsCoder().encode_reverse, numpy.array([1.0]), model)
+
+    def test_whole_counts(self) -> None:
+        for counts in ([2**60, 2**60 + 1, 2**60], [3, 0, 5], [2**62] * 40 + [2**62 + 1]):
+            for kind in ("uint64", "int64", ">u8"):
+                self.assertEqual(Categorical(numpy.array(counts, dtype=kind)).table(), Categorical(counts).table())
+        dice = random.Random(4)
+        for length in (1, 31, 33, 200):
+            chances = [dice.choice((0.0, dice.random(), math.exp(-40 * dice.random()), 5e-324)) for _ in range(length)] + [2.0 ** dice.randint(-1060, 1020)]
+            ours = _units.counts_of(array("d", chances))
+            with mock.patch.object(_units, "numpy_module", return_value=None):
+                self.assertEqual(ours, _units.counts_of(array("d", chances)))
+
+    def test_rows_that_are_rounded_together(self) -> None:
+        """As each alone, in several parts, and with the errors of each alone."""
+        dice = numpy.random.default_rng(6)
+        for width, count in ((1, 3), (3, 40), (300, 500)):
+            rows = dice.random((count, width)) ** dice.uniform(1, 300, (count, 1)) + 1e-300
+            rows[:, 0] *= dice.choice([0.0, 1.0, 1e300, 5e-24], count)
+            rows[:, -1] += 1e-9
+            for kind in ("float64", "float32", ">f8"):
+                some = numpy.minimum(rows, 1e38 if kind == "float32" else 1e300).astype(kind)
+                together = [list(row) for weights, _, _ in Categorical().rows((some,)) for row in numpy.asarray(weights).reshape(-1, width).tolist()]
+                self.assertEqual(together, [list(Categorical(row).table()) for row in some.tolist()])
+        for wrong in (-1.0, numpy.nan, numpy.inf):
+            rows = numpy.full((4, 3), 0.25)
+            rows[2, 1] = wrong
+            with self.assertRaisesRegex(ValueError, "^probability 1 is "):
+                AnsCoder().decode(Categorical(), rows)
+        with self.assertRaisesRegex(ValueError, "^no probability is above 0$"):
+            AnsCoder().decode(Categorical(), numpy.zeros((2, 3)))
+
+    def test_one_symbol(self) -> None:
+        """Numbers of numpy alone, as symbols and as parameters."""
+        family, coder, wanted = QuantizedGaussian(-9, 9), AnsCoder(), AnsCoder()
+        for kind in (numpy.int64, numpy.int8, numpy.uint16, numpy.array):
+            for mean, std in ((numpy.float32(0.5), numpy.float64(2.0)), (numpy.int32(1), numpy.array(2.5))):
+                coder.encode_reverse(kind(3), family, mean, std)
+                wanted.encode_reverse([3], family, [float(mean)], [float(std)])
+                self.assertEqual(coder.pos(), wanted.pos())
+        row = numpy.array([1 << 22, 1 << 22, 1 << 23])
+        for kind in ("uint32", "int64", ">u4"):
+            coder.encode_reverse(numpy.int64(2), WeightTable(), row.astype(kind))
+            self.assertEqual((coder.decode(WeightTable(row.astype(kind))), coder.pos()), (2, wanted.pos()))
+        self.assertIs(type(coder.decode(family, 0.5, 2.0)), int)
 
     def test_copies(self) -> None:
         coder = AnsCoder(numpy.array(WORDS, dtype=numpy.uint32))

@@ -1,9 +1,16 @@
-"""Programs as those of the Rust crate's package for Python write them: its names, int32 arrays and float32 parameters, numpy's out."""
+"""Calls as programs write them that were made for the Rust crate's package: its names, int32 symbols and float32
+parameters in, numpy's arrays out. What words there are is compared with the definitions in whole numbers."""
 
 from __future__ import annotations
 
+import json
 import math
+import os
+import re
+import sys
+import tempfile
 import unittest
+from pathlib import Path
 from typing import Any
 
 np: Any
@@ -12,207 +19,245 @@ try:
 except ImportError:
     raise unittest.SkipTest("numpy is not there") from None
 
+sys.path.insert(0, str(Path(__file__).resolve().parents[1]))
+
 import constriction
+import definitions as by
+import definitions_of_models as models
 from constriction import errors
 
+model, stack, queue, chain = (
+    constriction.stream.model, constriction.stream.stack, constriction.stream.queue, constriction.stream.chain,
+)  # fmt: skip
 
-class Twin(unittest.TestCase):
-    message = np.array([6, 10, -4, 2, 5, 2, 1, 0, 2], dtype=np.int32)
-    means = np.array([2.3, 6.1, -8.5, 4.1, 1.3, 0.2, -0.7, 0.9, 2.2], dtype=np.float32)
-    stds = np.array([6.2, 5.3, 3.8, 4.2, 6.8, 3.1, 2.0, 1.0, 4.9], dtype=np.float32)
 
-    def test_ans_with_one_model(self) -> None:
-        entropy_model = constriction.stream.model.QuantizedGaussian(-50, 50, 3.2, 9.6)
-        encoder = constriction.stream.stack.AnsCoder()
-        encoder.encode_reverse(self.message, entropy_model)
-        compressed = encoder.get_compressed()
-        self.assertEqual([bin(word)[:2] for word in compressed], ["0b"] * len(compressed))
-        decoder = constriction.stream.stack.AnsCoder(compressed)
-        decoded = decoder.decode(entropy_model, 9)
-        assert np.all(decoded == self.message)
+def symbols(*given: int) -> Any:
+    return np.array(given, dtype=np.int32)
 
-    def test_range_with_one_model(self) -> None:
-        entropy_model = constriction.stream.model.QuantizedGaussian(-50, 50, 3.2, 9.6)
-        encoder = constriction.stream.queue.RangeEncoder()
-        encoder.encode(self.message, entropy_model)
-        decoder = constriction.stream.queue.RangeDecoder(encoder.get_compressed())
-        assert np.all(decoder.decode(entropy_model, 9) == self.message)
 
-    def test_two_parts_under_families(self) -> None:
-        tail = np.array([1, 3, 0], dtype=np.int32)
-        family = constriction.stream.model.QuantizedGaussian(-100, 100)
-        probabilities = np.array([0.2, 0.4, 0.1, 0.3], dtype=np.float32)
-        categorical = constriction.stream.model.Categorical(probabilities, perfect=False)
-        coder = constriction.stream.stack.AnsCoder()
-        coder.encode_reverse(tail, categorical)
-        coder.encode_reverse(self.message, family, self.means, self.stds)
-        decoder = constriction.stream.stack.AnsCoder(coder.get_compressed())
-        assert np.all(decoder.decode(family, self.means, self.stds) == self.message)
-        assert np.all(decoder.decode(categorical, 3) == tail)
+def floats(*given: float) -> Any:
+    return np.array(given, dtype=np.float32)
 
-    def test_parts_after_one_another(self) -> None:
-        # A list under one table, then one with a mean and a deviation for each symbol, through both coders in their own order.
-        first, second = np.array([1, 2, 0, 3, 2, 3, 0], dtype=np.int32), np.array([6, 10, -4, 2], dtype=np.int32)
-        table = constriction.stream.model.Categorical(np.array([0.2, 0.4, 0.1, 0.3], dtype=np.float32), perfect=False)
-        means, stds = np.array([2.5, 13.1, -1.1, -3.0], dtype=np.float32), np.array([4.1, 8.7, 6.2, 5.4], dtype=np.float32)
-        family = constriction.stream.model.QuantizedGaussian(-100, 100)
-        encoder = constriction.stream.queue.RangeEncoder()
-        encoder.encode(first, table)
-        encoder.encode(second, family, means, stds)
-        compressed = encoder.get_compressed()
-        self.assertEqual(compressed.dtype, np.uint32)
-        decoder = constriction.stream.queue.RangeDecoder(compressed)
-        assert np.all(decoder.decode(table, 7) == first)
-        assert np.all(decoder.decode(family, means, stds) == second)
-        coder = constriction.stream.stack.AnsCoder()
-        coder.encode_reverse(second, family, means, stds)
-        coder.encode_reverse(first, table)
-        decoder = constriction.stream.stack.AnsCoder(coder.get_compressed())
-        assert np.all(decoder.decode(table, 7) == first)
-        assert np.all(decoder.decode(family, means, stds) == second)
-        assert decoder.is_empty()
 
-    def test_one_symbol_at_a_time(self) -> None:
-        # Each model follows from the symbols before it.
-        model = constriction.stream.model
-        encoder, ans = constriction.stream.queue.RangeEncoder(), constriction.stream.stack.AnsCoder()
-        before = [0] + [int(it) for it in self.message[:-1]]
-        for symbol, mean in zip(self.message, before):
-            encoder.encode(symbol, model.QuantizedGaussian(-50, 50, float(mean), 5.0))
-        for symbol, mean in zip(self.message[::-1], before[::-1]):
-            ans.encode_reverse(symbol, model.QuantizedGaussian(-50, 50, float(mean), 5.0))
-        for decoder in (encoder.get_decoder(), ans):
-            decoded = [0]
-            for _ in self.message:
-                decoded.append(decoder.decode(model.QuantizedGaussian(-50, 50, float(decoded[-1]), 5.0)))
-            self.assertEqual(decoded[1:], list(self.message))
+class Readings(unittest.TestCase):
+    """A thermometer's changes from hour to hour, in tenths of a degree, and what a forecast says of each."""
 
-    def test_jumps(self) -> None:
-        table = constriction.stream.model.Categorical(np.array([0.2, 0.4, 0.1, 0.3], dtype=np.float32), perfect=False)
-        first, second = np.array([1, 2, 0, 3, 2, 3, 0], dtype=np.int32), np.array([2, 2, 0, 1, 3], dtype=np.int32)
-        coder = constriction.stream.stack.AnsCoder()
-        coder.encode_reverse(second, table)
-        position, state = coder.pos()
-        coder.encode_reverse(first, table)
-        self.assertEqual(coder.decode(table), 1)
-        coder.seek(position, state)
-        assert np.all(coder.decode(table, 5) == second)
-        encoder = constriction.stream.queue.RangeEncoder()
-        encoder.encode(first, table)
-        position, interval = encoder.pos()
-        encoder.encode(second, table)
-        decoder = constriction.stream.queue.RangeDecoder(encoder.get_compressed())
-        self.assertEqual(decoder.decode(table), 1)
-        decoder.seek(position, interval)
-        assert np.all(decoder.decode(table, 5) == second)
+    changes = symbols(-14, 3, 22, 31, 8, -5, -27, -40, 2, 0, 0, 19)
+    guesses = floats(-11.5, 0.25, 24.0, 28.75, 10.5, -8.0, -22.5, -36.0, 0.0, 1.5, -0.5, 16.0)
+    doubts = floats(6.0, 2.5, 3.5, 8.25, 4.0, 4.0, 9.5, 12.0, 1.5, 0.75, 0.75, 5.5)
 
-    def test_bits_back(self) -> None:
-        # Words that come from elsewhere are read as symbols under one model, and the symbols are put back.
-        words = np.array([0x80D14131, 0xDDA97C6C, 0x5017A640, 0x01170A3E], dtype=np.uint32)
-        family = constriction.stream.model.QuantizedGaussian(-100, 100)
-        coder = constriction.stream.stack.AnsCoder(words, True)
-        symbols = coder.decode(family, self.means, self.stds)
-        coder.encode_reverse(symbols, family, self.means, self.stds)
-        assert np.all(coder.get_compressed(unseal=True) == words)
-        self.assertEqual((coder.num_valid_bits(), coder.clone().num_words()), (128, 5))
+    def rows(self, least: int, greatest: int) -> list[list[int]]:
+        pairs = zip(self.guesses.tolist(), self.doubts.tolist())
+        return [models.table_of(models.GAUSSIAN, guess, doubt, least, greatest) for guess, doubt in pairs]
 
-    def test_chain_keeps_a_change_to_itself(self) -> None:
-        # Another model for one symbol: with the chain coder the other symbols stay.
-        words = np.array([0x80D14131, 0xDDA97C6C, 0x5017A640, 0x01170A3E], dtype=np.uint32)
-        family = constriction.stream.model.Categorical(perfect=False)
-        before = np.array([[0.1, 0.7, 0.1, 0.1], [0.2, 0.2, 0.1, 0.5], [0.2, 0.1, 0.4, 0.3]], dtype=np.float32)
-        after = before.copy()
-        after[0] = [0.09, 0.71, 0.1, 0.1]
-        symbols = [constriction.stream.chain.ChainCoder(words, seal=True).decode(family, rows) for rows in (before, after)]
-        assert np.all(symbols[0][1:] == symbols[1][1:])
-        coder = constriction.stream.chain.ChainCoder(words, is_remainders=False, seal=True)
-        decoded = coder.decode(family, before)
-        prefix, suffix = coder.get_remainders()
-        coder = constriction.stream.chain.ChainCoder(np.concatenate((prefix, suffix)), is_remainders=True)
-        coder.encode_reverse(decoded, family, before)
-        prefix, suffix = coder.get_data(unseal=True)
-        assert np.all(np.concatenate((prefix, suffix)) == words)
+    def test_a_fixed_gaussian(self) -> None:
+        gaussian, count = model.QuantizedGaussian(-64, 63, 1.5, 17.25), len(self.changes)
+        rows = [models.table_of(models.GAUSSIAN, 1.5, 17.25, -64, 63)] * count
+        places = [int(it) + 64 for it in self.changes]
+        coder, encoder = stack.AnsCoder(), queue.RangeEncoder()
+        coder.encode_reverse(self.changes, gaussian)
+        encoder.encode(self.changes, gaussian)
+        words, queued = coder.get_compressed(), encoder.get_compressed()
+        self.assertEqual((words.dtype, words.tolist()), (np.uint32, by.ans_words(rows, places)))
+        self.assertEqual((queued.dtype, queued.tolist()), (np.uint32, by.range_words(rows, places)))
+        for decoder in (stack.AnsCoder(words), queue.RangeDecoder(queued)):
+            found = decoder.decode(gaussian, count)
+            self.assertEqual((found.dtype, found.tolist()), (np.int64, self.changes.tolist()))
 
-    def test_a_custom_model(self) -> None:
-        # Functions that scipy has: the distribution function and its inverse, with parameters or without.
-        def below(x: float, place: float = 0.0, scale: float = 1.0) -> float:
-            return 0.5 + math.atan((x - place) / scale) / math.pi
+    def test_a_gaussian_for_each(self) -> None:
+        family, rows, places = (
+            model.QuantizedGaussian(-64, 63),
+            self.rows(-64, 63),
+            [int(it) + 64 for it in self.changes],
+        )
+        coder, encoder = stack.AnsCoder(), queue.RangeEncoder()
+        coder.encode_reverse(self.changes, family, self.guesses, self.doubts)
+        encoder.encode(self.changes, family, self.guesses, self.doubts)
+        self.assertEqual(coder.get_compressed().tolist(), by.ans_words(rows, places))
+        self.assertEqual(encoder.get_compressed().tolist(), by.range_words(rows, places))
+        for decoder in (coder, encoder.get_decoder()):
+            np.testing.assert_array_equal(decoder.decode(family, self.guesses, self.doubts), self.changes)
 
-        def inverse(quantile: float, place: float = 0.0, scale: float = 1.0) -> float:
-            return place + scale * math.tan(math.pi * (quantile - 0.5))
+    def test_lists_under_several_models(self) -> None:
+        """A queue gives them back in order; onto a stack the last one goes first."""
+        kinds, family = symbols(2, 0, 1, 2, 2), model.QuantizedGaussian(-64, 63)
+        shares = model.Categorical(floats(0.15, 0.25, 0.6), perfect=False)
+        fair = model.Bernoulli(0.3125, perfect=False)
+        lists = [(kinds, shares, ()), (self.changes, family, (self.guesses, self.doubts)), (symbols(1, 0, 0), fair, ())]
+        coder, encoder = stack.AnsCoder(), queue.RangeEncoder()
+        for some, which, given in lists:
+            encoder.encode(some, which, *given)
+        for some, which, given in lists[::-1]:
+            coder.encode_reverse(some, which, *given)
+        reader, top = queue.RangeDecoder(encoder.get_compressed()), stack.AnsCoder(coder.get_compressed())
+        for decoder in (reader, top):
+            for some, which, given in lists:
+                np.testing.assert_array_equal(decoder.decode(which, *(given or (len(some),))), some)
+        self.assertTrue(top.is_empty() and reader.maybe_exhausted())
 
-        model = constriction.stream.model.CustomModel(below, inverse, -100, 100)
-        for given in ((), (self.means,), (self.means, self.stds)):
-            coder = constriction.stream.stack.AnsCoder()
-            coder.encode_reverse(self.message, model, *given)
-            assert np.all(coder.decode(model, *(given or (9,))) == self.message)
+    def test_a_model_from_the_symbols_before(self) -> None:
+        """Each change is guessed from the one before, so both ends make a model a symbol."""
+        before = [0, *self.changes[:-1].tolist()]
+        for make in (
+            lambda it: (model.QuantizedLaplace(-64, 63, 0.5 * it, 9.5), ()),
+            lambda it: (model.QuantizedLaplace(-64, 63), (0.5 * it, 9.5)),
+            lambda it: (model.QuantizedLaplace(-64, 63, scale=9.5), (np.float32(0.5 * it),)),
+        ):
+            coder, encoder = stack.AnsCoder(), queue.RangeEncoder()
+            for change, last in zip(self.changes, before):
+                which, given = make(last)
+                encoder.encode(change, which, *given)
+            for change, last in list(zip(self.changes, before))[::-1]:
+                which, given = make(last)
+                coder.encode_reverse(change, which, *given)
+            rows = [models.table_of(models.LAPLACE, 0.5 * it, 9.5, -64, 63) for it in before]
+            places = [int(it) + 64 for it in self.changes]
+            self.assertEqual(encoder.get_compressed().tolist(), by.range_words(rows, places))
+            self.assertEqual(coder.get_compressed().tolist(), by.ans_words(rows, places))
+            for decoder in (encoder.get_decoder(), coder):
+                found = [0]
+                for _ in self.changes:
+                    which, given = make(found[-1])
+                    found.append(decoder.decode(which, *given))
+                self.assertEqual(found[1:], self.changes.tolist())
+
+    def test_places_that_are_gone_back_to(self) -> None:
+        shares, days = model.Categorical(floats(5.0, 2.0, 1.0), lazy=True), [
+            symbols(0, 0, 2),
+            symbols(1, 0, 1, 1),
+            symbols(2, 2),
+        ]
+        encoder, marks = queue.RangeEncoder(), []
+        for day in days:
+            marks.append(encoder.pos())
+            encoder.encode(day, shares)
+        decoder = queue.RangeDecoder(encoder.get_compressed())
+        for i in (2, 0, 1, 1):
+            decoder.seek(*marks[i])
+            np.testing.assert_array_equal(decoder.decode(shares, len(days[i])), days[i])
+        coder = stack.AnsCoder()
+        coder.encode_reverse(days[0], shares)
+        words, head = coder.pos()
+        coder.encode_reverse(days[1], shares)
+        coder.seek(words, head)
+        np.testing.assert_array_equal(coder.decode(shares, 3), days[0])
+
+    def test_words_as_symbols_and_back(self) -> None:
+        """Words from elsewhere are read as symbols; once these are put back, so are the words."""
+        words = np.array([3141592653, 0, 2718281828, 1618033988, 0], dtype=np.uint32)
+        family = model.QuantizedGaussian(-64, 63)
+        coder = stack.AnsCoder(words, seal=True)
+        self.assertEqual((coder.num_valid_bits(), coder.num_words()), (160, 6))
+        found = coder.decode(family, self.guesses, self.doubts)
+        coder.encode_reverse(found, family, self.guesses, self.doubts)
+        for kept in (coder.get_binary(), coder.get_compressed(unseal=True)):
+            np.testing.assert_array_equal(kept, words)
+
+    def test_symbols_that_another_model_leaves_alone(self) -> None:
+        """Of the chain coder: the second and third symbol are what they were under whatever first row."""
+        words, free = np.array([99, 2718281828, 1414213562, 577215664], dtype=np.uint32), model.Categorical(
+            perfect=False
+        )
+        tail = [[0.4, 0.5, 0.1], [0.25, 0.25, 0.5]]
+        found = [
+            chain.ChainCoder(words, seal=True).decode(free, np.array([first, *tail], dtype=np.float32))
+            for first in ([0.2, 0.2, 0.6], [0.9, 0.05, 0.05], [0.001, 0.998, 0.001])
+        ]
+        for other in found[1:]:
+            np.testing.assert_array_equal(other[1:], found[0][1:])
+        rows = np.array([[0.2, 0.2, 0.6], *tail], dtype=np.float32)
+        coder = chain.ChainCoder(words, is_remainders=False, seal=True)
+        taken = coder.decode(free, rows)
+        again = chain.ChainCoder(np.concatenate(coder.get_remainders()), is_remainders=True)
+        again.encode_reverse(taken, free, rows)
+        np.testing.assert_array_equal(np.concatenate(again.get_data(unseal=True)), words)
+
+    def test_functions_of_the_caller(self) -> None:
+        """With parameters or without; by a function, or by what has one as ``scipy.stats`` has."""
+
+        class Gumbel:
+            def cdf(self, x: float, loc: float = 0.0, scale: float = 1.0) -> Any:
+                return np.float64(math.exp(-math.exp(min((loc - x) / scale, 700.0))))
+
+        by_function = model.CustomModel(Gumbel().cdf, lambda q, *_: 0.0, -64, 63)
+        for which in (by_function, model.ScipyModel(Gumbel(), -64, 63)):
+            for given in ((), (self.guesses,), (self.guesses, self.doubts)):
+                coder, encoder = stack.AnsCoder(), queue.RangeEncoder()
+                coder.encode_reverse(self.changes, which, *given)
+                encoder.encode(self.changes, which, *given)
+                for decoder in (coder, encoder.get_decoder()):
+                    found = decoder.decode(which, *(given or (len(self.changes),)))
+                    np.testing.assert_array_equal(found, self.changes)
 
     def test_each_model(self) -> None:
-        model = constriction.stream.model
-        rows = np.array([[0.3, 0.5, 0.2]] * 5, dtype=np.float32)
-        symbols = np.array([1, 0, 2, 1, 1], dtype=np.int32)
-        five = np.array([0.3, 0.5, 0.2, 0.9, 0.4], dtype=np.float32)
-        for made, given in (
-            (model.QuantizedGaussian(-9, 9), (five, five)), (model.QuantizedGaussian(-9, 9, 1.5), (five,)),
-            (model.QuantizedLaplace(-9, 9), (five, five)), (model.QuantizedLaplace(-9, 9, 1.5, 2.5), ()),
-            (model.QuantizedCauchy(-9, 9), (five, five)), (model.QuantizedCauchy(-9, 9, 1.5, 2.5), ()),
-            (model.Binomial(10), (five,)), (model.Binomial(10, 0.4), ()), (model.Binomial(), (np.arange(4, 9, dtype=np.int32), five)),
-            (model.Categorical(perfect=False), (rows,)), (model.Categorical(rows[0], perfect=False), ()), (model.Uniform(7), ()),
-            (model.Uniform(), (np.arange(4, 9, dtype=np.int32),)),
-            (model.CustomModel(lambda x: 1 / (1 + math.exp(-x)), lambda q: 0.0, -9, 9), ()),
-            (model.CustomModel(lambda x, m: 1 / (1 + math.exp(m - x)), lambda q, m: 0.0, -9, 9), (five,)),
-        ):  # fmt: skip
-            coder, encoder = constriction.stream.stack.AnsCoder(), constriction.stream.queue.RangeEncoder()
-            coder.encode_reverse(symbols, made, *given)
-            encoder.encode(symbols, made, *given)
-            wanted = given or (5,)
-            assert np.all(coder.decode(made, *wanted) == symbols)
-            assert np.all(encoder.get_decoder().decode(made, *wanted) == symbols)
-            chain = constriction.stream.chain.ChainCoder(np.arange(1, 100, dtype=np.uint32))
-            chain.encode_reverse(chain.decode(made, *wanted), made, *given)
-            assert np.all(np.concatenate(chain.get_data()) == np.arange(1, 100))
+        some, fifths = symbols(2, 0, 1, 2), floats(0.125, 0.75, 0.5, 0.25)
+        shares = np.array([[1, 2, 4], [4, 2, 1], [1, 1, 1], [3, 1, 9]], dtype=np.float32)
+        cases: list[tuple[Any, tuple[Any, ...]]] = [
+            (kind(-7, 7, *own), given)
+            for kind in (
+                model.QuantizedGaussian,
+                model.QuantizedLaplace,
+                model.QuantizedLogistic,
+                model.QuantizedCauchy,
+            )
+            for own, given in (((), (fifths, fifths)), ((0.75,), (fifths,)), ((0.75, 3.5), ()))
+        ]
+        cases += [
+            (model.Categorical(lazy=False), (shares,)), (model.Categorical(shares[0], perfect=True), ()),
+            (model.Uniform(), (symbols(3, 4, 5, 6),)), (model.Uniform(3), ()),
+            (model.Binomial(), (symbols(2, 3, 4, 5), fifths)), (model.Binomial(5), (fifths,)), (model.Binomial(5, 0.375), ()),
+        ]  # fmt: skip
+        words = np.arange(2, 60, dtype=np.uint32)
+        for which, given in cases:
+            coder, encoder, wanted = stack.AnsCoder(), queue.RangeEncoder(), given or (len(some),)
+            coder.encode_reverse(some, which, *given)
+            encoder.encode(some, which, *given)
+            np.testing.assert_array_equal(coder.decode(which, *wanted), some)
+            np.testing.assert_array_equal(encoder.get_decoder().decode(which, *wanted), some)
+            split = chain.ChainCoder(words)
+            split.encode_reverse(split.decode(which, *wanted), which, *given)
+            np.testing.assert_array_equal(np.concatenate(split.get_data()), words)
 
-    def test_bernoulli(self) -> None:
-        made, bits = constriction.stream.model.Bernoulli(0.3, perfect=False), np.array([1, 0, 0, 1], dtype=np.int32)
-        coder = constriction.stream.stack.AnsCoder()
-        coder.encode_reverse(bits, made)
-        assert np.all(coder.decode(made, 4) == bits)
+    def test_codewords(self) -> None:
+        shares, letters = floats(0.05, 0.45, 0.2, 0.3), [3, 1, 1, 0, 2, 1, 3, 3, 1]
+        writing, reading = (
+            constriction.symbol.huffman.EncoderHuffmanTree(shares), constriction.symbol.huffman.DecoderHuffmanTree(shares),
+        )  # fmt: skip
+        encoder, pile = constriction.symbol.QueueEncoder(), constriction.symbol.StackCoder()
+        for letter in letters:
+            encoder.encode_symbol(letter, writing)
+        for letter in letters[::-1]:
+            pile.encode_symbol(letter, writing)
+        lengths = [3, 1, 3, 2]  # Merged first are 0.05 and 0.2, then what they make and 0.3.
+        for words, bits in (encoder.get_compressed(), pile.get_compressed()):
+            self.assertEqual((words.dtype, bits), (np.uint32, sum(lengths[it] for it in letters)))
+        decoder, top = encoder.get_decoder(), constriction.symbol.StackCoder(pile.get_compressed()[0])
+        for letter in letters:
+            self.assertEqual((decoder.decode_symbol(reading), top.decode_symbol(reading)), (letter, letter))
 
-    def test_scipy_model(self) -> None:
-        class Logistic:  # In the shape of a distribution of scipy.stats.
-            def cdf(self, x: float, loc: float = 0.0, scale: float = 1.0) -> Any:
-                return np.float64(1 / (1 + math.exp((loc - x) / scale)))
+    def test_weights_that_are_taken_along(self) -> None:
+        """The script of python/README.md, which is for the original package, writes a model's weights out by the
+        calls that both have."""
+        page = (Path(__file__).resolve().parents[3] / "python/README.md").read_text()
+        script = next(it for it in re.findall(r"```python\n(.*?)```", page, re.DOTALL) if "weights.json" in it)
+        self.assertLessEqual(len(script.splitlines()), 11)
+        before = os.getcwd()
+        with tempfile.TemporaryDirectory() as folder:
+            os.chdir(folder)
+            try:
+                exec(script, {})
+            finally:
+                os.chdir(before)
+            weights = json.loads(Path(folder, "weights.json").read_text())
+        self.assertEqual(weights, models.table_of(models.GAUSSIAN, 1.5, 8.0, -50, 50))
+        self.assertEqual(model.WeightTable(weights).table(), model.QuantizedGaussian(-50, 50, 1.5, 8.0).table())
 
-        model = constriction.stream.model.ScipyModel(Logistic(), -100, 100)
-        for given in ((), (self.means, self.stds)):
-            encoder = constriction.stream.queue.RangeEncoder()
-            encoder.encode(self.message, model, *given)
-            assert np.all(encoder.get_decoder().decode(model, *(given or (9,))) == self.message)
-
-    def test_symbol_codes(self) -> None:
-        probabilities = np.array([0.3, 0.2, 0.1, 0.4], dtype=np.float32)
-        message = [1, 3, 2, 3, 0, 1, 3, 0, 2, 1, 1, 3, 3, 1, 2, 0, 1, 3, 1]
-        encoder_codebook = constriction.symbol.huffman.EncoderHuffmanTree(probabilities)
-        decoder_codebook = constriction.symbol.huffman.DecoderHuffmanTree(probabilities)
-        encoder, coder = constriction.symbol.QueueEncoder(), constriction.symbol.StackCoder()
-        for symbol in message:
-            encoder.encode_symbol(symbol, encoder_codebook)
-        compressed, bits = encoder.get_compressed()
-        decoder = constriction.symbol.QueueDecoder(compressed)
-        self.assertEqual([decoder.decode_symbol(decoder_codebook) for _ in message], message)
-        self.assertEqual(bits, sum(encoder_codebook.codeword(it)[1] for it in message))
-        for symbol in reversed(message):
-            coder.encode_symbol(symbol, encoder_codebook)
-        compressed, stack_bits = coder.get_compressed()
-        decoder = constriction.symbol.StackCoder(compressed)
-        self.assertEqual([decoder.decode_symbol(decoder_codebook) for _ in message], message)
-        self.assertEqual(stack_bits, bits)
-
-    def test_impossible_symbols(self) -> None:
-        model = constriction.stream.model.Categorical(np.array([0.5, 0.5]), perfect=False)
+    def test_symbols_that_no_model_has(self) -> None:
+        coder, shares = stack.AnsCoder(), model.Categorical(floats(0.5, 0.25, 0.25))
         for kind in (KeyError, ValueError, errors.ImpossibleSymbolError):
-            with self.assertRaisesRegex(kind, r"^Impossible symbol\.$"):
-                constriction.stream.stack.AnsCoder().encode_reverse(np.array([2], dtype=np.int32), model)
+            with self.assertRaisesRegex(kind, r"^Impossible symbol\."):
+                coder.encode_reverse(symbols(0, 3, 1), shares)
+        self.assertTrue(coder.is_empty())
 
 
 if __name__ == "__main__":

@@ -5,17 +5,38 @@ from __future__ import annotations
 import math
 from array import array
 from collections.abc import Callable, Iterator, Sequence
+from itertools import accumulate
 from typing import Any, NamedTuple
 
 from ..._buffers import WORD, listed
-from ..._numbers import floats_of, is_one, whole, wholes_of
-from ...errors import IMPOSSIBLE_SYMBOL, ImpossibleSymbolError
+from ..._numbers import floats_of, is_one, listed_of, whole
+from ...errors import ImpossibleSymbolError, WrongLengthError, impossible
 
-__all__ = ["PRECISION", "TOTAL", "Bound", "Located", "Model", "sized", "spread"]
+__all__ = [
+    "ENDS",
+    "FALLS",
+    "PRECISION",
+    "ROW",
+    "TOTAL",
+    "UNITS",
+    "Bound",
+    "Located",
+    "Model",
+    "equally_long",
+    "ranged",
+    "shown_range",
+    "sized",
+    "spread",
+]
 
+#: How one symbol's model goes over: by where the intervals end; by a location and a scale; by a row of weights.
+ENDS, UNITS, ROW = range(3)
+#: A model that was used so many times for one symbol alone gets its sums of weights, where it has so many symbols at
+#: most.
+_SELDOM, _MOST_ENDS, _FEW_WEIGHTS = 2, 1 << 16, 64
 PRECISION = 24
 TOTAL = 1 << PRECISION
-_FALLS = "a cumulative distribution function never falls"
+FALLS = "a cumulative distribution function never falls"
 #: The sum of the weights before the k-th symbol.
 Bound = Callable[[int], int]
 
@@ -53,6 +74,41 @@ class Model:
     has_rows = False
     _fixed: array[int] | None = None
 
+    _often: tuple[int, Any, Any] | None = None
+    _uses = 0
+
+    def __getstate__(self) -> dict[str, Any]:
+        return {name: it for name, it in vars(self).items() if name not in ("_often", "_uses")}
+
+    def _said(self) -> str:
+        """The model's arguments, for ``repr``."""
+        return ""
+
+    def _compared(self) -> dict[str, Any]:
+        """What equal models have alike: all but a table that follows from the rest."""
+        return {name: it for name, it in self.__getstate__().items() if name != "_fixed"}
+
+    def __repr__(self) -> str:
+        return f"{type(self).__name__}({self._said()})"
+
+    def __eq__(self, other: object) -> bool:
+        if type(self) is not type(other):
+            return NotImplemented
+        return bool(self._compared() == other._compared())  # type: ignore[attr-defined]
+
+    def __hash__(self) -> int:
+        return hash((type(self), self.first, self.missing))
+
+    @property
+    def size(self) -> int:
+        """How many symbols a model has that has all its parameters."""
+        return len(self.table())
+
+    @property
+    def complete(self) -> bool:
+        """Whether the model has all its parameters, and takes none."""
+        return not self.missing
+
     def _bounds(self, parameters: tuple[Any, ...]) -> tuple[int, Bound]:
         """How many symbols there are under these parameters, and the sum of the weights before the k-th of them."""
         raise NotImplementedError
@@ -63,7 +119,7 @@ class Model:
         ends = [bound(k) for k in range(count + 1)]
         weights = list(map(int.__sub__, ends[1:], ends))
         if min(weights) < 1:
-            raise ValueError(_FALLS)
+            raise ValueError(FALLS)
         return array(WORD, weights)
 
     def _interval(self, symbol: int, parameters: tuple[Any, ...]) -> tuple[int, int]:
@@ -71,10 +127,10 @@ class Model:
         count, bound = self._bounds(parameters)
         place = symbol - self.first
         if not 0 <= place < count:
-            raise ImpossibleSymbolError(IMPOSSIBLE_SYMBOL)
+            raise impossible(symbol, None, self.first, count)
         left, end = bound(place), bound(place + 1)
         if left >= end:
-            raise ValueError(_FALLS)
+            raise ValueError(FALLS)
         return left, end - left
 
     def around(self, quantile: int, parameters: tuple[Any, ...]) -> tuple[int, array[int]]:
@@ -85,6 +141,8 @@ class Model:
         while high - low > 1:
             middle = (low + high) // 2
             at = bound(middle)
+            if at - left < middle - low or end - at < high - middle:
+                raise ValueError(FALLS)
             if at <= quantile:
                 low, left = middle, at
             else:
@@ -99,18 +157,44 @@ class Model:
             self._fixed = self._weights(())
         return self._fixed
 
+    def alone(self, given: tuple[Any, ...]) -> tuple[int, Any, Any] | None:
+        """How the model of one symbol goes over, or None where it goes the way of lists."""
+        if given:
+            return self._alone_by(given)
+        return self._often or self._first_uses()
+
+    def _alone_by(self, given: tuple[Any, ...]) -> tuple[int, Any, Any] | None:
+        """The same with these parameters."""
+        return None
+
+    def _seldom(self) -> tuple[int, Any, Any] | None:
+        """The same for a model that was hardly used yet."""
+        table = self.table()
+        return (ROW, table, None) if len(table) <= _FEW_WEIGHTS else None
+
+    def _first_uses(self) -> tuple[int, Any, Any] | None:
+        if self.missing:
+            return None
+        if self._uses < _SELDOM:
+            self._uses += 1
+            return self._seldom()
+        table = self.table()
+        if len(table) > _MOST_ENDS or sum(table) != TOTAL:
+            return None
+        self._often = ENDS, list(accumulate(table)), None
+        return self._often
+
     def _known(self, given: Sequence[Any]) -> None:
         if len(given) != len(self.missing):
-            wanted = " and ".join(self.missing) or "no parameters"
-            raise TypeError(f"{len(given)} lists of parameters were given, and the model wants {wanted}")
+            wanted = " and ".join(f"a list of each {it}" for it in self.missing)
+            wanted = f"wants {wanted}" if wanted else "has all its parameters"
+            count = "one list of parameters was" if len(given) == 1 else f"{len(given)} lists of parameters were"
+            raise TypeError(f"{count} handed in, and the model {wanted}")
 
     def parameters(self, given: Sequence[Any]) -> list[tuple[Any, ...]]:
         """The parameters of each symbol, from a list of each, or from one of each."""
         self._known(given)
-        lists = [floats_of(it) for it in given]
-        if any(len(it) != len(lists[0]) for it in lists):
-            raise ValueError("lists of parameters have to be equally long")
-        return list(zip(*lists))
+        return list(zip(*equally_long([floats_of(it) for it in given])))
 
     def located(self, given: Sequence[Any]) -> Located | None:
         """The parameters as C functions take them, where they make the tables themselves; else None."""
@@ -120,12 +204,18 @@ class Model:
         """Of each symbol the sum of the weights before it, and its weight."""
         one = is_one(symbols)
         sets = self.parameters([[it] for it in given] if one else given)
-        listed = _symbols(symbols)
+        listed = [whole(it) for it in listed_of(symbols)]
         if len(listed) != len(sets):
-            raise ValueError("there have to be as many symbols as sets of parameters")
+            raise WrongLengthError(
+                f"there are {len(listed)} symbols and {len(sets)} sets of parameters: each symbol has one"
+            )
         lefts, ps = array(WORD), array(WORD)
-        for symbol, parameters in zip(listed, sets):
-            left, p = self._interval(symbol, parameters)
+        for place, (symbol, parameters) in enumerate(zip(listed, sets)):
+            try:
+                left, p = self._interval(symbol, parameters)
+            except ImpossibleSymbolError as it:
+                it.place = None if one else place
+                raise
             lefts.append(left)
             ps.append(p)
         return lefts, ps
@@ -136,18 +226,25 @@ class Model:
         raise NotImplementedError
 
 
-def _symbols(symbols: Any) -> Sequence[int]:
-    """One symbol or a list of them."""
-    if is_one(symbols):
-        return (whole(symbols),)
-    try:
-        return wholes_of("q", symbols)
-    except OverflowError:
-        raise ImpossibleSymbolError(IMPOSSIBLE_SYMBOL) from None
+def equally_long(lists: list[array[float]]) -> list[array[float]]:
+    """Lists of parameters, as far as they have one for each symbol."""
+    lengths = [len(it) for it in lists]
+    if any(it != lengths[0] for it in lengths):
+        raise WrongLengthError(
+            f"lists of parameters have to be equally long, and have {' and '.join(map(str, lengths))}"
+        )
+    return lists
+
+
+def shown_range(first: int, count: int, **parameters: float | None) -> str:
+    """A range and parameters as arguments."""
+    given = [f"{name}={it!r}" for name, it in parameters.items() if it is not None]
+    return ", ".join([str(first), str(first + count - 1), *given])
 
 
 def spread(count: int, share: Callable[[int], float]) -> Bound:
-    """Sums of weights that give each of so many symbols 1, and share out the rest by a growing function from 0 to 1."""
+    """Sums of weights that give each of so many symbols 1, and share out the rest by a growing function from 0 to
+    1."""
     free = TOTAL - count
 
     def bound(place: int) -> int:
@@ -155,7 +252,10 @@ def spread(count: int, share: Callable[[int], float]) -> Bound:
             return 0
         if place >= count:
             return TOTAL
-        return place + math.floor(free * min(max(share(place), 0.0), 1.0))
+        below = share(place)
+        if below != below:
+            raise ValueError(f"a cumulative distribution function gave no number, but {below}")
+        return place + math.floor(free * min(max(below, 0.0), 1.0))
 
     return bound
 
@@ -163,5 +263,15 @@ def spread(count: int, share: Callable[[int], float]) -> Bound:
 def sized(count: int) -> int:
     """A number of symbols that weights can be shared out to."""
     if not 1 <= count <= TOTAL:
-        raise ValueError("a model has between 1 and 2^24 symbols")
+        raise ValueError(f"a model has between 1 and 2^24 symbols, and not {count}")
     return count
+
+
+def ranged(least: Any, greatest: Any) -> tuple[int, int]:
+    """The least symbol of a range, and how many it has. Raises ValueError where there are none, or too many, or
+    where one is past 63 bits and a sign."""
+    first, last = whole(least), whole(greatest)
+    count = sized(last - first + 1)
+    if first < -(1 << 63) or last >= 1 << 63:
+        raise ValueError("symbols lie between -2^63 and 2^63 - 1")
+    return first, count

@@ -6,12 +6,12 @@ import math
 from array import array
 from collections.abc import Iterator, Sequence
 from itertools import accumulate
-from typing import Any
+from typing import Any, SupportsIndex
 
-from ..._buffers import NUMBER, WORD, numpy_module, room
-from ..._numbers import floats_of, whole
+from ..._buffers import NUMBER, WORD, Real, numpy_module, room
+from ..._numbers import floats_of, is_one, real, whole
 from ..._units import parts_of
-from ._base import TOTAL, Bound, Model, sized, spread
+from ._base import ROW, TOTAL, Bound, Model, sized, spread
 from ._table import ROWS_AT_A_TIME, Rows
 
 __all__ = ["Bernoulli", "Binomial", "Uniform"]
@@ -25,11 +25,22 @@ class Bernoulli(Rows):
     between 1 and 2^24 - 1. Raises ValueError where ``p`` doesn't lie between 0 and 1.
     """
 
-    def __init__(self, p: float | None = None, *, perfect: bool | None = None) -> None:
+    def __init__(self, p: Real | None = None, *, perfect: bool | None = None) -> None:
+        """A model of the symbols 0 and 1, where 1 has the probability ``p``; without it the coder's calls hand in a
+        list of them."""
         if p is None:
             self.missing = ("p",)
         else:
-            self._fixed = _pairs(parts_of(array(NUMBER, (float(p),))))
+            self._fixed = _pairs(parts_of(array(NUMBER, (real(p),))))
+
+    def _said(self) -> str:
+        return "" if self._fixed is None else repr(self._fixed[1] / TOTAL)
+
+    def _alone_by(self, given: tuple[Any, ...]) -> tuple[int, Any, Any] | None:
+        if len(given) != 1 or not self.missing or not is_one(given[0]):
+            return None
+        one = parts_of(array(NUMBER, (real(given[0]),)))[0]
+        return ROW, array(WORD, (TOTAL - one, one)), None
 
     def rows(self, given: Sequence[Any]) -> Iterator[tuple[array[int], int, int]]:
         """Two weights for each symbol, some at a time."""
@@ -59,10 +70,14 @@ class Uniform(Model):
     Without a size it comes with each symbol. Raises ValueError where it isn't between 1 and 2^24.
     """
 
-    def __init__(self, size: int | None = None) -> None:
+    def __init__(self, size: SupportsIndex | None = None) -> None:
+        """A model of the symbols 0 .. size - 1; without a size the coder's calls hand in a list of them."""
         self._size = None if size is None else sized(whole(size))
         if size is None:
             self.missing = ("size",)
+
+    def _said(self) -> str:
+        return "" if self._size is None else str(self._size)
 
     def _bounds(self, parameters: tuple[Any, ...]) -> tuple[int, Bound]:
         given = parameters[0] if parameters else self._size
@@ -83,14 +98,21 @@ class Binomial(Model):
     Where ``n`` or ``p`` is missing, it comes with each symbol, in this order.
     """
 
-    def __init__(self, n: int | None = None, p: float | None = None) -> None:
+    def __init__(self, n: SupportsIndex | None = None, p: Real | None = None) -> None:
+        """A model of the number of successes in ``n`` trials, each with probability ``p``.
+
+        Where one is left out, the coder's calls hand in a list of one for each symbol.
+        """
         self._n = None if n is None else whole(n)
-        self._p = None if p is None else float(p)
+        self._p = None if p is None else real(p)
         self.missing = tuple(name for name, it in (("n", n), ("p", p)) if it is None)
         if n is not None:
             sized(self._trials(n) + 1)
         if not self.missing:
             self.table()
+
+    def _said(self) -> str:
+        return ", ".join(f"{name}={it!r}" for name, it in (("n", self._n), ("p", self._p)) if it is not None)
 
     @staticmethod
     def _trials(n: Any) -> int:
@@ -104,7 +126,7 @@ class Binomial(Model):
         n = self._trials(next(given) if self._n is None else self._n)
         p = next(given) if self._p is None else self._p
         if not 0 <= p <= 1:
-            raise ValueError("a probability lies between 0 and 1")
+            raise ValueError(f"a probability lies between 0 and 1, and {p} doesn't")
         sized(n + 1)
         sums = array("d", accumulate((_chance(n, k, p) for k in range(n + 1)), initial=0.0))
         return n + 1, spread(n + 1, lambda place: sums[place])
@@ -121,5 +143,5 @@ def _chance(n: int, k: int, p: float) -> float:
 def _whole_float(number: Any, what: str) -> int:
     """A whole number that may come as a float among parameters."""
     if not math.isfinite(number) or int(number) != number:
-        raise ValueError(f"{what} is a whole number")
+        raise ValueError(f"{what} is a whole number, and {number} isn't one")
     return int(number)

@@ -5,13 +5,13 @@ from __future__ import annotations
 
 from array import array
 from collections.abc import Sequence
-from typing import Any
+from typing import Any, SupportsIndex
 
-from ..._buffers import NUMBER, SYMBOL, WORD, listed, room
+from ..._buffers import NUMBER, SYMBOL, WORD, Real, listed, room
 from ..._library import call
-from ..._numbers import floats_of, whole
-from ..._units import locations_of, moved, scales_of
-from ._base import TOTAL, Bound, Located, Model, sized
+from ..._numbers import floats_of, real
+from ..._units import FARTHEST, NARROWEST, UNITS_OF_ONE, WIDEST, locations_of, moved, scales_of, unit_of
+from ._base import TOTAL, UNITS, Bound, Located, Model, equally_long, ranged, shown_range
 
 __all__ = ["QuantizedGaussian", "QuantizedLaplace", "QuantizedLogistic"]
 
@@ -31,43 +31,75 @@ class _Quantized(Model):
 
     _family: int
     _names: tuple[str, str]
+    _own_location: int | None
+    _own_scale: int | None
 
-    def _make(self, least: int, greatest: int, location: float | None, scale: float | None) -> None:
-        self.first = whole(least)
-        self._count = sized(whole(greatest) - self.first + 1)
-        # A range that the C functions don't take is moved towards 0 by the nearest number that is a float, and locations with it.
+    def _make(self, least: SupportsIndex, greatest: SupportsIndex, location: Real | None, scale: Real | None) -> None:
+        self.first, self._count = ranged(least, greatest)
+        # A range that the C functions don't take is moved towards 0 by the nearest number that is a float, and
+        # locations with it.
         origin = 0 if self._fits(self.first) else int(float(self.first))
         moved = self.first - origin
         self._least, self._origin = moved if self._fits(moved) else 0, float(origin)
-        self._location = None if location is None else float(location)
-        self._scale = None if scale is None else float(scale)
         given = zip(self._names, (location, scale))
         self.missing = tuple(name for name, it in given if it is None)
-        if not self.missing:
-            self.table()
+        # The model's own parameters, in units. A table of them is made where it is first asked for.
+        name, other = self._names
+        self._own_location = (
+            None if location is None else self._units_of_locations(name, array(NUMBER, (real(location),)))[0]
+        )
+        self._own_scale = None if scale is None else scales_of(other, array(NUMBER, (real(scale),)))[0]
+
+    def _said(self) -> str:
+        """Parameters as they were rounded."""
+        (name, other), location, scale = self._names, self._own_location, self._own_scale
+        given = {
+            name: None if location is None else location / UNITS_OF_ONE + self._origin,
+            other: None if scale is None else scale / UNITS_OF_ONE,
+        }
+        return shown_range(self.first, self._count, **given)
+
+    def _units_of_locations(self, name: str, locations: array[float]) -> array[int]:
+        return locations_of(name, moved(locations, self._origin))
 
     def _fits(self, first: int) -> bool:
         """Whether the C functions take so many symbols from this one on."""
         return -_SYMBOLS <= first and first + self._count <= _SYMBOLS
 
-    def _lists(self, given: Sequence[Any]) -> tuple[array[float], array[float]]:
+    def _located(self, given: Sequence[Any]) -> Located:
         """Locations and scales, of the parameters given and of the model's own."""
         self._known(given)
-        lists = [floats_of(it) for it in given]
-        count = len(lists[0]) if lists else 1
-        if any(len(it) != count for it in lists):
-            raise ValueError("lists of parameters have to be equally long")
-        locations = lists.pop(0) if self._location is None else array(NUMBER, (self._location,)) * count
-        scales = lists.pop(0) if self._scale is None else array(NUMBER, (self._scale,)) * count
-        return locations, scales
+        lists = equally_long([floats_of(it) for it in given])
+        count, (name, other) = len(lists[0]) if lists else 1, self._names
+        if self._own_location is None:
+            locations = self._units_of_locations(name, lists.pop(0))
+        else:
+            locations = array(SYMBOL, (self._own_location,)) * count
+        scales = scales_of(other, lists.pop(0)) if self._own_scale is None else array(WORD, (self._own_scale,)) * count
+        return Located(self._family, self._least, self._least + self._count - 1, locations, scales)
 
-    def _located(self, given: Sequence[Any]) -> Located:
-        locations, scales = self._lists(given)
-        names = self._names
-        return Located(
-            self._family, self._least, self._least + self._count - 1,
-            locations_of(names[0], moved(locations, self._origin)), scales_of(names[1], scales),
-        )  # fmt: skip
+    @property
+    def size(self) -> int:
+        """How many symbols there are."""
+        return self._count
+
+    def _seldom(self) -> tuple[int, Any, Any] | None:
+        return (
+            (UNITS, self._own_location, self._own_scale)
+            if self._fixed is None and self._count > 1
+            else super()._seldom()
+        )
+
+    def _alone_by(self, given: tuple[Any, ...]) -> tuple[int, Any, Any] | None:
+        """A location and a scale in units. None where one is no plain number, or isn't within the bounds."""
+        if len(given) != len(self.missing) or self._count == 1:
+            return None
+        location, scale, last = self._own_location, self._own_scale, given[-1]
+        if location is None:
+            location = unit_of(given[0], self._origin, -FARTHEST, FARTHEST)
+        if scale is None:
+            scale = unit_of(last, 0.0, NARROWEST, WIDEST)
+        return None if location is None or scale is None else (UNITS, location, scale)
 
     def located(self, given: Sequence[Any]) -> Located | None:
         return self._located(given) if self._count > 1 else None
@@ -113,8 +145,17 @@ class QuantizedGaussian(_Quantized):
     _names = ("mean", "std")
 
     def __init__(
-        self, min_symbol_inclusive: int, max_symbol_inclusive: int, mean: float | None = None, std: float | None = None
+        self,
+        min_symbol_inclusive: SupportsIndex,
+        max_symbol_inclusive: SupportsIndex,
+        mean: Real | None = None,
+        std: Real | None = None,
     ) -> None:
+        """A model of the symbols ``min_symbol_inclusive .. max_symbol_inclusive``.
+
+        ``mean`` and ``std`` are numbers. Where one is left out, the coder's calls hand in a list of one for each
+        symbol.
+        """
         self._make(min_symbol_inclusive, max_symbol_inclusive, mean, std)
 
 
@@ -125,8 +166,17 @@ class QuantizedLaplace(_Quantized):
     _names = ("mean", "scale")
 
     def __init__(
-        self, min_symbol_inclusive: int, max_symbol_inclusive: int, mean: float | None = None, scale: float | None = None
+        self,
+        min_symbol_inclusive: SupportsIndex,
+        max_symbol_inclusive: SupportsIndex,
+        mean: Real | None = None,
+        scale: Real | None = None,
     ) -> None:
+        """A model of the symbols ``min_symbol_inclusive .. max_symbol_inclusive``.
+
+        ``mean`` and ``scale`` are numbers. Where one is left out, the coder's calls hand in a list of one for each
+        symbol.
+        """
         self._make(min_symbol_inclusive, max_symbol_inclusive, mean, scale)
 
 
@@ -137,6 +187,15 @@ class QuantizedLogistic(_Quantized):
     _names = ("mean", "scale")
 
     def __init__(
-        self, min_symbol_inclusive: int, max_symbol_inclusive: int, mean: float | None = None, scale: float | None = None
+        self,
+        min_symbol_inclusive: SupportsIndex,
+        max_symbol_inclusive: SupportsIndex,
+        mean: Real | None = None,
+        scale: Real | None = None,
     ) -> None:
+        """A model of the symbols ``min_symbol_inclusive .. max_symbol_inclusive``.
+
+        ``mean`` and ``scale`` are numbers. Where one is left out, the coder's calls hand in a list of one for each
+        symbol.
+        """
         self._make(min_symbol_inclusive, max_symbol_inclusive, mean, scale)

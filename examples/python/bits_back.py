@@ -1,0 +1,58 @@
+"""Bits back: numbers from a mixture cost as little as if the mixture had no parts.
+
+Which part a number came from is nobody's business, but a model of it is simple only with the part. So the sender
+takes the part off the words that are there, by the posterior, and codes the number and then the part. The receiver
+gets these bits back.
+"""
+
+from __future__ import annotations
+
+import sys
+from math import log2
+from random import Random
+
+from constriction.stream.model import Categorical, QuantizedGaussian, WeightTable
+from constriction.stream.stack import AnsCoder
+from picture import draw
+
+COUNT, TOTAL = 1500, 1 << 24
+PARTS = [(-20.0, 3.0), (0.0, 9.0), (25.0, 2.0)]
+PRIOR = Categorical([3, 5, 2])
+LIKELIHOODS = [QuantizedGaussian(-50, 50, mean, std) for mean, std in PARTS]
+JOINT = [[prior * weight for weight in it.table()] for prior, it in zip(PRIOR.table(), LIKELIHOODS)]
+CHANCES = [sum(row) for row in zip(*JOINT)]  # Of each number, as parts of TOTAL squared.
+POSTERIORS = [Categorical(list(row)) for row in zip(*JOINT)]
+
+
+def drawn() -> list[int]:
+    dice = Random(8)
+    parts = dice.choices(PARTS, PRIOR.table(), k=COUNT)
+    return [min(50, max(-50, round(dice.gauss(*it)))) for it in parts]
+
+
+def main(arguments: list[str]) -> None:
+    numbers, dice = drawn(), Random(9)
+    words = [dice.randrange(1 << 32) for _ in range(20)]
+    sender, sizes = AnsCoder(words, seal=True), []
+    for number in numbers:
+        part = sender.decode(POSTERIORS[number + 50])
+        sender.encode_reverse(number, LIKELIHOODS[part])
+        sender.encode_reverse(part, PRIOR)
+        sizes.append(sender.num_valid_bits() - 32 * len(words))
+
+    receiver, found = AnsCoder(sender.get_compressed()), []
+    for _ in numbers:
+        part = receiver.decode(PRIOR)
+        found.append(receiver.decode(LIKELIHOODS[part]))
+        receiver.encode_reverse(part, POSTERIORS[found[-1] + 50])
+
+    bound = sum(2 * log2(TOTAL) - log2(CHANCES[number + 50]) for number in numbers)
+    back = found[::-1] == numbers and receiver.get_binary() == words
+    print(
+        f"{sizes[-1] / COUNT:.3f} net bits a number, by the mixture {bound / COUNT:.3f}; numbers and words come back: {back}"
+    )
+    draw(lambda axes: axes.plot(sizes), arguments)
+
+
+if __name__ == "__main__":
+    main(sys.argv[1:])

@@ -1,0 +1,176 @@
+"""One symbol a call, without what a list costs: the same C functions, over memory that stays a coder's own.
+
+A model that is used often has its sums of weights, so a decode finds its symbol by a search for the coder's quantile
+and hands three weights over: of all before it, its own, of all behind it. An encode hands an interval over. Whatever
+isn't plain (a symbol that a model doesn't know, weights that don't add up, a model of floats with parameters) goes
+the way of lists, which says what is wrong.
+"""
+
+from __future__ import annotations
+
+from array import array
+from bisect import bisect_right
+from collections.abc import Callable
+from ctypes import byref, c_int32, c_int64, c_size_t, c_uint32, c_void_p
+from functools import partial
+from typing import Any
+
+from ._buffers import SYMBOL, WORD, Numbers
+from ._library import plain_function
+from .stream.model._base import ENDS, TOTAL, UNITS, Model
+
+__all__ = ["Buffer", "Lane", "made", "memory_of"]
+
+_Way = Callable[[], int]
+#: Makes a tuple of a class below ``tuple`` without a call of Python's.
+made: Any = tuple.__new__
+
+
+class Lane:
+    """The memory of a coder's calls of one symbol. Each coder has one, and its lock lets one call use it at a
+    time."""
+
+    def __init__(self, lead: tuple[Any, ...], encode: str, decode: str, behind_decode: tuple[Any, ...] = ()) -> None:
+        """``lead`` is the state as the C functions take it. The names have a gap for how a model comes."""
+        self._interval, self._three, self._place = array(WORD, (0, 0)), array(WORD, (0, 0, 0)), array(SYMBOL, (0,))
+        self._location, self._scale, self._row, self._width = c_int64(), c_uint32(), c_void_p(), c_size_t()
+        self._family, self._least, self._greatest, self._model = c_uint32(), c_int32(), c_int32(), None
+        one, three, needed = c_size_t(1), c_size_t(3), byref(c_size_t())
+        left, symbol = self._interval.buffer_info()[0], (memory_of(self._place), one)
+        interval = c_void_p(left), one, c_void_p(left + self._interval.itemsize), one
+        family = self._family, self._least, self._greatest, byref(self._location), one, byref(self._scale), one
+        row = self._row, self._width
+        self._encode_interval = _bound(encode.format("_intervals"), *lead, *interval, needed)
+        self._encode_units = _bound(encode.format("_quantized"), *lead, *family, *symbol, needed)
+        self._encode_row = _bound(encode.format(""), *lead, *row, *symbol, needed)
+        self._decode_three = _bound(decode.format(""), *lead, memory_of(self._three), three, *symbol, *behind_decode)
+        self._decode_units = _bound(decode.format("_quantized"), *lead, *family, *symbol, *behind_decode)
+        self._decode_row = _bound(decode.format(""), *lead, *row, *symbol, *behind_decode)
+
+    #: The state that is in this memory, where that is known, and for how many more calls its buffers have room.
+    _kept: Any = None
+    _spare = 0
+
+    def load(self, state: Any) -> Any:
+        """Writes a state to this memory, and answers it. There is room for a word more at least."""
+        raise NotImplementedError
+
+    def loaded(self, before: Any) -> Any:
+        """The state that is in this memory now."""
+        raise NotImplementedError
+
+    def quantile(self, state: Any) -> int:
+        """Where in 0 .. 2^24 - 1 the next symbol's interval lies, or past that where it can't be said."""
+        raise NotImplementedError
+
+    def encode(self, coder: Any, symbol: int, model: Model, given: tuple[Any, ...]) -> bool:
+        """Encodes a symbol, and says whether it did; else nothing changed."""
+        order = None if given else model._often
+        if order is None:
+            order = model.alone(given)
+            if order is None:
+                return False
+        kind, first, second = order
+        place = symbol - model.first
+        if not 0 <= place < (model.size if kind == UNITS else len(first)):
+            return False
+        with coder._lock:
+            if coder._busy:
+                return False
+            state = coder._state
+            if state is not self._kept or not self._spare:
+                state = self.load(state)
+            self._spare, self._kept = (
+                self._spare - 1,
+                None,
+            )  # Should it be interrupted, nothing is known of this memory.
+            if kind == ENDS:
+                left = first[place - 1] if place else 0
+                interval = self._interval
+                interval[0], interval[1] = left, first[place] - left
+                refused = self._encode_interval()
+            else:
+                refused = self._encode_by(kind, place, model, first, second)
+            if refused:
+                return False
+            self._kept = coder._state = self.loaded(state)
+            return True
+
+    def _encode_by(self, kind: int, place: int, model: Model, first: Any, second: Any) -> int:
+        """The call under a location and a scale, or a row of weights."""
+        self._place[0] = place
+        if kind == UNITS:
+            self._take_units(model, first, second)
+            return self._encode_units()
+        self._row.value, self._width.value = first.buffer_info()
+        return self._encode_row()
+
+    def decode(self, coder: Any, model: Model, given: tuple[Any, ...]) -> int | None:
+        """The next symbol; or None, where nothing changed."""
+        order = None if given else model._often
+        if order is None:
+            if given and model.has_rows and hasattr(given[0], "__len__"):
+                return None  # A list of rows, and a list comes out.
+            order = model.alone(given)
+            if order is None:
+                return None
+        kind, first, second = order
+        with coder._lock:
+            if coder._busy:
+                return None
+            state, place = coder._state, 0
+            if state is not self._kept or not self._spare:
+                state = self.load(state)
+            self._spare, self._kept = (
+                self._spare - 1,
+                None,
+            )  # Should it be interrupted, nothing is known of this memory.
+            if kind == ENDS:
+                quantile = self.quantile(state)
+                if quantile >= TOTAL:
+                    return None
+                place = bisect_right(first, quantile)
+                left, end = first[place - 1] if place else 0, first[place]
+                three = self._three
+                three[0], three[1], three[2] = left, end - left, TOTAL - end
+                refused = self._decode_three()
+                place -= 1
+            elif kind == UNITS:
+                self._take_units(model, first, second)
+                refused = self._decode_units()
+            else:
+                self._row.value, self._width.value = first.buffer_info()
+                refused = self._decode_row()
+            if refused:
+                return None
+            self._kept = coder._state = self.loaded(state)
+            return place + self._place[0] + model.first
+
+    def _take_units(self, model: Any, location: int, scale: int) -> None:
+        if model is not self._model:
+            self._family.value, self._least.value = model._family, model._least
+            self._greatest.value, self._model = model._least + model.size - 1, model
+        self._location.value, self._scale.value = location, scale
+
+
+class Buffer:
+    """A buffer of words as arguments: where it is, and how many words it has room for."""
+
+    def __init__(self) -> None:
+        self.address, self.capacity, self._memory = c_void_p(), c_size_t(), None
+
+    def take(self, memory: Numbers) -> None:
+        """Notes where this memory is. It stays there as long as it lives, since nothing makes it longer."""
+        if memory is not self._memory:
+            self.address.value, self.capacity.value = memory.buffer_info()
+            self._memory = memory  # type: ignore[assignment]
+
+
+def _bound(name: str, *arguments: Any) -> _Way:
+    """A C function with these arguments, which are memory that is read at each call."""
+    return partial(plain_function(name), *arguments)
+
+
+def memory_of(numbers: array[int]) -> c_void_p:
+    """Where these numbers are, as an argument. They have to live as long as that."""
+    return c_void_p(numbers.buffer_info()[0])

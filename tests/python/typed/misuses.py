@@ -1,0 +1,45 @@
+"""Calls that types refuse, each marked so, and calls that they don't. Nothing runs this: tests/python/test_types.py hands it to mypy."""
+
+from array import array
+
+from constriction.stream.chain import ChainCoder
+from constriction.stream.model import Categorical, QuantizedGaussian, Uniform, WeightTable
+from constriction.stream.queue import RangeEncoder
+from constriction.stream.stack import AnsCoder
+from constriction.symbol import EncoderHuffmanTree, QueueDecoder, QueueEncoder
+
+model, family = Uniform(4), QuantizedGaussian(-9, 9)
+coder, encoder, tree = AnsCoder(), RangeEncoder(), EncoderHuffmanTree([1, 2])
+
+coder.encode_reverse("abc", model)  # refused
+coder.encode_reverse([0.5, 1.5], model)  # refused
+coder.encode_reverse(1.0, model)  # refused
+coder.encode_reverse(model, [1])  # refused
+encoder.encode([1], family, "0", "1")  # refused
+encoder.encode([1], [1, 2])  # refused
+text: str = coder.decode(model, 3)  # refused
+letter: str = coder.decode(model)  # refused
+coder.decode(3, model)  # refused
+coder.decode(model, amt=1.5)  # refused
+QuantizedGaussian(-9, 9, "0", "1")  # refused
+QuantizedGaussian(-9.5, 9)  # refused
+Categorical(["0.5", "0.5"])  # refused
+Categorical(5)  # refused
+lines: list[str] = encoder.get_compressed()  # refused
+AnsCoder("words")  # refused
+ChainCoder([0.5])  # refused
+QueueEncoder().encode(1, model)  # refused
+name: str = QueueDecoder([1]).decode(tree)  # refused
+
+one: int = coder.decode(model)
+some: list[int] = coder.decode(model, 3).tolist()
+near: int = coder.decode(family, 0.5, 2)
+far: int = coder.decode(family, 1, 2)
+listed = coder.decode(family, [0.5], array("d", [2.0]))
+more = listed + 1
+total: int = sum(listed)
+coder.encode_reverse(listed, family, array("d", [0.5]), (2,))
+coder.encode_reverse(range(3), WeightTable(), [[1, 2], [3, 4], (5, 6)])
+AnsCoder(encoder.get_compressed())
+Categorical([1, 2]), Categorical(array("d", [0.5])), Categorical({"a": 1, "b": 3}.values())
+bits: int = QueueDecoder([1]).decode(tree, 3)[0]
