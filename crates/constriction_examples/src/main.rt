@@ -5,6 +5,7 @@
 #![tactic(auto)]
 
 mod bits_back;
+mod calls;
 mod isolation;
 mod laws_of_each_coder;
 mod programs;
@@ -22,5 +23,9 @@ fn main(rt: HostRuntime) -> Result<()> {
     programs::bits::run(&rt, alloc)?;
     programs::huffman::run(&rt, alloc)?;
     programs::models::run(&rt, alloc)?;
+    calls::stack::run(&rt, alloc)?;
+    calls::chain::run(&rt, alloc)?;
+    calls::queue::run(&rt, alloc)?;
+    calls::symbol::run(&rt, alloc)?;
     Ok(())
 }
