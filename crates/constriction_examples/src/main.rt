@@ -6,6 +6,7 @@
 
 mod any_backend;
 mod bits_back;
+mod calls;
 mod isolation;
 mod laws_of_each_coder;
 mod programs;
@@ -23,6 +24,13 @@ fn main(rt: HostRuntime) -> Result<()> {
     programs::bits::run(&rt, alloc)?;
     programs::huffman::run(&rt, alloc)?;
     programs::models::run(&rt, alloc)?;
+<<<<<<< HEAD
     any_backend::run(&rt, alloc)?;
+=======
+    calls::stack::run(&rt, alloc)?;
+    calls::chain::run(&rt, alloc)?;
+    calls::queue::run(&rt, alloc)?;
+    calls::symbol::run(&rt, alloc)?;
+>>>>>>> 061ca01239ba2d75557a483f23e7204c6d546aee
     Ok(())
 }

@@ -1,0 +1,88 @@
+//! The calls of the range coder at concrete types. An encoder that a function is handed may hold back so many words
+//! that a list has no room left to count them: `symbols_left` says how many symbols it takes.
+
+use anyhow::{Result, bail};
+use constriction::stream::model::WeightTable;
+use constriction::stream::queue::{DefaultRangeDecoder, DefaultRangeEncoder};
+use constriction::stream::{Decode, Encode};
+use constriction::{Pos, Seek};
+use std::alloc::Global;
+use std::iter;
+
+type Table = WeightTable<u32, 24>;
+
+/// Encodes a list, where the encoder takes so many symbols.
+fn put(encoder: &mut DefaultRangeEncoder, symbols: &[usize], table: &Table) -> Result<()> {
+    if Encode::<24>::symbols_left(encoder) < symbols.len() {
+        bail!("too many words are held back");
+    }
+    encoder.encode_iid_symbols(symbols, table)?;
+    Ok(())
+}
+
+/// Encodes pairs, where the encoder takes so many symbols.
+fn put_pairs(encoder: &mut DefaultRangeEncoder, table: &Table) -> Result<()> {
+    if Encode::<24>::symbols_left(encoder) < 2 {
+        bail!("too many words are held back");
+    }
+    encoder.encode_symbols([(&1usize, table), (&0, table)])?;
+    Ok(())
+}
+
+/// Decodes two symbols by one model, and one by a model of its own.
+fn take(rt: &impl Print, decoder: &mut DefaultRangeDecoder, table: &Table) -> Result<()> {
+    for symbol in decoder.decode_iid_symbols(2, table) {
+        let symbol = symbol?;
+        println!(rt; "{symbol}")?;
+    }
+    for symbol in decoder.decode_symbols(iter::repeat_n(table, 1)) {
+        let symbol = symbol?;
+        println!(rt; "{symbol}")?;
+    }
+    Ok(())
+}
+
+/// Shows the words while the encoder goes on, and reads them.
+fn show(rt: &impl Print, encoder: &mut DefaultRangeEncoder, table: &Table) -> Result<()> {
+    {
+        let Ok(guard) = encoder.get_compressed() else {
+            bail!("no memory for the words");
+        };
+        println!(rt; "{}", guard.words().is_empty())?;
+    }
+    let Ok(mut decoder) = encoder.decoder() else {
+        bail!("no memory for the words");
+    };
+    let symbol = decoder.decode_symbol(table)?;
+    println!(rt; "{symbol}")?;
+    Ok(())
+}
+
+/// Makes each call, and prints what comes back.
+pub fn run(rt: &impl Print, alloc: Global) -> Result<()> {
+    let table = WeightTable::<u32, 24>::new(alloc, &[3, 2, 16777211])?;
+    let mut encoder = DefaultRangeEncoder::new(alloc);
+    put(&mut encoder, &[2, 1], &table)?;
+    show(rt, &mut encoder, &table)?;
+    if !encoder.pos_fits() {
+        bail!("a position past what can be counted");
+    }
+    let position = encoder.pos();
+    put_pairs(&mut encoder, &table)?;
+    let Ok(words) = encoder.into_compressed() else {
+        bail!("no memory for the words");
+    };
+    let mut decoder = DefaultRangeDecoder::from_compressed(words)?;
+    take(rt, &mut decoder, &table)?;
+    if decoder.seek(position).is_err() {
+        bail!("no position of these words");
+    }
+    let symbol = decoder.decode_symbol(&table)?;
+    println!(rt; "{symbol}")?;
+    let symbol = decoder.decode_symbol(&table)?;
+    println!(rt; "{symbol}")?;
+    if !Decode::<24>::maybe_exhausted(&decoder) {
+        bail!("words are left");
+    }
+    Ok(())
+}

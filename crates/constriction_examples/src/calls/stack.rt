@@ -1,0 +1,125 @@
+//! The calls of the stack coder at concrete types.
+
+use anyhow::{Result, bail};
+use constriction::stream::model::WeightTable;
+use constriction::stream::stack::{DefaultAnsCoder, SmallAnsCoder};
+use constriction::stream::{AsDecoder, Code, Decode, Encode, IntoDecoder};
+use constriction::{Pos, Seek};
+use std::alloc::Global;
+use std::iter;
+
+type Table = WeightTable<u32, 24>;
+
+/// Encodes lists from their last symbol to their first.
+fn put_from_the_end(coder: &mut DefaultAnsCoder, table: &Table) -> Result<()> {
+    coder.encode_iid_symbols_reverse([2usize, 0].as_slice(), table)?;
+    coder.encode_symbols_reverse([(&1usize, table), (&2, table)])?;
+    if coder
+        .try_encode_symbols_reverse([Ok((&0usize, table)), Err(7u8)])
+        .is_ok()
+    {
+        bail!("an item that is an error was encoded");
+    }
+    Ok(())
+}
+
+/// Encodes lists from their first symbol to their last.
+fn put_forth(coder: &mut DefaultAnsCoder, table: &Table) -> Result<()> {
+    let symbols = [0usize, 1];
+    coder.encode_symbols(symbols.iter().zip(iter::repeat_n(table, 2)))?;
+    coder.encode_iid_symbols(symbols.iter().rev(), table)?;
+    if coder
+        .try_encode_symbols([Ok((&2usize, table)), Err(7u8)])
+        .is_ok()
+    {
+        bail!("an item that is an error was encoded");
+    }
+    Ok(())
+}
+
+/// Decodes three symbols by one model, and two by a model each.
+fn take(rt: &impl Print, coder: &mut DefaultAnsCoder, table: &Table) -> Result<()> {
+    for symbol in coder.decode_iid_symbols(3, table) {
+        let symbol = symbol?;
+        println!(rt; "{symbol}")?;
+    }
+    for symbol in coder.decode_symbols(iter::repeat_n(table, 2)) {
+        let symbol = symbol?;
+        println!(rt; "{symbol}")?;
+    }
+    Ok(())
+}
+
+/// Goes back to a position, over a copy of the words.
+fn seek(rt: &impl Print, coder: &mut DefaultAnsCoder, table: &Table) -> Result<()> {
+    let position = coder.pos();
+    coder.encode_symbol(&1, table)?;
+    let mut decoder = coder.as_seekable_decoder();
+    if decoder.seek(position).is_err() {
+        bail!("no position of these words");
+    }
+    let symbol = decoder.decode_symbol(table)?;
+    println!(rt; "{symbol}")?;
+    Ok(())
+}
+
+/// Shows what a coder holds: as many words one by one as on the backend.
+fn show(rt: &impl Print, coder: &mut DefaultAnsCoder) -> Result<()> {
+    let mut count = 0;
+    for _ in coder.iter_compressed() {
+        count += 1;
+    }
+    let is_some = coder.state() > 0;
+    println!(rt; "{is_some} {}", coder.is_empty())?;
+    let Ok(guard) = coder.get_compressed() else {
+        bail!("no memory for the words");
+    };
+    println!(rt; "{}", guard.backend().len() == count)?;
+    Ok(())
+}
+
+/// Hands the words on as they are, as bits, and to a decoder.
+fn hand_on(rt: &impl Print, alloc: Global, table: &Table) -> Result<()> {
+    let mut coder = DefaultAnsCoder::new(alloc);
+    coder.encode_symbol(&1, table)?;
+    let symbol = coder.as_decoder().decode_symbol(table)?;
+    println!(rt; "{symbol}")?;
+    let symbol = coder.into_decoder().decode_symbol(table)?;
+    println!(rt; "{symbol}")?;
+
+    let words = [1u32, 2, 3];
+    let Ok(mut borrowed) = DefaultAnsCoder::from_compressed_slice(words.as_slice()) else {
+        bail!("words that end with a zero word are no coder's");
+    };
+    let symbol = borrowed.decode_symbol(table)?;
+    println!(rt; "{symbol}")?;
+    let binary = DefaultAnsCoder::from_binary(words.to_vec(alloc)?)?;
+    let Ok(words) = binary.into_binary() else {
+        bail!("no whole words");
+    };
+    println!(rt; "{words:?}")?;
+    Ok(())
+}
+
+/// Encodes and decodes a symbol by a coder of 16-bit words.
+fn small(rt: &impl Print, alloc: Global) -> Result<()> {
+    let table = WeightTable::<u16, 12>::new(alloc, &[4000, 96])?;
+    let mut coder = SmallAnsCoder::new(alloc);
+    coder.encode_symbol(&1, &table)?;
+    let symbol = coder.decode_symbol(&table)?;
+    println!(rt; "{symbol} {} {}", coder.num_words(), coder.num_bits())?; // 1 0 0
+    Ok(())
+}
+
+/// Makes each call, and prints what comes back.
+pub fn run(rt: &impl Print, alloc: Global) -> Result<()> {
+    let table = WeightTable::<u32, 24>::new(alloc, &[3, 2, 16777211])?;
+    let mut coder = DefaultAnsCoder::new(alloc);
+    put_from_the_end(&mut coder, &table)?;
+    put_forth(&mut coder, &table)?;
+    take(rt, &mut coder, &table)?;
+    seek(rt, &mut coder, &table)?;
+    show(rt, &mut coder)?;
+    hand_on(rt, alloc, &table)?;
+    small(rt, alloc)
+}

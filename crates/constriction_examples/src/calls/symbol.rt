@@ -1,0 +1,58 @@
+//! The calls of bit coders, and of a store, at concrete types.
+
+use anyhow::{Result, bail};
+use constriction::store::Store;
+use constriction::stream::model::WeightTable;
+use constriction::symbol::exp_golomb::ExpGolomb;
+use constriction::symbol::{
+    DefaultQueueEncoder, DefaultStackCoder, ReadBitStream, WriteBitStream,
+};
+use std::alloc::Global;
+
+/// Writes numbers into a queue of bits, and reads them again.
+fn queue(rt: &impl Print, alloc: Global, golomb: &ExpGolomb<u32>) -> Result<()> {
+    let mut encoder = DefaultQueueEncoder::new(alloc);
+    encoder.encode_symbols([(&5u32, golomb), (&7, golomb)])?;
+    {
+        let Ok(guard) = encoder.get_compressed() else {
+            bail!("no memory for the words");
+        };
+        println!(rt; "{}", guard.words().len())?;
+    }
+    let mut decoder = encoder.into_decoder()?;
+    for number in decoder.decode_iid_symbols(2, golomb) {
+        let number = number?;
+        println!(rt; "{number}")?;
+    }
+    Ok(())
+}
+
+/// Puts numbers on a stack of bits from the last to the first, and takes them off.
+fn stack(rt: &impl Print, alloc: Global, golomb: &ExpGolomb<u32>) -> Result<()> {
+    let mut coder = DefaultStackCoder::new(alloc);
+    coder.encode_iid_symbols_reverse([5u32, 7].as_slice(), golomb)?;
+    coder.encode_symbol(&0, golomb)?;
+    for number in coder.decode_iid_symbols(3, golomb) {
+        let number = number?;
+        println!(rt; "{number}")?;
+    }
+    Ok(())
+}
+
+/// Puts two chunks into a store, and looks the second one up.
+fn store(rt: &impl Print, alloc: Global) -> Result<()> {
+    let table = WeightTable::<u32, 24>::new(alloc, &[3, 2, 16777211])?;
+    let chunks = [[2usize, 1].to_vec(alloc)?, [0, 2, 2].to_vec(alloc)?];
+    let store = Store::<u32, u64, _, 24>::build(alloc, chunks.as_slice(), &table)?;
+    let chunk = store.chunk(alloc, 1)?;
+    println!(rt; "{chunk:?}")?;
+    Ok(())
+}
+
+/// Makes each call, and prints what comes back.
+pub fn run(rt: &impl Print, alloc: Global) -> Result<()> {
+    let golomb = ExpGolomb::<u32>::new();
+    queue(rt, alloc, &golomb)?;
+    stack(rt, alloc, &golomb)?;
+    store(rt, alloc)
+}
