@@ -1,6 +1,7 @@
 //! Worked examples, which list the facade alone: [`uses`] for a crate whose own contracts say that symbols come back,
 //! [`bits_back`] for bits-back coding, [`isolation`] for what the chain coder is for, and [`programs`] for each other
-//! coder a small one. The program runs them in turn. [`laws_of_each_coder`] applies one law of each coder, and is not
+//! coder a small one, [`any_backend`] for backends of one's own, and [`calls`] for each call at concrete types. The program
+//! runs them in turn. [`laws_of_each_coder`] applies one law of each coder, and is not
 //! run.
 #![tactic(auto)]
 
@@ -24,13 +25,10 @@ fn main(rt: HostRuntime) -> Result<()> {
     programs::bits::run(&rt, alloc)?;
     programs::huffman::run(&rt, alloc)?;
     programs::models::run(&rt, alloc)?;
-<<<<<<< HEAD
     any_backend::run(&rt, alloc)?;
-=======
     calls::stack::run(&rt, alloc)?;
     calls::chain::run(&rt, alloc)?;
     calls::queue::run(&rt, alloc)?;
     calls::symbol::run(&rt, alloc)?;
->>>>>>> 061ca01239ba2d75557a483f23e7204c6d546aee
     Ok(())
 }

@@ -63,18 +63,15 @@ fn seek(rt: &impl Print, coder: &mut DefaultAnsCoder, table: &Table) -> Result<(
     Ok(())
 }
 
-/// Shows what a coder holds: as many words one by one as on the backend.
+/// Shows what a coder holds: the word that would be exported first, as it stands first on the backend.
 fn show(rt: &impl Print, coder: &mut DefaultAnsCoder) -> Result<()> {
-    let mut count = 0;
-    for _ in coder.iter_compressed() {
-        count += 1;
-    }
     let is_some = coder.state() > 0;
-    println!(rt; "{is_some} {}", coder.is_empty())?;
+    println!(rt; "{is_some} {}", coder.is_empty())?; // true false
+    let first = coder.iter_compressed().next();
     let Ok(guard) = coder.get_compressed() else {
         bail!("no memory for the words");
     };
-    println!(rt; "{}", guard.backend().len() == count)?;
+    println!(rt; "{}", guard.backend().first() == first.as_ref())?; // true
     Ok(())
 }
 

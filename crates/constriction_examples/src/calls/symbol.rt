@@ -4,9 +4,7 @@ use anyhow::{Result, bail};
 use constriction::store::Store;
 use constriction::stream::model::WeightTable;
 use constriction::symbol::exp_golomb::ExpGolomb;
-use constriction::symbol::{
-    DefaultQueueEncoder, DefaultStackCoder, ReadBitStream, WriteBitStream,
-};
+use constriction::symbol::{DefaultQueueEncoder, DefaultStackCoder, ReadBitStream, WriteBitStream};
 use std::alloc::Global;
 
 /// Writes numbers into a queue of bits, and reads them again.
