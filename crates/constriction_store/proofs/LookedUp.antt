@@ -1,13 +1,13 @@
 -- What a look-up answers, by what a decoder at the entry gives.
 use Rattle.std.specs.Prelude.{Result, Ok, Err, IfOk, IfErr, MatchResult, ⊤}
 use Rattle.std.specs.declared.vec.Vec.{Vec}
-use Rattle.std.proofs.Common.{◌≡◌, ◌↔◌, ℕ, ◌<◌, ◌≤◌, List, get_or, length, refl, sym, subst, arith, inl, inr}
+use Rattle.std.proofs.Common.{◌≡◌, ◌↔◌, ℕ, ◌<◌, ◌≤◌, List, [], ◌∷◌, ◌++◌, get_or, length, refl, sym, subst, arith, inl, inr}
 use Rattle.std.proofs.lemmas.Bool.{cases_lt}
 use Rattle.constriction_base.specs.Models.{Model, IsModel, items_of}
 use Rattle.constriction_queue.specs.Decoder.{Decoder, StandsAt}
 use Rattle.constriction_queue.specs.Range.{Run}
 use Rattle.constriction_queue.specs.Symbols.{FindsAll}
-use Rattle.constriction_store.specs.LookedUp.{CannotLookUp, ChunkFails, HoldsSome, IsChunk, LookUpFails}
+use Rattle.constriction_store.specs.LookedUp.{CannotLookUp, ChunkFails, HoldsEach, HoldsSome, IsChunk, LookUpFails}
 use Rattle.constriction_store.specs.Chunks.{chunk_in}
 use Rattle.constriction_store.specs.Stores.{Entry, HoldsChunk, HoldsChunks, HoldsNoChunk, entry_in, run_at}
 use Rattle.constriction_store.specs.declared.looking_up.ChunkError.{ChunkError}
@@ -76,3 +76,22 @@ pub cannot_look_up : (chunks : List (List ℕ)) (places : List ℕ) (k : ℕ) (e
 cannot_look_up chunks places k NoSuchChunk inside fails = (k, inside, fails)
 cannot_look_up chunks places k Invalid inside fails = absurd fails
 cannot_look_up chunks places k Memory inside fails = omega (arith, inside)
+
+-- ---- in any store
+-- a look-up that gives a chunk is one of an entry
+pub is_entry : {T : Type 0} (answer : Result T ChunkError) (n i : ℕ) → ((answer ≡ Err NoSuchChunk) ↔ (n ≤ i)) → IfOk answer (λ _. i < n)
+is_entry (Ok chunk) n i none = elim (cases_lt i n) [
+  | inl less ↦ less
+  | inr past ↦ let never = none.1 past in absurd cc
+]
+is_entry (Err refusal) n i none = tt
+
+-- one place more
+pub holds_one_more : (w s : ℕ) (model : Model ℕ) (words : List ℕ) (index : List Entry) (places : List ℕ) (chunks : List (List ℕ)) (i : ℕ) (chunk : List ℕ)
+    → HoldsEach w s model words index places chunks → i < length index → HoldsChunk w s model words (entry_in index i) chunk
+    → HoldsEach w s model words index (places ++ i ∷ []) (chunks ++ chunk ∷ [])
+holds_one_more w s model words index [] [] i chunk held inside here = (inside, here, tt)
+holds_one_more w s model words index [] (c ∷ cs) i chunk held inside here = absurd held
+holds_one_more w s model words index (p ∷ ps) [] i chunk held inside here = absurd held
+holds_one_more w s model words index (p ∷ ps) (c ∷ cs) i chunk held inside here =
+    (held.0, held.1, holds_one_more w s model words index ps cs i chunk held.2 inside here)

@@ -1,10 +1,10 @@
 -- What a look-up answers.
-use Rattle.std.specs.Prelude.{◌≡◌, ℕ, ◌<◌, ◌≤◌, List, Result, MatchResult, length, slice_index}
+use Rattle.std.specs.Prelude.{◌≡◌, ◌⊎◌, ℕ, ◌<◌, ◌≤◌, ⊤, List, [], ◌∷◌, Result, MatchResult, length, slice_index, take}
 use Rattle.std.specs.declared.vec.Vec.{Vec}
 use Rattle.constriction_base.specs.Models.{Model, items_of}
 use Rattle.constriction_queue.specs.Range.{Run}
 use Rattle.constriction_queue.specs.Symbols.{FindsAll}
-use Rattle.constriction_store.specs.Stores.{Entry, HoldsNoChunk, HoldsNoSymbol, entry_in, run_at}
+use Rattle.constriction_store.specs.Stores.{Entry, HoldsChunk, HoldsNoChunk, HoldsNoSymbol, entry_in, run_at}
 use Rattle.constriction_store.specs.Built.{BuildFails}
 use Rattle.constriction_store.specs.declared.laws.ThroughStore.{ThroughStore}
 use Rattle.constriction_store.specs.declared.laws.ThroughStore.TheVariants.{Build, LookUp}
@@ -30,6 +30,25 @@ abbrev pub LookUpFails : ℕ → ℕ → Model ℕ → List ℕ → List Entry �
 LookUpFails w s model words index i NoSuchChunk = length index ≤ i
 LookUpFails w s model words index i Invalid = (i < length index) × HoldsNoChunk w s model words (entry_in index i)
 LookUpFails w s model words index i Memory = (i < length index) × HoldsSome w s model words (entry_in index i)
+
+-- at each of these places there is an entry, and the words hold the chunk there
+abbrev pub HoldsEach : ℕ → ℕ → Model ℕ → List ℕ → List Entry → List ℕ → List (List ℕ) → Type 0
+HoldsEach w s model words index [] [] = ⊤
+HoldsEach w s model words index [] (chunk ∷ chunks) = ⊥
+HoldsEach w s model words index (place ∷ places) [] = ⊥
+HoldsEach w s model words index (place ∷ places) (chunk ∷ chunks) =
+    (place < length index) × HoldsChunk w s model words (entry_in index place) chunk × HoldsEach w s model words index places chunks
+
+-- the chunk at a place is there, and has no room in a list
+abbrev pub HasNoRoom : ℕ → ℕ → Model ℕ → List ℕ → List Entry → ℕ → ChunkError → Type 0
+HasNoRoom w s model words index i refusal =
+    (refusal ≡ Memory) × (i < length index) × ((chunk : List ℕ) × HoldsChunk w s model words (entry_in index i) chunk)
+
+-- the look-ups at the first places give chunks, and the next one fails, or its chunk has no room
+abbrev pub FailsFirst : ℕ → ℕ → Model ℕ → List ℕ → List Entry → List ℕ → ChunkError → Type 0
+FailsFirst w s model words index places refusal =
+    (k : ℕ) × (chunks : List (List ℕ)) × (k < length places) × HoldsEach w s model words index (take k places) chunks
+    × (LookUpFails w s model words index (slice_index places k) refusal ⊎ HasNoRoom w s model words index (slice_index places k) refusal)
 
 -- these symbols, or want of memory
 abbrev pub IsChunk : {A : Type 0} → List ℕ → Result (Vec ℕ A) ChunkError → Type 0

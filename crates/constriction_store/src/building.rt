@@ -144,13 +144,16 @@ impl<
 where
     M::Probability: WordOf<Word>,
 {
-    /// The store of these chunks: one new encoder takes them in order, and is sealed so that any words may follow.
+    /// Makes the store of these chunks. One new encoder takes them in order, and is sealed so that any words may follow.
     ///
     /// # Errors
     ///
-    /// - `TooLong` exactly where the chunks hold more than [`MOST_SYMBOLS`] symbols together. It is looked for first.
-    /// - `ImpossibleSymbol`, of the first symbol, in order, that the model doesn't know; or `Memory`, whichever is met
-    ///   first. Where there are no chunks, neither comes.
+    /// - `TooLong` exactly where the chunks hold more than [`MOST_SYMBOLS`] symbols together. The call tests this before
+    ///   it encodes.
+    /// - `ImpossibleSymbol` with the place of the first symbol that the model doesn't know.
+    /// - `Memory` where the words or the index can't grow.
+    ///
+    /// The last two stop the encoding, so the one that it reaches first is returned. A list of no chunks has neither.
     ///
     /// ```
     /// let table = WeightTable::<u32, 24>::new(alloc, &[8388608, 8388608])?;

@@ -6,8 +6,8 @@ ghost use Rattle.constriction_base.specs.Steps.{IsSizes, AreWords};
 ghost use Rattle.constriction_queue.specs.Range.{Run};
 ghost use Rattle.constriction_queue.specs.Symbols.{FindsAll};
 ghost use Rattle.constriction_store.specs.Chunks.{chunk_in, lists_of};
-ghost use Rattle.constriction_store.specs.LookedUp.{CannotLookUp, HasNoChunks};
-ghost use Rattle.constriction_store.specs.Stores.{Entry, HoldsChunk, HoldsChunks, HoldsNoChunk, run_at};
+ghost use Rattle.constriction_store.specs.LookedUp.{CannotLookUp, FailsFirst, HasNoChunks, HoldsEach};
+ghost use Rattle.constriction_store.specs.Stores.{Entry, HoldsChunk, HoldsChunks, HoldsNoChunk, IsBuilt, run_at};
 
 use crate::{BuildError, ChunkError, Store};
 use constriction_base::model::{DecoderModel, EncoderModel, EntropyModel};
@@ -33,12 +33,12 @@ pub fn other_words_are_not_read()
         FindsAll w s others (items_of model symbols) (run_at entry) last }
 {}
 
-/// The chunks at these places of a store, in this order. Where the store holds chunks, as one that was built does, they
-/// are these.
+/// Looks up the chunks at these places of a store, in this order. In a store that holds chunks, as one that was built
+/// does, they are those chunks. In any store each of them is what the words hold at its entry.
 ///
 /// # Errors
 ///
-/// That of the first look-up that is refused.
+/// That of the first look-up that is refused, or `Memory` where the list finds no room for a chunk.
 pub fn look_up<
     Word: WordOf<State>,
     State: BitArray,
@@ -51,7 +51,12 @@ pub fn look_up<
 ) -> Result<Vec<Vec<usize>>, ChunkError>
 where
     M::Probability: WordOf<Word>,
-    ensures { (chunks : List (List ℕ)) → HoldsChunks Word.BITS State.BITS
+    ensures each { IfOk result (λ found. HoldsEach Word.BITS State.BITS
+        record { precision = PRECISION; table = M.table store.now.model } store.now.words store.now.index places.now
+        (lists_of found.items)) }
+    ensures err { IfErr result (FailsFirst Word.BITS State.BITS
+        record { precision = PRECISION; table = M.table store.now.model } store.now.words store.now.index places.now) }
+    ensures back { (chunks : List (List ℕ)) → HoldsChunks Word.BITS State.BITS
         record { precision = PRECISION; table = M.table store.now.model } store.now.words store.now.index chunks →
         MatchResult result (λ found. lists_of found.items ≡ map (chunk_in chunks) places.now)
         (CannotLookUp chunks places.now) }
@@ -78,7 +83,8 @@ pub enum ThroughStore {
     LookUp(ChunkError),
 }
 
-/// Chunks come back from a store of them, in any order: `build`, and `chunk` at each of these places.
+/// Chunks come back from a store of them, in any order: `build`, and `chunk` at each of these places. Returns the store
+/// and the chunks.
 ///
 /// # Errors
 ///
@@ -98,6 +104,9 @@ where
     M::Probability: WordOf<Word>,
     requires { IsSizes Word.BITS State.BITS }
     ensures back { IfOk result (λ through. lists_of through.1.items ≡ map (chunk_in (lists_of chunks.now)) places.now) }
+    ensures store { IfOk result (λ through. IsBuilt Word.BITS State.BITS
+        record { precision = PRECISION; table = M.table model } (lists_of chunks.now) through.0.index through.0.words) }
+    ensures model { IfOk result (λ through. through.0.model ≡ model) }
     ensures err { IfErr result (HasNoChunks record { precision = PRECISION; table = M.table model }
         (lists_of chunks.now) places.now) }
 {
@@ -111,7 +120,8 @@ where
     }
 }
 
-/// The same through the parts of that store: `build`, `into_parts`, `from_parts`, and `chunk` at each of these places.
+/// Chunks come back through the parts of a store: `build`, `into_parts`, `from_parts`, and `chunk` at each of these
+/// places. Returns the store that was made of the parts, and the chunks.
 ///
 /// # Errors
 ///
@@ -131,6 +141,9 @@ where
     M::Probability: WordOf<Word>,
     requires { IsSizes Word.BITS State.BITS }
     ensures back { IfOk result (λ through. lists_of through.1.items ≡ map (chunk_in (lists_of chunks.now)) places.now) }
+    ensures store { IfOk result (λ through. IsBuilt Word.BITS State.BITS
+        record { precision = PRECISION; table = M.table model } (lists_of chunks.now) through.0.index through.0.words) }
+    ensures model { IfOk result (λ through. through.0.model ≡ model) }
     ensures err { IfErr result (HasNoChunks record { precision = PRECISION; table = M.table model }
         (lists_of chunks.now) places.now) }
 {
@@ -139,12 +152,12 @@ where
         Err(refusal) => return Err(ThroughStore::Build(refusal)),
     };
     let (words, index, model) = built.into_parts();
-    let store = match Store::<Word, State, M, PRECISION>::from_parts(words, index, model) {
-        Ok(store) => store,
+    let made = match Store::<Word, State, M, PRECISION>::from_parts(words, index, model) {
+        Ok(made) => made,
         Err(_) => unreachable!(),
     };
-    match look_up(alloc, &store, places) {
-        Ok(found) => Ok((store, found)),
+    match look_up(alloc, &made, places) {
+        Ok(found) => Ok((made, found)),
         Err(refusal) => Err(ThroughStore::LookUp(refusal)),
     }
 }
