@@ -1,17 +1,19 @@
 #!/usr/bin/env python3
-"""Nanoseconds a symbol of encodes and decodes from Python: lines `name ns_per_symbol`, each the least of so many runs.
+"""Nanoseconds a symbol of encodes and decodes from Python: lines `name ns_per_symbol`, each the least of some runs.
 
 usage: PYTHONPATH=python bench/python.py [PART_OF_A_NAME]
 
-The million symbols and their weights are those of bench/driver, so its lines `ans_encode_u32u64p24_table` and the like stand beside
-these. `array`: symbols come and go as array('Q'); `numpy`: as numpy arrays, where numpy is there; `list`: as a list of Python's. An encode
-begins with a new coder and ends with its words as an array; a decode begins with such words. A case begins with the model made. Cases of
-`gaussian` have a mean and a deviation for each symbol of -100 .. 100, as bench/models.c has; in those of `array` the package doesn't see
-numpy, and all comes as array('d') and array('q').
+The million symbols and their weights are those of bench/driver, so its lines `ans_encode_u32u64p24_table` and the
+like stand beside these. `array`: symbols come and go as array('Q'); `numpy`: as numpy arrays, where numpy is there;
+`list`: as a list of Python's. An encode begins with a new coder and ends with its words as an array; a decode begins
+with such words. A case begins with the model made. Cases of `gaussian` have a mean and a deviation for each symbol
+of -100 .. 100, as bench/models.c has; in those of `array` the package doesn't see numpy, and all comes as array('d')
+and array('q').
 
-Cases of `one` are a symbol a call, 20,000 of them, in nanoseconds a call: `table` under a fixed model of 256 symbols, `gaussian` with a mean
-and a deviation of its own over -100 .. 100, `row` by a row of 16 weights that is handed in (a decode makes a model of it). `bare` is a call of
-the C function alone, ans_decode of one symbol under three weights, by ctypes with all its arguments made before.
+Cases of `one` are a symbol a call, 20,000 of them, in nanoseconds a call: `table` under a fixed model of 256
+symbols, `gaussian` with a mean and a deviation of its own over -100 .. 100, `row` by a row of 16 weights that is
+handed in (a decode makes a model of it). `bare` is a call of the C function alone, ans_decode of one symbol under
+three weights, by ctypes with all its arguments made before.
 """
 
 from __future__ import annotations
@@ -50,7 +52,8 @@ def random_numbers(x: int, count: int) -> list[int]:
 
 
 def driver_weights() -> list[int]:
-    """The driver's weights: near to 1 / ((i + 4) * (i + 16)), each 1 at least, and the first takes what rounding leaves."""
+    """The driver's weights: near to 1 / ((i + 4) * (i + 16)), each 1 at least, and the first takes what rounding
+    leaves."""
     shares = [1_000_000_000 // ((i + 4) * (i + 16)) for i in range(256)]
     weights = [1 + share * ((1 << PRECISION) - 256) // sum(shares) for share in shares]
     weights[0] += (1 << PRECISION) - sum(weights)
@@ -128,7 +131,12 @@ def gaussian_cases(numpy: Any) -> list[Case]:
 def bare() -> None:
     """Calls of the C function alone, each of which decodes one symbol; the head is brought back before each."""
     words, head, length, place = (c_uint32 * 8)(), c_uint64(), c_size_t(0), c_int64()
-    weights, one, three, eight = (c_uint32 * 3)(5, 1 << 20, (1 << 24) - 5 - (1 << 20)), c_size_t(1), c_size_t(3), c_size_t(8)
+    weights, one, three, eight = (
+        (c_uint32 * 3)(5, 1 << 20, (1 << 24) - 5 - (1 << 20)),
+        c_size_t(1),
+        c_size_t(3),
+        c_size_t(8),
+    )
     arguments = byref(head), byref(words), eight, byref(length), byref(weights), three, byref(place), one
     function = plain_function("ans_decode")
     for _ in range(CALLS):
@@ -180,7 +188,11 @@ def single_cases(weights: list[int]) -> list[Case]:
         return [decode(WeightTable(row)) for _ in few]
 
     cases: list[Case] = [("python_one_bare", bare)]
-    ways = (("table", by_table, decode_by_table, places), ("gaussian", by_parameters, decode_by_parameters, near), ("row", by_row, decode_by_row, few))
+    ways = (
+        ("table", by_table, decode_by_table, places),
+        ("gaussian", by_parameters, decode_by_parameters, near),
+        ("row", by_row, decode_by_row, few),
+    )
     for coder, make in (("ans", AnsCoder), ("range", RangeDecoder)):
         for name, encode, decode, symbols in ways:
             words = encode(coder).get_compressed()
@@ -214,7 +226,9 @@ def main() -> None:
         words = encoded(symbols, model, coder)
         assert make(words).decode(model, COUNT).tobytes() == symbols.tobytes()
         for kind, given in kinds.items():
-            cases.append((f"python_{coder}_encode_u32u64p24_table_{kind}", lambda s=given, c=coder: encoded(s, model, c)))
+            cases.append(
+                (f"python_{coder}_encode_u32u64p24_table_{kind}", lambda s=given, c=coder: encoded(s, model, c))
+            )
         cases.append((f"python_{coder}_decode_u32u64p24_table", lambda m=make, w=words: m(w).decode(model, COUNT)))
     data = array("I", (x >> 32 for x in random_numbers(7, COUNT * 3 // 4 + 100)))
     data.append(1)

@@ -1,8 +1,9 @@
-"""Builds the wheel, the archive of sources, and what `pip install -e` wants. It needs nothing but Python, and no network.
+"""Builds the wheel, the archive of sources, and what `pip install -e` wants. It needs nothing but Python, and no
+network.
 
-Each holds the shared object: what CONSTRICTION_LIBRARY says, else the one that lies in the package, else build/libconstriction.so of the
-repository, which tools/library makes first where it is not there. All that is known of the project stands in pyproject.toml, and its
-version in constriction/_version.py.
+Each holds the shared object: what CONSTRICTION_LIBRARY says, else the one that lies in the package, else
+build/libconstriction.so of the repository, which tools/library makes first where it is not there. All that is known
+of the project stands in pyproject.toml, and its version in constriction/_version.py.
 """
 
 from __future__ import annotations
@@ -40,10 +41,18 @@ def _metadata() -> bytes:
     lists = {name: _said(rf"(?s)^{name} = \[(.*?)\]", PROJECT) for name in ("keywords", "classifiers")}
     urls = re.findall(r'^"(.*)" = "(.*)"$', PROJECT.split("[project.urls]")[1], re.MULTILINE)
     lines = ["Metadata-Version: 2.1", "Name: constriction-proved", f"Version: {VERSION}"]
-    lines += ["Summary: " + _said(r'^description = "(.*)"$', PROJECT), "Keywords: " + ",".join(re.findall('"(.*?)"', lists["keywords"]))]
+    lines += [
+        "Summary: " + _said(r'^description = "(.*)"$', PROJECT),
+        "Keywords: " + ",".join(re.findall('"(.*?)"', lists["keywords"])),
+    ]
     lines += [f"Project-URL: {name}, {url}" for name, url in urls]
     lines += [f"Classifier: {it}" for it in re.findall('"(.*?)"', lists["classifiers"])]
-    lines += ["Requires-Python: " + _said(r'^requires-python = "(.*)"$', PROJECT), "Description-Content-Type: text/markdown", "", ""]
+    lines += [
+        "Requires-Python: " + _said(r'^requires-python = "(.*)"$', PROJECT),
+        "Description-Content-Type: text/markdown",
+        "",
+        "",
+    ]
     return "\n".join(lines).encode() + (HERE / "README.md").read_bytes()
 
 
@@ -104,7 +113,8 @@ def build_editable(wheel_directory: str, config_settings: object = None, metadat
 
 
 def build_sdist(sdist_directory: str, config_settings: object = None) -> str:
-    """Writes the archive of sources to this folder, and answers its name. The library is in it as it is: the toolchain builds it."""
+    """Writes the archive of sources to this folder, and answers its name. The library is in it as it is: the
+    toolchain builds it."""
     top = f"{NAME}-{VERSION}"
     files = {**_sources(), LIBRARY: _library(), "PKG-INFO": _metadata()}
     files.update({name: (HERE / name).read_bytes() for name in ("README.md", "backend.py", "pyproject.toml")})

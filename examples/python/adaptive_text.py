@@ -1,6 +1,7 @@
 """A text under a model that learns: how often each letter came behind the letter before it, up to here.
 
-The receiver counts the same letters as it decodes them, so no table is sent. Each letter is a call of its own, under a row of counts.
+The receiver counts the same letters as it decodes them, so no table is sent. Each letter is a call of its own, under
+a row of counts.
 """
 
 from __future__ import annotations
@@ -24,7 +25,10 @@ def made_up_text(count: int) -> str:
     """Words of syllables, some of which are frequent."""
     dice, text = Random(3), ""
     while len(text) < count:
-        word = "".join(dice.choice("bdgklmnrst") + dice.choice("aaaeeiou") + dice.choice(["", "", "n", "r", "s"]) for _ in range(dice.randint(1, 3)))
+        word = "".join(
+            dice.choice("bdgklmnrst") + dice.choice("aaaeeiou") + dice.choice(["", "", "n", "r", "s"])
+            for _ in range(dice.randint(1, 3))
+        )
         text += word + dice.choice([" ", " ", " ", ". "])
     return text[:count]
 
@@ -66,7 +70,9 @@ def main(arguments: list[str]) -> None:
         counts.learn(letter)
     data, size = bytes(letters), encoder.num_bits()
     others = [len(it(data)) * 8 for it in (zlib.compress, bz2.compress, lzma.compress)]
-    print(f"{size / COUNT:.2f} bits a letter, entropy {entropy(letters):.2f}, fewer than zlib, bz2 and lzma: {size < min(others)}")
+    print(
+        f"{size / COUNT:.2f} bits a letter, entropy {entropy(letters):.2f}, fewer than zlib, bz2 and lzma: {size < min(others)}"
+    )
     draw(lambda axes: axes.plot(range(100, COUNT + 1, 100), costs[99::100]), arguments)
 
 

@@ -1,7 +1,8 @@
 """Bits back: numbers from a mixture cost as little as if the mixture had no parts.
 
-Which part a number came from is nobody's business, but a model of it is simple only with the part. So the sender takes the part off the words
-that are there, by the posterior, and codes the number and then the part. The receiver gets these bits back.
+Which part a number came from is nobody's business, but a model of it is simple only with the part. So the sender
+takes the part off the words that are there, by the posterior, and codes the number and then the part. The receiver
+gets these bits back.
 """
 
 from __future__ import annotations
@@ -47,7 +48,9 @@ def main(arguments: list[str]) -> None:
 
     bound = sum(2 * log2(TOTAL) - log2(CHANCES[number + 50]) for number in numbers)
     back = found[::-1] == numbers and receiver.get_binary() == words
-    print(f"{sizes[-1] / COUNT:.3f} net bits a number, by the mixture {bound / COUNT:.3f}; numbers and words come back: {back}")
+    print(
+        f"{sizes[-1] / COUNT:.3f} net bits a number, by the mixture {bound / COUNT:.3f}; numbers and words come back: {back}"
+    )
     draw(lambda axes: axes.plot(sizes), arguments)
 
 

@@ -1,6 +1,8 @@
-"""An image, pixel by pixel: each is guessed from its neighbours above and to the left, and coded under a Gaussian around that guess.
+"""An image, pixel by pixel: each is guessed from its neighbours above and to the left, and coded under a Gaussian
+around that guess.
 
-All guesses are known to the sender, so one call encodes the image. The receiver has to decode a pixel before it can guess the next.
+All guesses are known to the sender, so one call encodes the image. The receiver has to decode a pixel before it can
+guess the next.
 """
 
 from __future__ import annotations
@@ -21,7 +23,10 @@ def gradients() -> list[list[int]]:
     """Rings and a slope, and some noise."""
     dice = Random(5)
     return [
-        [min(255, max(0, round(128 + 60 * cos(hypot(x - 20, y - 40) / 9) + x - y / 2 + dice.gauss(0, 1.5)))) for x in range(SIDE)]
+        [
+            min(255, max(0, round(128 + 60 * cos(hypot(x - 20, y - 40) / 9) + x - y / 2 + dice.gauss(0, 1.5))))
+            for x in range(SIDE)
+        ]
         for y in range(SIDE)
     ]
 

@@ -1,6 +1,7 @@
 """Random access: many short records, of which any is read alone.
 
-A store has 2^20 symbols at most, so there is one for each so many records. A look-up reads the words of its record and no others.
+A store has 2^20 symbols at most, so there is one for each so many records. A look-up reads the words of its record
+and no others.
 
 usage: records.py [COUNT] [--picture FILE]
 """
@@ -33,7 +34,9 @@ def main(arguments: list[str]) -> None:
         record = stores[place // AT_A_TIME][place % AT_A_TIME]
         times.append(perf_counter() - begun)
         assert list(record) == records[place]
-    print(f"{count} records of {LENGTH} symbols in {size} bytes, {8 * size / count / LENGTH:.3f} bits a symbol; 1000 looked up, each right")
+    print(
+        f"{count} records of {LENGTH} symbols in {size} bytes, {8 * size / count / LENGTH:.3f} bits a symbol; 1000 looked up, each right"
+    )
     print(f"{1e6 * sum(times) / len(times):.0f} microseconds each", file=sys.stderr)
     draw(lambda axes: axes.hist([1e6 * it for it in times], bins=50), arguments)
 

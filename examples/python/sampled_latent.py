@@ -1,8 +1,9 @@
 """Latents that are sampled from words: the chain coder keeps a change to itself, the stack coder doesn't.
 
-Some schemes with latents take them off words that are there, and then improve the model of one, as an optimizer does step by step. With the
-chain coder each latent depends on its own 24 bits of the words and on its own model, so a better model changes the one latent alone. With
-the stack coder what a latent's model leaves of the words changes all latents behind it.
+Some schemes with latents take them off words that are there, and then improve the model of one, as an optimizer does
+step by step. With the chain coder each latent depends on its own 24 bits of the words and on its own model, so a
+better model changes the one latent alone. With the stack coder what a latent's model leaves of the words changes all
+latents behind it.
 """
 
 from __future__ import annotations
@@ -38,7 +39,9 @@ def main(arguments: list[str]) -> None:
     back.encode_reverse(latents, FAMILY, better, scales)
     below, above = back.get_data(unseal=True)
     same = [*below, *above] == words
-    print(f"latents that change: chain coder {len(differ[0])}, stack coder {len(differ[1])} of {COUNT}; the words come back: {same}")
+    print(
+        f"latents that change: chain coder {len(differ[0])}, stack coder {len(differ[1])} of {COUNT}; the words come back: {same}"
+    )
     draw(lambda axes: axes.eventplot(differ), arguments)
 
 

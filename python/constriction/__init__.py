@@ -6,9 +6,9 @@
 - :mod:`constriction.store`: chunks of symbols in one list of words, each of which is read by itself.
 - :mod:`constriction.errors`: what is raised where a call is refused.
 
-The names are those of the Python twin of the Rust crate ``constriction``. The coders are proved, and so are the models
-in whole numbers; this package, which hands lists over to them and rounds floats once, isn't, nor are the models that
-compute weights in floats.
+The names are those of the Python twin of the Rust crate ``constriction``. The coders are proved, and so are the
+models in whole numbers; this package, which hands lists over to them and rounds floats once, isn't, nor are the
+models that compute weights in floats.
 """
 
 from . import errors, stream, symbol

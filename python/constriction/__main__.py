@@ -1,4 +1,5 @@
-"""``python -m constriction`` prints the version, and where the library is; ``python -m constriction --version`` the version alone."""
+"""``python -m constriction`` prints the version, and where the library is; ``python -m constriction --version`` the
+version alone."""
 
 from __future__ import annotations
 

@@ -1,7 +1,7 @@
 """Lists of numbers as memory that C functions read and write.
 
-What a C function gets is always this package's own memory, so nobody else changes it during a call; and its address is asked for at the
-call, so none is left behind in a copy.
+What a C function gets is always this package's own memory, so nobody else changes it during a call; and its address
+is asked for at the call, so none is left behind in a copy.
 """
 
 from __future__ import annotations
@@ -38,19 +38,41 @@ if TYPE_CHECKING:
     Array = array[Any]
 
     class Answer(Sequence[int]):
-        """Words or symbols as a caller gets them: an ``array.array``, or a numpy array, whose ways are known to numpy alone."""
+        """Words or symbols as a caller gets them: an ``array.array``, or a numpy array, whose ways are known to
+        numpy alone."""
 
-        def tolist(self) -> list[int]: ...
-        def tobytes(self) -> bytes: ...
-        def __getitem__(self, place: Any) -> Any: ...
-        def __len__(self) -> int: ...
-        def __eq__(self, other: object) -> Any: ...
-        def __setitem__(self, place: Any, value: Any) -> None: ...
-        def __add__(self, other: Any) -> Any: ...
-        def __sub__(self, other: Any) -> Any: ...
-        def __mul__(self, other: Any) -> Any: ...
-        def __buffer__(self, flags: int, /) -> memoryview: ...
-        def __getattr__(self, name: str) -> Any: ...
+        def tolist(self) -> list[int]:
+            ...
+
+        def tobytes(self) -> bytes:
+            ...
+
+        def __getitem__(self, place: Any) -> Any:
+            ...
+
+        def __len__(self) -> int:
+            ...
+
+        def __eq__(self, other: object) -> Any:
+            ...
+
+        def __setitem__(self, place: Any, value: Any) -> None:
+            ...
+
+        def __add__(self, other: Any) -> Any:
+            ...
+
+        def __sub__(self, other: Any) -> Any:
+            ...
+
+        def __mul__(self, other: Any) -> Any:
+            ...
+
+        def __buffer__(self, flags: int, /) -> memoryview:
+            ...
+
+        def __getattr__(self, name: str) -> Any:
+            ...
 
 else:
     Array = array
@@ -99,7 +121,8 @@ def numpy_module() -> Any:
 
 
 def answered(numbers: Numbers) -> Any:
-    """Numbers as a caller gets them: an array of numpy over the same memory where the program has loaded that, else as they are."""
+    """Numbers as a caller gets them: an array of numpy over the same memory where the program has loaded that, else
+    as they are."""
     numpy = numpy_module()
     if numpy is None:
         return numbers

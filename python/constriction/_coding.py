@@ -8,6 +8,7 @@ from typing import Any, NoReturn
 
 from ._buffers import SYMBOL, Numbers, Symbols, answered, listed, numpy_module, room
 from ._numbers import count_of, is_one, listed_of, places_of, sequence_of, whole
+
 from .errors import (
     WRONG_WEIGHTS, ImpossibleSymbolError, Refusal, WrongLengthError, WrongWeightsError, impossible,
 )  # fmt: skip
@@ -99,7 +100,7 @@ def _explained_weights(refused: Refusal, model: Model, given: tuple[Any, ...]) -
     for place, row in enumerate(_rows(model, given) if given else (model.table(),)):
         which = f"row {place} of the weights" if given else "the weights"
         if not len(row):
-            return WrongLengthError(f"{which} has no weight" if given else "there are no weights")
+            return type(refused)(f"{which} has no weight" if given else "there are no weights")
         if sum(row) != TOTAL:
             return WrongWeightsError(f"{WRONG_WEIGHTS}, but to {sum(row)}" + (f", in row {place}" if given else ""))
     return refused
@@ -146,7 +147,9 @@ def shifted(places: Numbers, first: int) -> Numbers:
     return Numbers(SYMBOL, map(first.__add__, places))
 
 
-def _in_parts(state: Any, count: int, weights: int, decode: Callable[[Any, slice, Numbers], Any]) -> tuple[Any, Numbers]:
+def _in_parts(
+    state: Any, count: int, weights: int, decode: Callable[[Any, slice, Numbers], Any]
+) -> tuple[Any, Numbers]:
     """The state behind so many symbols, some of which are decoded at a time, and they."""
     symbols = room(SYMBOL, count)  # First of all: where there is no room for all of them, none is decoded.
     size = next(_parts(count, weights)).stop

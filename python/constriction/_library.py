@@ -32,8 +32,8 @@ class ChainHeads(Structure):
 
 
 def _path() -> Path:
-    """Where the shared object is: what CONSTRICTION_LIBRARY says, from the current folder on; or in this package, where it was
-    installed; or in the repository's folder build/."""
+    """Where the shared object is: what CONSTRICTION_LIBRARY says, from the current folder on; or in this package,
+    where it was installed; or in the repository's folder build/."""
     said = os.environ.get("CONSTRICTION_LIBRARY")
     if said:
         return Path(said).absolute()
@@ -47,7 +47,8 @@ PATH = _path()
 
 
 def _load() -> ctypes.CDLL:
-    """The shared object by its whole path, so that it is never one of the system's. Calls let go of the interpreter's lock."""
+    """The shared object by its whole path, so that it is never one of the system's. Calls let go of the
+    interpreter's lock."""
     if not PATH.is_file():
         raise ImportError(f"there is no {PATH}: build it by tools/library, or set CONSTRICTION_LIBRARY to where it is")
     return ctypes.CDLL(str(PATH))
@@ -138,13 +139,16 @@ def plain_function(name: str) -> Any:
     """
     if name not in _FUNCTIONS:
         return lambda *arguments: 1
-    function = _LIBRARY[f"constriction_{name}_u32"]  # Of its own: what comes by its name as an attribute has types of arguments.
+    function = _LIBRARY[
+        f"constriction_{name}_u32"
+    ]  # Of its own: what comes by its name as an attribute has types of arguments.
     function.restype = c_uint32
     return function
 
 
 def call(name: str, *arguments: Any, texts: dict[int, str] | None = None) -> None:
-    """Calls the C function of this name, and raises what its result means, with these texts in place of the usual ones."""
+    """Calls the C function of this name, and raises what its result means, with these texts in place of the usual
+    ones."""
     function = _FUNCTIONS.get(name)
     if function is None:
         raise NotImplementedError(f"{PATH} is the library of another version: it has no constriction_{name}_u32")

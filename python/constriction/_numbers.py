@@ -65,7 +65,9 @@ def count_of(number: Any) -> int:
 def _unmasked(numbers: Any) -> None:
     masked = sys.modules.get("numpy.ma")
     if masked is not None and isinstance(numbers, masked.MaskedArray):
-        raise TypeError("numbers are wanted, and not a masked array: array.filled(0) or array.compressed() has them all")
+        raise TypeError(
+            "numbers are wanted, and not a masked array: array.filled(0) or array.compressed() has them all"
+        )
 
 
 def _as_numpy(numbers: Any) -> Any:
@@ -168,7 +170,8 @@ def _copied(code: str, numbers: Any) -> array[Any] | None:
 
 
 def words_of(words: List, name: str = "word", refused: type[Refusal] = InvalidDataError) -> array[Any]:
-    """A copy of words, each below 2^32. Raises TypeError of what is no whole number, and this refusal of one past a word."""
+    """A copy of words, each below 2^32. Raises TypeError of what is no whole number, and this refusal of one past a
+    word."""
     if is_one(words):
         raise TypeError(f"a list of {name}s is wanted, and not a {type(words).__name__}")
     given = sequence_of(words)

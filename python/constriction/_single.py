@@ -1,8 +1,9 @@
 """One symbol a call, without what a list costs: the same C functions, over memory that stays a coder's own.
 
-A model that is used often has its sums of weights, so a decode finds its symbol by a search for the coder's quantile and hands three
-weights over: of all before it, its own, of all behind it. An encode hands an interval over. Whatever isn't plain (a symbol that a model
-doesn't know, weights that don't add up, a model of floats with parameters) goes the way of lists, which says what is wrong.
+A model that is used often has its sums of weights, so a decode finds its symbol by a search for the coder's quantile
+and hands three weights over: of all before it, its own, of all behind it. An encode hands an interval over. Whatever
+isn't plain (a symbol that a model doesn't know, weights that don't add up, a model of floats with parameters) goes
+the way of lists, which says what is wrong.
 """
 
 from __future__ import annotations
@@ -26,7 +27,8 @@ made: Any = tuple.__new__
 
 
 class Lane:
-    """The memory of a coder's calls of one symbol. Each coder has one, and its lock lets one call use it at a time."""
+    """The memory of a coder's calls of one symbol. Each coder has one, and its lock lets one call use it at a
+    time."""
 
     def __init__(self, lead: tuple[Any, ...], encode: str, decode: str, behind_decode: tuple[Any, ...] = ()) -> None:
         """``lead`` is the state as the C functions take it. The names have a gap for how a model comes."""
@@ -78,7 +80,10 @@ class Lane:
             state = coder._state
             if state is not self._kept or not self._spare:
                 state = self.load(state)
-            self._spare, self._kept = self._spare - 1, None  # Should it be interrupted, nothing is known of this memory.
+            self._spare, self._kept = (
+                self._spare - 1,
+                None,
+            )  # Should it be interrupted, nothing is known of this memory.
             if kind == ENDS:
                 left = first[place - 1] if place else 0
                 interval = self._interval
@@ -116,7 +121,10 @@ class Lane:
             state, place = coder._state, 0
             if state is not self._kept or not self._spare:
                 state = self.load(state)
-            self._spare, self._kept = self._spare - 1, None  # Should it be interrupted, nothing is known of this memory.
+            self._spare, self._kept = (
+                self._spare - 1,
+                None,
+            )  # Should it be interrupted, nothing is known of this memory.
             if kind == ENDS:
                 quantile = self.quantile(state)
                 if quantile >= TOTAL:

@@ -40,7 +40,8 @@ def _numpy_for(floats: array[float]) -> Any:
 
 
 def _ends(floats: array[float]) -> Ends:
-    """The least and the greatest of these floats, both 1 where there are none. Where one isn't finite, both are NaN."""
+    """The least and the greatest of these floats, both 1 where there are none. Where one isn't finite, both are
+    NaN."""
     numpy = _numpy_for(floats)
     if not len(floats):
         return 1.0, 1.0
@@ -79,7 +80,8 @@ def moved(floats: array[float], origin: float) -> array[float]:
 
 
 def unit_of(number: Any, origin: float, least: float, greatest: float) -> int | None:
-    """One float less an origin, in units, as lists of them are rounded; None of a list, and of what isn't within these bounds."""
+    """One float less an origin, in units, as lists of them are rounded; None of a list, and of what isn't within
+    these bounds."""
     if type(number) is not float:
         if not hasattr(number, "__float__") and type(number) is not int or hasattr(number, "__len__"):
             return None
@@ -149,7 +151,8 @@ def counts_of_rows(table: Any) -> array[int] | None:
 
 
 def counts_of_wholes(counts: list[int]) -> array[int]:
-    """Counts as they are, but that 0 counts as the least share that there is, and that from 2^64 on the greatest gets 62 bits.
+    """Counts as they are, but that 0 counts as the least share that there is, and that from 2^64 on the greatest
+    gets 62 bits.
 
     Raises ValueError where there is none above 0, or one that is negative.
     """

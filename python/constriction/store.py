@@ -70,9 +70,11 @@ def _as_bytes(words: Any) -> memoryview:
 
 
 class Store:
-    """Chunks under one model. Its words may lie in any buffer: an ``array.array('I')``, a numpy array of ``uint32``, or their
-    bytes, the lowest of each word first, in ``bytes`` or a file that was mapped by ``mmap``. Of these a look-up reads those of
-    its chunk alone, which it copies; none is looked at before. The buffer must not change as long as the store is used."""
+    """Chunks under one model. Its words may lie in any buffer: an ``array.array('I')``, a numpy array of ``uint32``,
+    or their bytes, the lowest of each word first, in ``bytes`` or a file that was mapped by ``mmap``. Of these a
+    look-up reads those of its chunk alone, which it copies; none is looked at before. The buffer must not change as
+    long as the store is used.
+    """
 
     def __init__(self, words: Any, index: Iterable[Sequence[Any]], model: Model) -> None:
         """As :meth:`from_parts`."""
@@ -88,10 +90,11 @@ class Store:
 
     @classmethod
     def build(cls, chunks: Iterable[List], model: Model) -> Store:
-        """A store of these chunks: one range coder takes them in order, and its words are sealed so that any may follow them.
+        """A store of these chunks: one range coder takes them in order, and its words are sealed so that any may
+        follow them.
 
-        Raises :class:`ImpossibleSymbolError`, and :class:`WrongLengthError` where the chunks have more than ``MOST_SYMBOLS``
-        symbols together.
+        Raises :class:`ImpossibleSymbolError`, and :class:`WrongLengthError` where the chunks have more than
+        ``MOST_SYMBOLS`` symbols together.
         """
         encoder, index, left = RangeEncoder(), [], MOST_SYMBOLS
         for chunk in chunks:
@@ -106,10 +109,11 @@ class Store:
 
     @classmethod
     def from_parts(cls, words: Any, index: Iterable[Sequence[Any]], model: Model) -> Store:
-        """The store of these words and this index, such as ``words`` and ``index`` of a store are. The words are not copied.
+        """The store of these words and this index, such as ``words`` and ``index`` of a store are. The words are not
+        copied.
 
-        Raises :class:`WrongLengthError` where an entry begins past the words, or the chunks have more than ``MOST_SYMBOLS``
-        symbols together.
+        Raises :class:`WrongLengthError` where an entry begins past the words, or the chunks have more than
+        ``MOST_SYMBOLS`` symbols together.
         """
         return cls(words, index, model)
 
@@ -135,8 +139,8 @@ class Store:
     def chunk(self, i: int) -> Any:
         """The symbols of a chunk, of which 0 is the first.
 
-        Raises :class:`IndexError` where there are fewer chunks, and :class:`InvalidDataError` where the words hold no such
-        symbols, which doesn't come in a store that was built.
+        Raises :class:`IndexError` where there are fewer chunks, and :class:`InvalidDataError` where the words hold
+        no such symbols, which doesn't come in a store that was built.
         """
         place = whole(i)
         if not 0 <= place < len(self._index):

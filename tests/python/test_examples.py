@@ -15,7 +15,11 @@ from constriction import _library
 TOP = Path(__file__).resolve().parents[2]
 FOLDER = TOP / "examples/python"
 SCRIPTS = ("adaptive_text", "image", "bits_back", "records", "sampled_latent")
-ENVIRONMENT = {**os.environ, "PYTHONPATH": str(Path(_library.__file__).parents[1]), "CONSTRICTION_LIBRARY": str(_library.PATH)}
+ENVIRONMENT = {
+    **os.environ,
+    "PYTHONPATH": str(Path(_library.__file__).parents[1]),
+    "CONSTRICTION_LIBRARY": str(_library.PATH),
+}
 
 
 class Examples(unittest.TestCase):
@@ -25,7 +29,9 @@ class Examples(unittest.TestCase):
         self.assertEqual(len(wanted), len(SCRIPTS))
         for name, line in zip(SCRIPTS, wanted):
             with self.subTest(name):
-                ran = subprocess.run([sys.executable, FOLDER / f"{name}.py"], env=ENVIRONMENT, capture_output=True, text=True)
+                ran = subprocess.run(
+                    [sys.executable, FOLDER / f"{name}.py"], env=ENVIRONMENT, capture_output=True, text=True
+                )
                 self.assertEqual((ran.returncode, f"{name}.py: {ran.stdout}"), (0, line + "\n"), ran.stderr)
 
     def test_pictures(self) -> None:

@@ -6,6 +6,7 @@ import copy
 import math
 import pickle
 import random
+import signal
 import unittest
 from array import array
 from typing import Any
@@ -15,6 +16,7 @@ import definitions as by
 import definitions_of_models as models
 from constriction import _single, errors
 from constriction.stream.chain import ChainCoder
+
 from constriction.stream.model import (
     Bernoulli, Categorical, CustomModel, Model, QuantizedCauchy, QuantizedGaussian, QuantizedLaplace, QuantizedLogistic, Uniform, WeightTable,
 )  # fmt: skip
@@ -41,7 +43,13 @@ def some_steps(dice: random.Random, count: int) -> list[Step]:
             (WeightTable(weights), ()), (WeightTable(), (weights,)), (Bernoulli(), (dice.random(),)), (QuantizedCauchy(-9, 9), (mean, std)),
             (kind(-9, 9, -1e9, 1e-9), ()),
         ))  # fmt: skip
-        row = list(model.table()) if not given else weights if isinstance(model, WeightTable) else [1] * (2 if isinstance(model, Bernoulli) else 19)
+        row = (
+            list(model.table())
+            if not given
+            else weights
+            if isinstance(model, WeightTable)
+            else [1] * (2 if isinstance(model, Bernoulli) else 19)
+        )
         steps.append((model.first + by.random_symbol(dice, row), model, given))
     return steps
 
@@ -96,7 +104,9 @@ class Single(unittest.TestCase):
     def test_beside_the_definition(self) -> None:
         """Words of single calls, by the definitions in whole numbers."""
         dice, family, count = random.Random(23), QuantizedGaussian(-20, 20), 200
-        means, stds = [dice.uniform(-15, 15) for _ in range(count)], [math.exp(dice.uniform(-3, 3)) for _ in range(count)]
+        means, stds = [dice.uniform(-15, 15) for _ in range(count)], [
+            math.exp(dice.uniform(-3, 3)) for _ in range(count)
+        ]
         rows = [models.table_of(models.GAUSSIAN, mean, std, -20, 20) for mean, std in zip(means, stds)]
         symbols = [dice.randint(-20, 20) for _ in range(count)]
         coder, encoder = AnsCoder(), RangeEncoder()
@@ -113,12 +123,22 @@ class Single(unittest.TestCase):
 
     def test_it_is_the_quick_way(self) -> None:
         """Plain calls of one symbol never go the way of lists."""
-        table, family, fixed = WeightTable([3, 2, 16777211]), QuantizedGaussian(-9, 9), QuantizedLaplace(-9, 9, 0.5, 2.0)
+        table, family, fixed = (
+            WeightTable([3, 2, 16777211]),
+            QuantizedGaussian(-9, 9),
+            QuantizedLaplace(-9, 9, 0.5, 2.0),
+        )
         slow = mock.patch("constriction._coder.Coder._changed", side_effect=AssertionError("the way of lists"))
         coder, encoder, chain = AnsCoder(), RangeEncoder(), ChainCoder(array("I", range(1, 50)))
         decoder = encoder.get_decoder()
         with slow:
-            for model, given, symbol in ((table, (), 1), (family, (0.5, 2.0), 3), (family, (1, 2), 3), (fixed, (), 4), (Bernoulli(), (0.5,), 1)):
+            for model, given, symbol in (
+                (table, (), 1),
+                (family, (0.5, 2.0), 3),
+                (family, (1, 2), 3),
+                (fixed, (), 4),
+                (Bernoulli(), (0.5,), 1),
+            ):
                 for _ in range(5):
                     coder.encode_reverse(symbol, model, *given), encoder.encode(symbol, model, *given)
                     self.assertEqual(coder.decode(model, *given), symbol)
@@ -171,6 +191,48 @@ class Single(unittest.TestCase):
         for symbol in range(5000):
             coder.encode_reverse(symbol, model)
         self.assertEqual([coder.decode(model) for _ in range(5000)], list(range(5000))[::-1])
+
+    @unittest.skipUnless(hasattr(signal, "setitimer"), "the system has no timer for a process")
+    def test_interrupts(self) -> None:
+        """A call that a signal interrupts is done or not, and the coder goes on from there."""
+
+        class Interrupt(Exception):
+            pass
+
+        def raise_it(*_: Any) -> None:
+            nonlocal armed
+            if armed:
+                armed = False
+                raise Interrupt
+
+        armed, dice, coder = False, random.Random(24), AnsCoder(array("I", range(1, 9)))
+        uniform, family, before = Uniform(500), QuantizedGaussian(-500, 500), signal.getsignal(signal.SIGALRM)
+        signal.signal(signal.SIGALRM, raise_it)
+        try:
+            for _ in range(400):
+                steps: list[Step] = []
+                start = coder.pos()
+                try:
+                    armed = True
+                    signal.setitimer(signal.ITIMER_REAL, dice.uniform(1e-5, 3e-4), 1e-3)
+                    while True:
+                        symbol = dice.randrange(500)
+                        steps.append(dice.choice(((symbol, uniform, ()), (symbol, family, (symbol + 0.25, 3.0)))))
+                        coder.encode_reverse(steps[-1][0], steps[-1][1], *steps[-1][2])
+                except Interrupt:
+                    signal.setitimer(signal.ITIMER_REAL, 0)
+                twin = coder.clone()
+                for symbol, model, given in reversed(steps if self.is_done(coder, steps, start) else steps[:-1]):
+                    self.assertEqual((coder.decode(model, *given), twin.decode(model, *given)), (symbol, symbol))
+                self.assertEqual((coder.pos(), twin.pos()), (start, start))
+        finally:
+            signal.setitimer(signal.ITIMER_REAL, 0)
+            signal.signal(signal.SIGALRM, before)
+
+    def is_done(self, coder: AnsCoder, steps: list[Step], start: tuple[int, int]) -> bool:
+        """Whether the last one is on the stack: all of them come back, and below them is what was there at the start."""
+        twin = coder.clone()
+        return all(twin.decode(*it[1:2], *it[2]) == it[0] for it in reversed(steps)) and twin.pos() == start
 
     def test_its_own_call(self) -> None:
         """A number that calls the coder is asked before the coder is at work."""

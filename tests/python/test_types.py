@@ -23,7 +23,10 @@ class Types(unittest.TestCase):
         with tempfile.TemporaryDirectory() as folder:
             command = ["mypy", "--strict", "--no-error-summary", "--cache-dir", folder, PACKAGE, MISUSES]
             ran = subprocess.run(command, env=environment, capture_output=True, text=True)
-        found = {(Path(path).name, int(line)) for path, line in re.findall(r"^(.*?):(\d+): error: ", ran.stdout, re.MULTILINE)}
+        found = {
+            (Path(path).name, int(line))
+            for path, line in re.findall(r"^(.*?):(\d+): error: ", ran.stdout, re.MULTILINE)
+        }
         lines = MISUSES.read_text().splitlines()
         wanted = {(MISUSES.name, i) for i, line in enumerate(lines, 1) if line.endswith("# refused")}
         self.assertGreaterEqual(len(wanted), 12)

@@ -100,7 +100,8 @@ class _Lane(Lane):
 
 
 class ChainCoder(Coder):
-    """Two stacks of words: a decode takes from ``compressed`` and puts what is left over on ``remainders``, an encode the other way.
+    """Two stacks of words: a decode takes from ``compressed`` and puts what is left over on ``remainders``, an
+    encode the other way.
 
     >>> from constriction.stream.model import Uniform
     >>> coder = ChainCoder([0x11223344, 0x100])
@@ -114,8 +115,8 @@ class ChainCoder(Coder):
     def __init__(self, data: List, is_remainders: bool = False, seal: bool = False) -> None:
         """A coder over a copy of these words, the last of which isn't 0.
 
-        With ``seal`` they may be any words, and ``get_data(unseal=True)`` gives them back. With ``is_remainders`` they are what
-        ``get_remainders`` gave, its two lists put together, or the second one alone.
+        With ``seal`` they may be any words, and ``get_data(unseal=True)`` gives them back. With ``is_remainders``
+        they are what ``get_remainders`` gave, its two lists put together, or the second one alone.
         Raises :class:`InvalidDataError` where they are too few or end with a zero word.
         """
         if is_remainders and seal:
@@ -128,13 +129,21 @@ class ChainCoder(Coder):
         self._begin(_State(copied(), words, numbers) if is_remainders else _State(words, copied(), numbers))
 
     @overload
-    def decode(self, model: Model) -> int: ...
+    def decode(self, model: Model) -> int:
+        ...
+
     @overload
-    def decode(self, model: Model, amt: SupportsIndex) -> Answer: ...
+    def decode(self, model: Model, amt: SupportsIndex) -> Answer:
+        ...
+
     @overload
-    def decode(self, model: Model, parameter: float, /, *parameters: float) -> int: ...  # type: ignore[misc]
+    def decode(self, model: Model, parameter: float, /, *parameters: float) -> int:  # type: ignore[misc]
+        ...
+
     @overload
-    def decode(self, model: Model, parameter: Parameter, /, *parameters: Parameter) -> Answer: ...
+    def decode(self, model: Model, parameter: Parameter, /, *parameters: Parameter) -> Answer:
+        ...
+
     def decode(self, model: Model, *amt_or_parameters: Any, amt: Any = None) -> Any:
         """Decodes symbols: one, or a list of ``amt``, or one for each set of parameters.
 
@@ -157,18 +166,23 @@ class ChainCoder(Coder):
     def encode_reverse(self, symbols: Symbols, model: Model, *parameters: Parameter) -> None:
         """Encodes a symbol, or a list of them from the last one to the first: the converse of ``decode``.
 
-        Raises :class:`ImpossibleSymbolError`, :class:`WrongWeightsError`, and :class:`OutOfDataError` where the remainders end; the coder is as
-        before then.
+        Raises :class:`ImpossibleSymbolError`, :class:`WrongWeightsError`, and :class:`OutOfDataError` where the
+        remainders end; the coder is as before then.
         """
         lane = self._lane
-        if lane is not None and type(symbols) is int and isinstance(model, Model) and lane.encode(self, symbols, model, parameters):
+        if (
+            lane is not None
+            and type(symbols) is int
+            and isinstance(model, Model)
+            and lane.encode(self, symbols, model, parameters)
+        ):
             return
         if not self._encoded_alone(symbols, model, parameters):
             self._changed(lambda it: (encoded(it, symbols, model, parameters, _encode, True), None))
 
     def get_data(self, unseal: bool = False) -> tuple[Answer, Answer]:
-        """The remainders left, and the data: put together, the second behind the first, they are what the coder began with, once
-        all that was decoded is encoded again. The coder stays as it is.
+        """The remainders left, and the data: put together, the second behind the first, they are what the coder
+        began with, once all that was decoded is encoded again. The coder stays as it is.
 
         Raises :class:`InvalidDataError` where the coder holds no whole number of words.
         """
@@ -181,10 +195,13 @@ class ChainCoder(Coder):
         return answered(left), answered(data)
 
     def get_remainders(self) -> tuple[Answer, Answer]:
-        """The data left, and the remainders: each alone, or put together, can be handed to a coder. This one stays as it is."""
+        """The data left, and the remainders: each alone, or put together, can be handed to a coder. This one stays
+        as it is."""
 
         def ask(state: _State) -> tuple[Numbers, Numbers]:
-            return state.compressed.numbers(), _export("chain_into_remainders", state.remainders.reserve(3), state.heads)
+            return state.compressed.numbers(), _export(
+                "chain_into_remainders", state.remainders.reserve(3), state.heads
+            )
 
         left, remainders = self._asked(ask)
         return answered(left), answered(remainders)

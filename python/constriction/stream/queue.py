@@ -141,11 +141,16 @@ class RangeEncoder(Coder):
     def encode(self, symbols: Symbols, model: Model, *parameters: Parameter) -> None:
         """Encodes a symbol, or a list of them, the first one first.
 
-        Where the model has no parameters of its own, a list of each follows. Raises :class:`ImpossibleSymbolError` and
-        :class:`WrongWeightsError`; the encoder is as before then.
+        Where the model has no parameters of its own, a list of each follows. Raises :class:`ImpossibleSymbolError`
+        and :class:`WrongWeightsError`; the encoder is as before then.
         """
         lane = self._lane
-        if lane is not None and type(symbols) is int and isinstance(model, Model) and lane.encode(self, symbols, model, parameters):
+        if (
+            lane is not None
+            and type(symbols) is int
+            and isinstance(model, Model)
+            and lane.encode(self, symbols, model, parameters)
+        ):
             return
         if not self._encoded_alone(symbols, model, parameters):
             self._changed(lambda it: (encoded(it, symbols, model, parameters, _encode, False), None))
@@ -165,8 +170,8 @@ class RangeEncoder(Coder):
     def get_compressed(self, self_delimiting: bool = False) -> Answer:
         """A copy of the words with the seal. The encoder stays as it is.
 
-        With ``self_delimiting`` the seal holds whatever words follow: a decoder that begins here reads the symbols too where other
-        words come behind these.
+        With ``self_delimiting`` the seal holds whatever words follow: a decoder that begins here reads the symbols
+        too where other words come behind these.
         """
         found: Answer = answered(self._compressed(self_delimiting))
         return found
@@ -220,17 +225,26 @@ class RangeDecoder(Coder):
         self._begin(_reading(words, it))
 
     @overload
-    def decode(self, model: Model) -> int: ...
+    def decode(self, model: Model) -> int:
+        ...
+
     @overload
-    def decode(self, model: Model, amt: SupportsIndex) -> Answer: ...
+    def decode(self, model: Model, amt: SupportsIndex) -> Answer:
+        ...
+
     @overload
-    def decode(self, model: Model, parameter: float, /, *parameters: float) -> int: ...  # type: ignore[misc]
+    def decode(self, model: Model, parameter: float, /, *parameters: float) -> int:  # type: ignore[misc]
+        ...
+
     @overload
-    def decode(self, model: Model, parameter: Parameter, /, *parameters: Parameter) -> Answer: ...
+    def decode(self, model: Model, parameter: Parameter, /, *parameters: Parameter) -> Answer:
+        ...
+
     def decode(self, model: Model, *amt_or_parameters: Any, amt: Any = None) -> Any:
         """Decodes symbols: one, or a list of ``amt``, or one for each set of parameters.
 
-        Raises :class:`InvalidDataError` where no encoder wrote such words under such a model; the decoder is as before then.
+        Raises :class:`InvalidDataError` where no encoder wrote such words under such a model; the decoder is as
+        before then.
         """
         if amt is None:
             lane = self._lane

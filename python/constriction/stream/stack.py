@@ -20,8 +20,8 @@ __all__ = ["AnsCoder"]
 
 
 class _State(NamedTuple):
-    """Words, and the head above them. The first ``top`` words of the buffer are as they were when the coder had so many:
-    those that a decode took off lie there until others are written in their place."""
+    """Words, and the head above them. The first ``top`` words of the buffer are as they were when the coder had so
+    many: those that a decode took off lie there until others are written in their place."""
 
     words: Words
     head: int
@@ -107,25 +107,39 @@ class AnsCoder(Coder):
         self._begin(_State(words, head.value, words.length))
 
     def encode_reverse(self, symbols: Symbols, model: Model, *parameters: Parameter) -> None:
-        """Encodes a symbol, or a list of them from the last one to the first, so that ``decode`` gives them in the list's order.
+        """Encodes a symbol, or a list of them from the last one to the first, so that ``decode`` gives them in the
+        list's order.
 
-        Where the model has no parameters of its own, a list of each follows. Raises :class:`ImpossibleSymbolError` and
-        :class:`WrongWeightsError`; the coder is as before then.
+        Where the model has no parameters of its own, a list of each follows. Raises :class:`ImpossibleSymbolError`
+        and :class:`WrongWeightsError`; the coder is as before then.
         """
         lane = self._lane
-        if lane is not None and type(symbols) is int and isinstance(model, Model) and lane.encode(self, symbols, model, parameters):
+        if (
+            lane is not None
+            and type(symbols) is int
+            and isinstance(model, Model)
+            and lane.encode(self, symbols, model, parameters)
+        ):
             return
         if not self._encoded_alone(symbols, model, parameters):
             self._changed(lambda it: (encoded(it, symbols, model, parameters, _encode, True), None))
 
     @overload
-    def decode(self, model: Model) -> int: ...
+    def decode(self, model: Model) -> int:
+        ...
+
     @overload
-    def decode(self, model: Model, amt: SupportsIndex) -> Answer: ...
+    def decode(self, model: Model, amt: SupportsIndex) -> Answer:
+        ...
+
     @overload
-    def decode(self, model: Model, parameter: float, /, *parameters: float) -> int: ...  # type: ignore[misc]
+    def decode(self, model: Model, parameter: float, /, *parameters: float) -> int:  # type: ignore[misc]
+        ...
+
     @overload
-    def decode(self, model: Model, parameter: Parameter, /, *parameters: Parameter) -> Answer: ...
+    def decode(self, model: Model, parameter: Parameter, /, *parameters: Parameter) -> Answer:
+        ...
+
     def decode(self, model: Model, *amt_or_parameters: Any, amt: Any = None) -> Any:
         """Takes symbols off: one, or a list of ``amt``, or one for each set of parameters.
 
@@ -146,11 +160,13 @@ class AnsCoder(Coder):
         return self._lane
 
     def get_compressed(self, unseal: bool = False) -> Answer:
-        """A copy of the words with those of the head. The coder stays as it is. With ``unseal`` that is ``get_binary``."""
+        """A copy of the words with those of the head. The coder stays as it is. With ``unseal`` that is
+        ``get_binary``."""
         return self._exported("ans_into_binary" if unseal else "ans_into_compressed")
 
     def get_binary(self) -> Answer:
-        """A copy of the words with those of the head below its leading 1: the converse of ``AnsCoder(words, seal=True)``.
+        """A copy of the words with those of the head below its leading 1: the converse of ``AnsCoder(words,
+        seal=True)``.
 
         Raises :class:`InvalidDataError` where the head holds no whole number of words.
         """
@@ -192,8 +208,9 @@ class AnsCoder(Coder):
         return state.words.length, state.head
 
     def seek(self, position: SupportsIndex, state: SupportsIndex) -> None:
-        """Goes to a recorded position: back, which drops what was encoded since, or forth again to where the coder was, as far as
-        only decodes came in between. No word is copied, so many positions of the same words can be gone to in any order.
+        """Goes to a recorded position: back, which drops what was encoded since, or forth again to where the coder
+        was, as far as only decodes came in between. No word is copied, so many positions of the same words can be
+        gone to in any order.
 
         Raises :class:`WrongLengthError` past the words."""
         length, head = whole(position), whole(state)

@@ -1,7 +1,8 @@
 """Codewords of whole bits, in words of 32 bits.
 
-Each symbol can have a codebook of its own. The C functions code whole lists under one codebook; here they make long lists' codewords,
-and the codewords of a tree, which single symbols have, are compared with theirs. Where codewords lie is counted in Python.
+Each symbol can have a codebook of its own. The C functions code whole lists under one codebook; here they make long
+lists' codewords, and the codewords of a tree, which single symbols have, are compared with theirs. Where codewords
+lie is counted in Python.
 
 >>> tree = EncoderHuffmanTree([2, 2, 4, 1, 1])
 >>> encoder = QueueEncoder()

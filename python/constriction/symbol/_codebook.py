@@ -16,14 +16,17 @@ __all__ = ["Codebook", "codebook_wanted"]
 def codebook_wanted(codebook: Any) -> None:
     """Refuses what is no codebook."""
     if not isinstance(codebook, Codebook):
-        raise TypeError(f"a codebook is wanted, such as a Huffman tree or ExpGolomb(), and not a {type(codebook).__name__}")
+        raise TypeError(
+            f"a codebook is wanted, such as a Huffman tree or ExpGolomb(), and not a {type(codebook).__name__}"
+        )
 
 
 class Codebook:
     """Codewords, one at a time in Python, and whole lists by the C functions."""
 
     def codeword(self, symbol: int) -> tuple[int, int]:
-        """A symbol's codeword as a number, its first bit the lowest, and its length. Raises :class:`ImpossibleSymbolError`."""
+        """A symbol's codeword as a number, its first bit the lowest, and its length. Raises
+        :class:`ImpossibleSymbolError`."""
         raise NotImplementedError
 
     def read(self, bit: Callable[[], int]) -> int:

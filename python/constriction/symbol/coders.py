@@ -88,19 +88,24 @@ class QueueEncoder(Coder):
 
 
 class QueueDecoder(Coder):
-    """Reads codewords from the beginning of words, and keeps its place. Each symbol can have a codebook of its own."""
+    """Reads codewords from the beginning of words, and keeps its place. Each symbol can have a codebook of its
+    own."""
 
     def __init__(self, compressed: List) -> None:
         """A decoder at the beginning of these words, which are copied."""
         self._begin(_Place(bits_of(compressed), 0))
 
     @overload
-    def decode(self, codebook: Codebook, amt: None = None) -> int: ...
+    def decode(self, codebook: Codebook, amt: None = None) -> int:
+        ...
+
     @overload
-    def decode(self, codebook: Codebook, amt: SupportsIndex) -> Answer: ...
+    def decode(self, codebook: Codebook, amt: SupportsIndex) -> Answer:
+        ...
+
     def decode(self, codebook: Codebook, amt: SupportsIndex | None = None) -> int | Answer:
-        """The next symbol, or a list of ``amt``. Raises :class:`OutOfDataError` and :class:`InvalidDataError`; the decoder is as before
-        then."""
+        """The next symbol, or a list of ``amt``. Raises :class:`OutOfDataError` and :class:`InvalidDataError`; the
+        decoder is as before then."""
         codebook_wanted(codebook)
         if amt is None:
             return self.decode_symbol(codebook)
@@ -168,7 +173,8 @@ def _by_library(codebook: Codebook, bits: int, length: int, count: int, stack: b
 
 
 class StackCoder(Coder):
-    """A stack of codewords: the last one put on is the first one taken off. Each symbol can have a codebook of its own."""
+    """A stack of codewords: the last one put on is the first one taken off. Each symbol can have a codebook of its
+    own."""
 
     def __init__(self, compressed: List | None = None) -> None:
         """An empty stack, or the one whose ``get_compressed`` gave these words, which are copied.
@@ -184,7 +190,8 @@ class StackCoder(Coder):
         self._begin(Bits(bits.memory, length))
 
     def encode_reverse(self, symbols: Symbols, codebook: Codebook) -> None:
-        """Puts symbols on top, from the last one to the first. Raises :class:`ImpossibleSymbolError`; the stack is as before then."""
+        """Puts symbols on top, from the last one to the first. Raises :class:`ImpossibleSymbolError`; the stack is
+        as before then."""
         codebook_wanted(codebook)
         if is_one(symbols):
             return self.encode_symbol(symbols, codebook)  # type: ignore[arg-type]
@@ -206,9 +213,13 @@ class StackCoder(Coder):
         self._changed(lambda bits: (bits.put(*codeword), None))
 
     @overload
-    def decode(self, codebook: Codebook, amt: None = None) -> int: ...
+    def decode(self, codebook: Codebook, amt: None = None) -> int:
+        ...
+
     @overload
-    def decode(self, codebook: Codebook, amt: SupportsIndex) -> Answer: ...
+    def decode(self, codebook: Codebook, amt: SupportsIndex) -> Answer:
+        ...
+
     def decode(self, codebook: Codebook, amt: SupportsIndex | None = None) -> int | Answer:
         """Takes off the symbol on top, or a list of the ``amt`` topmost. Raises :class:`OutOfDataError` and
         :class:`InvalidDataError`; the stack is as before then."""
@@ -228,7 +239,9 @@ class StackCoder(Coder):
         return not self._state.length
 
     def get_compressed(self) -> tuple[Answer, int]:
-        """The words of the codewords, closed by a bit 1 and filled up with zero bits, and how many bits the codewords have."""
+        """The words of the codewords, closed by a bit 1 and filled up with zero bits, and how many bits the
+        codewords have."""
+
         def export(bits: Bits) -> tuple[Numbers, int]:
             return words_with(bits.part(0, bits.length) | 1 << bits.length, bits.length + 1), bits.length
 

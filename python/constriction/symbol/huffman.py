@@ -51,7 +51,8 @@ class _Tree(Codebook):
     """Weights, whose tree each call of a C function makes; and the same tree in Python for single symbols."""
 
     def __init__(self, probabilities: List) -> None:
-        """Whole weights whose sum is below 2^32 are taken as they are; floats by their share, in Python, which isn't proved.
+        """Whole weights whose sum is below 2^32 are taken as they are; floats by their share, in Python, which isn't
+        proved.
 
         Raises :class:`WrongWeightsError` where there are none, or their sum is too large.
         """
@@ -66,8 +67,8 @@ class _Tree(Codebook):
         return len(self._weights)
 
     def _tree(self) -> tuple[list[tuple[int, int]], list[tuple[int, int]]]:
-        """The codewords, and the two children of each union. It is made where it is first asked for, and compared with the words of the
-        C function."""
+        """The codewords, and the two children of each union. It is made where it is first asked for, and compared
+        with the words of the C function."""
         if self._grown is None:
             unions, codewords = _merged(self._weights)
             found = bits_of(self.encoded(array(SYMBOL, range(len(codewords))), False))
@@ -125,7 +126,8 @@ class _Tree(Codebook):
 
 
 def _merged(weights: array[int]) -> tuple[list[tuple[int, int]], list[tuple[int, int]]]:
-    """The children of each union, and the codewords: the two least by (weight, index) are merged, and a union comes behind all others."""
+    """The children of each union, and the codewords: the two least by (weight, index) are merged, and a union comes
+    behind all others."""
     leaves = len(weights)
     heap = [(weight, i) for i, weight in enumerate(weights)]
     heapify(heap)

@@ -1,5 +1,5 @@
-"""Calls as programs write them that were made for the Rust crate's package: its names, int32 symbols and float32 parameters in, numpy's
-arrays out. What words there are is compared with the definitions in whole numbers."""
+"""Calls as programs write them that were made for the Rust crate's package: its names, int32 symbols and float32
+parameters in, numpy's arrays out. What words there are is compared with the definitions in whole numbers."""
 
 from __future__ import annotations
 
@@ -65,7 +65,11 @@ class Readings(unittest.TestCase):
             self.assertEqual((found.dtype, found.tolist()), (np.int64, self.changes.tolist()))
 
     def test_a_gaussian_for_each(self) -> None:
-        family, rows, places = model.QuantizedGaussian(-64, 63), self.rows(-64, 63), [int(it) + 64 for it in self.changes]
+        family, rows, places = (
+            model.QuantizedGaussian(-64, 63),
+            self.rows(-64, 63),
+            [int(it) + 64 for it in self.changes],
+        )
         coder, encoder = stack.AnsCoder(), queue.RangeEncoder()
         coder.encode_reverse(self.changes, family, self.guesses, self.doubts)
         encoder.encode(self.changes, family, self.guesses, self.doubts)
@@ -118,7 +122,11 @@ class Readings(unittest.TestCase):
                 self.assertEqual(found[1:], self.changes.tolist())
 
     def test_places_that_are_gone_back_to(self) -> None:
-        shares, days = model.Categorical(floats(5.0, 2.0, 1.0), lazy=True), [symbols(0, 0, 2), symbols(1, 0, 1, 1), symbols(2, 2)]
+        shares, days = model.Categorical(floats(5.0, 2.0, 1.0), lazy=True), [
+            symbols(0, 0, 2),
+            symbols(1, 0, 1, 1),
+            symbols(2, 2),
+        ]
         encoder, marks = queue.RangeEncoder(), []
         for day in days:
             marks.append(encoder.pos())
@@ -147,7 +155,9 @@ class Readings(unittest.TestCase):
 
     def test_symbols_that_another_model_leaves_alone(self) -> None:
         """Of the chain coder: the second and third symbol are what they were under whatever first row."""
-        words, free = np.array([99, 2718281828, 1414213562, 577215664], dtype=np.uint32), model.Categorical(perfect=False)
+        words, free = np.array([99, 2718281828, 1414213562, 577215664], dtype=np.uint32), model.Categorical(
+            perfect=False
+        )
         tail = [[0.4, 0.5, 0.1], [0.25, 0.25, 0.5]]
         found = [
             chain.ChainCoder(words, seal=True).decode(free, np.array([first, *tail], dtype=np.float32))
@@ -184,7 +194,12 @@ class Readings(unittest.TestCase):
         shares = np.array([[1, 2, 4], [4, 2, 1], [1, 1, 1], [3, 1, 9]], dtype=np.float32)
         cases: list[tuple[Any, tuple[Any, ...]]] = [
             (kind(-7, 7, *own), given)
-            for kind in (model.QuantizedGaussian, model.QuantizedLaplace, model.QuantizedLogistic, model.QuantizedCauchy)
+            for kind in (
+                model.QuantizedGaussian,
+                model.QuantizedLaplace,
+                model.QuantizedLogistic,
+                model.QuantizedCauchy,
+            )
             for own, given in (((), (fifths, fifths)), ((0.75,), (fifths,)), ((0.75, 3.5), ()))
         ]
         cases += [
@@ -221,7 +236,8 @@ class Readings(unittest.TestCase):
             self.assertEqual((decoder.decode_symbol(reading), top.decode_symbol(reading)), (letter, letter))
 
     def test_weights_that_are_taken_along(self) -> None:
-        """The script of python/README.md, which is for the original package, writes a model's weights out by the calls that both have."""
+        """The script of python/README.md, which is for the original package, writes a model's weights out by the
+        calls that both have."""
         page = (Path(__file__).resolve().parents[3] / "python/README.md").read_text()
         script = next(it for it in re.findall(r"```python\n(.*?)```", page, re.DOTALL) if "weights.json" in it)
         self.assertLessEqual(len(script.splitlines()), 11)

@@ -12,12 +12,27 @@ from ..._buffers import WORD, listed
 from ..._numbers import floats_of, is_one, listed_of, whole
 from ...errors import ImpossibleSymbolError, WrongLengthError, impossible
 
-__all__ = ["ENDS", "FALLS", "PRECISION", "ROW", "TOTAL", "UNITS", "Bound", "Located", "Model", "equally_long", "ranged",
-           "shown_range", "sized", "spread"]
+__all__ = [
+    "ENDS",
+    "FALLS",
+    "PRECISION",
+    "ROW",
+    "TOTAL",
+    "UNITS",
+    "Bound",
+    "Located",
+    "Model",
+    "equally_long",
+    "ranged",
+    "shown_range",
+    "sized",
+    "spread",
+]
 
 #: How one symbol's model goes over: by where the intervals end; by a location and a scale; by a row of weights.
 ENDS, UNITS, ROW = range(3)
-#: A model that was used so many times for one symbol alone gets its sums of weights, where it has so many symbols at most.
+#: A model that was used so many times for one symbol alone gets its sums of weights, where it has so many symbols at
+#: most.
 _SELDOM, _MOST_ENDS, _FEW_WEIGHTS = 2, 1 << 16, 64
 PRECISION = 24
 TOTAL = 1 << PRECISION
@@ -191,7 +206,9 @@ class Model:
         sets = self.parameters([[it] for it in given] if one else given)
         listed = [whole(it) for it in listed_of(symbols)]
         if len(listed) != len(sets):
-            raise WrongLengthError(f"there are {len(listed)} symbols and {len(sets)} sets of parameters: each symbol has one")
+            raise WrongLengthError(
+                f"there are {len(listed)} symbols and {len(sets)} sets of parameters: each symbol has one"
+            )
         lefts, ps = array(WORD), array(WORD)
         for place, (symbol, parameters) in enumerate(zip(listed, sets)):
             try:
@@ -213,7 +230,9 @@ def equally_long(lists: list[array[float]]) -> list[array[float]]:
     """Lists of parameters, as far as they have one for each symbol."""
     lengths = [len(it) for it in lists]
     if any(it != lengths[0] for it in lengths):
-        raise WrongLengthError(f"lists of parameters have to be equally long, and have {' and '.join(map(str, lengths))}")
+        raise WrongLengthError(
+            f"lists of parameters have to be equally long, and have {' and '.join(map(str, lengths))}"
+        )
     return lists
 
 
@@ -224,7 +243,8 @@ def shown_range(first: int, count: int, **parameters: float | None) -> str:
 
 
 def spread(count: int, share: Callable[[int], float]) -> Bound:
-    """Sums of weights that give each of so many symbols 1, and share out the rest by a growing function from 0 to 1."""
+    """Sums of weights that give each of so many symbols 1, and share out the rest by a growing function from 0 to
+    1."""
     free = TOTAL - count
 
     def bound(place: int) -> int:
@@ -248,8 +268,8 @@ def sized(count: int) -> int:
 
 
 def ranged(least: Any, greatest: Any) -> tuple[int, int]:
-    """The least symbol of a range, and how many it has. Raises ValueError where there are none, or too many, or where one
-    is past 63 bits and a sign."""
+    """The least symbol of a range, and how many it has. Raises ValueError where there are none, or too many, or
+    where one is past 63 bits and a sign."""
     first, last = whole(least), whole(greatest)
     count = sized(last - first + 1)
     if first < -(1 << 63) or last >= 1 << 63:

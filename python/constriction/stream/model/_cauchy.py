@@ -21,11 +21,16 @@ class QuantizedCauchy(Model):
     """
 
     def __init__(
-        self, min_symbol_inclusive: SupportsIndex, max_symbol_inclusive: SupportsIndex, loc: Real | None = None, scale: Real | None = None
+        self,
+        min_symbol_inclusive: SupportsIndex,
+        max_symbol_inclusive: SupportsIndex,
+        loc: Real | None = None,
+        scale: Real | None = None,
     ) -> None:
         """A model of the symbols ``min_symbol_inclusive .. max_symbol_inclusive``.
 
-        ``loc`` and ``scale`` are numbers. Where one is left out, the coder's calls hand in a list of one for each symbol.
+        ``loc`` and ``scale`` are numbers. Where one is left out, the coder's calls hand in a list of one for each
+        symbol.
         """
         self.first, self._count = ranged(min_symbol_inclusive, max_symbol_inclusive)
         self._location = None if loc is None else real(loc)

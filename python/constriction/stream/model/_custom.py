@@ -14,9 +14,9 @@ __all__ = ["CustomModel", "ScipyModel"]
 class CustomModel(Model):
     """Whole numbers ``min_symbol_inclusive .. max_symbol_inclusive`` under a cumulative distribution function.
 
-    ``cdf(x, *parameters)`` grows with ``x``, from 0 to 1. Symbol ``s`` gets what it grows by from ``s - 0.5`` to ``s + 0.5``; what lies
-    outside goes to the two ends. How many parameters it takes is told by their number at the call. ``approximate_inverse_cdf`` is not
-    looked at: it is there since the Rust crate's twin has it.
+    ``cdf(x, *parameters)`` grows with ``x``, from 0 to 1. Symbol ``s`` gets what it grows by from ``s - 0.5`` to ``s
+    + 0.5``; what lies outside goes to the two ends. How many parameters it takes is told by their number at the
+    call. ``approximate_inverse_cdf`` is not looked at: it is there since the Rust crate's twin has it.
     """
 
     def __init__(
@@ -49,9 +49,9 @@ class CustomModel(Model):
         cdf, start = self._cdf, self.first - 0.5
         return self._count, spread(self._count, lambda place: real(cdf(start + place, *parameters)))
 
-
     def _interval(self, symbol: int, parameters: tuple[Any, ...]) -> tuple[int, int]:
-        """The interval, as far as a decoder's search leads from each of its quantiles to the symbol. Where the function falls, it may not."""
+        """The interval, as far as a decoder's search leads from each of its quantiles to the symbol. Where the
+        function falls, it may not."""
         left, weight = super()._interval(symbol, parameters)
         high, bound = self._bounds(parameters)
         low = 0
@@ -72,9 +72,12 @@ class CustomModel(Model):
 class ScipyModel(CustomModel):
     """The same by the function ``cdf`` of a distribution of ``scipy.stats``, or of anything that has one.
 
-    A distribution with all its parameters is used as it is; of a family the parameters come with each symbol, in its own order.
+    A distribution with all its parameters is used as it is; of a family the parameters come with each symbol, in its
+    own order.
     """
 
-    def __init__(self, scipy_model: Any, min_symbol_inclusive: SupportsIndex, max_symbol_inclusive: SupportsIndex) -> None:
+    def __init__(
+        self, scipy_model: Any, min_symbol_inclusive: SupportsIndex, max_symbol_inclusive: SupportsIndex
+    ) -> None:
         """A model of the symbols ``min_symbol_inclusive .. max_symbol_inclusive`` under ``scipy_model.cdf``."""
         super().__init__(scipy_model.cdf, None, min_symbol_inclusive, max_symbol_inclusive)

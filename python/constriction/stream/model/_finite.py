@@ -26,7 +26,8 @@ class Bernoulli(Rows):
     """
 
     def __init__(self, p: Real | None = None, *, perfect: bool | None = None) -> None:
-        """A model of the symbols 0 and 1, where 1 has the probability ``p``; without it the coder's calls hand in a list of them."""
+        """A model of the symbols 0 and 1, where 1 has the probability ``p``; without it the coder's calls hand in a
+        list of them."""
         if p is None:
             self.missing = ("p",)
         else:

@@ -36,7 +36,8 @@ class _Quantized(Model):
 
     def _make(self, least: SupportsIndex, greatest: SupportsIndex, location: Real | None, scale: Real | None) -> None:
         self.first, self._count = ranged(least, greatest)
-        # A range that the C functions don't take is moved towards 0 by the nearest number that is a float, and locations with it.
+        # A range that the C functions don't take is moved towards 0 by the nearest number that is a float, and
+        # locations with it.
         origin = 0 if self._fits(self.first) else int(float(self.first))
         moved = self.first - origin
         self._least, self._origin = moved if self._fits(moved) else 0, float(origin)
@@ -44,7 +45,9 @@ class _Quantized(Model):
         self.missing = tuple(name for name, it in given if it is None)
         # The model's own parameters, in units. A table of them is made where it is first asked for.
         name, other = self._names
-        self._own_location = None if location is None else self._units_of_locations(name, array(NUMBER, (real(location),)))[0]
+        self._own_location = (
+            None if location is None else self._units_of_locations(name, array(NUMBER, (real(location),)))[0]
+        )
         self._own_scale = None if scale is None else scales_of(other, array(NUMBER, (real(scale),)))[0]
 
     def _said(self) -> str:
@@ -81,7 +84,11 @@ class _Quantized(Model):
         return self._count
 
     def _seldom(self) -> tuple[int, Any, Any] | None:
-        return (UNITS, self._own_location, self._own_scale) if self._fixed is None and self._count > 1 else super()._seldom()
+        return (
+            (UNITS, self._own_location, self._own_scale)
+            if self._fixed is None and self._count > 1
+            else super()._seldom()
+        )
 
     def _alone_by(self, given: tuple[Any, ...]) -> tuple[int, Any, Any] | None:
         """A location and a scale in units. None where one is no plain number, or isn't within the bounds."""
@@ -138,11 +145,16 @@ class QuantizedGaussian(_Quantized):
     _names = ("mean", "std")
 
     def __init__(
-        self, min_symbol_inclusive: SupportsIndex, max_symbol_inclusive: SupportsIndex, mean: Real | None = None, std: Real | None = None
+        self,
+        min_symbol_inclusive: SupportsIndex,
+        max_symbol_inclusive: SupportsIndex,
+        mean: Real | None = None,
+        std: Real | None = None,
     ) -> None:
         """A model of the symbols ``min_symbol_inclusive .. max_symbol_inclusive``.
 
-        ``mean`` and ``std`` are numbers. Where one is left out, the coder's calls hand in a list of one for each symbol.
+        ``mean`` and ``std`` are numbers. Where one is left out, the coder's calls hand in a list of one for each
+        symbol.
         """
         self._make(min_symbol_inclusive, max_symbol_inclusive, mean, std)
 
@@ -154,11 +166,16 @@ class QuantizedLaplace(_Quantized):
     _names = ("mean", "scale")
 
     def __init__(
-        self, min_symbol_inclusive: SupportsIndex, max_symbol_inclusive: SupportsIndex, mean: Real | None = None, scale: Real | None = None
+        self,
+        min_symbol_inclusive: SupportsIndex,
+        max_symbol_inclusive: SupportsIndex,
+        mean: Real | None = None,
+        scale: Real | None = None,
     ) -> None:
         """A model of the symbols ``min_symbol_inclusive .. max_symbol_inclusive``.
 
-        ``mean`` and ``scale`` are numbers. Where one is left out, the coder's calls hand in a list of one for each symbol.
+        ``mean`` and ``scale`` are numbers. Where one is left out, the coder's calls hand in a list of one for each
+        symbol.
         """
         self._make(min_symbol_inclusive, max_symbol_inclusive, mean, scale)
 
@@ -170,10 +187,15 @@ class QuantizedLogistic(_Quantized):
     _names = ("mean", "scale")
 
     def __init__(
-        self, min_symbol_inclusive: SupportsIndex, max_symbol_inclusive: SupportsIndex, mean: Real | None = None, scale: Real | None = None
+        self,
+        min_symbol_inclusive: SupportsIndex,
+        max_symbol_inclusive: SupportsIndex,
+        mean: Real | None = None,
+        scale: Real | None = None,
     ) -> None:
         """A model of the symbols ``min_symbol_inclusive .. max_symbol_inclusive``.
 
-        ``mean`` and ``scale`` are numbers. Where one is left out, the coder's calls hand in a list of one for each symbol.
+        ``mean`` and ``scale`` are numbers. Where one is left out, the coder's calls hand in a list of one for each
+        symbol.
         """
         self._make(min_symbol_inclusive, max_symbol_inclusive, mean, scale)

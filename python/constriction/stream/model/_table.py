@@ -70,7 +70,8 @@ class WeightTable(Rows):
     """
 
     def __init__(self, weights: List | None = None) -> None:
-        """A model by its weights, whole numbers that add up to 2^24; without them the coder's calls hand in a row for each symbol."""
+        """A model by its weights, whole numbers that add up to 2^24; without them the coder's calls hand in a row
+        for each symbol."""
         if weights is None:
             self.missing = ("weights",)
         else:
@@ -88,9 +89,9 @@ class WeightTable(Rows):
 class Categorical(Rows):
     """Symbols 0, 1, .. of these probabilities, or of counts: of them all only the proportions matter.
 
-    Whole numbers below 2^64 are taken as they are. Others are rounded once, to a whole multiple of 2^-62 times the power of
-    two above the greatest one, and one such multiple at least, so that a symbol of probability 0 can be coded too; a count
-    of 0 is made as small a share. All else is whole numbers: each symbol has
+    Whole numbers below 2^64 are taken as they are. Others are rounded once, to a whole multiple of 2^-62 times the
+    power of two above the greatest one, and one such multiple at least, so that a symbol of probability 0 can be
+    coded too; a count of 0 is made as small a share. All else is whole numbers: each symbol has
     a weight of 1 at least, the others share the rest of 2^24 in proportion, and what rounding leaves goes to the
     largest remainders, of equal ones to the first. Raises ValueError where there is no probability above 0, one that
     is negative or not finite, or more than 2^24.
@@ -150,4 +151,3 @@ def _are_whole(numbers: Any) -> bool:
     if isinstance(numbers, (array, memoryview)):
         return (numbers.typecode if isinstance(numbers, array) else numbers.format) in _WHOLE_FORMATS
     return isinstance(numbers, (list, tuple, range)) and all(hasattr(it, "__index__") for it in set(map(type, numbers)))
-
