@@ -4,7 +4,6 @@
 //! run.
 #![tactic(auto)]
 
-mod any_backend;
 mod bits_back;
 mod isolation;
 mod laws_of_each_coder;
@@ -23,6 +22,5 @@ fn main(rt: HostRuntime) -> Result<()> {
     programs::bits::run(&rt, alloc)?;
     programs::huffman::run(&rt, alloc)?;
     programs::models::run(&rt, alloc)?;
-    any_backend::run(&rt, alloc)?;
     Ok(())
 }
