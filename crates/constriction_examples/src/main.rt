@@ -5,6 +5,7 @@
 //! run.
 #![tactic(auto)]
 
+mod any_backend;
 mod bits_back;
 mod calls;
 mod isolation;
@@ -24,13 +25,10 @@ fn main(rt: HostRuntime) -> Result<()> {
     programs::bits::run(&rt, alloc)?;
     programs::huffman::run(&rt, alloc)?;
     programs::models::run(&rt, alloc)?;
-<<<<<<< HEAD
     any_backend::run(&rt, alloc)?;
     calls::stack::run(&rt, alloc)?;
     calls::chain::run(&rt, alloc)?;
     calls::queue::run(&rt, alloc)?;
     calls::symbol::run(&rt, alloc)?;
-=======
->>>>>>> 35cd8b119e5c8b63f1adbc072e7d9b3dc84f65f4
     Ok(())
 }
