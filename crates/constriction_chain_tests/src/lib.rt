@@ -1,10 +1,9 @@
-//! Tests of the chain coder, and no code besides: worked values, lists, refusals, precision changes, words in
-//! both forms, positions, cursors, iterators and texts, at concrete types.
+//! Tests of the chain coder, and no code besides: the worked rows, and each public call once, at concrete types.
 //!
 //! What a contract of `constriction_chain` says is proved there for all values. These tests stand for what no
 //! contract can say: that the definitions give the numbers that a reader expects, that calls which take memory
-//! succeed where there is some, what texts are printed, and that a caller reaches each call at each width of
-//! words.
+//! succeed where there is some, and that a caller reaches each call. `tests/cases` has more tests of this coder,
+//! which are run without a proof.
 //!
 //! All expected values were worked out apart, on lists of bits: a coder as a list of the bits left over, and
 //! two lists of words.
@@ -15,8 +14,6 @@
 //! [`script`] follows, at the types of [`cases`].
 #![tactic(auto)]
 
-#[cfg(test)]
-mod buffers;
 #[cfg(test)]
 mod cases;
 #[cfg(test)]
@@ -36,8 +33,6 @@ mod put;
 #[cfg(test)]
 mod raw_parts;
 #[cfg(test)]
-mod readers;
-#[cfg(test)]
 mod refusals;
 #[cfg(test)]
 mod refused;
@@ -49,7 +44,5 @@ mod script;
 mod seeking;
 #[cfg(test)]
 mod take;
-#[cfg(test)]
-mod texts;
 #[cfg(test)]
 mod widths;

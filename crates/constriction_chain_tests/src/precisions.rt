@@ -2,13 +2,10 @@
 
 ghost use Rattle.std.specs.Prelude.{◌≤◌};
 
-use crate::cases::{coarse_does, fine_follows};
-use crate::coders::{Bytes, Form, Whole, fine_of, made};
-use crate::expect::{are_parts, has_parts, parts_of, places_of};
-use crate::script::Act;
+use crate::coders::{Bytes, Form, made};
+use crate::expect::{has_parts, places_of};
 use constriction_base::backends::{Holds, Pos, ReadWords, Stack, WriteWords};
-use constriction_base::errors::CoderError;
-use constriction_chain::{ChainCoder, ChangePrecisionError, EncoderFrontendError};
+use constriction_chain::ChainCoder;
 use constriction_words::{BitArray, WordOf};
 use std::alloc::Global;
 
@@ -43,12 +40,12 @@ where
 }
 
 /// The coder at 8 bits of precision in place of 4.
-fn raised(coder: Bytes<4>) -> Option<Bytes<8>> {
+pub fn raised(coder: Bytes<4>) -> Option<Bytes<8>> {
     up(coder)
 }
 
 /// The coder at 4 bits of precision in place of 8.
-fn lowered(coder: Bytes<8>) -> Option<Bytes<4>> {
+pub fn lowered(coder: Bytes<8>) -> Option<Bytes<4>> {
     down(coder)
 }
 
@@ -73,7 +70,7 @@ fn coarse(alloc: Global, suffix: &[u8]) -> Option<Bytes<4>> {
 }
 
 /// The same at 8 bits of precision.
-fn fine(alloc: Global, suffix: &[u8]) -> Option<Bytes<8>> {
+pub fn fine(alloc: Global, suffix: &[u8]) -> Option<Bytes<8>> {
     made(alloc, Form::Remainders, suffix)
 }
 
@@ -157,131 +154,4 @@ fn changes_both_ways(rt: HostRuntime) {
             & is_changed(down_both_ways(alloc, &suffix), 0, &[], &suffix)
             & is_changed(same_both_ways(alloc, &suffix), 0, &[], &suffix)
     );
-}
-
-/// The coder of remainders after its precision is increased and decreased again, and how many words were below the
-/// number between.
-fn up_and_down<Word, State, const LOW: usize, const HIGH: usize>(
-    found: Option<Whole<Word, State, LOW>>,
-) -> Option<(usize, Whole<Word, State, LOW>)>
-where
-    Word: WordOf<State>,
-    State: BitArray,
-    requires { (1 ≤ LOW) × (LOW ≤ HIGH) × (HIGH ≤ Word.BITS) }
-{
-    match found {
-        Some(low) => match up::<Word, State, Vec<Word>, Vec<Word>, LOW, HIGH>(low) {
-            Some(high) => down_from::<Word, State, LOW, HIGH>(high),
-            None => None,
-        },
-        None => None,
-    }
-}
-
-/// The second half of it.
-fn down_from<Word, State, const LOW: usize, const HIGH: usize>(
-    high: Whole<Word, State, HIGH>,
-) -> Option<(usize, Whole<Word, State, LOW>)>
-where
-    Word: WordOf<State>,
-    State: BitArray,
-    requires { (1 ≤ LOW) × (LOW ≤ HIGH) }
-{
-    let (places, _) = high.pos();
-    match down::<Word, State, Vec<Word>, Vec<Word>, HIGH, LOW>(high) {
-        Some(low) => Some((places.remainders, low)),
-        None => None,
-    }
-}
-
-/// Whether the lowest word of the number moves out at a greater precision, and in again.
-fn moves_a_word<Word, State, const LOW: usize, const HIGH: usize>(
-    found: Option<Whole<Word, State, LOW>>,
-    suffix: &[Word],
-) -> bool
-where
-    Word: WordOf<State> + PartialEq,
-    State: BitArray,
-    requires { (1 ≤ LOW) × (LOW ≤ HIGH) × (HIGH ≤ Word.BITS) }
-{
-    match up_and_down::<Word, State, LOW, HIGH>(found) {
-        Some((place, low)) => (place == 1) & are_parts(parts_of(low), &[], suffix),
-        None => false,
-    }
-}
-
-/// The numbers 70000, 4600387192 and 67305985, of which the last has bytes 1, 2, 3 and 4, the lowest first.
-#[test]
-fn changes_at_other_widths(rt: HostRuntime) {
-    let alloc = rt.alloc();
-    let small = [4464u16, 1, 5];
-    let wide = [0x12345678u32, 1, 7];
-    let long = [1u8, 2, 3, 4, 9];
-    assert!(rt;
-        moves_a_word::<u16, u32, 12, 16>(made(alloc, Form::Remainders, &small), &small)
-            & moves_a_word::<u32, u64, 24, 32>(made(alloc, Form::Remainders, &wide), &wide)
-            & moves_a_word::<u8, u32, 5, 8>(made(alloc, Form::Remainders, &long), &long)
-    );
-}
-
-/// The symbol 1 is put back at 8 bits of precision.
-fn puts_last(coder: Option<Bytes<8>>, alloc: Global) -> bool {
-    let acts = [Act::Puts(&[1]), Act::Is(&[77, 10, 0xb3, 20], &[30, 1])];
-    match coder {
-        Some(mut coder) => fine_follows(&mut coder, alloc, &acts),
-        None => false,
-    }
-}
-
-/// Two symbols are taken at 4 bits of precision, and put back.
-fn goes_at_four(mut coder: Bytes<4>, alloc: Global) -> bool {
-    let acts = [
-        Act::Gives(&[0, 1]),
-        Act::Is(&[77, 10], &[36, 43, 6, 1]),
-        Act::Puts(&[0, 1]),
-    ];
-    let goes = coarse_does(&mut coder, alloc, &[5, 11], &acts);
-    goes & puts_last(raised(coder), alloc)
-}
-
-/// The first symbol is taken at 8 bits of precision.
-fn goes_at_both(alloc: Global, found: Option<Bytes<8>>) -> bool {
-    match found {
-        Some(mut coder) => {
-            let is_taken = fine_follows(&mut coder, alloc, &[Act::Gives(&[1])]);
-            match lowered(coder) {
-                Some(coder) => is_taken & goes_at_four(coder, alloc),
-                None => false,
-            }
-        }
-        None => false,
-    }
-}
-
-/// Words are taken at two precisions, and come back.
-#[test]
-fn symbols_at_two_precisions(rt: HostRuntime) {
-    let alloc = rt.alloc();
-    assert!(rt; goes_at_both(alloc, fine_of(alloc, &[77, 10, 0xb3, 20, 30])));
-}
-
-/// Whether a decrease by the call that knows both ways finds no word.
-fn cannot_change(coder: Bytes<8>) -> bool {
-    let lower: Result<Bytes<4>, _> = coder.change_precision();
-    matches!(
-        lower,
-        Err(ChangePrecisionError::Decrease(CoderError::Frontend(
-            EncoderFrontendError::OutOfRemainders
-        )))
-    )
-}
-
-/// The number 8 with no word below it, where 4 bits of precision want 16 at least.
-#[test]
-fn a_decrease_without_a_word(rt: HostRuntime) {
-    let is_short = match fine(rt.alloc(), &[8, 1]) {
-        Some(coder) => cannot_change(coder),
-        None => false,
-    };
-    assert!(rt; is_short);
 }

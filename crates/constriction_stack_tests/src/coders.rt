@@ -1,14 +1,19 @@
-//! The coders that tests begin with, and the tables.
+//! Scripts at concrete types: each call of the interpreter stands here once.
 
 ghost use Rattle.constriction_base.specs.Steps.{IsSizes};
+ghost use Rattle.std.specs.Prelude.{◌≤◌};
 
-use constriction_base::backends::{Holds, Stack};
+use crate::acts::follow;
+use crate::owning::follow_owning;
 use constriction_base::cursor::Cursor;
-use constriction_base::weights::{TableError, WeightTable};
-use constriction_stack::{AnsCoder, DefaultAnsCoder};
+use constriction_base::weights::WeightTable;
+use constriction_scripts::answers::MEMORY;
+use constriction_scripts::numbers::Number;
+use constriction_scripts::script::Script;
+use constriction_stack::AnsCoder;
 use constriction_words::{BitArray, WordOf};
-use linked_list_allocator::LocalHeap;
 use std::alloc::Global;
+use std::test::Fail;
 
 /// A coder of bytes below a head of two.
 pub type Small = AnsCoder<u8, u16>;
@@ -16,60 +21,60 @@ pub type Small = AnsCoder<u8, u16>;
 /// A table of 8 bits.
 pub type Table = WeightTable<u8, 8>;
 
-/// A table of 24 bits.
-pub type WideTable = WeightTable<u32, 24>;
-
-/// A coder over words in a heap of its own.
-pub type HeapCoder<'a> = AnsCoder<u8, u16, Vec<u8, &'a LocalHeap>>;
-
-/// A coder over a buffer.
-pub type CursorCoder<'a, State> = AnsCoder<u8, State, Cursor<u8, &'a mut [u8]>>;
-
-/// A table of 8 bits. Where memory is refused, it is asked for once more.
-pub fn table_of(alloc: Global, weights: &[u8]) -> Result<Table, TableError> {
-    match WeightTable::new(alloc, weights) {
-        Err(TableError::Memory) => WeightTable::new(alloc, weights),
-        answer => answer,
+/// What a script came to, as a test says it: by the first act that failed.
+pub fn said(failed: Option<&'static str>) -> Result<(), Fail> {
+    match failed {
+        Some(act) => Err(Fail::from(act)),
+        None => Ok(()),
     }
 }
 
-/// A coder that holds nothing.
-pub fn new_coder<Word: WordOf<State>, State: BitArray>(alloc: Global) -> AnsCoder<Word, State>
-    requires { IsSizes Word.BITS State.BITS }
-{
-    AnsCoder::new(alloc)
-}
-
-/// A coder of bytes that holds nothing.
-pub fn new_small(alloc: Global) -> Small {
-    new_coder(alloc)
-}
-
-/// A coder at words of 32 bits that holds nothing.
-pub fn new_wide(alloc: Global) -> DefaultAnsCoder {
-    new_coder(alloc)
-}
-
-/// A coder of the words of a backend below a head.
-pub fn coder_with<Word: WordOf<State>, State: BitArray, Backend: Holds<Word, Stack>>(
-    words: Backend,
-    head: State,
-) -> AnsCoder<Word, State, Backend>
-    requires { IsSizes Word.BITS State.BITS }
-{
-    AnsCoder::from_raw_parts(words, head)
-}
-
-/// A coder that will write over a buffer, from its beginning.
-pub fn coder_over(buf: &mut [u8]) -> CursorCoder<'_, u16> {
-    AnsCoder::with_write_backend(Cursor::new_at_write_beginning(buf))
-}
-
-/// The same, with a head.
-pub fn coder_over_with<State: BitArray>(buf: &mut [u8], head: State) -> CursorCoder<'_, State>
+/// Goes through a script with a coder over a vector, which is new first, and a table of the weights.
+pub fn go<Word, State, Probability, const PRECISION: usize>(
+    alloc: Global,
+    weights: &[Probability],
+    text: &'static str,
+) -> Option<&'static str>
 where
-    u8: WordOf<State>,
-    requires { IsSizes 8 State.BITS }
+    Word: WordOf<State> + Number,
+    State: BitArray + Number,
+    Probability: WordOf<Word>,
+    requires sizes { IsSizes Word.BITS State.BITS }
+    requires precision { (1 ≤ PRECISION) × (PRECISION ≤ Probability.BITS) }
 {
-    AnsCoder::from_raw_parts(Cursor::new_at_write_beginning(buf), head)
+    match (
+        WeightTable::<Probability, PRECISION>::new(alloc, weights),
+        Script::read(alloc, text),
+    ) {
+        (Ok(table), Ok(script)) => {
+            let mut coder = AnsCoder::<Word, State>::new(alloc);
+            follow_owning(alloc, &mut coder, &table, &script)
+        }
+        _ => Some(MEMORY),
+    }
+}
+
+/// Words of 8 bits below a head of 16.
+pub fn small(alloc: Global, weights: &[u8], text: &'static str) -> Result<(), Fail> {
+    said(go::<u8, u16, u8, 8>(alloc, weights, text))
+}
+
+/// Words of 32 bits below a head of 64.
+pub fn wide(alloc: Global, weights: &[u32], text: &'static str) -> Result<(), Fail> {
+    said(go::<u32, u64, u32, 24>(alloc, weights, text))
+}
+
+/// Words of 8 bits below a head of 16, over a buffer, from its beginning.
+pub fn small_over(
+    alloc: Global,
+    weights: &[u8],
+    buf: &mut [u8],
+    head: u16,
+    text: &'static str,
+) -> Result<(), Fail> {
+    let table: Table = WeightTable::new(alloc, weights)?;
+    let script = Script::read(alloc, text)?;
+    let words: Cursor<u8, &mut [u8]> = Cursor::new_at_write_beginning(buf);
+    let mut coder = AnsCoder::<u8, u16, Cursor<u8, &mut [u8]>>::from_raw_parts(words, head);
+    said(follow(alloc, &mut coder, &table, &script))
 }

@@ -2,188 +2,171 @@
 //!
 //! `tests/refused-memory` runs these tests once for each request that they make, and has it refused. A test then says
 //! by its error which call it was, where that call answered want of memory, left what it has to, and went when it was
-//! made again. Where none is refused, a test passes. Heads and words by hand.
+//! made again. It says `Memory` where the request was the test's own. Where none is refused, a test passes. Heads and words
+//! by hand.
 
-use crate::binary::exports_in_binary;
-use crate::coders::{Small, Table, coder_with};
-use crate::expect::{exports, holds};
-use crate::put::{
-    Answer, put_list, put_list_back, put_one, put_pairs, put_pairs_back, try_pairs, try_pairs_back,
-};
-use crate::script::{shown, shown_in_binary};
+use crate::coders::{Small, Table};
+use crate::owning::{export, export_binary, follow_owning, own_by};
 use constriction_base::weights::WeightTable;
+use constriction_scripts::answers::{DONE, MEMORY, OTHER};
+use constriction_scripts::script::Script;
+use constriction_stack::AnsCoder;
+use constriction_stream::coder::Code;
 use std::alloc::{AllocError, Global};
 use std::test::Fail;
 
-/// What comes of a call of which a request may be refused.
+/// A call, and what it leaves.
 #[derive(Clone, Copy)]
-enum Came {
-    /// It went at once.
-    Whole,
-    /// It answered want of memory, left what it has to, and went then.
-    Refused,
-    Otherwise,
+struct Call {
+    name: &'static str,
+    act: &'static str,
+    /// What the coder is where memory was refused, and the call that is left then.
+    kept: &'static str,
+    /// What it is in the end.
+    done: &'static str,
 }
 
-/// A call on a coder that stays.
-#[derive(Clone, Copy)]
-enum Call {
-    Step,
-    List,
-    Pairs,
-    Items,
-    ListBack,
-    PairsBack,
-    ItemsBack,
-    Guard,
-    BinaryGuard,
-}
-
-/// Makes a call. The symbols of a list are put on in the order 0, 2, 1.
-fn make(coder: &mut Small, table: &Table, call: Call) -> Answer {
-    match call {
-        Call::Step => put_one(coder, table, &2),
-        Call::List => put_list(coder, table, &[0, 2, 1]),
-        Call::Pairs => put_pairs(coder, [0, 2, 1], table),
-        Call::Items => whole(try_pairs(coder, [Ok(0), Ok(2), Ok(1)], table)),
-        Call::ListBack => put_list_back(coder, table, &[1, 2, 0]),
-        Call::PairsBack => put_pairs_back(coder, [1, 2, 0], table),
-        Call::ItemsBack => whole(try_pairs_back(coder, [Ok(1), Ok(2), Ok(0)], table)),
-        Call::Guard => shown(coder, &[7, 44, 1]),
-        Call::BinaryGuard => shown_in_binary(coder, &[7, 44]),
+/// Goes through a script with a coder of bytes.
+fn goes(alloc: Global, coder: &mut Small, table: &Table, text: &'static str) -> &'static str {
+    match Script::read(alloc, text) {
+        Ok(script) => match follow_owning(alloc, coder, table, &script) {
+            Some(_) => OTHER,
+            None => DONE,
+        },
+        Err(AllocError) => MEMORY,
     }
 }
 
-/// The answer of a list of which no item is an error.
-fn whole(answer: Result<Answer, u8>) -> Answer {
-    match answer {
-        Ok(answer) => answer,
-        Err(_) => Answer::Unknown,
+/// Does one act.
+fn does(alloc: Global, coder: &mut Small, table: &Table, text: &'static str) -> &'static str {
+    match Script::read(alloc, text) {
+        Ok(script) => own_by(alloc, coder, table, &script.act(0)),
+        Err(AllocError) => MEMORY,
     }
 }
 
-/// What is left to be done where memory was refused. Of a list it is to put on the symbols from the second one on,
-/// which owes a word.
-fn make_rest(coder: &mut Small, table: &Table, call: Call) -> Answer {
-    match call {
-        Call::Step | Call::Guard | Call::BinaryGuard => make(coder, table, call),
-        _ => put_list(coder, table, &[2, 1]),
+/// Makes a call on a coder of the head 300 above the word 7, whose vector has no room for another one, and what is left
+/// of the call where memory was refused. Returns what is said of that, or nothing.
+fn comes_of(alloc: Global, coder: &mut Small, table: &Table, call: &Call) -> &'static str {
+    if goes(alloc, coder, table, "of 300 7") != DONE {
+        return MEMORY;
     }
-}
-
-/// The head above the word 7 where memory was refused: of a list it has the first symbol.
-fn head_where_refused(call: Call) -> u16 {
-    match call {
-        Call::Step | Call::Guard | Call::BinaryGuard => 300,
-        _ => 356,
-    }
-}
-
-/// Whether the call has left what it leaves in the end.
-fn is_done(coder: &Small, call: Call) -> bool {
-    match call {
-        Call::Step => holds(coder, 511, &[7, 44]),
-        Call::Guard | Call::BinaryGuard => holds(coder, 300, &[7]),
-        _ => holds(coder, 2520, &[7, 100]),
-    }
-}
-
-/// Makes a call, and what is left of it where memory was refused.
-fn comes_of(coder: &mut Small, table: &Table, call: Call) -> Came {
-    match make(coder, table, call) {
-        Answer::Done if is_done(coder, call) => Came::Whole,
-        Answer::NoMemory => {
-            let is_kept = holds(coder, head_where_refused(call), &[7]);
-            let goes = make_rest(coder, table, call) == Answer::Done;
-            if is_kept & goes & is_done(coder, call) {
-                Came::Refused
-            } else {
-                Came::Otherwise
+    match does(alloc, coder, table, call.act) {
+        "no-memory" if goes(alloc, coder, table, call.kept) == DONE => {
+            match goes(alloc, coder, table, call.done) {
+                DONE => call.name,
+                _ => OTHER,
             }
         }
-        _ => Came::Otherwise,
+        DONE => goes(alloc, coder, table, call.done),
+        answer => answer,
     }
 }
 
-/// A coder of the head 300 above the word 7, whose vector has no room for another one.
-fn start(alloc: Global) -> Result<Small, AllocError> {
-    let words = [7u8].to_vec(alloc)?;
-    Ok(coder_with(words, 300))
-}
+/// The calls of lists, which put the symbols on in the order 0, 2, 1.
+const LISTS: &[(&str, &str)] = &[
+    ("encode_iid_symbols", "list 0 2 1"),
+    ("encode_symbols", "pairs 0 2 1"),
+    ("try_encode_symbols", "items 0 2 1"),
+    ("encode_iid_symbols_reverse", "back 1 2 0"),
+    ("encode_symbols_reverse", "pairs-back 1 2 0"),
+    ("try_encode_symbols_reverse", "items-back 1 2 0"),
+];
 
-/// What a call came to, as a test says it.
-fn said(came: Came, name: &'static str) -> Result<(), Fail> {
-    match came {
-        Came::Whole => Ok(()),
-        Came::Refused => Err(Fail::from(name)),
-        Came::Otherwise => Err(Fail::from("another answer, or another coder")),
+/// The other calls.
+const CALLS: &[Call] = &[
+    Call {
+        name: "encode_symbol",
+        act: "put 2",
+        kept: "head 300 words 7 put 2",
+        done: "head 511 words 7 44",
+    },
+    Call {
+        name: "get_compressed",
+        act: "shows 7 44 1",
+        kept: "head 300 words 7 shows 7 44 1",
+        done: "head 300 words 7",
+    },
+    Call {
+        name: "get_binary",
+        act: "shows-binary 7 44",
+        kept: "head 300 words 7 shows-binary 7 44",
+        done: "head 300 words 7",
+    },
+];
+
+/// Makes a call on a coder of its own.
+fn call_goes(alloc: Global, table: &Table, call: &Call) -> Result<(), Fail> {
+    let mut coder: Small = AnsCoder::new(alloc);
+    match comes_of(alloc, &mut coder, table, call) {
+        DONE => Ok(()),
+        said => Err(Fail::from(said)),
     }
-}
-
-/// A call on a coder of its own.
-fn goes(alloc: Global, table: &Table, call: Call, name: &'static str) -> Result<(), Fail> {
-    let mut coder = start(alloc)?;
-    said(comes_of(&mut coder, table, call), name)
 }
 
 #[test]
 fn refused_requests_of_calls(rt: HostRuntime) -> Result<(), Fail> {
     let table = WeightTable::new(rt.alloc(), &[200, 55, 1])?;
-    let calls = [
-        (Call::Step, "encode_symbol"),
-        (Call::List, "encode_iid_symbols"),
-        (Call::Pairs, "encode_symbols"),
-        (Call::Items, "try_encode_symbols"),
-        (Call::ListBack, "encode_iid_symbols_reverse"),
-        (Call::PairsBack, "encode_symbols_reverse"),
-        (Call::ItemsBack, "try_encode_symbols_reverse"),
-        (Call::Guard, "get_compressed"),
-        (Call::BinaryGuard, "get_binary"),
-    ];
-    for (call, name) in calls {
-        goes(rt.alloc(), &table, call, name)?;
+    for call in CALLS {
+        call_goes(rt.alloc(), &table, call)?;
+    }
+    for (name, act) in LISTS {
+        // the first symbol is kept, and the second one owes a word
+        let call = Call {
+            name,
+            act,
+            kept: "head 356 words 7 put 2 1",
+            done: "head 2520 words 7 100",
+        };
+        call_goes(rt.alloc(), &table, &call)?;
     }
     Ok(())
 }
 
 /// Exports a coder by one of both forms.
-fn export(coder: Small, is_binary: bool) -> Answer {
+fn exports(coder: Small, is_binary: bool) -> &'static str {
     if is_binary {
-        exports_in_binary(coder, &[7, 44])
+        export_binary(coder, &[7, 44])
     } else {
-        exports(coder, &[7, 44, 1])
+        export(coder, &[7, 44, 1])
     }
+}
+
+/// Compares a coder.
+fn holds(coder: &Small) -> bool {
+    coder.state() == 300 && coder.bulk().as_slice() == [7u8].as_slice()
 }
 
 /// Exports a coder. Where that finds no memory, so does a copy from before, which held the same.
-fn export_or_copy(coder: Small, copy: Small, is_binary: bool) -> Came {
-    let are_same = holds(&coder, 300, &[7]) & holds(&copy, 300, &[7]);
-    match export(coder, is_binary) {
-        Answer::Done if are_same => Came::Whole,
-        Answer::NoMemory if are_same & (export(copy, is_binary) == Answer::Done) => Came::Refused,
-        _ => Came::Otherwise,
+fn export_or_copy(coder: Small, copy: Small, is_binary: bool, name: &'static str) -> &'static str {
+    if !(holds(&coder) & holds(&copy)) {
+        return OTHER;
+    }
+    match exports(coder, is_binary) {
+        "no-memory" if exports(copy, is_binary) == DONE => name,
+        answer => answer,
     }
 }
 
-/// Whether a copy that found no memory is made then.
-fn copies_again(coder: &Small) -> Came {
+/// Copies a coder, and exports it. A copy that found no memory is made then.
+fn export_goes(alloc: Global, is_binary: bool, name: &'static str) -> Result<&'static str, Fail> {
+    let coder: Small = AnsCoder::from_raw_parts([7u8].to_vec(alloc)?, 300);
     match coder.clone() {
-        Ok(copy) if holds(&copy, 300, &[7]) & holds(coder, 300, &[7]) => Came::Refused,
-        _ => Came::Otherwise,
-    }
-}
-
-/// Copies a coder, and exports it.
-fn export_goes(alloc: Global, is_binary: bool, name: &'static str) -> Result<(), Fail> {
-    let coder = start(alloc)?;
-    match coder.clone() {
-        Ok(copy) => said(export_or_copy(coder, copy, is_binary), name),
-        Err(AllocError) => said(copies_again(&coder), "clone"),
+        Ok(copy) => Ok(export_or_copy(coder, copy, is_binary, name)),
+        Err(AllocError) => match coder.clone() {
+            Ok(copy) if holds(&copy) & holds(&coder) => Ok("clone"),
+            _ => Ok(OTHER),
+        },
     }
 }
 
 #[test]
 fn refused_requests_of_exports(rt: HostRuntime) -> Result<(), Fail> {
-    export_goes(rt.alloc(), false, "into_compressed")?;
-    export_goes(rt.alloc(), true, "into_binary")
+    for (is_binary, name) in [(false, "into_compressed"), (true, "into_binary")] {
+        let said = export_goes(rt.alloc(), is_binary, name)?;
+        if said != DONE {
+            return Err(Fail::from(said));
+        }
+    }
+    Ok(())
 }

@@ -1,0 +1,267 @@
+//! Symbols that are put on any encoder.
+
+use crate::answers::{DONE, MEMORY, OTHER, Told, answer_of};
+use crate::script::{Act, error_at, find};
+use constriction_base::model::{EncoderModel, EntropyModel};
+use constriction_stream::coder::Code;
+use constriction_stream::encoding::{Encode, EncodeReverse};
+use constriction_words::WordOf;
+use std::alloc::{AllocError, Global};
+
+/// Puts symbols on one by one.
+pub fn put_each<C, M, const PRECISION: usize>(
+    coder: &mut C,
+    model: &M,
+    symbols: &[usize],
+) -> &'static str
+where
+    C: Encode<PRECISION>,
+    C::FrontendError: Told + Drop,
+    C::BackendError: Told + Drop,
+    M: EncoderModel<PRECISION, Symbol = usize>,
+    M::Probability: WordOf<C::Word>,
+{
+    for symbol in symbols {
+        if coder.symbols_left() == 0 {
+            return OTHER;
+        }
+        let answer = answer_of(coder.encode_symbol(symbol, model));
+        if answer != DONE {
+            return answer;
+        }
+    }
+    DONE
+}
+
+/// Puts a list on by one model.
+fn put_list<C, M, const PRECISION: usize>(
+    coder: &mut C,
+    model: &M,
+    symbols: &[usize],
+) -> &'static str
+where
+    C: Encode<PRECISION>,
+    C::FrontendError: Told + Drop,
+    C::BackendError: Told + Drop,
+    M: EncoderModel<PRECISION, Symbol = usize>,
+    M::Probability: WordOf<C::Word>,
+{
+    if coder.symbols_left() < symbols.len() {
+        return OTHER;
+    }
+    answer_of(coder.encode_iid_symbols(symbols, model))
+}
+
+/// The same, the last symbol first.
+fn put_list_back<C, M, const PRECISION: usize>(
+    coder: &mut C,
+    model: &M,
+    symbols: &[usize],
+) -> &'static str
+where
+    C: EncodeReverse<PRECISION>,
+    C::FrontendError: Told + Drop,
+    C::BackendError: Told + Drop,
+    M: EncoderModel<PRECISION, Symbol = usize>,
+    M::Probability: WordOf<C::Word>,
+{
+    if coder.symbols_left() < symbols.len() {
+        return OTHER;
+    }
+    answer_of(coder.encode_iid_symbols_reverse(symbols, model))
+}
+
+/// A symbol with its model.
+type Pair<'a, M> = (&'a usize, &'a M);
+
+/// Symbols, each with the model.
+fn pairs_of<'a, M>(
+    alloc: Global,
+    model: &'a M,
+    symbols: &'a [usize],
+) -> Result<Vec<Pair<'a, M>>, AllocError> {
+    let mut pairs = Vec::new(alloc);
+    for symbol in symbols {
+        pairs.push((symbol, model))?;
+    }
+    Ok(pairs)
+}
+
+/// Puts pairs on.
+fn put_pairs<C, M, const PRECISION: usize>(
+    alloc: Global,
+    coder: &mut C,
+    model: &M,
+    symbols: &[usize],
+) -> &'static str
+where
+    C: Encode<PRECISION>,
+    C::FrontendError: Told + Drop,
+    C::BackendError: Told + Drop,
+    M: EncoderModel<PRECISION, Symbol = usize>,
+    M::Probability: WordOf<C::Word>,
+{
+    let Ok(pairs) = pairs_of(alloc, model, symbols) else {
+        return MEMORY;
+    };
+    if coder.symbols_left() < pairs.len() {
+        return OTHER;
+    }
+    answer_of(coder.encode_symbols(pairs))
+}
+
+/// The same, the last one first.
+fn put_pairs_back<C, M, const PRECISION: usize>(
+    alloc: Global,
+    coder: &mut C,
+    model: &M,
+    symbols: &[usize],
+) -> &'static str
+where
+    C: EncodeReverse<PRECISION>,
+    C::FrontendError: Told + Drop,
+    C::BackendError: Told + Drop,
+    M: EncoderModel<PRECISION, Symbol = usize>,
+    M::Probability: WordOf<C::Word>,
+{
+    let Ok(pairs) = pairs_of(alloc, model, symbols) else {
+        return MEMORY;
+    };
+    if coder.symbols_left() < pairs.len() {
+        return OTHER;
+    }
+    answer_of(coder.encode_symbols_reverse(pairs))
+}
+
+/// Symbols, each with the model, and errors.
+fn items_of<'a, M>(
+    alloc: Global,
+    model: &'a M,
+    symbols: &'a [usize],
+    numbers: &[u128],
+) -> Result<Vec<Result<Pair<'a, M>, u8>>, AllocError> {
+    let mut items = Vec::new(alloc);
+    let mut at: usize = 0;
+    for symbol in symbols {
+        items.push(match error_at(numbers, at) {
+            Some(error) => Err(error),
+            None => Ok((symbol, model)),
+        })?;
+        at = at.saturating_add(1);
+    }
+    Ok(items)
+}
+
+/// Puts items on, each of which may be an error.
+fn put_items<C, M, const PRECISION: usize>(
+    alloc: Global,
+    coder: &mut C,
+    model: &M,
+    (symbols, numbers): (&[usize], &[u128]),
+) -> &'static str
+where
+    C: Encode<PRECISION>,
+    C::FrontendError: Told + Drop,
+    C::BackendError: Told + Drop,
+    M: EncoderModel<PRECISION, Symbol = usize>,
+    M::Probability: WordOf<C::Word>,
+{
+    let Ok(items) = items_of(alloc, model, symbols, numbers) else {
+        return MEMORY;
+    };
+    if coder.symbols_left() < items.len() {
+        return OTHER;
+    }
+    answer_of(coder.try_encode_symbols(items))
+}
+
+/// The same, the last one first.
+fn put_items_back<C, M, const PRECISION: usize>(
+    alloc: Global,
+    coder: &mut C,
+    model: &M,
+    (symbols, numbers): (&[usize], &[u128]),
+) -> &'static str
+where
+    C: EncodeReverse<PRECISION>,
+    C::FrontendError: Told + Drop,
+    C::BackendError: Told + Drop,
+    M: EncoderModel<PRECISION, Symbol = usize>,
+    M::Probability: WordOf<C::Word>,
+{
+    let Ok(items) = items_of(alloc, model, symbols, numbers) else {
+        return MEMORY;
+    };
+    if coder.symbols_left() < items.len() {
+        return OTHER;
+    }
+    answer_of(coder.try_encode_symbols_reverse(items))
+}
+
+/// How symbols are put on.
+#[derive(Clone, Copy)]
+enum Put {
+    Each,
+    List,
+    Pairs,
+    Items,
+}
+
+/// The verbs that put symbols on: one by one, as a list by one model, as pairs with a model each, and as items, of which
+/// `bad7` is an error.
+const PUTS: &[(&str, Put)] = &[
+    ("put", Put::Each),
+    ("list", Put::List),
+    ("pairs", Put::Pairs),
+    ("items", Put::Items),
+];
+
+/// Puts symbols on by the call that an act names, if it names one.
+pub fn put_by<C, M, const PRECISION: usize>(
+    alloc: Global,
+    coder: &mut C,
+    model: &M,
+    act: &Act<'_>,
+) -> Option<&'static str>
+where
+    C: Encode<PRECISION>,
+    C::FrontendError: Told + Drop,
+    C::BackendError: Told + Drop,
+    M: EncoderModel<PRECISION, Symbol = usize>,
+    M::Probability: WordOf<C::Word>,
+{
+    Some(match find(PUTS, act.verb)? {
+        Put::Each => put_each(coder, model, act.symbols),
+        Put::List => put_list(coder, model, act.symbols),
+        Put::Pairs => put_pairs(alloc, coder, model, act.symbols),
+        Put::Items => put_items(alloc, coder, model, (act.symbols, act.numbers)),
+    })
+}
+
+/// The verbs that put symbols on from the last to the first.
+const BACK: &[(&str, Put)] = &[
+    ("back", Put::List),
+    ("pairs-back", Put::Pairs),
+    ("items-back", Put::Items),
+];
+
+/// The same from the last symbol to the first.
+pub fn put_back_by<C, M, const PRECISION: usize>(
+    alloc: Global,
+    coder: &mut C,
+    model: &M,
+    act: &Act<'_>,
+) -> Option<&'static str>
+where
+    C: EncodeReverse<PRECISION>,
+    C::FrontendError: Told + Drop,
+    C::BackendError: Told + Drop,
+    M: EncoderModel<PRECISION, Symbol = usize>,
+    M::Probability: WordOf<C::Word>,
+{
+    Some(match find(BACK, act.verb)? {
+        Put::Pairs => put_pairs_back(alloc, coder, model, act.symbols),
+        Put::Items => put_items_back(alloc, coder, model, (act.symbols, act.numbers)),
+        _ => put_list_back(coder, model, act.symbols),
+    })
+}

@@ -1,0 +1,180 @@
+//! The acts of scripts on coders that are written and read.
+
+use crate::reading::{Below, is_at_head};
+use constriction_base::backends::{BoundedReadWords, ReadWords, Stack, WriteWords};
+use constriction_base::errors::CoderError;
+use constriction_base::weights::WeightTable;
+use constriction_scripts::answers::{OTHER, Told, answer_if};
+use constriction_scripts::numbers::{Number, same};
+use constriction_scripts::putting::{put_back_by, put_by};
+use constriction_scripts::script::{Act, Script, find};
+use constriction_scripts::taking::take_by;
+use constriction_stack::AnsCoder;
+use constriction_stream::decoding::Decode;
+use constriction_stream::encoding::Encode;
+use constriction_words::{BitArray, WordOf};
+use std::alloc::Global;
+
+/// What is expected of a coder that stays.
+#[derive(Clone, Copy)]
+enum Shows {
+    Head,
+    Words,
+    Shown,
+    ShownBinary,
+    Sizes,
+    Empty,
+    Full,
+    NoLimit,
+    Exhausted,
+}
+
+/// The verbs that expect something: the head; the words below it, the top one last; the words that a guard of either
+/// form shows; how many words, bits, and bits that tell anything; a head of 0; that the next step may find no room; that
+/// no step will; that all symbols may have been taken off.
+const SHOWS: &[(&str, Shows)] = &[
+    ("head", Shows::Head),
+    ("words", Shows::Words),
+    ("shows", Shows::Shown),
+    ("shows-binary", Shows::ShownBinary),
+    ("sizes", Shows::Sizes),
+    ("empty", Shows::Empty),
+    ("full", Shows::Full),
+    ("no-limit", Shows::NoLimit),
+    ("exhausted", Shows::Exhausted),
+];
+
+/// Whether a guard shows these words.
+fn shown<Word, State, Backend>(
+    coder: &mut AnsCoder<Word, State, Backend>,
+    numbers: &[u128],
+) -> &'static str
+where
+    Word: WordOf<State> + Number,
+    State: BitArray,
+    Backend: WriteWords<Word> + ReadWords<Word, Stack> + Below<Word>,
+    Backend::ReadError: Drop,
+    Backend::WriteError: Told + Drop,
+{
+    match coder.get_compressed() {
+        Ok(guard) => answer_if(same(guard.backend().below(), numbers)),
+        Err(error) => error.told(),
+    }
+}
+
+/// The same of the binary form.
+fn shown_in_binary<Word, State, Backend>(
+    coder: &mut AnsCoder<Word, State, Backend>,
+    numbers: &[u128],
+) -> &'static str
+where
+    Word: WordOf<State> + Number,
+    State: BitArray,
+    Backend: WriteWords<Word> + ReadWords<Word, Stack> + Below<Word>,
+    Backend::ReadError: Drop,
+    Backend::WriteError: Told + Drop,
+{
+    match coder.get_binary() {
+        Ok(guard) => answer_if(same(guard.backend().below(), numbers)),
+        Err(CoderError::Backend(error)) => error.told(),
+        Err(CoderError::Frontend(())) => "no-binary",
+    }
+}
+
+/// Whether the coder has so many words, bits, and bits that tell anything.
+fn has_sizes<Word, State, Backend>(
+    coder: &AnsCoder<Word, State, Backend>,
+    symbols: &[usize],
+) -> bool
+where
+    Word: WordOf<State>,
+    State: BitArray,
+    Backend: BoundedReadWords<Word, Stack>,
+{
+    if !coder.sizes_fit() {
+        return false;
+    }
+    symbols == [coder.num_words(), coder.num_bits(), coder.num_valid_bits()].as_slice()
+}
+
+/// Whether no step will be refused for lack of room, however many there are.
+fn has_no_limit<C: Encode<PRECISION>, const PRECISION: usize>(coder: &C) -> bool {
+    !coder.maybe_full() && coder.symbols_left() == usize::MAX
+}
+
+/// Compares what an act expects of a coder, if it expects something.
+fn show_by<Word, State, Backend, const PRECISION: usize>(
+    coder: &mut AnsCoder<Word, State, Backend>,
+    act: &Act<'_>,
+) -> Option<&'static str>
+where
+    Word: WordOf<State> + Number,
+    State: BitArray + Number,
+    Backend: WriteWords<Word> + BoundedReadWords<Word, Stack> + Below<Word>,
+    Backend::ReadError: Drop,
+    Backend::WriteError: Told + Drop,
+{
+    let is_so = match find(SHOWS, act.verb)? {
+        Shows::Shown => return Some(shown(coder, act.numbers)),
+        Shows::ShownBinary => return Some(shown_in_binary(coder, act.numbers)),
+        Shows::Head => is_at_head(coder, act),
+        Shows::Words => same(coder.bulk().below(), act.numbers),
+        Shows::Sizes => has_sizes(coder, act.symbols),
+        Shows::Empty => coder.is_empty(),
+        Shows::Full => Encode::<PRECISION>::maybe_full(coder),
+        Shows::NoLimit => has_no_limit::<_, PRECISION>(coder),
+        Shows::Exhausted => Decode::<PRECISION>::maybe_exhausted(coder),
+    };
+    Some(answer_if(is_so))
+}
+
+/// Does an act with a coder.
+pub fn act_by<Word, State, Backend, Probability, const PRECISION: usize>(
+    alloc: Global,
+    coder: &mut AnsCoder<Word, State, Backend>,
+    table: &WeightTable<Probability, PRECISION>,
+    act: &Act<'_>,
+) -> &'static str
+where
+    Word: WordOf<State> + Number,
+    State: BitArray + Number,
+    Backend: WriteWords<Word> + BoundedReadWords<Word, Stack> + Below<Word>,
+    Backend::ReadError: Told + Drop,
+    Backend::WriteError: Told + Drop,
+    Probability: WordOf<Word>,
+{
+    if let Some(answer) = put_by(alloc, coder, table, act) {
+        return answer;
+    }
+    if let Some(answer) = put_back_by(alloc, coder, table, act) {
+        return answer;
+    }
+    if let Some(answer) = take_by(alloc, coder, table, act) {
+        return answer;
+    }
+    show_by::<_, _, _, PRECISION>(coder, act).unwrap_or(OTHER)
+}
+
+/// Goes through a script, and returns the first act that a coder doesn't do as it says.
+pub fn follow<Word, State, Backend, Probability, const PRECISION: usize>(
+    alloc: Global,
+    coder: &mut AnsCoder<Word, State, Backend>,
+    table: &WeightTable<Probability, PRECISION>,
+    script: &Script,
+) -> Option<&'static str>
+where
+    Word: WordOf<State> + Number,
+    State: BitArray + Number,
+    Backend: WriteWords<Word> + BoundedReadWords<Word, Stack> + Below<Word>,
+    Backend::ReadError: Told + Drop,
+    Backend::WriteError: Told + Drop,
+    Probability: WordOf<Word>,
+{
+    for at in 0..script.len() {
+        let act = script.act(at);
+        if act_by(alloc, coder, table, &act) != act.answer {
+            return Some(act.text);
+        }
+    }
+    None
+}

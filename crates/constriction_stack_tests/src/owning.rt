@@ -1,0 +1,360 @@
+//! The acts of scripts on coders over vectors, which can be made, taken apart and exported.
+
+ghost use Rattle.constriction_base.specs.Steps.{IsSizes};
+
+use crate::acts::act_by;
+use crate::reading::{Below, seek, stands_at};
+use constriction_base::backends::{ReadWords, Stack, WriteWords};
+use constriction_base::cursor::Cursor;
+use constriction_base::weights::WeightTable;
+use constriction_scripts::answers::{DONE, MEMORY, OTHER, Told, answer_if};
+use constriction_scripts::numbers::{Number, same, words_of};
+use constriction_scripts::script::{Act, Script, find};
+use constriction_scripts::taking::take_each;
+use constriction_stack::AnsCoder;
+use constriction_stream::coder::Code;
+use constriction_stream::conversions::{AsDecoder, IntoDecoder};
+use constriction_words::{BitArray, WordOf};
+use std::alloc::{AllocError, Global};
+use std::mem;
+
+/// What is done with a coder over a vector.
+#[derive(Clone, Copy)]
+enum Owned {
+    Make(Make),
+    Lend(Lend),
+    Export,
+    ExportBinary,
+    Given,
+    At,
+    Seek,
+}
+
+/// How a coder takes the place of another.
+#[derive(Clone, Copy)]
+enum Make {
+    Clear,
+    Of,
+    Import,
+    ImportBinary,
+    Parts,
+}
+
+/// Which decoder gives the symbols.
+#[derive(Clone, Copy)]
+enum Lend {
+    Lent,
+    LentByTrait,
+    Made,
+    Owned,
+    OwnedByTrait,
+}
+
+/// The verbs that make a coder: `clear` takes all off; `of` has a head and the words behind it; `import` and
+/// `import-binary` have the words of a form; `parts` takes it apart and puts it together again. Those by which a decoder
+/// gives all symbols: it borrows the words, is made from a reference, or owns them, which leaves a new coder. Those that
+/// compare words: exports, which leave a new coder, and `given`, one by one. Those of a place and a head.
+const VERBS: &[(&str, Owned)] = &[
+    ("clear", Owned::Make(Make::Clear)),
+    ("of", Owned::Make(Make::Of)),
+    ("import", Owned::Make(Make::Import)),
+    ("import-binary", Owned::Make(Make::ImportBinary)),
+    ("parts", Owned::Make(Make::Parts)),
+    ("lent", Owned::Lend(Lend::Lent)),
+    ("lent-by-trait", Owned::Lend(Lend::LentByTrait)),
+    ("made", Owned::Lend(Lend::Made)),
+    ("owned", Owned::Lend(Lend::Owned)),
+    ("owned-by-trait", Owned::Lend(Lend::OwnedByTrait)),
+    ("export", Owned::Export),
+    ("export-binary", Owned::ExportBinary),
+    ("given", Owned::Given),
+    ("at", Owned::At),
+    ("seek", Owned::Seek),
+];
+
+/// Makes a coder of a head and the words below it.
+fn make_of<Word, State>(
+    alloc: Global,
+    coder: &mut AnsCoder<Word, State>,
+    numbers: &[u128],
+) -> &'static str
+where
+    Word: WordOf<State> + Number,
+    State: BitArray + Number,
+    requires { IsSizes Word.BITS State.BITS }
+{
+    let Some((head, rest)) = numbers.split_first() else {
+        return OTHER;
+    };
+    match words_of(alloc, rest) {
+        Ok(words) => {
+            *coder = AnsCoder::from_raw_parts(words, State::of(*head));
+            DONE
+        }
+        Err(AllocError) => MEMORY,
+    }
+}
+
+/// Makes a coder of words. Where there is none, all but the last come back.
+fn import<Word, State>(
+    alloc: Global,
+    coder: &mut AnsCoder<Word, State>,
+    numbers: &[u128],
+) -> &'static str
+where
+    Word: WordOf<State> + Number,
+    State: BitArray,
+    requires { IsSizes Word.BITS State.BITS }
+{
+    let Ok(words) = words_of::<Word>(alloc, numbers) else {
+        return MEMORY;
+    };
+    match (AnsCoder::from_compressed(words), numbers.split_last()) {
+        (Ok(made), _) => {
+            *coder = made;
+            DONE
+        }
+        (Err(found), Some((_, rest))) if same(&found, rest) => "none",
+        _ => OTHER,
+    }
+}
+
+/// Makes a coder of the words of a binary form.
+fn import_binary<Word, State>(
+    alloc: Global,
+    coder: &mut AnsCoder<Word, State>,
+    numbers: &[u128],
+) -> &'static str
+where
+    Word: WordOf<State> + Number,
+    State: BitArray,
+    requires { IsSizes Word.BITS State.BITS }
+{
+    let Ok(words) = words_of::<Word>(alloc, numbers) else {
+        return MEMORY;
+    };
+    match AnsCoder::from_binary(words) {
+        Ok(made) => {
+            *coder = made;
+            DONE
+        }
+        Err(_) => OTHER,
+    }
+}
+
+/// Returns the coder, and leaves a new one in its place.
+fn taken<Word, State>(alloc: Global, coder: &mut AnsCoder<Word, State>) -> AnsCoder<Word, State>
+where
+    Word: WordOf<State>,
+    State: BitArray,
+    requires { IsSizes Word.BITS State.BITS }
+{
+    mem::replace(coder, AnsCoder::new(alloc))
+}
+
+/// Takes a coder apart, and puts its parts together.
+fn put_together<Word, State>(coder: AnsCoder<Word, State>) -> AnsCoder<Word, State>
+where
+    Word: WordOf<State>,
+    State: BitArray,
+    requires { IsSizes Word.BITS State.BITS }
+{
+    let (bulk, state) = coder.into_raw_parts();
+    AnsCoder::from_raw_parts(bulk, state)
+}
+
+/// Makes another coder.
+fn make_by<Word, State>(
+    alloc: Global,
+    coder: &mut AnsCoder<Word, State>,
+    make: Make,
+    numbers: &[u128],
+) -> &'static str
+where
+    Word: WordOf<State> + Number,
+    State: BitArray + Number,
+    requires { IsSizes Word.BITS State.BITS }
+{
+    match make {
+        Make::Of => return make_of(alloc, coder, numbers),
+        Make::Import => return import(alloc, coder, numbers),
+        Make::ImportBinary => return import_binary(alloc, coder, numbers),
+        Make::Clear => coder.clear(),
+        Make::Parts => *coder = put_together(taken(alloc, coder)),
+    }
+    DONE
+}
+
+/// Compares the words that a coder exports.
+pub fn export<Word, State, Backend>(
+    coder: AnsCoder<Word, State, Backend>,
+    numbers: &[u128],
+) -> &'static str
+where
+    Word: WordOf<State> + Number,
+    State: BitArray,
+    Backend: WriteWords<Word> + Below<Word> + Drop,
+    Backend::WriteError: Told + Drop,
+{
+    match coder.into_compressed() {
+        Ok(all) => answer_if(same(all.below(), numbers)),
+        Err(error) => error.told(),
+    }
+}
+
+/// The same of its binary form.
+pub fn export_binary<Word, State, Backend>(
+    coder: AnsCoder<Word, State, Backend>,
+    numbers: &[u128],
+) -> &'static str
+where
+    Word: WordOf<State> + Number,
+    State: BitArray,
+    Backend: WriteWords<Word> + Below<Word> + Drop,
+    Backend::WriteError: Told + Drop,
+{
+    match coder.into_binary() {
+        Ok(all) => answer_if(same(all.below(), numbers)),
+        Err(Some(error)) => error.told(),
+        Err(None) => "no-binary",
+    }
+}
+
+/// Whether a coder gives these words one by one.
+fn are_given<Word, State>(coder: &AnsCoder<Word, State>, numbers: &[u128]) -> bool
+where
+    Word: WordOf<State> + Number,
+    State: BitArray,
+{
+    let mut words = coder.iter_compressed();
+    for number in numbers {
+        match words.next() {
+            Some(word) if word.shown() == *number => {}
+            _ => return false,
+        }
+    }
+    words.next().is_none()
+}
+
+/// Whether a decoder gives the symbols, and is empty then.
+fn all_come<Word, State, Backend, Probability, const PRECISION: usize>(
+    mut decoder: AnsCoder<Word, State, Backend>,
+    table: &WeightTable<Probability, PRECISION>,
+    symbols: &[usize],
+) -> bool
+where
+    Word: WordOf<State>,
+    State: BitArray,
+    Backend: ReadWords<Word, Stack> + Drop,
+    Backend::ReadError: Told + Drop,
+    Probability: WordOf<Word>,
+{
+    take_each(&mut decoder, table, symbols) == DONE && decoder.is_empty()
+}
+
+/// The same of a decoder that borrows the words.
+fn lent_gives<Word, State, Probability, const PRECISION: usize>(
+    coder: &AnsCoder<Word, State>,
+    table: &WeightTable<Probability, PRECISION>,
+    lend: Lend,
+    symbols: &[usize],
+) -> bool
+where
+    Word: WordOf<State>,
+    State: BitArray,
+    Probability: WordOf<Word>,
+{
+    match lend {
+        Lend::LentByTrait => all_come(AsDecoder::<PRECISION>::as_decoder(coder), table, symbols),
+        Lend::Made => {
+            let made = AnsCoder::<Word, State, Cursor<Word, &[Word]>>::from(coder);
+            all_come(made, table, symbols)
+        }
+        _ => all_come(coder.as_decoder(), table, symbols),
+    }
+}
+
+/// The same of a decoder that owns the words.
+fn owned_gives<Word, State, Probability, const PRECISION: usize>(
+    coder: AnsCoder<Word, State>,
+    table: &WeightTable<Probability, PRECISION>,
+    symbols: &[usize],
+) -> bool
+where
+    Word: WordOf<State>,
+    State: BitArray,
+    Probability: WordOf<Word>,
+{
+    match IntoDecoder::<PRECISION>::into_decoder(coder) {
+        Ok(owned) => all_come(owned, table, symbols),
+        Err(never) => match never {},
+    }
+}
+
+/// Has a decoder give all symbols.
+fn lend_by<Word, State, Probability, const PRECISION: usize>(
+    alloc: Global,
+    coder: &mut AnsCoder<Word, State>,
+    table: &WeightTable<Probability, PRECISION>,
+    lend: Lend,
+    symbols: &[usize],
+) -> bool
+where
+    Word: WordOf<State>,
+    State: BitArray,
+    Probability: WordOf<Word>,
+    requires { IsSizes Word.BITS State.BITS }
+{
+    match lend {
+        Lend::Owned => all_come(taken(alloc, coder).into_decoder(), table, symbols),
+        Lend::OwnedByTrait => owned_gives(taken(alloc, coder), table, symbols),
+        _ => lent_gives(coder, table, lend, symbols),
+    }
+}
+
+/// Does an act with a coder over a vector.
+pub fn own_by<Word, State, Probability, const PRECISION: usize>(
+    alloc: Global,
+    coder: &mut AnsCoder<Word, State>,
+    table: &WeightTable<Probability, PRECISION>,
+    act: &Act<'_>,
+) -> &'static str
+where
+    Word: WordOf<State> + Number,
+    State: BitArray + Number,
+    Probability: WordOf<Word>,
+    requires { IsSizes Word.BITS State.BITS }
+{
+    match find(VERBS, act.verb) {
+        None => act_by(alloc, coder, table, act),
+        Some(Owned::Make(make)) => make_by(alloc, coder, make, act.numbers),
+        Some(Owned::Lend(lend)) => answer_if(lend_by(alloc, coder, table, lend, act.symbols)),
+        Some(Owned::Export) => export(taken(alloc, coder), act.numbers),
+        Some(Owned::ExportBinary) => export_binary(taken(alloc, coder), act.numbers),
+        Some(Owned::Given) => answer_if(are_given(coder, act.numbers)),
+        Some(Owned::At) => answer_if(stands_at(coder, act)),
+        Some(Owned::Seek) => seek(coder, act),
+    }
+}
+
+/// Goes through a script with a coder over a vector.
+pub fn follow_owning<Word, State, Probability, const PRECISION: usize>(
+    alloc: Global,
+    coder: &mut AnsCoder<Word, State>,
+    table: &WeightTable<Probability, PRECISION>,
+    script: &Script,
+) -> Option<&'static str>
+where
+    Word: WordOf<State> + Number,
+    State: BitArray + Number,
+    Probability: WordOf<Word>,
+    requires { IsSizes Word.BITS State.BITS }
+{
+    for at in 0..script.len() {
+        let act = script.act(at);
+        if own_by(alloc, coder, table, &act) != act.answer {
+            return Some(act.text);
+        }
+    }
+    None
+}

@@ -1,0 +1,156 @@
+//! Heads, words and places of coders, as scripts write them.
+
+use constriction_base::backends::{
+    BoundedReadWords, Holds, Pos, PosSeek, ReadWords, Seek, Stack, Words,
+};
+use constriction_base::cursor::Cursor;
+use constriction_base::weights::WeightTable;
+use constriction_scripts::answers::{OTHER, Told, answer_if};
+use constriction_scripts::numbers::Number;
+use constriction_scripts::script::{Act, Script};
+use constriction_scripts::taking::take_each;
+use constriction_stack::AnsCoder;
+use constriction_stream::coder::Code;
+use constriction_words::{BitArray, WordOf};
+use std::alloc::Allocator;
+
+/// Lends the words of the stack that a backend holds, the top one last.
+pub trait Below<Word> {
+    fn below(&self) -> &[Word];
+}
+
+impl<Word: BitArray, A: Allocator> Below<Word> for Vec<Word, A> {
+    fn below(&self) -> &[Word] {
+        self
+    }
+}
+
+impl<'a, Word: BitArray + 'a> Below<Word> for Cursor<Word, &'a mut [Word]> {
+    fn below(&self) -> &[Word] {
+        let words: &[Word] = self.buf().words();
+        let end = words
+            .len()
+            .min(BoundedReadWords::<Word, Stack>::remaining(self));
+        &words[..end]
+    }
+}
+
+/// Compares the head.
+pub fn is_at_head<Word, State, Backend>(
+    coder: &AnsCoder<Word, State, Backend>,
+    act: &Act<'_>,
+) -> bool
+where
+    Word: WordOf<State>,
+    State: BitArray + Number,
+    Backend: Holds<Word, Stack>,
+{
+    act.numbers == [coder.state().shown()].as_slice()
+}
+
+/// The place and the head of an act.
+fn place_of<State: Number>(act: &Act<'_>) -> Option<(usize, State)> {
+    match (act.symbols.first(), act.numbers.get(1)) {
+        (Some(place), Some(head)) => Some((*place, State::of(*head))),
+        _ => None,
+    }
+}
+
+/// Goes to the place of an act.
+pub fn seek<Word, State, Backend>(
+    coder: &mut AnsCoder<Word, State, Backend>,
+    act: &Act<'_>,
+) -> &'static str
+where
+    Word: WordOf<State>,
+    State: BitArray + Number,
+    Backend: Holds<Word, Stack> + Seek + PosSeek<Position = usize>,
+{
+    match place_of(act) {
+        Some(place) if coder.seek(place).is_ok() => "",
+        Some(_) => "none",
+        None => OTHER,
+    }
+}
+
+/// Compares the place and the head of a coder.
+pub fn stands_at<Word, State, Backend>(
+    coder: &AnsCoder<Word, State, Backend>,
+    act: &Act<'_>,
+) -> bool
+where
+    Word: WordOf<State>,
+    State: BitArray + Number,
+    Backend: Holds<Word, Stack> + Pos + PosSeek<Position = usize>,
+    requires { (backend : Backend) → Backend.can_tell backend }
+{
+    let (place, head) = coder.pos();
+    act.symbols.first() == Some(&place) && act.numbers.get(1) == Some(&head.shown())
+}
+
+/// Does an act with a coder that is only read.
+fn read_by<State, Backend>(
+    coder: &mut AnsCoder<u8, State, Backend>,
+    table: &WeightTable<u8, 8>,
+    act: &Act<'_>,
+) -> &'static str
+where
+    u8: WordOf<State>,
+    State: BitArray + Number,
+    Backend: ReadWords<u8, Stack>,
+    Backend::ReadError: Told + Drop,
+{
+    match act.verb {
+        "take" => take_each(coder, table, act.symbols),
+        "head" => answer_if(is_at_head(coder, act)),
+        _ => OTHER,
+    }
+}
+
+/// Goes through a script with a coder that is only read.
+pub fn follow_reading<State, Backend>(
+    coder: &mut AnsCoder<u8, State, Backend>,
+    table: &WeightTable<u8, 8>,
+    script: &Script,
+) -> Option<&'static str>
+where
+    u8: WordOf<State>,
+    State: BitArray + Number,
+    Backend: ReadWords<u8, Stack>,
+    Backend::ReadError: Told + Drop,
+{
+    for at in 0..script.len() {
+        let act = script.act(at);
+        if read_by(coder, table, &act) != act.answer {
+            return Some(act.text);
+        }
+    }
+    None
+}
+
+/// Goes through a script with a coder that goes to places.
+pub fn follow_seeking<State, Backend>(
+    coder: &mut AnsCoder<u8, State, Backend>,
+    table: &WeightTable<u8, 8>,
+    script: &Script,
+) -> Option<&'static str>
+where
+    u8: WordOf<State>,
+    State: BitArray + Number,
+    Backend: ReadWords<u8, Stack> + Pos + Seek + PosSeek<Position = usize>,
+    Backend::ReadError: Told + Drop,
+    requires { (backend : Backend) → Backend.can_tell backend }
+{
+    for at in 0..script.len() {
+        let act = script.act(at);
+        let answer = match act.verb {
+            "at" => answer_if(stands_at(coder, &act)),
+            "seek" => seek(coder, &act),
+            _ => read_by(coder, table, &act),
+        };
+        if answer != act.answer {
+            return Some(act.text);
+        }
+    }
+    None
+}

@@ -1,0 +1,136 @@
+//! The worked rows. Heads and words by hand.
+
+use crate::coders::{small, small_over, wide};
+use std::test::Fail;
+
+/// The weights of the table at words of 32 bits.
+const WIDE: [u32; 3] = [3, 2, 16777211];
+
+#[test]
+fn ans_word_moves_out(rt: HostRuntime) -> Result<(), Fail> {
+    small(
+        rt.alloc(),
+        &[255, 1],
+        "put 1 head 255
+         put 1 head 65535 words
+         put 1 head 65535 words 255
+         given 255 255 255
+         export 255 255 255
+         import 255 255 255
+         take 1 1 1 empty",
+    )
+}
+
+#[test]
+fn ans_left_zero(rt: HostRuntime) -> Result<(), Fail> {
+    small(
+        rt.alloc(),
+        &[255, 1],
+        "put 0 head 0 empty export import take 0 empty",
+    )
+}
+
+#[test]
+fn ans_invalid_state(rt: HostRuntime) -> Result<(), Fail> {
+    small(
+        rt.alloc(),
+        &[255, 1],
+        "of 5 9
+         take 0 head 1289 words
+         put 0 head 1294",
+    )
+}
+
+#[test]
+fn ans_binary_zero_words(rt: HostRuntime) -> Result<(), Fail> {
+    wide(
+        rt.alloc(),
+        &WIDE,
+        "export-binary!no-binary
+         import-binary 5 0 head 4294967296 words 5
+         export-binary 5 0",
+    )
+}
+
+/// The binary form through a guard and without one, and heads with no words below their leading 1.
+#[test]
+fn ans_binary_forms(rt: HostRuntime) -> Result<(), Fail> {
+    wide(
+        rt.alloc(),
+        &WIDE,
+        "shows-binary!no-binary
+         import-binary 5 0 shows-binary 5 0 head 4294967296 words 5
+         of 3 export-binary!no-binary
+         import-binary head 1 words export-binary",
+    )
+}
+
+#[test]
+fn ans_zero_last_word(rt: HostRuntime) -> Result<(), Fail> {
+    wide(
+        rt.alloc(),
+        &WIDE,
+        "import!none 7 0
+         import head 0 words empty",
+    )
+}
+
+#[test]
+fn ans_sizes(rt: HostRuntime) -> Result<(), Fail> {
+    small(
+        rt.alloc(),
+        &[255, 1],
+        "put 1 head 255 put 1 head 65535 put 1 head 65535
+         sizes 3 24 23",
+    )?;
+    wide(rt.alloc(), &WIDE, "import-binary 5 0 sizes 3 96 64")
+}
+
+/// The cursor still stands at its beginning then, with no word before it.
+#[test]
+fn ans_cursor_full(rt: HostRuntime) -> Result<(), Fail> {
+    small_over(
+        rt.alloc(),
+        &[255, 1],
+        &mut [0],
+        0,
+        "put 1 head 255 put 1 head 65535
+         shows!full head 65535 words",
+    )
+}
+
+/// The symbols before an unknown one are put on.
+#[test]
+fn list_stops_at_unknown(rt: HostRuntime) -> Result<(), Fail> {
+    small(rt.alloc(), &[255, 1], "pairs!unknown 1 5 1 head 255 words")
+}
+
+/// The symbols before an error are put on.
+#[test]
+fn list_stops_at_bad_model(rt: HostRuntime) -> Result<(), Fail> {
+    small(rt.alloc(), &[255, 1], "items!bad7 1 bad7 1 head 255 words")
+}
+
+/// An error in the place of a table keeps the coder, and the next table goes on.
+#[test]
+fn iterator_goes_on(rt: HostRuntime) -> Result<(), Fail> {
+    small(
+        rt.alloc(),
+        &[255, 1],
+        "import 255 255 255
+         by-items 1 bad7 1
+         take 1 empty",
+    )
+}
+
+/// Symbols that an iterator didn't give stay on the coder.
+#[test]
+fn iterator_dropped_early(rt: HostRuntime) -> Result<(), Fail> {
+    small(
+        rt.alloc(),
+        &[255, 1],
+        "import 255 255 255
+         by-one 3 1
+         take 1 1 empty",
+    )
+}
