@@ -454,7 +454,7 @@ fn a_codeword_of_129_bits(rt: HostRuntime) -> Result<(), Fail> {
 
 /// The prefix form of a codeword of more than two words of bits is turned round on a stack that has to grow.
 #[test]
-fn growth_of_a_codeword(rt: HostRuntime) -> Result<(), Fail> {
+fn huffman_growth_refused(rt: HostRuntime) -> Result<(), Fail> {
     let tree = match deep_tree(rt.alloc()) {
         Ok(tree) => tree,
         Err(HuffmanError::Memory) => return Err(Fail::from("want of memory for the tree")),
