@@ -2,25 +2,11 @@
 //!
 //! What a run answers is proved in `constriction_commands` for all inputs. These tests stand for what no contract can say: that
 //! runs succeed where there is memory, and that the answers are the numbers that a reader expects.
+//! `tests/cases/constriction_commands_tests` has tests that run without a proof, by `tests/unproved`: of spellings, of
+//! texts, of which of two faults comes, and of readers and writers that fail.
 #![tactic(auto)]
 
 #[cfg(test)]
-mod answers;
-#[cfg(test)]
-mod chain;
-#[cfg(test)]
-mod failures;
-#[cfg(test)]
-mod faults;
-#[cfg(test)]
-mod golomb;
-#[cfg(test)]
-mod huffman;
-#[cfg(test)]
-mod ranges;
+mod rows;
 #[cfg(test)]
 mod runs;
-#[cfg(test)]
-mod stores;
-#[cfg(test)]
-mod writers;

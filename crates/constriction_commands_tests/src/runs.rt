@@ -2,9 +2,10 @@
 
 use constriction_commands::cli::run;
 use std::alloc::{AllocError, Global};
+use std::test::Fail;
 
 /// What a run answered and wrote.
-#[derive(Debug, Drop, PartialEq, Eq)]
+#[derive(Debug, Drop)]
 pub struct Outcome {
     pub status: u8,
     pub output: Vec<u8>,
@@ -49,4 +50,22 @@ pub fn ran_with(alloc: Global, words: &[&str], text: &[u8]) -> Result<Outcome, A
 /// Runs a command over these bytes.
 pub fn ran(alloc: Global, command: &str, text: &[u8]) -> Result<Outcome, AllocError> {
     ran_with(alloc, &[command], text)
+}
+
+/// Runs a command over these bytes, which has to give this answer.
+pub fn gives(alloc: Global, command: &str, text: &[u8], line: &[u8]) -> Result<(), Fail> {
+    let ran = ran(alloc, command, text)?;
+    if ran.answers(line) {
+        return Ok(());
+    }
+    Err(Fail::from("another answer"))
+}
+
+/// Runs a command over these bytes, which has to stop with this line.
+pub fn stops(alloc: Global, command: &str, text: &[u8], line: &[u8]) -> Result<(), Fail> {
+    let ran = ran(alloc, command, text)?;
+    if ran.refuses(1, line) {
+        return Ok(());
+    }
+    Err(Fail::from("another fault, or an answer"))
 }

@@ -1,8 +1,8 @@
 //! The laws of stores, and chunks that come back by their calls.
 
-use crate::stores::{Halves, chunks_of, halves, three};
+use crate::stores::{Halves, chunks_of, halves};
 use constriction_store::laws::{
-    ThroughStore, chunks_in_any_order, chunks_through_parts, look_up, one_chunk_at_entry,
+    ThroughStore, chunks_in_any_order, chunks_through_parts, one_chunk_at_entry,
     other_words_are_not_read,
 };
 use constriction_store::{BuildError, ChunkError};
@@ -31,23 +31,6 @@ fn came_back(through: Through, first: &[usize], second: &[usize]) -> bool {
 /// Why they didn't.
 fn refusal_of(through: Through) -> Option<ThroughStore> {
     through.err()
-}
-
-/// Look-ups in a store that is there.
-fn looked_up(alloc: Global, places: &[usize]) -> Result<bool, Fail> {
-    let store = three(alloc)?;
-    match look_up(alloc, &store, places) {
-        Ok(found) => Ok(are(found.as_slice(), &[1], &[1, 0])),
-        Err(ChunkError::NoSuchChunk) => Ok(false),
-        Err(_) => Err(Fail::from("another refusal")),
-    }
-}
-
-#[test]
-fn look_ups_in_any_order(rt: HostRuntime) -> Result<(), Fail> {
-    assert!(rt; looked_up(rt.alloc(), &[2, 0])?);
-    assert!(rt; !looked_up(rt.alloc(), &[2, 3, 0])?);
-    Ok(())
 }
 
 /// Through a store that is built.

@@ -1,19 +1,15 @@
-//! Tests of the store, and no code besides: worked values, chunks in any order, refusals, words and indices from strangers, and
-//! texts, at concrete types.
+//! Tests of the store, and no code besides: worked values, chunks in any order, refusals and refused memory, at concrete types.
 //!
 //! What a contract of `constriction_store` says is proved there for all values. These tests stand for what no contract can say:
 //! that the definitions give the numbers that a reader expects, that calls which take memory succeed where there is some (a
-//! build or a look-up that always answers want of memory fails here alone), what texts are printed, and that a caller reaches
-//! each call at concrete types.
+//! build or a look-up that always answers want of memory fails here alone), and that a caller reaches each call.
+//! `tests/cases/constriction_store_tests` has tests that run without a proof, by `tests/unproved`: of each width of words, and
+//! of texts.
 //!
 //! All expected values are those of one growing number, and were worked out apart. The calls of a store stand in helpers without
 //! clauses, once for all tests: [`stores`].
 #![tactic(auto)]
 
-#[cfg(test)]
-mod building;
-#[cfg(test)]
-mod hostile;
 #[cfg(test)]
 mod laws;
 #[cfg(test)]
@@ -24,7 +20,3 @@ mod refused;
 mod rows;
 #[cfg(test)]
 mod stores;
-#[cfg(test)]
-mod texts;
-#[cfg(test)]
-mod widths;

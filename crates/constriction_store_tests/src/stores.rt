@@ -101,23 +101,6 @@ pub fn index_of(alloc: Global, entries: &[Numbers]) -> Result<Vec<Entry>, AllocE
     Ok(index)
 }
 
-/// Compares an index.
-pub fn is_index(index: &[Entry], entries: &[Numbers]) -> bool {
-    for ((place, state, len), (other_place, lower, range, other_len)) in index
-        .iter()
-        .zip(entries.iter())
-    {
-        if place != other_place
-            || state.lower() != *lower
-            || state.range().get() != *range
-            || len != other_len
-        {
-            return false;
-        }
-    }
-    index.len() == entries.len()
-}
-
 /// The store of words and an index; nothing where they make none.
 pub fn from_parts(
     alloc: Global,

@@ -1,6 +1,5 @@
 //! Bits of words: codewords of numbers and of a Huffman tree, in a queue and on a stack.
 
-use crate::Reader;
 use crate::sum::Sum;
 use constriction_base::backends::{Queue, Semantics, Stack};
 use constriction_base::cursor::Cursor;
@@ -98,8 +97,9 @@ fn from_stack<Word: BitArray>(words: &[Word], tree: Option<&DecoderHuffmanTree>,
     }
 }
 
-impl<Word: BitArray> Reader<Word> for Bits<'_> {
-    fn read(&self, words: &[Word], sum: &mut Sum) {
+impl Bits<'_> {
+    /// Reads the words as bits, and adds what they give.
+    pub fn read<Word: BitArray>(&self, words: &[Word], sum: &mut Sum) {
         match self.form {
             Form::QueueOfNumbers => from_queue(words, None, sum),
             Form::StackOfNumbers => from_stack(words, None, sum),

@@ -1,6 +1,5 @@
 //! Decoders of the chain coder: words in both forms, remainders, raw parts, and positions of others.
 
-use crate::Reader;
 use crate::sum::Sum;
 use constriction_base::backends::Seek;
 use constriction_base::cursor::Cursor;
@@ -129,8 +128,9 @@ fn coder_of<'a>(alloc: Global, words: &'a [u8], form: Form, sum: &mut Sum) -> Op
     }
 }
 
-impl Reader<u8> for Chain<'_> {
-    fn read(&self, words: &[u8], sum: &mut Sum) {
+impl Chain<'_> {
+    /// Makes a decoder of the words, and adds what it gives.
+    pub fn read(&self, words: &[u8], sum: &mut Sum) {
         if let Form::Remainders = self.form {
             return put_back(self.alloc, words, self.table, sum);
         }

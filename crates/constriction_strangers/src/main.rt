@@ -22,6 +22,8 @@ use constriction_symbol::huffman::DecoderHuffmanTree;
 use range::Range;
 use stack::Stack;
 use std::alloc::Global;
+use std::io;
+use store::Chunk;
 use sum::Sum;
 
 /// Exports, of which each beginning and each rest is tried.
@@ -36,128 +38,149 @@ const EXPORTS: [&[u8]; 5] = [
 /// Exports of bit coders in words of 32 bits, of which each beginning and each rest is tried.
 const WIDE_EXPORTS: [&[u32]; 2] = [&[4294967295, 1], &[256]];
 
+/// The models by which decoders read.
+#[derive(Drop)]
+struct Models<'a> {
+    alloc: Global,
+    stack: &'a WeightTable<u8, 8>,
+    range: &'a WeightTable<u8, 8>,
+    chain: &'a WeightTable<u8, 4>,
+    tree: &'a DecoderHuffmanTree,
+}
+
 /// What is made of words.
-pub trait Reader<Word> {
-    /// Makes a decoder of the words, and adds what it gives.
-    fn read(&self, words: &[Word], sum: &mut Sum);
+#[derive(Clone, Copy)]
+enum Made {
+    Stack(stack::Form),
+    Range(range::Form),
+    Chunk(store::Entry),
+    Chain(chain::Form),
+    Bits(bits::Form),
 }
 
 /// Reads a list.
-fn read_one<Word, R: Reader<Word>>(reader: &R, words: &[Word], sum: &mut Sum) {
+fn read_one(models: &Models<'_>, made: Made, words: &[u8], sum: &mut Sum) {
+    let alloc = models.alloc;
     sum.begin();
-    reader.read(words, sum);
+    match made {
+        Made::Stack(form) => {
+            let table = models.stack;
+            Stack { table, form }.read(words, sum)
+        }
+        Made::Range(form) => {
+            let table = models.range;
+            Range { table, form }.read(words, sum)
+        }
+        Made::Chunk(entry) => {
+            let table = models.range;
+            Chunk {
+                alloc,
+                table,
+                entry,
+            }
+            .read(words, sum)
+        }
+        Made::Chain(form) => {
+            let table = models.chain;
+            Chain { alloc, table, form }.read(words, sum)
+        }
+        Made::Bits(form) => {
+            let tree = models.tree;
+            Bits { tree, form }.read(words, sum)
+        }
+    }
 }
 
 /// Reads the lists of at most one byte, and each beginning and each rest of the exports.
-fn read_short<R: Reader<u8>>(reader: &R, sum: &mut Sum) {
-    read_one(reader, &[], sum);
+fn read_short(models: &Models<'_>, made: Made, sum: &mut Sum) {
+    read_one(models, made, &[], sum);
     for first in 0..=255u8 {
-        read_one(reader, &[first], sum);
+        read_one(models, made, &[first], sum);
     }
     for export in EXPORTS {
         for place in 0..=3usize {
             if let Some((begin, rest)) = export.split_at_checked(place) {
-                read_one(reader, begin, sum);
-                read_one(reader, rest, sum);
+                read_one(models, made, begin, sum);
+                read_one(models, made, rest, sum);
             }
         }
     }
 }
 
 /// Reads all lists of two bytes.
-fn read_pairs<R: Reader<u8>>(reader: &R, sum: &mut Sum) {
+fn read_pairs(models: &Models<'_>, made: Made, sum: &mut Sum) {
     for first in 0..=255u8 {
         for second in 0..=255u8 {
-            read_one(reader, &[first, second], sum);
+            read_one(models, made, &[first, second], sum);
         }
     }
 }
 
+/// Prints a line: how many cases there were, and the sum.
+fn show(rt: &impl Print, name: &str, sum: Sum) -> io::Result<()> {
+    println!(rt; "{name}: {} {}", sum.cases, sum.value)
+}
+
 /// Prints what is made of words.
-fn show_words<R: Reader<u8>>(rt: &impl Print, name: &str, reader: &R) -> Result<()> {
+fn show_words(rt: &impl Print, name: &str, models: &Models<'_>, made: Made) -> io::Result<()> {
     let mut sum = Sum::new();
-    read_short(reader, &mut sum);
-    read_pairs(reader, &mut sum);
-    println!(rt; "{name}: {} {}", sum.cases, sum.value)?;
-    Ok(())
+    read_short(models, made, &mut sum);
+    read_pairs(models, made, &mut sum);
+    show(rt, name, sum)
 }
 
 /// Prints what is made of raw parts or a position.
-fn show_parts<R: Reader<u8>>(rt: &impl Print, name: &str, reader: &R) -> Result<()> {
+fn show_parts(rt: &impl Print, name: &str, models: &Models<'_>, made: Made) -> io::Result<()> {
     let mut sum = Sum::new();
-    read_short(reader, &mut sum);
-    println!(rt; "{name}: {} {}", sum.cases, sum.value)?;
-    Ok(())
+    read_short(models, made, &mut sum);
+    show(rt, name, sum)
 }
 
 /// Prints what is made of the beginnings and rests of the exports in words of 32 bits.
-fn show_wide<R: Reader<u32>>(rt: &impl Print, name: &str, reader: &R) -> Result<()> {
+fn show_wide(rt: &impl Print, name: &str, bits: &Bits<'_>) -> io::Result<()> {
     let mut sum = Sum::new();
     for export in WIDE_EXPORTS {
         for place in 0..=2usize {
             if let Some((begin, rest)) = export.split_at_checked(place) {
-                read_one(reader, begin, &mut sum);
-                read_one(reader, rest, &mut sum);
+                sum.begin();
+                bits.read(begin, &mut sum);
+                sum.begin();
+                bits.read(rest, &mut sum);
             }
         }
     }
-    println!(rt; "{name}: {} {}", sum.cases, sum.value)?;
-    Ok(())
+    show(rt, name, sum)
 }
 
 /// The stack coder.
-fn of_stack(rt: &impl Print, alloc: Global) -> Result<()> {
-    let table = &WeightTable::<u8, 8>::new(alloc, &stack::WEIGHTS)?;
-    show_words(
-        rt,
-        "stack, compressed",
-        &Stack {
-            table,
-            form: stack::Form::Compressed,
-        },
-    )?;
+fn of_stack(rt: &impl Print, models: &Models<'_>) -> io::Result<()> {
+    let compressed = Made::Stack(stack::Form::Compressed);
+    show_words(rt, "stack, compressed", models, compressed)?;
     show_words(
         rt,
         "stack, binary",
-        &Stack {
-            table,
-            form: stack::Form::Binary,
-        },
+        models,
+        Made::Stack(stack::Form::Binary),
     )?;
     'heads: for head in [0u16, 1, 255, 256, 65535] {
         show_parts(
             rt,
             "stack, parts",
-            &Stack {
-                table,
-                form: stack::Form::Raw(head),
-            },
+            models,
+            Made::Stack(stack::Form::Raw(head)),
         )?;
         'places: for place in 0..5usize {
-            show_parts(
-                rt,
-                "stack, position",
-                &Stack {
-                    table,
-                    form: stack::Form::Sought(place, head),
-                },
-            )?;
+            let sought = stack::Form::Sought(place, head);
+            show_parts(rt, "stack, position", models, Made::Stack(sought))?;
         }
     }
     Ok(())
 }
 
 /// The range coder.
-fn of_range(rt: &impl Print, alloc: Global) -> Result<()> {
-    let table = &WeightTable::<u8, 8>::new(alloc, &range::WEIGHTS)?;
-    show_words(
-        rt,
-        "range, compressed",
-        &Range {
-            table,
-            form: range::Form::Compressed,
-        },
-    )?;
+fn of_range(rt: &impl Print, models: &Models<'_>) -> io::Result<()> {
+    let compressed = Made::Range(range::Form::Compressed);
+    show_words(rt, "range, compressed", models, compressed)?;
     'intervals: for (lower, range) in [
         (0u16, 255u16),
         (0, 256),
@@ -166,55 +189,32 @@ fn of_range(rt: &impl Print, alloc: Global) -> Result<()> {
         (1, 300),
     ] {
         'points: for point in [0u16, 255, 256, 33023, 65535] {
-            show_parts(
-                rt,
-                "range, parts",
-                &Range {
-                    table,
-                    form: range::Form::Raw(lower, range, point),
-                },
-            )?;
+            let raw = range::Form::Raw(lower, range, point);
+            show_parts(rt, "range, parts", models, Made::Range(raw))?;
         }
         'places: for place in 0..5usize {
-            show_parts(
-                rt,
-                "range, position",
-                &Range {
-                    table,
-                    form: range::Form::Sought(place, lower, range),
-                },
-            )?;
+            let sought = range::Form::Sought(place, lower, range);
+            show_parts(rt, "range, position", models, Made::Range(sought))?;
         }
     }
     Ok(())
 }
 
 /// Chunks of a store at an entry: of the first words, at the end, and past it; in intervals of encoders and in others.
-fn of_stores(rt: &impl Print, alloc: Global) -> Result<()> {
-    let table = &WeightTable::<u8, 8>::new(alloc, &range::WEIGHTS)?;
+fn of_stores(rt: &impl Print, models: &Models<'_>) -> io::Result<()> {
     'intervals: for (lower, range) in [(0u16, 65535u16), (33024, 65280), (1, 300), (0, 255)] {
         'places: for place in 0..4usize {
             'lengths: for len in 0..4usize {
-                show_parts(
-                    rt,
-                    "store, chunk",
-                    &store::Chunk {
-                        alloc,
-                        table,
-                        entry: (place, lower, range, len),
-                    },
-                )?;
+                let chunk = Made::Chunk((place, lower, range, len));
+                show_parts(rt, "store, chunk", models, chunk)?;
             }
         }
         'pairs: for place in 0..3usize {
             show_words(
                 rt,
                 "store, chunk",
-                &store::Chunk {
-                    alloc,
-                    table,
-                    entry: (place, lower, range, 2),
-                },
+                models,
+                Made::Chunk((place, lower, range, 2)),
             )?;
         }
     }
@@ -222,55 +222,27 @@ fn of_stores(rt: &impl Print, alloc: Global) -> Result<()> {
 }
 
 /// The chain coder.
-fn of_chain(rt: &impl Print, alloc: Global) -> Result<()> {
-    let table = &WeightTable::<u8, 4>::new(alloc, &chain::WEIGHTS)?;
-    show_words(
-        rt,
-        "chain, compressed",
-        &Chain {
-            alloc,
-            table,
-            form: chain::Form::Compressed,
-        },
-    )?;
+fn of_chain(rt: &impl Print, models: &Models<'_>) -> io::Result<()> {
+    let compressed = Made::Chain(chain::Form::Compressed);
+    show_words(rt, "chain, compressed", models, compressed)?;
     show_words(
         rt,
         "chain, binary",
-        &Chain {
-            alloc,
-            table,
-            form: chain::Form::Binary,
-        },
+        models,
+        Made::Chain(chain::Form::Binary),
     )?;
-    show_words(
-        rt,
-        "chain, remainders",
-        &Chain {
-            alloc,
-            table,
-            form: chain::Form::Remainders,
-        },
-    )?;
+    let remainders = Made::Chain(chain::Form::Remainders);
+    show_words(rt, "chain, remainders", models, remainders)?;
     'heads: for (h, r) in [(0u8, 16u16), (1, 15), (1, 16), (171, 4095), (255, 4096)] {
         show_parts(
             rt,
             "chain, parts",
-            &Chain {
-                alloc,
-                table,
-                form: chain::Form::Raw(h, r),
-            },
+            models,
+            Made::Chain(chain::Form::Raw(h, r)),
         )?;
         'places: for place in 0..5usize {
-            show_parts(
-                rt,
-                "chain, position",
-                &Chain {
-                    alloc,
-                    table,
-                    form: chain::Form::Sought(place, place / 2, h, r),
-                },
-            )?;
+            let sought = chain::Form::Sought(place, place / 2, h, r);
+            show_parts(rt, "chain, position", models, Made::Chain(sought))?;
         }
     }
     Ok(())
@@ -285,13 +257,10 @@ const FORMS: [(&str, bits::Form); 4] = [
 ];
 
 /// The bit coders, over words of 8 bits and of 32.
-fn of_bits(rt: &impl Print, alloc: Global) -> Result<()> {
-    let Ok(tree) = DecoderHuffmanTree::from_probabilities(alloc, &bits::WEIGHTS) else {
-        bail!("no tree");
-    };
-    let tree = &tree;
+fn of_bits(rt: &impl Print, models: &Models<'_>) -> io::Result<()> {
+    let tree = models.tree;
     'bytes: for (name, form) in FORMS {
-        show_words(rt, name, &Bits { tree, form })?;
+        show_words(rt, name, models, Made::Bits(form))?;
     }
     'wide: for (name, form) in FORMS {
         show_wide(rt, name, &Bits { tree, form })?;
@@ -299,12 +268,30 @@ fn of_bits(rt: &impl Print, alloc: Global) -> Result<()> {
     Ok(())
 }
 
+/// All coders.
+fn of_all(rt: &impl Print, models: &Models<'_>) -> io::Result<()> {
+    of_stack(rt, models)?;
+    of_range(rt, models)?;
+    of_stores(rt, models)?;
+    of_chain(rt, models)?;
+    of_bits(rt, models)
+}
+
 fn main(rt: HostRuntime) -> Result<()> {
     let alloc = rt.alloc();
-    of_stack(&rt, alloc)?;
-    of_range(&rt, alloc)?;
-    of_stores(&rt, alloc)?;
-    of_chain(&rt, alloc)?;
-    of_bits(&rt, alloc)?;
+    let stack = WeightTable::<u8, 8>::new(alloc, &stack::WEIGHTS)?;
+    let range = WeightTable::<u8, 8>::new(alloc, &range::WEIGHTS)?;
+    let chain = WeightTable::<u8, 4>::new(alloc, &chain::WEIGHTS)?;
+    let Ok(tree) = DecoderHuffmanTree::from_probabilities(alloc, &bits::WEIGHTS) else {
+        bail!("no tree");
+    };
+    let models = Models {
+        alloc,
+        stack: &stack,
+        range: &range,
+        chain: &chain,
+        tree: &tree,
+    };
+    of_all(&rt, &models)?;
     Ok(())
 }

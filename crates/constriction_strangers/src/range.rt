@@ -1,6 +1,5 @@
 //! Decoders of the range coder: words, raw parts, and positions of others.
 
-use crate::Reader;
 use crate::sum::Sum;
 use constriction_base::backends::Seek;
 use constriction_base::cursor::Cursor;
@@ -67,8 +66,9 @@ fn decoded(mut decoder: Decoder<'_>, table: &WeightTable<u8, 8>, sum: &mut Sum) 
     sum.add_whether(decoder.maybe_exhausted());
 }
 
-impl Reader<u8> for Range<'_> {
-    fn read(&self, words: &[u8], sum: &mut Sum) {
+impl Range<'_> {
+    /// Makes a decoder of the words, and adds what it gives.
+    pub fn read(&self, words: &[u8], sum: &mut Sum) {
         let decoder = match self.form {
             Form::Compressed => RangeDecoder::with_backend(Cursor::new_at_write_beginning(
                 words,

@@ -1,6 +1,5 @@
 //! Decoders of the stack coder: words in both forms, raw parts, and positions of others.
 
-use crate::Reader;
 use crate::sum::Sum;
 use constriction_base::backends::Seek;
 use constriction_base::cursor::Cursor;
@@ -60,8 +59,9 @@ fn decoded(mut coder: Coder<'_>, table: &WeightTable<u8, 8>, sum: &mut Sum) {
     }
 }
 
-impl Reader<u8> for Stack<'_> {
-    fn read(&self, words: &[u8], sum: &mut Sum) {
+impl Stack<'_> {
+    /// Makes a decoder of the words, and adds what it gives.
+    pub fn read(&self, words: &[u8], sum: &mut Sum) {
         match coder_of(words, self.form, sum) {
             Some(coder) => decoded(coder, self.table, sum),
             None => sum.add_refusal(),

@@ -1,6 +1,5 @@
 //! Chunks of stores: words and entries of others.
 
-use crate::Reader;
 use crate::sum::Sum;
 use constriction_base::weights::WeightTable;
 use constriction_queue::RangeCoderState;
@@ -45,8 +44,9 @@ fn looked_up(alloc: Global, store: &Bytes<'_>, sum: &mut Sum) {
     }
 }
 
-impl Reader<u8> for Chunk<'_> {
-    fn read(&self, words: &[u8], sum: &mut Sum) {
+impl Chunk<'_> {
+    /// Makes a decoder of the words, and adds what it gives.
+    pub fn read(&self, words: &[u8], sum: &mut Sum) {
         match store_of(self.alloc, self.table, words, self.entry) {
             Some(store) => {
                 sum.add_whether(true);

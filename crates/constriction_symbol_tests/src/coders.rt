@@ -68,20 +68,3 @@ pub fn queue_goes<Word: BitArray + PartialEq, N: BitArray + PartialEq>(
             Took::All
         )
 }
-
-/// Whether the numbers are so many bits and these words on a stack, and come back, the last one first.
-pub fn stack_goes<Word: BitArray + PartialEq, N: BitArray + PartialEq>(
-    alloc: Global,
-    numbers: &[N],
-    back: &[N],
-    words: &[Word],
-    len: usize,
-) -> bool {
-    let mut coder: StackCoder<Word> = StackCoder::new(alloc);
-    matches!(puts::<Stack, _, N>(&mut coder, numbers), Put::Done)
-        && has_len(&coder, len)
-        && matches!(takes::<Stack, _, N>(&mut coder, back), Took::All)
-        && has_len(&coder, 0)
-        && matches!(puts::<Stack, _, N>(&mut coder, numbers), Put::Done)
-        && exports(coder, words)
-}

@@ -5,12 +5,10 @@ ghost use Rattle.constriction_symbol.specs.Reversed.{IsLongerThan};
 ghost use Rattle.constriction_symbol_tests.specs.Lone.{lone, lone_suffix};
 ghost use Rattle.std.specs.Prelude.{refl, ◌*◌};
 
-use crate::bits::{gives, writes};
-use constriction_base::backends::{Queue, Stack};
 use constriction_base::cursor::Cursor;
 use constriction_base::errors::{BoundedWriteError, CoderError, DefaultEncoderError};
 use constriction_symbol::codebooks::{Codebook, EncoderCodebook};
-use constriction_symbol::coder::{NewSmallStack, QueueEncoder, SmallBitStack};
+use constriction_symbol::coder::QueueEncoder;
 use constriction_symbol::reversed::{SuffixCodebook, reversed_codeword};
 use constriction_symbol::writing::WriteBitStream;
 use std::alloc::{AllocError, Global};
@@ -85,19 +83,6 @@ fn emit_lone<E, F: FnMut(bool) -> Result<(), E>>(
         Ok(()) => Ok(()),
         Err(error) => Err(CoderError::Backend(error)),
     }
-}
-
-/// Two words of bits on a small stack come off again, the last one first. Until then it asks for no memory.
-#[test]
-fn a_small_stack_of_two_words(rt: HostRuntime) {
-    let mut stack = SmallBitStack::new(rt.alloc());
-    assert!(rt;
-        writes::<Stack, _>(&mut stack, &[b'1'; 125])
-            && writes::<Stack, _>(&mut stack, b"011")
-            && gives::<Stack, _>(&mut stack, b"110")
-            && gives::<Stack, _>(&mut stack, &[b'1'; 125])
-            && gives::<Stack, _>(&mut stack, b".")
-    );
 }
 
 /// The codeword of `zeros + 1` bits in a queue over a buffer. Where it finds no memory, none of its bits is there.
