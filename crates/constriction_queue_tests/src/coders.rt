@@ -1,85 +1,157 @@
-//! The coders that tests begin with, and the tables.
+//! Scripts at concrete types: each call of the interpreters stands here once.
 
-use constriction_base::backends::{Holds, Stack};
+ghost use Rattle.constriction_base.specs.Steps.{IsSizes};
+ghost use Rattle.std.specs.Prelude.{◌≤◌};
+
+use crate::decoding::{Lent, follow_decoding};
+use crate::encoding::follow;
 use constriction_base::cursor::Cursor;
-use constriction_base::weights::{TableError, WeightTable};
-use constriction_queue::{EncoderSituation, RangeCoderState, RangeDecoder, RangeEncoder};
-use linked_list_allocator::LocalHeap;
+use constriction_base::weights::WeightTable;
+use constriction_queue::{RangeDecoder, RangeEncoder};
+use constriction_scripts::answers::MEMORY;
+use constriction_scripts::numbers::Number;
+use constriction_scripts::script::Script;
+use constriction_words::{BitArray, WordOf};
 use std::alloc::Global;
-use std::num::NonZeroUsize;
-
-/// The tables of most tests.
-pub type Table = WeightTable<u8, 8>;
+use std::test::Fail;
 
 /// The encoder of most tests.
 pub type Coder = RangeEncoder<u8, u16>;
 
-/// An encoder over words in a heap of its own.
-pub type HeapEncoder<'a> = RangeEncoder<u8, u16, Vec<u8, &'a LocalHeap>>;
-
-/// An encoder over a buffer.
-pub type CursorEncoder<'a> = RangeEncoder<u8, u16, Cursor<u8, &'a mut [u8]>>;
-
-/// A decoder over words that it owns.
-pub type Owning<Word, State> = RangeDecoder<Word, State, Cursor<Word, Vec<Word>>>;
-
-/// A decoder over words that it borrows.
-pub type Lent<'a, Word, State> = RangeDecoder<Word, State, Cursor<Word, &'a [Word]>>;
-
-/// The decoder of most tests.
-pub type Decoder<'a> = Lent<'a, u8, u16>;
+/// The table of most tests.
+pub type Table = WeightTable<u8, 8>;
 
 /// The weights by which an interval most easily reaches over the end of the states.
-pub const INVERTING: [u8; 4] = [127, 1, 127, 1];
+pub const INVERTING: &[u8] = &[127, 1, 127, 1];
 
-/// A table of 8 bits. Where memory is refused, it is asked for once more.
-pub fn table_of(alloc: Global, weights: &[u8]) -> Result<Table, TableError> {
-    match WeightTable::new(alloc, weights) {
-        Err(TableError::Memory) => WeightTable::new(alloc, weights),
-        answer => answer,
+/// Weights of a table, and a script.
+pub type Part<'a, Probability> = (&'a [Probability], &'static str);
+
+/// What a script came to, as a test says it: by the first act that failed.
+pub fn said(failed: Option<&'static str>) -> Result<(), Fail> {
+    match failed {
+        Some(act) => Err(Fail::from(act)),
+        None => Ok(()),
     }
 }
 
-/// An encoder that holds nothing.
-pub fn new_encoder(alloc: Global) -> Coder {
-    RangeEncoder::new(alloc)
-}
-
-/// An encoder that will write over a buffer, from its beginning.
-pub fn encoder_over(buf: &mut [u8]) -> CursorEncoder<'_> {
-    RangeEncoder::with_write_backend(Cursor::new_at_write_beginning(buf))
-}
-
-/// So many words held back, of which this is the first.
-pub fn inverted(count: usize, first: u8) -> EncoderSituation<u8> {
-    match NonZeroUsize::new(count) {
-        Some(count) => EncoderSituation::Inverted(count, first),
-        None => EncoderSituation::Normal,
+/// Goes through a script with an encoder, by a table of the weights.
+pub fn go_on<Word, State, Probability, const PRECISION: usize>(
+    alloc: Global,
+    encoder: &mut RangeEncoder<Word, State>,
+    part: Part<'_, Probability>,
+) -> Option<&'static str>
+where
+    Word: WordOf<State> + Number,
+    State: BitArray + Number,
+    Probability: WordOf<Word>,
+    requires sizes { IsSizes Word.BITS State.BITS }
+    requires precision { (1 ≤ PRECISION) × (PRECISION ≤ Probability.BITS) }
+{
+    match (
+        WeightTable::<Probability, PRECISION>::new(alloc, part.0),
+        Script::read(alloc, part.1),
+    ) {
+        (Ok(table), Ok(script)) => follow(alloc, encoder, &table, &script),
+        _ => Some(MEMORY),
     }
 }
 
-/// An encoder put together from its parts, where they fit.
-pub fn encoder_with<Backend: Holds<u8, Stack> + Drop>(
-    bulk: Backend,
-    lower: u16,
-    range: u16,
-    situation: EncoderSituation<u8>,
-) -> Option<RangeEncoder<u8, u16, Backend>> {
-    let Ok(state) = RangeCoderState::<u8, u16>::new(lower, range) else {
-        return None;
+/// Goes through scripts with a new encoder, each by a table of its own.
+pub fn go<Word, State, Probability, const PRECISION: usize>(
+    alloc: Global,
+    parts: &[Part<'_, Probability>],
+) -> Option<&'static str>
+where
+    Word: WordOf<State> + Number,
+    State: BitArray + Number,
+    Probability: WordOf<Word>,
+    requires sizes { IsSizes Word.BITS State.BITS }
+    requires precision { (1 ≤ PRECISION) × (PRECISION ≤ Probability.BITS) }
+{
+    let mut encoder = RangeEncoder::<Word, State>::new(alloc);
+    for part in parts {
+        let failed = go_on::<Word, State, Probability, PRECISION>(alloc, &mut encoder, *part);
+        if failed.is_some() {
+            return failed;
+        }
+    }
+    None
+}
+
+/// Goes through a script with a decoder, by a table of the weights.
+fn decode_on<Word, State, Probability, const PRECISION: usize>(
+    alloc: Global,
+    decoder: &mut Lent<'_, Word, State>,
+    part: Part<'_, Probability>,
+) -> Option<&'static str>
+where
+    Word: WordOf<State>,
+    State: BitArray + Number,
+    Probability: WordOf<Word>,
+    requires sizes { IsSizes Word.BITS State.BITS }
+    requires precision { (1 ≤ PRECISION) × (PRECISION ≤ Probability.BITS) }
+{
+    match (
+        WeightTable::<Probability, PRECISION>::new(alloc, part.0),
+        Script::read(alloc, part.1),
+    ) {
+        (Ok(table), Ok(script)) => follow_decoding(alloc, decoder, &table, &script),
+        _ => Some(MEMORY),
+    }
+}
+
+/// Goes through scripts with a decoder of words, each by a table of its own.
+pub fn decode<Word, State, Probability, const PRECISION: usize>(
+    alloc: Global,
+    words: &[Word],
+    parts: &[Part<'_, Probability>],
+) -> Option<&'static str>
+where
+    Word: WordOf<State>,
+    State: BitArray + Number,
+    Probability: WordOf<Word>,
+    requires sizes { IsSizes Word.BITS State.BITS }
+    requires precision { (1 ≤ PRECISION) × (PRECISION ≤ Probability.BITS) }
+{
+    let Ok(mut decoder) = RangeDecoder::with_backend(Cursor::new_at_write_beginning(words)) else {
+        return Some("no decoder");
     };
-    if !RangeEncoder::<u8, u16, Backend>::parts_fit(state, situation) {
-        return None;
+    for part in parts {
+        let failed = decode_on::<Word, State, Probability, PRECISION>(alloc, &mut decoder, *part);
+        if failed.is_some() {
+            return failed;
+        }
     }
-    Some(RangeEncoder::from_raw_parts(bulk, state, situation))
+    None
 }
 
-/// A decoder of words that it borrows.
-pub fn decoder_of(words: &[u8]) -> Option<Decoder<'_>> {
-    RangeDecoder::with_backend(Cursor::new_at_write_beginning(words)).ok()
+/// An encoder of words of 8 bits, with a state of 16.
+pub fn small(alloc: Global, parts: &[Part<'_, u8>]) -> Result<(), Fail> {
+    said(go::<u8, u16, u8, 8>(alloc, parts))
 }
 
-/// A decoder of words of 32 bits that it borrows.
-pub fn wide_decoder_of(words: &[u32]) -> Option<Lent<'_, u32, u64>> {
-    RangeDecoder::with_backend(Cursor::new_at_write_beginning(words)).ok()
+/// An encoder of words of 8 bits, with a state of 32.
+pub fn tall(alloc: Global, parts: &[Part<'_, u8>]) -> Result<(), Fail> {
+    said(go::<u8, u32, u8, 8>(alloc, parts))
+}
+
+/// An encoder of words of 32 bits, with a state of 64.
+pub fn wide(alloc: Global, parts: &[Part<'_, u32>]) -> Result<(), Fail> {
+    said(go::<u32, u64, u32, 24>(alloc, parts))
+}
+
+/// A decoder of words of 8 bits, with a state of 16.
+pub fn small_of(alloc: Global, words: &[u8], parts: &[Part<'_, u8>]) -> Result<(), Fail> {
+    said(decode::<u8, u16, u8, 8>(alloc, words, parts))
+}
+
+/// A decoder of words of 8 bits, with a state of 32.
+pub fn tall_of(alloc: Global, words: &[u8], parts: &[Part<'_, u8>]) -> Result<(), Fail> {
+    said(decode::<u8, u32, u8, 8>(alloc, words, parts))
+}
+
+/// A decoder of words of 32 bits, with a state of 64.
+pub fn wide_of(alloc: Global, words: &[u32], parts: &[Part<'_, u32>]) -> Result<(), Fail> {
+    said(decode::<u32, u64, u32, 24>(alloc, words, parts))
 }

@@ -2,282 +2,218 @@
 //!
 //! `tests/refused-memory` runs these tests once for each request that they make, and has it refused. A test then says
 //! by its error which call it was, where that call answered want of memory, left what it has to, and went when it was
-//! made again. Where none is refused, a test passes. Where encoders stand was worked out apart, by one growing
-//! number.
+//! made again. It says `Memory` where the request was the test's own. Where none is refused, a test passes.
 
-use crate::coders::{Coder, INVERTING, Table, encoder_with, inverted};
-use crate::expect::stands;
-use crate::flagged::{Tables, put};
-use crate::put::{Call, Put, put_bytes_by, puts};
-use crate::reading::gives;
-use crate::whole::{copy_of, iterates};
-use constriction_base::errors::ReadWriteError;
+use crate::coders::{Coder, INVERTING, Table};
+use crate::encoding::{encode_by, follow};
+use crate::flagged::{Tables, put_flagged, tables_of};
 use constriction_base::weights::WeightTable;
+use constriction_scripts::answers::{DONE, MEMORY, OTHER};
+use constriction_scripts::putting::put_each;
+use constriction_scripts::script::Script;
 use std::alloc::{AllocError, Global};
 use std::test::Fail;
 
-/// What comes of a call of which a request may be refused.
+/// An encoder of one word, for which alone its vector has room, that holds one word back.
+const START: &str = "parts 33024 65280 1 126 7";
+
+/// What it is then.
+const STARTED: &str = "written 7 at 2 33024 65280 sealed 7 126 129";
+
+/// A call, and what it leaves.
 #[derive(Clone, Copy)]
-enum Came {
-    /// It went at once.
-    Whole,
-    /// It answered want of memory, left what it has to, and went then.
-    Refused,
-    Otherwise,
+struct Call {
+    name: &'static str,
+    act: &'static str,
+    /// What the encoder is where memory was refused, and the call that is left then.
+    kept: &'static str,
+    /// What it is in the end.
+    done: &'static str,
 }
 
-/// Whether a call went, where there was memory.
-type Went = Result<bool, AllocError>;
-
-/// A call on an encoder that stays.
-#[derive(Clone, Copy)]
-enum Act {
-    Step,
-    List,
-    Pairs,
-    Items,
-    Flagged,
-    Guard,
-    Lent,
-    Decoder,
-}
-
-/// What comes of symbols that are put on.
-fn went_of(answer: Put) -> Went {
-    match answer {
-        Put::Done => Ok(true),
-        Put::Refused => Err(AllocError),
-        _ => Ok(false),
+/// Goes through a script with an encoder of bytes.
+fn goes(alloc: Global, encoder: &mut Coder, table: &Table, text: &'static str) -> &'static str {
+    match Script::read(alloc, text) {
+        Ok(script) => match follow(alloc, encoder, table, &script) {
+            Some(_) => OTHER,
+            None => DONE,
+        },
+        Err(AllocError) => MEMORY,
     }
 }
 
-/// Whether a guard shows these words.
-fn shows(encoder: &mut Coder, words: &[u8]) -> Went {
-    match encoder.get_compressed() {
-        Ok(guard) => Ok(guard.words() == words),
-        Err(error) => Err(error),
+/// Does one act.
+fn does(alloc: Global, encoder: &mut Coder, table: &Table, text: &'static str) -> &'static str {
+    match Script::read(alloc, text) {
+        Ok(script) => encode_by(alloc, encoder, table, &script.act(0)),
+        Err(AllocError) => MEMORY,
     }
 }
 
-/// Whether a decoder that borrows the encoder gives these symbols.
-fn reads(encoder: &mut Coder, tables: &Tables, symbols: &[usize]) -> Went {
-    match encoder.decoder() {
-        Ok(mut decoder) => Ok(gives(&mut decoder, &tables.first, symbols)),
-        Err(error) => Err(error),
+/// Makes a call, and what is left of it where memory was refused. Returns what is said of that, or nothing.
+fn comes_of(alloc: Global, encoder: &mut Coder, table: &Table, call: &Call) -> &'static str {
+    if goes(alloc, encoder, table, START) != DONE {
+        return MEMORY;
     }
-}
-
-/// Makes a call. Of three symbols the second one owes two words, of which the vector has room for none.
-fn make(encoder: &mut Coder, tables: &Tables, act: Act) -> Went {
-    match act {
-        Act::Step => went_of(put_bytes_by(encoder, &tables.first, &Call::Each(&[3]))),
-        Act::List => went_of(put_bytes_by(encoder, &tables.first, &Call::List(&[1, 3, 1]))),
-        Act::Pairs => went_of(put_bytes_by(encoder, &tables.first, &Call::Pairs(1, 3, 1))),
-        Act::Items => went_of(put_bytes_by(encoder, &tables.first, &Call::Items(1, Ok(3), 1))),
-        Act::Flagged => went_of(put(encoder, tables, &[1, 3, 0])),
-        Act::Guard => shows(encoder, &[7, 126, 129]),
-        Act::Lent => encoder.with_compressed(|words| words == [7u8, 126, 129].as_slice()),
-        Act::Decoder => reads(encoder, tables, &[0]),
-    }
-}
-
-/// What is left to be done where memory was refused: of three symbols those from the second one on.
-fn make_rest(encoder: &mut Coder, tables: &Tables, act: Act) -> Went {
-    match act {
-        Act::List | Act::Pairs | Act::Items => {
-            went_of(put_bytes_by(encoder, &tables.first, &Call::List(&[3, 1])))
-        }
-        Act::Flagged => Ok(puts(encoder, &tables.second, &[3, 0])),
-        _ => make(encoder, tables, act),
-    }
-}
-
-/// Compares where an encoder stands: the words written, the place behind those and behind the words held back, the
-/// interval, and the sealed words.
-fn is_at(
-    encoder: &Coder,
-    written: &[u8],
-    place: usize,
-    interval: (u16, u16),
-    sealed: &[u8],
-) -> bool {
-    encoder.bulk().as_slice() == written
-        && stands(encoder, place, interval.0, interval.1)
-        && iterates(encoder, sealed)
-}
-
-/// Whether the encoder is as it was, and behind the first symbol of a list that stopped at the second one.
-fn is_kept(encoder: &Coder, act: Act) -> bool {
-    match act {
-        Act::List | Act::Pairs | Act::Items | Act::Flagged => {
-            is_at(encoder, &[7], 3, (33024, 65280), &[7, 126, 255, 129])
-        }
-        _ => is_start(encoder),
-    }
-}
-
-/// Whether an encoder is as it was in the beginning.
-fn is_start(encoder: &Coder) -> bool {
-    is_at(encoder, &[7], 2, (33024, 65280), &[7, 126, 129])
-}
-
-/// Whether the call has left what it leaves in the end.
-fn is_done(encoder: &Coder, act: Act) -> bool {
-    match act {
-        Act::Step => is_at(encoder, &[7, 127], 3, (256, 65280), &[7, 127, 127, 1]),
-        Act::List | Act::Pairs | Act::Items => {
-            is_at(
-                encoder,
-                &[7, 127, 0, 127],
-                5,
-                (33024, 65280),
-                &[7, 127, 0, 127, 127, 129],
-            )
-        }
-        Act::Flagged => is_at(encoder, &[7, 127, 0], 3, (16448, 4080), &[7, 127, 0, 65]),
-        Act::Guard | Act::Lent | Act::Decoder => is_start(encoder),
-    }
-}
-
-/// Makes a call, and what is left of it where memory was refused.
-fn comes_of(encoder: &mut Coder, tables: &Tables, act: Act) -> Came {
-    match make(encoder, tables, act) {
-        Ok(went) if went & is_done(encoder, act) => Came::Whole,
-        Err(AllocError) => {
-            let is_kept = is_kept(encoder, act);
-            let goes = matches!(make_rest(encoder, tables, act), Ok(true));
-            if is_kept & goes & is_done(encoder, act) {
-                Came::Refused
-            } else {
-                Came::Otherwise
+    match does(alloc, encoder, table, call.act) {
+        "no-memory" if goes(alloc, encoder, table, call.kept) == DONE => {
+            match goes(alloc, encoder, table, call.done) {
+                DONE => call.name,
+                _ => OTHER,
             }
         }
-        _ => Came::Otherwise,
+        DONE => goes(alloc, encoder, table, call.done),
+        answer => answer,
     }
 }
 
-/// An encoder of one word, for which alone its vector has room, that holds one word back.
-fn start(alloc: Global) -> Result<Coder, Fail> {
-    let words = [7u8].to_vec(alloc)?;
-    match encoder_with(words, 33024, 65280, inverted(1, 126)) {
-        Some(encoder) => Ok(encoder),
-        None => Err(Fail::from("no encoder")),
+/// The calls of lists. The second symbol owes two words, of which the vector has room for none.
+const LISTS: &[(&str, &str)] = &[
+    ("encode_iid_symbols", "list 1 3 1"),
+    ("encode_symbols", "pairs 1 3 1"),
+    ("try_encode_symbols", "items 1 3 1"),
+];
+
+/// The other calls.
+const CALLS: &[Call] = &[
+    Call {
+        name: "encode_symbol",
+        act: "put 3",
+        kept: "written 7 at 2 33024 65280 sealed 7 126 129 put 3",
+        done: "written 7 127 at 3 256 65280 sealed 7 127 127 1",
+    },
+    Call {
+        name: "get_compressed",
+        act: "shown 7 126 129",
+        kept: "written 7 at 2 33024 65280 shown 7 126 129",
+        done: STARTED,
+    },
+    Call {
+        name: "with_compressed",
+        act: "lent 7 126 129",
+        kept: "written 7 at 2 33024 65280 lent 7 126 129",
+        done: STARTED,
+    },
+    Call {
+        name: "decoder",
+        act: "decoded 0",
+        kept: "written 7 at 2 33024 65280 decoded 0",
+        done: STARTED,
+    },
+];
+
+/// Makes a call on an encoder of its own.
+fn call_goes(alloc: Global, table: &Table, call: &Call) -> Result<(), Fail> {
+    let mut encoder = Coder::new(alloc);
+    match comes_of(alloc, &mut encoder, table, call) {
+        DONE => Ok(()),
+        said => Err(Fail::from(said)),
     }
 }
 
-/// What a call came to, as a test says it.
-fn said(came: Came, name: &'static str) -> Result<(), Fail> {
-    match came {
-        Came::Whole => Ok(()),
-        Came::Refused => Err(Fail::from(name)),
-        Came::Otherwise => Err(Fail::from("another answer, or another coder")),
+/// Puts flagged symbols on, and those from the second one on where memory was refused.
+fn flagged_goes(alloc: Global, encoder: &mut Coder, tables: &Tables) -> &'static str {
+    if goes(alloc, encoder, &tables.first, START) != DONE {
+        return MEMORY;
     }
-}
-
-/// A call on an encoder of its own.
-fn goes(alloc: Global, tables: &Tables, act: Act, name: &'static str) -> Result<(), Fail> {
-    let mut encoder = start(alloc)?;
-    said(comes_of(&mut encoder, tables, act), name)
+    let done = "written 7 127 0 at 3 16448 4080 sealed 7 127 0 65";
+    match put_flagged(encoder, tables, &[1, 3, 0]) {
+        "no-memory" => {
+            let kept = "written 7 at 3 33024 65280 sealed 7 126 255 129";
+            let is_kept = goes(alloc, encoder, &tables.first, kept) == DONE;
+            let is_put = put_each(encoder, &tables.second, &[3, 0]) == DONE;
+            if is_kept & is_put & (goes(alloc, encoder, &tables.first, done) == DONE) {
+                "encode_flagged"
+            } else {
+                OTHER
+            }
+        }
+        DONE => goes(alloc, encoder, &tables.first, done),
+        answer => answer,
+    }
 }
 
 #[test]
 fn refused_requests_of_calls(rt: HostRuntime) -> Result<(), Fail> {
-    let first = WeightTable::new(rt.alloc(), &INVERTING)?;
-    let second = WeightTable::new(rt.alloc(), &[4, 4, 4, 4])?;
-    let tables = Tables { first, second };
-    let acts = [
-        (Act::Step, "encode_symbol"),
-        (Act::List, "encode_iid_symbols"),
-        (Act::Pairs, "encode_symbols"),
-        (Act::Items, "try_encode_symbols"),
-        (Act::Flagged, "encode_flagged"),
-        (Act::Guard, "get_compressed"),
-        (Act::Lent, "with_compressed"),
-        (Act::Decoder, "decoder"),
-    ];
-    for (act, name) in acts {
-        goes(rt.alloc(), &tables, act, name)?;
+    let tables = tables_of(rt.alloc(), INVERTING)?;
+    for call in CALLS {
+        call_goes(rt.alloc(), &tables.first, call)?;
     }
-    Ok(())
-}
-
-/// A call that takes an encoder away.
-#[derive(Clone, Copy)]
-enum Export {
-    Compressed,
-    SelfDelimited,
-    Decoder,
-}
-
-/// Whether these are the sealed words.
-fn are_sealed(words: Result<Vec<u8>, AllocError>) -> Went {
-    match words {
-        Ok(words) => Ok(words.as_slice() == [7u8, 126, 129].as_slice()),
-        Err(error) => Err(error),
+    for (name, act) in LISTS {
+        // the first symbol is kept
+        let call = Call {
+            name,
+            act,
+            kept: "written 7 at 3 33024 65280 sealed 7 126 255 129 list 3 1",
+            done: "written 7 127 0 127 at 5 33024 65280 sealed 7 127 0 127 127 129",
+        };
+        call_goes(rt.alloc(), &tables.first, &call)?;
+    }
+    let mut encoder = Coder::new(rt.alloc());
+    match flagged_goes(rt.alloc(), &mut encoder, &tables) {
+        DONE => Ok(()),
+        said => Err(Fail::from(said)),
     }
 }
 
-/// Whether the decoder that an encoder becomes gives the symbol 0.
-fn becomes(encoder: Coder, table: &Table) -> Went {
-    match encoder.into_decoder() {
-        Ok(mut decoder) => Ok(gives(&mut decoder, table, &[0])),
-        Err(ReadWriteError::Write(error)) => Err(error),
-        Err(ReadWriteError::Read(_)) => Ok(false),
+/// Takes an encoder away by an act. Where that finds no memory, so does a copy from before, which held the same.
+fn take_or_copy(
+    alloc: Global,
+    encoder: &mut Coder,
+    copy: &mut Coder,
+    table: &Table,
+    (name, act): (&'static str, &'static str),
+) -> &'static str {
+    let is_start = goes(alloc, encoder, table, STARTED) == DONE;
+    if !(is_start & (goes(alloc, copy, table, STARTED) == DONE)) {
+        return MEMORY;
+    }
+    match does(alloc, encoder, table, act) {
+        "no-memory" if does(alloc, copy, table, act) == DONE => name,
+        answer => answer,
     }
 }
 
-/// Takes an encoder away.
-fn take(encoder: Coder, table: &Table, export: Export) -> Went {
-    match export {
-        Export::Compressed => are_sealed(encoder.into_compressed()),
-        Export::SelfDelimited => are_sealed(encoder.into_self_delimited()),
-        Export::Decoder => becomes(encoder, table),
-    }
-}
-
-/// Takes an encoder away. Where that finds no memory, so does a copy from before, which held the same.
-fn take_or_copy(encoder: Coder, copy: Coder, table: &Table, export: Export) -> Came {
-    let are_same = is_start(&encoder) & is_start(&copy);
-    match take(encoder, table, export) {
-        Ok(went) if went & are_same => Came::Whole,
-        Err(AllocError) if are_same & matches!(take(copy, table, export), Ok(true)) => {
-            Came::Refused
-        }
-        _ => Came::Otherwise,
-    }
-}
-
-/// Whether a copy that found no memory is made then.
-fn copies_again(encoder: &Coder) -> Came {
-    match copy_of(encoder) {
-        Ok(copy) if is_start(&copy) & is_start(encoder) => Came::Refused,
-        _ => Came::Otherwise,
-    }
-}
-
-/// Copies an encoder, and takes it away.
+/// Copies an encoder, and takes it away. A copy that found no memory is made then.
 fn export_goes(
     alloc: Global,
+    encoder: &mut Coder,
     table: &Table,
-    export: Export,
-    name: &'static str,
-) -> Result<(), Fail> {
-    let encoder = start(alloc)?;
-    match copy_of(&encoder) {
-        Ok(copy) => said(take_or_copy(encoder, copy, table, export), name),
-        Err(AllocError) => said(copies_again(&encoder), "clone"),
+    act: (&'static str, &'static str),
+) -> &'static str {
+    if goes(alloc, encoder, table, START) != DONE {
+        return MEMORY;
+    }
+    match encoder.clone() {
+        Ok(mut copy) => take_or_copy(alloc, encoder, &mut copy, table, act),
+        Err(AllocError) => match encoder.clone() {
+            Ok(mut copy) => {
+                let is_start = goes(alloc, encoder, table, STARTED) == DONE;
+                if is_start & (goes(alloc, &mut copy, table, STARTED) == DONE) {
+                    "clone"
+                } else {
+                    OTHER
+                }
+            }
+            Err(AllocError) => OTHER,
+        },
     }
 }
 
 #[test]
 fn refused_requests_of_exports(rt: HostRuntime) -> Result<(), Fail> {
-    let table = WeightTable::new(rt.alloc(), &INVERTING)?;
-    export_goes(rt.alloc(), &table, Export::Compressed, "into_compressed")?;
-    export_goes(
-        rt.alloc(),
-        &table,
-        Export::SelfDelimited,
-        "into_self_delimited",
-    )?;
-    export_goes(rt.alloc(), &table, Export::Decoder, "into_decoder")
+    let table: Table = WeightTable::new(rt.alloc(), INVERTING)?;
+    let acts = [
+        ("into_compressed", "export 7 126 129"),
+        ("into_self_delimited", "delimited 7 126 129"),
+        ("into_decoder", "owned 0"),
+    ];
+    for act in acts {
+        let mut encoder = Coder::new(rt.alloc());
+        let said = export_goes(rt.alloc(), &mut encoder, &table, act);
+        if said != DONE {
+            return Err(Fail::from(said));
+        }
+    }
+    Ok(())
 }

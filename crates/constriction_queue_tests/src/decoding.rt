@@ -1,0 +1,142 @@
+//! The acts of scripts on decoders over borrowed words.
+
+ghost use Rattle.constriction_base.specs.Steps.{IsSizes};
+
+use crate::parts::{is_interval, state_of};
+use constriction_base::backends::{BoundedReadWords, Queue, Seek};
+use constriction_base::cursor::Cursor;
+use constriction_base::weights::WeightTable;
+use constriction_queue::RangeDecoder;
+use constriction_scripts::answers::{DONE, OTHER, answer_if};
+use constriction_scripts::numbers::Number;
+use constriction_scripts::script::{Act, Script, find};
+use constriction_scripts::taking::take_by;
+use constriction_stream::coder::Code;
+use constriction_stream::decoding::Decode;
+use constriction_words::{BitArray, WordOf};
+use std::alloc::{AllocError, Global};
+
+/// A decoder over words that it borrows.
+pub type Lent<'a, Word, State> = RangeDecoder<Word, State, Cursor<Word, &'a [Word]>>;
+
+/// What is done with a decoder, or expected of it.
+#[derive(Clone, Copy)]
+enum Verb {
+    At,
+    Stands,
+    Seek,
+    Parts,
+    Exhausted,
+    Unfinished,
+}
+
+/// The verbs. A decoder is `at` a lower end and a length; it `stands` there, before words of this number, with so many
+/// words left behind them; it `seek`s a place, a lower end and a length; of `parts` it has a lower end, a length and a
+/// point, and no words left. It may be `exhausted`, or is `unfinished`.
+const VERBS: &[(&str, Verb)] = &[
+    ("at", Verb::At),
+    ("stands", Verb::Stands),
+    ("seek", Verb::Seek),
+    ("parts", Verb::Parts),
+    ("exhausted", Verb::Exhausted),
+    ("unfinished", Verb::Unfinished),
+];
+
+/// Compares where a decoder stands, by taking a clone apart.
+fn stands<Word, State>(decoder: &Lent<'_, Word, State>, act: &Act<'_>) -> bool
+where
+    Word: WordOf<State>,
+    State: BitArray + Number,
+{
+    let clone: Result<Lent<'_, Word, State>, AllocError> = decoder.clone();
+    let Ok(clone) = clone else {
+        return false;
+    };
+    let (bulk, state, point) = clone.into_raw_parts();
+    is_interval(state, act.numbers, 0)
+        && act.numbers.get(2) == Some(&point.shown())
+        && act.symbols.get(3) == Some(&BoundedReadWords::<Word, Queue>::remaining(&bulk))
+}
+
+/// Goes to a place.
+fn seek<Word, State>(decoder: &mut Lent<'_, Word, State>, act: &Act<'_>) -> &'static str
+where
+    Word: WordOf<State>,
+    State: BitArray + Number,
+    requires { IsSizes Word.BITS State.BITS }
+{
+    match (act.symbols.first(), state_of::<Word, State>(act.numbers, 1)) {
+        (Some(place), Some(state)) if decoder.seek((*place, state)).is_ok() => DONE,
+        (Some(_), Some(_)) => "none",
+        _ => OTHER,
+    }
+}
+
+/// Makes a decoder of parts, over the end of no words: none where the point isn't in the interval.
+fn make_parts<Word, State>(decoder: &mut Lent<'_, Word, State>, act: &Act<'_>) -> &'static str
+where
+    Word: WordOf<State>,
+    State: BitArray + Number,
+    requires { IsSizes Word.BITS State.BITS }
+{
+    let (Some(state), Some(point)) = (state_of::<Word, State>(act.numbers, 0), act.numbers.get(2))
+    else {
+        return OTHER;
+    };
+    let words: &[Word] = &[];
+    match RangeDecoder::from_raw_parts(Cursor::new_at_write_end(words), state, State::of(*point)) {
+        Ok(made) => {
+            *decoder = made;
+            DONE
+        }
+        Err(_) => "none",
+    }
+}
+
+/// Does an act with a decoder.
+fn decode_by<Word, State, Probability, const PRECISION: usize>(
+    alloc: Global,
+    decoder: &mut Lent<'_, Word, State>,
+    table: &WeightTable<Probability, PRECISION>,
+    act: &Act<'_>,
+) -> &'static str
+where
+    Word: WordOf<State>,
+    State: BitArray + Number,
+    Probability: WordOf<Word>,
+    requires { IsSizes Word.BITS State.BITS }
+{
+    let Some(verb) = find(VERBS, act.verb) else {
+        return take_by(alloc, decoder, table, act).unwrap_or(OTHER);
+    };
+    match verb {
+        Verb::Seek => seek(decoder, act),
+        Verb::Parts => make_parts(decoder, act),
+        Verb::At => answer_if(is_interval(decoder.state(), act.numbers, 0)),
+        Verb::Stands => answer_if(stands(decoder, act)),
+        Verb::Exhausted => answer_if(Decode::<PRECISION>::maybe_exhausted(decoder)),
+        Verb::Unfinished => answer_if(!Decode::<PRECISION>::maybe_exhausted(decoder)),
+    }
+}
+
+/// Goes through a script with a decoder, and returns the first act that it doesn't do as the script says.
+pub fn follow_decoding<Word, State, Probability, const PRECISION: usize>(
+    alloc: Global,
+    decoder: &mut Lent<'_, Word, State>,
+    table: &WeightTable<Probability, PRECISION>,
+    script: &Script,
+) -> Option<&'static str>
+where
+    Word: WordOf<State>,
+    State: BitArray + Number,
+    Probability: WordOf<Word>,
+    requires { IsSizes Word.BITS State.BITS }
+{
+    for at in 0..script.len() {
+        let act = script.act(at);
+        if decode_by(alloc, decoder, table, &act) != act.answer {
+            return Some(act.text);
+        }
+    }
+    None
+}
