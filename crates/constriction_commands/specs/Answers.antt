@@ -1,5 +1,6 @@
 -- What each command answers a text, and when it gives which fault: each in a file of specs/commands.
-use Rattle.std.specs.Prelude.{Option, ◌≡◌, ℕ, List, [], ◌∷◌, codes, ◌⊎◌, IfSome}
+use Rattle.std.specs.Prelude.{Option, ◌≡◌, ℕ, List, [], ◌∷◌, codes, drop, map, string_bytes, ◌⊎◌, IfSome}
+use Rattle.std.specs.declared.string.String.{String}
 use Rattle.constriction_commands.specs.Coding.{EncodeFails}
 use Rattle.constriction_commands.specs.commands.AnsEncode.{IsAnsEncoded}
 use Rattle.constriction_commands.specs.commands.AnsDecode.{IsAnsDecoded, AnsDecodeFails}
@@ -28,6 +29,14 @@ name_of Store = codes "store"
 -- the arguments are the command's name alone
 abbrev pub Names : List (List ℕ) → Command → Type 0
 Names arguments command = arguments ≡ name_of command ∷ []
+
+-- the arguments are those of no command
+abbrev pub NamesNone : List (List ℕ) → Type 0
+NamesNone arguments = (command : Command) → Names arguments command → ⊥
+
+-- the arguments of a run: what stands behind the program's name, as bytes
+abbrev pub words_behind_name : {Z : Type 0} → List (String Z) → List (List ℕ)
+words_behind_name words = map string_bytes (drop 1 words)
 
 -- why a command answers a text with a fault; where two could come, the first of the order of faults
 abbrev pub Fails : Command → List ℕ → Fault → Type 0

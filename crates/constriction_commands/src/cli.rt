@@ -1,11 +1,13 @@
 //! A whole run: the command's name, the bytes that it reads, what it writes, and the exit status.
 
-ghost use Rattle.std.specs.Prelude.{◌≡◌, ◌↔◌, ◌⊎◌, ◌≤◌, ◌≢◌, ℕ, List, [], map, string_bytes, IfErr, IfOk, IfSome, IsOk};
-ghost use Rattle.std.specs.Prelude.{OnOk};
+ghost use Rattle.std.specs.Prelude.{◌≡◌, ◌↔◌, ◌⊎◌, ◌≤◌, ◌≢◌, ℕ, List, [], drop, map, string_bytes, IfErr, IfOk, IfSome};
+ghost use Rattle.std.specs.Prelude.{IsErr, IsOk, IsOkAnd, OnOk};
 ghost use Rattle.std.specs.Io.KnownBytes.{Appends};
 ghost use Rattle.std.specs.IoError.{error_kind};
 ghost use Rattle.std.specs.Process.{exit_status};
-ghost use Rattle.constriction_commands.specs.Answers.{Names, Answers, IsAnswered, Fails, Stops};
+ghost use Rattle.std.specs.Vec.Iter.{into_iter_items};
+ghost use Rattle.constriction_commands.specs.Answers.{Names, NamesNone, Answers, IsAnswered, Fails, Stops};
+ghost use Rattle.constriction_commands.specs.Answers.{words_behind_name};
 ghost use Rattle.constriction_commands.specs.Written.{GrowsByBeginning, fault_line, usage_line};
 ghost use Rattle.constriction_commands.specs.declared.fault.Fault.{Fault};
 ghost use Rattle.constriction_commands.specs.declared.fault.Fault.TheVariants.{OutOfMemory, Unreadable, Unwritable};
@@ -33,6 +35,8 @@ const USAGE: &[u8] =
 ///
 /// `OutOfMemory`.
 fn arguments(alloc: Global, given: io::Result<Args>) -> Result<Vec<String>, Fault>
+    ensures behind_name { IfOk given (λ words. IfOk result (λ args. args.items ≡ drop 1 (into_iter_items words))) }
+    ensures no_memory { IfErr given (λ error. error_kind error ≡ kind.OutOfMemory → IsErr result) }
     ensures not_text { IfErr given (λ error. error_kind error ≢ kind.OutOfMemory → IsOk result) }
     ensures none { IfErr given (λ _. IfOk result (λ args. args.items ≡ [])) }
     ensures err { IfErr result (λ fault. fault ≡ OutOfMemory) }
@@ -81,9 +85,12 @@ fn answer_to<R: Read, O: Write>(
     write_out(output, answer.as_slice())
 }
 
-/// Runs the command that the arguments, without the program's name, name. Answers the exit status:
+/// Runs the command that the arguments, without the program's name, name. Returns the exit status:
 /// 0 where the answer was written, 1 where one line on `faults` says what stopped it, and 2 where the
 /// arguments are not one known command.
+///
+/// Whether a reader or a writer fails is known to it alone. So no clause says when `cannot read input` and
+/// `cannot write output` come, nor when memory is missing.
 pub fn run<R: Read, O: Write, E: Write>(
     alloc: Global,
     args: &[String],
@@ -115,9 +122,9 @@ pub fn run<R: Read, O: Write, E: Write>(
     }
 }
 
-/// The whole program: a run with the arguments that the system gave, the program's name first. The status is that of
-/// the run; 1, with the line of a fault, where memory is missing for the arguments; and that of wrong arguments, 2,
-/// where one of them is not UTF-8.
+/// Runs the whole program with the arguments that the system gave, the program's name first. Returns the status of that
+/// run. Without memory for the arguments it is 1, with the line of that fault. Where an argument is not UTF-8 it is
+/// that of wrong arguments, 2.
 pub fn start<R: Read, O: Write, E: Write>(
     alloc: Global,
     given: io::Result<Args>,
@@ -126,10 +133,22 @@ pub fn start<R: Read, O: Write, E: Write>(
     faults: &mut E,
 ) -> ExitCode
     ensures ok { exit_status result ≡ 0
-        → IfSome (R.remaining input.old) (λ text. (command : Command) × (answer : List ℕ)
-        × Answers command text answer × Appends (O.contents output.old) (O.contents output.new) answer) }
+        → IsOkAnd given (λ words. IfSome (R.remaining input.old) (λ text. (answer : List ℕ)
+        × IsAnswered (words_behind_name (into_iter_items words)) text answer
+        × Appends (O.contents output.old) (O.contents output.new) answer)) }
     ensures quiet { exit_status result ≡ 0 → faults.new ≡ faults.old }
+    ensures usage { exit_status result ≡ 2
+        → IfOk given (λ words. NamesNone (words_behind_name (into_iter_items words))) }
+    // In place of the usage line comes the one that memory is missing for the arguments.
+    ensures unknown { IfOk given (λ words. NamesNone (words_behind_name (into_iter_items words))
+        → exit_status result ≢ 2 → (exit_status result ≡ 1)
+        × GrowsByBeginning (E.contents faults.old) (E.contents faults.new) (fault_line OutOfMemory)) }
+    ensures kept { exit_status result ≡ 2 → (output.new ≡ output.old) × (input.new ≡ input.old) }
+    ensures unread { IfErr given (λ _. output.new ≡ output.old) }
+    ensures usage_line { exit_status result ≡ 2
+        → GrowsByBeginning (E.contents faults.old) (E.contents faults.new) usage_line }
     ensures not_text { IfErr given (λ error. error_kind error ≢ kind.OutOfMemory → exit_status result ≡ 2) }
+    ensures no_memory { IfErr given (λ error. error_kind error ≡ kind.OutOfMemory → exit_status result ≡ 1) }
     ensures statuses { exit_status result ≤ 2 }
 {
     let status = match arguments(alloc, given) {
