@@ -17,91 +17,101 @@ pub const MEMORY: &str = "Memory";
 
 /// An error that has a word in scripts.
 pub trait Told {
-    /// Returns the word.
-    fn told(&self) -> &'static str;
+    /// Returns the word of an error, or of a type whose errors never come.
+    fn word(error: Option<&Self>) -> &'static str;
+
+    /// Returns the word of this error.
+    final fn told(&self) -> &'static str {
+        Self::word(Some(self))
+    }
 }
 
 impl Told for AllocError {
-    fn told(&self) -> &'static str {
+    fn word(_error: Option<&AllocError>) -> &'static str {
         "no-memory"
     }
 }
 
 impl Told for Infallible {
-    fn told(&self) -> &'static str {
+    fn word(_error: Option<&Infallible>) -> &'static str {
         OTHER
     }
 }
 
 /// The errors of iterators in tests.
 impl Told for u8 {
-    fn told(&self) -> &'static str {
-        match *self {
-            7 => "bad7",
+    fn word(error: Option<&u8>) -> &'static str {
+        match error {
+            Some(7) => "bad7",
             _ => "bad",
         }
     }
 }
 
 impl Told for BoundedWriteError {
-    fn told(&self) -> &'static str {
-        match self {
-            BoundedWriteError::OutOfSpace => "full",
-            BoundedWriteError::Memory => "no-memory",
+    fn word(error: Option<&BoundedWriteError>) -> &'static str {
+        match error {
+            Some(BoundedWriteError::OutOfSpace) => "full",
+            Some(BoundedWriteError::Memory) => "no-memory",
+            None => OTHER,
         }
     }
 }
 
 impl Told for DefaultEncoderFrontendError {
-    fn told(&self) -> &'static str {
+    fn word(_error: Option<&DefaultEncoderFrontendError>) -> &'static str {
         "unknown"
     }
 }
 
 impl Told for constriction_queue::DecoderFrontendError {
-    fn told(&self) -> &'static str {
+    fn word(_error: Option<&constriction_queue::DecoderFrontendError>) -> &'static str {
         "invalid"
     }
 }
 
 impl Told for constriction_chain::DecoderFrontendError {
-    fn told(&self) -> &'static str {
+    fn word(_error: Option<&constriction_chain::DecoderFrontendError>) -> &'static str {
         "ended"
     }
 }
 
 impl Told for EncoderFrontendError {
-    fn told(&self) -> &'static str {
-        match self {
-            EncoderFrontendError::OutOfRemainders => "ended",
-            EncoderFrontendError::ImpossibleSymbol => "unknown",
+    fn word(error: Option<&EncoderFrontendError>) -> &'static str {
+        match error {
+            Some(EncoderFrontendError::OutOfRemainders) => "ended",
+            Some(EncoderFrontendError::ImpossibleSymbol) => "unknown",
+            None => OTHER,
         }
     }
 }
 
 impl<C: Told, R: Told> Told for BackendError<C, R> {
-    fn told(&self) -> &'static str {
-        match self {
-            BackendError::Compressed(error) => error.told(),
-            BackendError::Remainders(error) => error.told(),
+    fn word(error: Option<&BackendError<C, R>>) -> &'static str {
+        match error {
+            Some(BackendError::Compressed(error)) => error.told(),
+            Some(BackendError::Remainders(error)) => error.told(),
+            None => OTHER,
         }
     }
 }
 
 impl<F: Told, B: Told> Told for CoderError<F, B> {
-    fn told(&self) -> &'static str {
-        match self {
-            CoderError::Frontend(error) => error.told(),
-            CoderError::Backend(error) => error.told(),
+    fn word(error: Option<&CoderError<F, B>>) -> &'static str {
+        match error {
+            Some(CoderError::Frontend(error)) => error.told(),
+            Some(CoderError::Backend(error)) => error.told(),
+            None => OTHER,
         }
     }
 }
 
 impl<C: Told, E: Told> Told for TryCodingError<C, E> {
-    fn told(&self) -> &'static str {
-        match self {
-            TryCodingError::CodingError(error) => error.told(),
-            TryCodingError::InvalidEntropyModel(error) => error.told(),
+    fn word(error: Option<&TryCodingError<C, E>>) -> &'static str {
+        match error {
+            Some(TryCodingError::CodingError(error)) => error.told(),
+            Some(TryCodingError::InvalidEntropyModel(error)) => error.told(),
+            None => OTHER,
         }
     }
 }
