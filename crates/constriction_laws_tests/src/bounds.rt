@@ -31,8 +31,11 @@ fn words_of_three(alloc: Global) -> Option<usize> {
         Table::new(alloc, &[255, 1]).ok()?,
         Table::new(alloc, &[255, 1]).ok()?,
     ];
-    let words = words_with_pairs::<u8, u16, Vec<u8>, _, 8>(Stack::new(alloc), &[1, 1, 1], &tables)
-        .ok()?;
+    let words = words_with_pairs::<u8, u16, Vec<u8>, _, 8>(
+        Stack::new(alloc),
+        &[1, 1, 1],
+        &tables,
+    ).ok()?;
     if words.as_slice() != [255u8, 255, 255].as_slice() {
         return None;
     }
