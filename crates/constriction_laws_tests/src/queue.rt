@@ -1,5 +1,7 @@
 //! The callers of the range coder, at words of 8 bits and states of 16.
 
+use constriction_base::backends::Pos;
+use constriction_base::cursor::Cursor;
 use constriction_base::weights::WeightTable;
 use constriction_laws::queue::flagged::decode_flagged;
 use constriction_laws::queue::round_trips::lent_pairs::{
@@ -8,8 +10,6 @@ use constriction_laws::queue::round_trips::lent_pairs::{
 use constriction_laws::queue::round_trips::pairs::{compressed_words_of_pairs, pairs_from_words};
 use constriction_laws::queue::round_trips::positions_of_pairs::pairs_from_position;
 use constriction_queue::{FlagSwitch, RangeDecoder, RangeEncoder};
-use constriction_base::backends::Pos;
-use constriction_base::cursor::Cursor;
 use constriction_stream::encoding::Encode;
 use std::alloc::Global;
 use std::test::Fail;
@@ -48,7 +48,7 @@ fn from_words(alloc: Global, tables: &[Table; 2]) -> Option<bool> {
     Some(again.as_slice() == SYMBOLS.as_slice() && ended)
 }
 
-/// An encoder with the symbols on it, the position before the second, and the words.
+/// An encoder with the symbols on it.
 fn coded(alloc: Global, tables: &[Table; 2]) -> Option<Small> {
     let mut encoder = Small::new(alloc);
     if Encode::<8>::symbols_left(&encoder) < 2 {
@@ -76,23 +76,20 @@ fn symbols_come_back_from_an_encoder_that_goes_on(rt: HostRuntime) -> Result<(),
         return Err(Fail::from("refused"));
     };
     assert!(rt;
-        are_back(
-            decode_lent_words_by_models::<u8, u16, Global, _, 8>(
-                rt.alloc(),
-                &mut encoder,
-                &tables,
-            ).ok(),
-        )
+        are_back(decode_lent_words_by_models::<u8, u16, Global, _, 8>(
+            rt.alloc(),
+            &mut encoder,
+            &tables,
+        ).ok(),)
     );
     assert!(rt;
-        are_back(
-            decode_through_decoder_by_models::<u8, u16, Global, _, 8>(
-                rt.alloc(),
-                &mut encoder,
-                &tables,
-            ).ok(),
-        )
+        are_back(decode_through_decoder_by_models::<u8, u16, Global, _, 8>(
+            rt.alloc(),
+            &mut encoder,
+            &tables,
+        ).ok(),)
     );
+    assert!(rt; encoder.into_compressed()?.as_slice() == [127u8, 127, 1].as_slice());
     Ok(())
 }
 
@@ -115,9 +112,8 @@ fn symbols_come_back_from_a_position(rt: HostRuntime) -> Result<(), Fail> {
 fn flagged_symbols_come_back(rt: HostRuntime) -> Result<(), Fail> {
     let first = WeightTable::<u8, 8>::new(rt.alloc(), &[128, 64, 64])?;
     let second = WeightTable::<u8, 4>::new(rt.alloc(), &[4, 4, 4, 4])?;
-    let Ok(decoder) = RangeDecoder::<u8, u16, Cursor<u8, &[u8]>>::from_compressed(
-        [88u8].as_slice(),
-    ) else {
+    let Ok(decoder) = RangeDecoder::<u8, u16, Cursor<u8, &[u8]>>::from_compressed([88u8].as_slice())
+    else {
         return Err(Fail::from("refused"));
     };
     let mut switch: FlagSwitch<u8, u16, Cursor<u8, &[u8]>, 8, 4> = FlagSwitch::new(decoder, 1);

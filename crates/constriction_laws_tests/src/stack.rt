@@ -4,6 +4,7 @@ ghost use Rattle.std.specs.Prelude.{reverse, vec_len};
 ghost use Rattle.std.specs.Iterator.{at_most};
 ghost use Rattle.constriction_laws.specs.Readings.{GivesWord};
 
+use constriction_base::backends::Pos;
 use constriction_base::weights::WeightTable;
 use constriction_laws::stack::round_trips::binary::{
     binary_words_with_pairs, pairs_from_binary_words,
@@ -13,7 +14,6 @@ use constriction_laws::stack::round_trips::pairs::{pairs_from_words, words_with_
 use constriction_laws::stack::round_trips::positions::pairs_at_position;
 use constriction_laws::stack::round_trips::words::{pairs_from_items, pairs_from_reversed_words};
 use constriction_stack::coder::AnsCoder;
-use constriction_base::backends::Pos;
 use constriction_stream::encoding::Encode;
 use std::alloc::Global;
 use std::convert::Infallible;
@@ -87,18 +87,14 @@ fn symbols_come_back_from_words(rt: HostRuntime) -> Result<(), Fail> {
     turned.reverse();
     assert!(rt; from_words(rt.alloc(), words, &tables));
     assert!(rt;
-        are_back(
-            pairs_from_reversed_words::<u8, u16, _, 8>(rt.alloc(), turned, &tables).ok(),
-        )
+        are_back(pairs_from_reversed_words::<u8, u16, _, 8>(rt.alloc(), turned, &tables).ok(),)
     );
     assert!(rt;
-        are_back(
-            pairs_from_items::<u8, u16, Infallible, LastFirst, _, 8>(
-                rt.alloc(),
-                LastFirst { words: again },
-                &tables,
-            ).ok(),
-        )
+        are_back(pairs_from_items::<u8, u16, Infallible, LastFirst, _, 8>(
+            rt.alloc(),
+            LastFirst { words: again },
+            &tables,
+        ).ok(),)
     );
     Ok(())
 }
@@ -119,9 +115,7 @@ fn symbols_come_back_from_a_coder_that_goes_on(rt: HostRuntime) -> Result<(), Fa
         return Err(Fail::from("refused"));
     };
     assert!(rt;
-        are_back(
-            decode_lent_words::<u8, u16, Global, _, 8>(rt.alloc(), &mut coder, &tables).ok(),
-        )
+        are_back(decode_lent_words::<u8, u16, Global, _, 8>(rt.alloc(), &mut coder, &tables).ok(),)
     );
     let place = coder.pos();
     coder.encode_symbol(&0, &tables[0])?;
