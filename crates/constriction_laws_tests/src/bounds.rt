@@ -1,10 +1,11 @@
 //! What bounds say of runs of the coders, at words of 8 bits and states of 16.
 
+use constriction_base::cursor::Cursor;
 use constriction_base::weights::WeightTable;
 use constriction_laws::bounds::words::exchange;
-use constriction_laws::queue::round_trips::pairs::{compressed_words_of_pairs, pairs_from_words};
+use constriction_laws::queue::round_trips::pairs::pairs_from_words;
 use constriction_laws::stack::round_trips::pairs::words_with_pairs;
-use constriction_queue::RangeEncoder;
+use constriction_queue::RangeDecoder;
 use constriction_stack::coder::AnsCoder;
 use constriction_stream::coder::Code;
 use constriction_stream::decoding::Decode;
@@ -110,19 +111,14 @@ fn goes_on_with(
     }
 }
 
-/// The same of symbol 1 of two that are as likely, at words of 32 bits.
+/// The same of symbol 1 of two that are as likely, whose one word of 32 bits is 2^31.
 fn one_symbol_goes_on_with(alloc: Global, others: u32) -> Option<bool> {
-    let tables = [WeightTable::<u32, 24>::new(alloc, &[8388608, 8388608]).ok()?];
-    let mut words = compressed_words_of_pairs::<u32, u64, Vec<u32>, _, 24>(
-        RangeEncoder::new(alloc),
-        &[1],
-        &tables,
+    let table = WeightTable::<u32, 24>::new(alloc, &[8388608, 8388608]).ok()?;
+    let words = [1u32 << 31, others, others, others, others];
+    let mut decoder = RangeDecoder::<u32, u64, Cursor<u32, &[u32]>>::from_compressed(
+        words.as_slice(),
     ).ok()?;
-    for _ in 0..4 {
-        words.push(others).ok()?;
-    }
-    let (again, _) = pairs_from_words::<u32, u64, Vec<u32>, _, 24>(alloc, words, &tables).ok()?;
-    Some(again.as_slice() == [1usize].as_slice())
+    Some(decoder.decode_symbol(&table).ok()? == 1)
 }
 
 #[test]

@@ -14,16 +14,9 @@ type Table = WeightTable<u8, 8>;
 
 type Small = ChainCoder<u8, u16, Vec<u8>, Vec<u8>, 8>;
 
-type Coarse = WeightTable<u8, 4>;
-
 /// The coder of words in compressed form.
 fn coder_of(alloc: Global, words: &[u8]) -> Option<Small> {
     Small::from_compressed(alloc, words.to_vec(alloc).ok()?).ok()
-}
-
-/// The coder of the words 0xab, 0x12 and 0x9c at 4 bits of precision.
-fn coarse_of(alloc: Global) -> Option<ChainCoder<u8, u16, Vec<u8>, Vec<u8>, 4>> {
-    ChainCoder::from_compressed(alloc, [0xabu8, 0x12, 0x9c].to_vec(alloc).ok()?).ok()
 }
 
 /// The quantiles are 30, 200 and 10.
@@ -67,21 +60,25 @@ fn symbols_out_of_words_and_back(rt: HostRuntime) -> Result<(), Fail> {
     Ok(())
 }
 
-/// Two coders of which one has another table at the second place: the quantiles are 2 and 1.
+/// Two coders of which one has another table at the second place: the quantiles are 20 and 10.
 #[test]
 fn symbols_stay_at_every_place(rt: HostRuntime) -> Result<(), Fail> {
     let first = [
-        Coarse::new(rt.alloc(), &[5, 11])?,
-        Coarse::new(rt.alloc(), &[1, 15])?,
+        Table::new(rt.alloc(), &[16, 240])?,
+        Table::new(rt.alloc(), &[100, 156])?,
     ];
     let other = [
-        Coarse::new(rt.alloc(), &[5, 11])?,
-        Coarse::new(rt.alloc(), &[8, 8])?,
+        Table::new(rt.alloc(), &[16, 240])?,
+        Table::new(rt.alloc(), &[5, 251])?,
     ];
-    let (Some(mut coder), Some(mut same)) = (coarse_of(rt.alloc()), coarse_of(rt.alloc())) else {
+    let words = [10u8, 20, 30];
+    let (Some(mut coder), Some(mut same)) = (
+        coder_of(rt.alloc(), &words),
+        coder_of(rt.alloc(), &words),
+    ) else {
         return Err(Fail::from("refused"));
     };
-    let Ok((one, two)) = decode_by_two::<u8, u16, Vec<u8>, Vec<u8>, _, _, 4>(
+    let Ok((one, two)) = decode_by_two::<u8, u16, Vec<u8>, Vec<u8>, _, _, 8>(
         rt.alloc(),
         &mut coder,
         &first,
@@ -90,7 +87,7 @@ fn symbols_stay_at_every_place(rt: HostRuntime) -> Result<(), Fail> {
     ) else {
         return Err(Fail::from("refused"));
     };
-    assert_eq!(rt; one.as_slice(), [0usize, 1].as_slice());
-    assert_eq!(rt; two.as_slice(), [0usize, 0].as_slice());
+    assert_eq!(rt; one.as_slice(), [1usize, 0].as_slice());
+    assert_eq!(rt; two.as_slice(), [1usize, 1].as_slice());
     Ok(())
 }

@@ -48,7 +48,7 @@ fn from_words(alloc: Global, tables: &[Table; 2]) -> Option<bool> {
     Some(again.as_slice() == SYMBOLS.as_slice() && ended)
 }
 
-/// An encoder with the symbols on it, the position before the second, and the words.
+/// An encoder with the symbols on it.
 fn coded(alloc: Global, tables: &[Table; 2]) -> Option<Small> {
     let mut encoder = Small::new(alloc);
     if Encode::<8>::symbols_left(&encoder) < 2 {
@@ -89,6 +89,7 @@ fn symbols_come_back_from_an_encoder_that_goes_on(rt: HostRuntime) -> Result<(),
             &tables,
         ).ok(),)
     );
+    assert!(rt; encoder.into_compressed()?.as_slice() == [127u8, 127, 1].as_slice());
     Ok(())
 }
 
