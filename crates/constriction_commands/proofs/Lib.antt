@@ -12,3 +12,4 @@ pub mod TextLines
 pub mod TreeTexts
 pub mod Taken
 pub mod Writing
+pub mod Starting

@@ -6,3 +6,4 @@ pub mod Codewords
 pub mod commands
 pub mod Answers
 pub mod Written
+pub mod Starting

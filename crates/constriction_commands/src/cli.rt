@@ -8,6 +8,7 @@ ghost use Rattle.std.specs.Process.{exit_status};
 ghost use Rattle.std.specs.Vec.Iter.{into_iter_items};
 ghost use Rattle.constriction_commands.specs.Answers.{Names, NamesNone, Answers, IsAnswered, Fails, Stops};
 ghost use Rattle.constriction_commands.specs.Answers.{words_behind_name};
+ghost use Rattle.constriction_commands.specs.Starting.{BeginsAnswer, ProgramStops};
 ghost use Rattle.constriction_commands.specs.Written.{GrowsByBeginning, fault_line, usage_line};
 ghost use Rattle.constriction_commands.specs.declared.fault.Fault.{Fault};
 ghost use Rattle.constriction_commands.specs.declared.fault.Fault.TheVariants.{OutOfMemory, Unreadable, Unwritable};
@@ -145,6 +146,11 @@ pub fn start<R: Read, O: Write, E: Write>(
         × GrowsByBeginning (E.contents faults.old) (E.contents faults.new) (fault_line OutOfMemory)) }
     ensures kept { exit_status result ≡ 2 → (output.new ≡ output.old) × (input.new ≡ input.old) }
     ensures unread { IfErr given (λ _. output.new ≡ output.old) }
+    // Whatever the status, what was written is a beginning of the answer.
+    ensures whole { (output.new ≡ output.old) ⊎ IsOkAnd given (λ words. BeginsAnswer (words_behind_name
+        (into_iter_items words)) (R.remaining input.old) (O.contents output.old) (O.contents output.new)) }
+    ensures err { exit_status result ≡ 1 → (fault : Fault) × ProgramStops given (R.remaining input.old) fault
+        × GrowsByBeginning (E.contents faults.old) (E.contents faults.new) (fault_line fault) }
     ensures usage_line { exit_status result ≡ 2
         → GrowsByBeginning (E.contents faults.old) (E.contents faults.new) usage_line }
     ensures not_text { IfErr given (λ error. error_kind error ≢ kind.OutOfMemory → exit_status result ≡ 2) }

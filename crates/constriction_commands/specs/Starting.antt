@@ -1,0 +1,19 @@
+-- What the program writes, and why it stops, by the arguments that the system gave.
+use Rattle.std.specs.Prelude.{Option, ◌≡◌, ℕ, List, Result, IfSome, MatchResult}
+use Rattle.std.specs.Vec.Iter.{into_iter_items}
+use Rattle.std.specs.declared.string.String.{String}
+use Rattle.std.specs.declared.vec.IntoIter.{IntoIter}
+use Rattle.constriction_commands.specs.Answers.{IsAnswered, Stops, words_behind_name}
+use Rattle.constriction_commands.specs.Written.{GrowsByBeginning}
+use Rattle.constriction_commands.specs.declared.fault.Fault.{Fault}
+use Rattle.constriction_commands.specs.declared.fault.Fault.TheVariants.{OutOfMemory}
+
+-- a writer's contents grew by a beginning of what the named command answers the text, if the text is known
+abbrev pub BeginsAnswer : List (List ℕ) → Option (List ℕ) → Option (List ℕ) → Option (List ℕ) → Type 0
+BeginsAnswer arguments known old new = IfSome known (λ text. (answer : List ℕ)
+    × IsAnswered arguments text answer × GrowsByBeginning old new answer)
+
+-- why the program stops: its run with the given arguments does, or memory was missing where none were given
+abbrev pub ProgramStops : {Z X : Type 0} → Result (IntoIter (String Z) Z) X → Option (List ℕ) → Fault → Type 0
+ProgramStops given known fault =
+    MatchResult given (λ words. Stops (words_behind_name (into_iter_items words)) known fault) (λ _. fault ≡ OutOfMemory)
