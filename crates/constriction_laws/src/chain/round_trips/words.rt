@@ -1,7 +1,7 @@
 //! The two halves of the way of words there and back. The law
 //! [`words_come_back`](crate::chain::words::words_come_back) says what joins their states.
 
-ghost use Rattle.std.specs.Prelude.{◌≡◌, ◌<◌, ◌++◌, ℕ, List, length, map, reverse, IfErr, IfOk};
+ghost use Rattle.std.specs.Prelude.{◌≡◌, ◌<◌, ◌++◌, ℕ, List, length, map, reverse, IfErr, IfOk, OnOk};
 ghost use Rattle.constriction_base.specs.Models.{pairs_of};
 ghost use Rattle.constriction_chain.specs.Chain.{ChainState, IsSized};
 ghost use Rattle.constriction_chain.specs.Imports.{FromRemainders, IsWhole};
@@ -75,6 +75,7 @@ pub fn put_back_pairs<
 where
     M::Probability: WordOf<Word>,
     requires { IsSized Word.BITS State.BITS PRECISION }
+    ensures counts { OnOk result (length symbols.now ≡ length models.now) }
     ensures encoded { IfOk result (λ coder. (before : ChainState)
         × FromRemainders Word.BITS State.BITS PRECISION (map Word.number (reverse remainders.items)) before
         × PutsBackAll Word.BITS State.BITS (reverse (pairs_of PRECISION M.table symbols.now models.now)) before

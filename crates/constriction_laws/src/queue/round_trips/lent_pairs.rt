@@ -96,6 +96,7 @@ where
 
 /// Takes a symbol for each of the models from the decoder that an encoder lends: `decoder`, `decode_symbols`. They are
 /// read from the words that the encoder would export, so those that were put on it since it was new come back.
+/// No clause speaks of the encoder afterwards: the language gives no word for what is lent back by a decoder.
 ///
 /// # Errors
 /// - `InvalidData`: the words that the encoder would export hold no list of symbols of the models.

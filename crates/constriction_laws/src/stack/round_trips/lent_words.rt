@@ -1,6 +1,6 @@
 //! Symbols from the words that a coder lends by a guard, and the coder as it was.
 
-ghost use Rattle.std.specs.Prelude.{◌≡◌, List, length, reverse, IfOk, IfErr};
+ghost use Rattle.std.specs.Prelude.{◌≡◌, List, length, reverse, IfOk, IfErr, OnOk};
 ghost use Rattle.constriction_base.specs.Models.{pairs_of};
 ghost use Rattle.constriction_base.specs.Readings.{BeginsHigh};
 ghost use Rattle.constriction_laws.specs.Outcomes.{UnlessInvalid};
@@ -43,6 +43,7 @@ where
         EncodesAll Word.BITS State.BITS (reverse (pairs_of PRECISION M.table symbols models.now))
         before coder.old.state → length symbols ≡ length models.now →
         IfOk result (λ again. again.items ≡ symbols) }
+    ensures high { OnOk result (BeginsHigh (exported Word.BITS coder.old.state)) }
     ensures kept { coder.new.state ≡ coder.old.state }
     ensures err { IfErr result (UnlessInvalid (BeginsHigh (exported Word.BITS coder.old.state) → ⊥)) }
 {

@@ -1,6 +1,6 @@
 //! Symbols that come back from the words that a coder exports.
 
-ghost use Rattle.std.specs.Prelude.{◌≡◌, Bool, List, false, length, map, reverse, IfOk, IfErr};
+ghost use Rattle.std.specs.Prelude.{◌≡◌, ℕ, Bool, List, false, length, map, reverse, IfOk, IfErr, OnOk};
 ghost use Rattle.constriction_base.specs.Models.{pairs_of};
 ghost use Rattle.constriction_base.specs.Readings.{BeginsHigh};
 ghost use Rattle.constriction_base.specs.Iterators.{FusedRead};
@@ -8,7 +8,7 @@ ghost use Rattle.constriction_base.specs.Steps.{IsSizes};
 ghost use Rattle.constriction_laws.specs.Outcomes.{UnlessInvalid};
 ghost use Rattle.constriction_laws.specs.Readings.{TellsItems};
 ghost use Rattle.constriction_stack.specs.Ans.{AnsState, exported, filled, empty};
-ghost use Rattle.constriction_stack.specs.Imports.{ImportRefused};
+ghost use Rattle.constriction_stack.specs.Imports.{FilledBy, ImportRefused};
 ghost use Rattle.constriction_stack.specs.Symbols.{DecodesAll, EncodesAll};
 
 use crate::errors::RoundTripError;
@@ -47,6 +47,7 @@ where
         EncodesAll Word.BITS State.BITS (reverse (pairs_of PRECISION M.table symbols models.now)) empty state →
         map Word.number words.items ≡ exported Word.BITS state → length symbols ≡ length models.now →
         IfOk result (λ again. again.items ≡ symbols) }
+    ensures high { OnOk result (BeginsHigh (map Word.number words.items)) }
     ensures err { IfErr result (UnlessInvalid (BeginsHigh (map Word.number words.items) → ⊥)) }
 {
     let Ok(mut decoder) = AnsCoder::<
@@ -87,6 +88,8 @@ where
         EncodesAll Word.BITS State.BITS (reverse (pairs_of PRECISION M.table symbols models.now)) empty state →
         map Word.number (words items) ≡ exported Word.BITS state → length symbols ≡ length models.now →
         IfOk result (λ again. again.items ≡ symbols) }
+    ensures imported { IfOk result (λ _. (head : ℕ) × (there : Iter × Bool) × FilledBy Word.number
+        (FusedRead Iter.next_gives) Word.BITS State.BITS (items, false) head there) }
     ensures err { IfErr result (UnlessInvalid ((rest : Iter) × (done : Bool)
         × ImportRefused Word.number (FusedRead Iter.next_gives) Word.BITS State.BITS (items, false) (rest, done))) }
 {

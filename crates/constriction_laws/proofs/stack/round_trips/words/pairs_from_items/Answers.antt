@@ -41,3 +41,8 @@ returns-clause-back g c = λ words symbols state tells coded same count.
     c.requires.sizes (are_turned P table w symbols models lawful) (c.items_are_words.ensures words tells, (state, coded, same)) (c.in-Ok.decoder, c.in-Ok.ensures.reads, c.in-Ok.ensures.coder.head_fits, read)
     (models_alike P table symbols again.items models count many) in
     symbols_alike P table symbols again.items models count many back.0))
+
+pub returns-clause-imported : goal.returns-clause-imported
+returns-clause-imported g c =
+    let start = c.in-Ok.decoder in
+    ok_weaker c.decode_pairs.result c.decode_pairs.ensures.count (λ _ _. (start.state.head, start.backend, c.in-Ok.ensures.reads))
