@@ -5,9 +5,10 @@ ghost use Rattle.constriction_base.specs.Steps.{IsSizes};
 use crate::parts::{is_interval, state_of};
 use constriction_base::backends::{BoundedReadWords, Queue, Seek};
 use constriction_base::cursor::Cursor;
+use constriction_base::model::DecoderModel;
 use constriction_base::weights::WeightTable;
 use constriction_queue::RangeDecoder;
-use constriction_scripts::answers::{DONE, OTHER, answer_if};
+use constriction_scripts::answers::{DONE, OTHER, Told, answer_if};
 use constriction_scripts::numbers::Number;
 use constriction_scripts::script::{Act, Script, find};
 use constriction_scripts::taking::take_by;
@@ -93,13 +94,30 @@ where
     }
 }
 
-/// Does an act with a decoder.
+/// Whether a decoder takes symbols off as an act says.
+fn takes<C, M, const PRECISION: usize>(
+    alloc: Global,
+    coder: &mut C,
+    model: &M,
+    act: &Act<'_>,
+) -> bool
+where
+    C: Decode<PRECISION>,
+    C::FrontendError: Told + Drop,
+    C::BackendError: Told + Drop,
+    M: DecoderModel<PRECISION, Symbol = usize>,
+    M::Probability: WordOf<C::Word>,
+{
+    take_by(alloc, coder, model, act).unwrap_or(OTHER) == act.answer
+}
+
+/// Whether a decoder does what an act says.
 fn decode_by<Word, State, Probability, const PRECISION: usize>(
     alloc: Global,
     decoder: &mut Lent<'_, Word, State>,
     table: &WeightTable<Probability, PRECISION>,
     act: &Act<'_>,
-) -> &'static str
+) -> bool
 where
     Word: WordOf<State>,
     State: BitArray + Number,
@@ -107,16 +125,17 @@ where
     requires { IsSizes Word.BITS State.BITS }
 {
     let Some(verb) = find(VERBS, act.verb) else {
-        return take_by(alloc, decoder, table, act).unwrap_or(OTHER);
+        return takes(alloc, decoder, table, act);
     };
-    match verb {
+    let answer = match verb {
         Verb::Seek => seek(decoder, act),
         Verb::Parts => make_parts(decoder, act),
         Verb::At => answer_if(is_interval(decoder.state(), act.numbers, 0)),
         Verb::Stands => answer_if(stands(decoder, act)),
         Verb::Exhausted => answer_if(Decode::<PRECISION>::maybe_exhausted(decoder)),
         Verb::Unfinished => answer_if(!Decode::<PRECISION>::maybe_exhausted(decoder)),
-    }
+    };
+    answer == act.answer
 }
 
 /// Goes through a script with a decoder, and returns the first act that it doesn't do as the script says.
@@ -134,7 +153,7 @@ where
 {
     for at in 0..script.len() {
         let act = script.act(at);
-        if decode_by(alloc, decoder, table, &act) != act.answer {
+        if !decode_by(alloc, decoder, table, &act) {
             return Some(act.text);
         }
     }

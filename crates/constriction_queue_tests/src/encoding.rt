@@ -6,6 +6,7 @@ use crate::parts::{is_interval, is_situation, situation_of, state_of};
 use constriction_base::backends::Pos;
 use constriction_base::cursor::Cursor;
 use constriction_base::errors::ReadWriteError;
+use constriction_base::model::DecoderModel;
 use constriction_base::weights::WeightTable;
 use constriction_queue::{EncoderGuard, RangeDecoder, RangeEncoder};
 use constriction_scripts::answers::{DONE, MEMORY, OTHER, Told, answer_if};
@@ -344,11 +345,22 @@ where
     State: BitArray,
     Probability: WordOf<Word>,
 {
-    let answer = take_each(&mut decoder, table, symbols);
-    if is_ended && !Decode::<PRECISION>::maybe_exhausted(&decoder) {
+    if !takes_each(&mut decoder, table, symbols) {
         return OTHER;
     }
-    answer
+    answer_if(!is_ended || Decode::<PRECISION>::maybe_exhausted(&decoder))
+}
+
+/// Whether a decoder gives these symbols.
+fn takes_each<C, M, const PRECISION: usize>(coder: &mut C, model: &M, symbols: &[usize]) -> bool
+where
+    C: Decode<PRECISION>,
+    C::FrontendError: Told + Drop,
+    C::BackendError: Told + Drop,
+    M: DecoderModel<PRECISION, Symbol = usize>,
+    M::Probability: WordOf<C::Word>,
+{
+    take_each(coder, model, symbols) == DONE
 }
 
 /// A decoder that owns its words.
