@@ -69,7 +69,7 @@ impl<B: WriteWords<u32>> WriteWords<u32> for Counted<B> {
 
     ghost full_law = { λ b. B.full_law b.inner };
 
-    ghost knows_words = { ⟦<B as WriteWords<u32>>⟧.knows_words };
+    ghost knows_words = { B.knows_words };
 }
 
 impl<B: PosSeek> PosSeek for Counted<B> {
