@@ -59,22 +59,24 @@ where
         && act.symbols.get(3) == Some(&BoundedReadWords::<Word, Queue>::remaining(&bulk))
 }
 
-/// Goes to a place.
-fn seek<Word, State>(decoder: &mut Lent<'_, Word, State>, act: &Act<'_>) -> &'static str
+/// Whether going to a place answers what an act says.
+fn seeks<Word, State>(decoder: &mut Lent<'_, Word, State>, act: &Act<'_>) -> bool
 where
     Word: WordOf<State>,
     State: BitArray + Number,
     requires { IsSizes Word.BITS State.BITS }
 {
-    match (act.symbols.first(), state_of::<Word, State>(act.numbers, 1)) {
+    let answer = match (act.symbols.first(), state_of::<Word, State>(act.numbers, 1)) {
         (Some(place), Some(state)) if decoder.seek((*place, state)).is_ok() => DONE,
         (Some(_), Some(_)) => "none",
         _ => OTHER,
-    }
+    };
+    answer == act.answer
 }
 
-/// Makes a decoder of parts, over the end of no words: none where the point isn't in the interval.
-fn make_parts<Word, State>(decoder: &mut Lent<'_, Word, State>, act: &Act<'_>) -> &'static str
+/// Whether making a decoder of parts, over the end of no words, answers what an act says: none where the point isn't in
+/// the interval.
+fn makes_parts<Word, State>(decoder: &mut Lent<'_, Word, State>, act: &Act<'_>) -> bool
 where
     Word: WordOf<State>,
     State: BitArray + Number,
@@ -82,15 +84,15 @@ where
 {
     let (Some(state), Some(point)) = (state_of::<Word, State>(act.numbers, 0), act.numbers.get(2))
     else {
-        return OTHER;
+        return act.answer == OTHER;
     };
     let words: &[Word] = &[];
     match RangeDecoder::from_raw_parts(Cursor::new_at_write_end(words), state, State::of(*point)) {
         Ok(made) => {
             *decoder = made;
-            DONE
+            act.answer == DONE
         }
-        Err(_) => "none",
+        Err(_) => act.answer == "none",
     }
 }
 
@@ -111,6 +113,11 @@ where
     take_by(alloc, coder, model, act).unwrap_or(OTHER) == act.answer
 }
 
+/// Whether an act says of what it expects whether it is so.
+fn tells(is_so: bool, act: &Act<'_>) -> bool {
+    answer_if(is_so) == act.answer
+}
+
 /// Whether a decoder does what an act says.
 fn decode_by<Word, State, Probability, const PRECISION: usize>(
     alloc: Global,
@@ -127,15 +134,14 @@ where
     let Some(verb) = find(VERBS, act.verb) else {
         return takes(alloc, decoder, table, act);
     };
-    let answer = match verb {
-        Verb::Seek => seek(decoder, act),
-        Verb::Parts => make_parts(decoder, act),
-        Verb::At => answer_if(is_interval(decoder.state(), act.numbers, 0)),
-        Verb::Stands => answer_if(stands(decoder, act)),
-        Verb::Exhausted => answer_if(Decode::<PRECISION>::maybe_exhausted(decoder)),
-        Verb::Unfinished => answer_if(!Decode::<PRECISION>::maybe_exhausted(decoder)),
-    };
-    answer == act.answer
+    match verb {
+        Verb::Seek => seeks(decoder, act),
+        Verb::Parts => makes_parts(decoder, act),
+        Verb::At => tells(is_interval(decoder.state(), act.numbers, 0), act),
+        Verb::Stands => tells(stands(decoder, act), act),
+        Verb::Exhausted => tells(Decode::<PRECISION>::maybe_exhausted(decoder), act),
+        Verb::Unfinished => tells(!Decode::<PRECISION>::maybe_exhausted(decoder), act),
+    }
 }
 
 /// Goes through a script with a decoder, and returns the first act that it doesn't do as the script says.
