@@ -3,7 +3,7 @@
 ghost use Rattle.constriction_base.specs.Steps.{IsSizes};
 ghost use Rattle.std.specs.Prelude.{◌≤◌};
 
-use crate::decoding::{Lent, follow_decoding};
+use crate::decoding::{Owning, follow_decoding};
 use crate::encoding::follow;
 use constriction_base::cursor::Cursor;
 use constriction_base::weights::WeightTable;
@@ -82,7 +82,7 @@ where
 /// Goes through a script with a decoder, by a table of the weights.
 fn decode_on<Word, State, Probability, const PRECISION: usize>(
     alloc: Global,
-    decoder: &mut Lent<'_, Word, State>,
+    decoder: &mut Owning<Word, State>,
     part: Part<'_, Probability>,
 ) -> Option<&'static str>
 where
@@ -114,6 +114,9 @@ where
     requires sizes { IsSizes Word.BITS State.BITS }
     requires precision { (1 ≤ PRECISION) × (PRECISION ≤ Probability.BITS) }
 {
+    let Ok(words) = words.to_vec(alloc) else {
+        return Some(MEMORY);
+    };
     let Ok(mut decoder) = RangeDecoder::with_backend(Cursor::new_at_write_beginning(words)) else {
         return Some("no decoder");
     };

@@ -1,4 +1,4 @@
-//! The acts of scripts on decoders over borrowed words.
+//! The acts of scripts on decoders.
 
 ghost use Rattle.constriction_base.specs.Steps.{IsSizes};
 
@@ -19,6 +19,10 @@ use std::alloc::{AllocError, Global};
 
 /// A decoder over words that it borrows.
 pub type Lent<'a, Word, State> = RangeDecoder<Word, State, Cursor<Word, &'a [Word]>>;
+
+/// A decoder that owns its words: scripts go through these, since the checker has no proof of a generic call on a borrowing one
+/// that returns a text.
+pub type Owning<Word, State> = RangeDecoder<Word, State, Cursor<Word, Vec<Word>>>;
 
 /// What is done with a decoder, or expected of it.
 #[derive(Clone, Copy)]
@@ -44,12 +48,12 @@ const VERBS: &[(&str, Verb)] = &[
 ];
 
 /// Compares where a decoder stands, by taking a clone apart.
-fn stands<Word, State>(decoder: &Lent<'_, Word, State>, act: &Act<'_>) -> bool
+fn stands<Word, State>(decoder: &Owning<Word, State>, act: &Act<'_>) -> bool
 where
     Word: WordOf<State>,
     State: BitArray + Number,
 {
-    let clone: Result<Lent<'_, Word, State>, AllocError> = decoder.clone();
+    let clone: Result<Owning<Word, State>, AllocError> = decoder.clone();
     let Ok(clone) = clone else {
         return false;
     };
@@ -60,7 +64,7 @@ where
 }
 
 /// Whether going to a place answers what an act says.
-fn seeks<Word, State>(decoder: &mut Lent<'_, Word, State>, act: &Act<'_>) -> bool
+fn seeks<Word, State>(decoder: &mut Owning<Word, State>, act: &Act<'_>) -> bool
 where
     Word: WordOf<State>,
     State: BitArray + Number,
@@ -76,7 +80,7 @@ where
 
 /// Whether making a decoder of parts, over the end of no words, answers what an act says: none where the point isn't in
 /// the interval.
-fn makes_parts<Word, State>(decoder: &mut Lent<'_, Word, State>, act: &Act<'_>) -> bool
+fn makes_parts<Word, State>(alloc: Global, decoder: &mut Owning<Word, State>, act: &Act<'_>) -> bool
 where
     Word: WordOf<State>,
     State: BitArray + Number,
@@ -86,8 +90,8 @@ where
     else {
         return act.answer == OTHER;
     };
-    let words: &[Word] = &[];
-    match RangeDecoder::from_raw_parts(Cursor::new_at_write_end(words), state, State::of(*point)) {
+    let none: Cursor<Word, Vec<Word>> = Cursor::new_at_write_end(Vec::new(alloc));
+    match RangeDecoder::from_raw_parts(none, state, State::of(*point)) {
         Ok(made) => {
             *decoder = made;
             act.answer == DONE
@@ -121,7 +125,7 @@ fn tells(is_so: bool, act: &Act<'_>) -> bool {
 /// Whether a decoder does what an act says.
 fn decode_by<Word, State, Probability, const PRECISION: usize>(
     alloc: Global,
-    decoder: &mut Lent<'_, Word, State>,
+    decoder: &mut Owning<Word, State>,
     table: &WeightTable<Probability, PRECISION>,
     act: &Act<'_>,
 ) -> bool
@@ -136,7 +140,7 @@ where
     };
     match verb {
         Verb::Seek => seeks(decoder, act),
-        Verb::Parts => makes_parts(decoder, act),
+        Verb::Parts => makes_parts(alloc, decoder, act),
         Verb::At => tells(is_interval(decoder.state(), act.numbers, 0), act),
         Verb::Stands => tells(stands(decoder, act), act),
         Verb::Exhausted => tells(Decode::<PRECISION>::maybe_exhausted(decoder), act),
@@ -147,7 +151,7 @@ where
 /// Goes through a script with a decoder, and returns the first act that it doesn't do as the script says.
 pub fn follow_decoding<Word, State, Probability, const PRECISION: usize>(
     alloc: Global,
-    decoder: &mut Lent<'_, Word, State>,
+    decoder: &mut Owning<Word, State>,
     table: &WeightTable<Probability, PRECISION>,
     script: &Script,
 ) -> Option<&'static str>

@@ -2,6 +2,7 @@
 
 ghost use Rattle.constriction_base.specs.Steps.{IsSizes};
 
+use crate::decoding::Owning;
 use crate::parts::{is_interval, is_situation, situation_of, state_of};
 use constriction_base::backends::Pos;
 use constriction_base::cursor::Cursor;
@@ -362,9 +363,6 @@ where
 {
     take_each(coder, model, symbols) == DONE
 }
-
-/// A decoder that owns its words.
-type Owning<Word, State> = RangeDecoder<Word, State, Cursor<Word, Vec<Word>>>;
 
 /// Has a decoder that an encoder became give symbols.
 fn owned_by<Word, State, Probability, const PRECISION: usize>(
