@@ -1,5 +1,5 @@
 """The ends of the names that the checker has for functions, by the sources: `function` where a crate has one of that name alone, or else
-`Type::method`, `TypeTraitArguments::method`, and `Type+ARGUMENTS::method` for methods of a type with some arguments alone."""
+`module::function`, `Type::method`, `TypeTraitArguments::method`, and `Type+ARGUMENTS::method` for methods of a type with some arguments alone."""
 
 import functools
 import re
@@ -29,7 +29,9 @@ def name_of(crate_folder, path, function):
     named = [(file, it) for file, it in functions(crate_folder) if it.name == function]
     if len(named) == 1 and function not in DERIVED:
         return [function]
-    return sorted({"::".join([*owner(it.head), function]) for file, it in named if file == f"{crate_folder}/src/{path}.rt"})
+    module = [] if path in ("lib", "main") else path.split("/")
+    here = [it for file, it in named if file == f"{crate_folder}/src/{path}.rt"]
+    return sorted({"::".join([*(owner(it.head) or module), function]) for it in here})
 
 
 def owner(head):
