@@ -1,4 +1,4 @@
-"""README.md: what its commands print, its table of speed, the gate's multiple, and how long it is."""
+"""README.md and docs/PROGRAM.md: what commands print; README.md's table of speed, its number of crates and the gate's multiple."""
 
 from __future__ import annotations
 
@@ -56,16 +56,38 @@ def gate():
     judge(said and f"about {said[1]} times" in read("README.md"), "README.md: the gate's multiple")
 
 
-def commands(page):
-    """The program's commands, by the coders' definitions."""
+def crates_below(name):
+    """The crates of crates.txt that this one stands on, and itself."""
+    uses = {}
+    for line in read("crates.txt").splitlines():
+        head, _, rest = line.partition("#")[0].partition(":")
+        if head.split():
+            uses[head.split()[0]] = rest.split()
+    found, left = set(), [name]
+    while left:
+        crate = left.pop()
+        if crate in uses and crate not in found:
+            found.add(crate)
+            left += uses[crate]
+    return found
+
+
+def crates(page):
+    """The first call proves as many crates as the program is made of."""
+    page.has(f"the program's {len(crates_below('constriction_cli'))} crates")
+
+
+def commands(readme, program):
+    """The program's commands, by the coders' definitions: the first two in README.md, the others in docs/PROGRAM.md."""
 
     def prints(command, text, answer):
+        page = readme if command.startswith("ans-") else program
         page.has(f"printf '{text}\\n' | ./constriction {command} # {answer}")
 
     def shown(numbers):
         return " ".join(map(str, numbers))
 
-    page.has(f"first 0 becomes 3, and a second time 3 becomes {3 // 2 * 2**24 + 3 + 3 % 2}")
+    readme.has(f"first 0 becomes 3, and a second time 3 becomes {3 // 2 * 2**24 + 3 + 3 % 2}")
     words = shown(by.ans_words([[3, 2, 16777211]] * 2, [1, 1]))
     prints("ans-encode", "3 2 16777211\\n1 1", f"prints {words}")
     prints("ans-decode", f"3 2 16777211\\n2 {words}", "prints 1 1")
@@ -89,10 +111,9 @@ def commands(page):
 
 def test():
     page = Page("README.md")
-    commands(page)
+    commands(page, Page("docs/PROGRAM.md"))
+    crates(page)
     speed(page)
     gate()
     rounding = f"{log2(1 + 2 ** -(64 - 32 - 24)):.4f}"
     page.has(f"bits a step for rounding ({rounding} at 24 bits, words of 32 and states of 64), and a state's bits")
-    count = len(read("README.md").splitlines())
-    judge(count <= 150, f"README.md has {count} lines")
