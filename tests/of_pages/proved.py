@@ -50,7 +50,7 @@ def judge_row(row, crates, parts, words):
 
 
 def test():
-    for section in re.split(r"^## ", read("docs/PROVED.md"), flags=re.M)[2:]:
+    for section in re.split(r"^## ", read("docs/PROVED.md"), flags=re.M)[1:]:
         crates = re.findall(r"`(constriction\w*)`", section.splitlines()[0])
         if not crates:
             continue
