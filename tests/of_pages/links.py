@@ -1,4 +1,4 @@
-"""Each link of a page leads to a file, and to a heading where it names one."""
+"""Each link of a page leads to a file, and to a heading where it names one; and bench/words names rows of docs/DIFFERENCES.md."""
 
 from __future__ import annotations
 
@@ -31,3 +31,6 @@ def test():
         for link in re.findall(r"\]\(([^)\s]+)\)", text):
             if not re.match(r"[a-z]+:", link):
                 judge(leads(page, link.lstrip("/")), f"{page}: the link {link} leads nowhere")
+    differences = read("docs/DIFFERENCES.md")
+    for row in re.findall(r'^[A-Z_]+ = "(.*)"$', read("bench/of_words/verdict.py"), flags=re.M):
+        judge(f"| {row}" in differences, f"docs/DIFFERENCES.md: no row begins with: {row}")
