@@ -40,7 +40,7 @@ last_missing h owed old new is = record { later = h ∷ []; written = owed; miss
 module _ {W B E S : Type 0} (number : W → ℕ) (holds : holding.Ghosts B W S) (writes : writing.Ghosts B W E) where
   -- no words are written, and nothing is asked for
   pub appends_none : (b : B) → Appends number holds writes [] b (Ok tt) b
-  appends_none b = record { words = refl; room_used = omega arith; untouched = λ e. (refl, refl); begun = tt; short = tt; kept = λ m. tt; error = tt }
+  appends_none b = record { words = refl; in_turn = λ some. absurd (omega (arith, some)); room_used = omega arith; untouched = λ e. (refl, refl); begun = tt; short = tt; kept = λ m. tt; error = tt }
 
   -- no room was made
   pub not_prepared : ((b : B) (count : ℕ) (e : E) → count ≤ writes.room b → writes.prepare_fails b count e → ⊥) → (owed : List ℕ) (old new : B) (e : E) → writes.prepare_fails old (length owed) e
@@ -48,6 +48,7 @@ module _ {W B E S : Type 0} (number : W → ℕ) (holds : holding.Ghosts B W S) 
   not_prepared law owed old new e fails same some =
       record {
         words = tt;
+        in_turn = tt;
         room_used = tt;
         untouched = λ none. absurd (omega (arith, some, ap length none));
         begun = rw same (begun_none owed (map number (holds.words old)) some);
@@ -119,6 +120,7 @@ module _ {W B E S : Type 0} (number : W → ℕ) (holds : holding.Ghosts B W S) 
   appended owed old mid new (Ok done) prepared some i =
       record {
         words = rw (← prepared.words) i.words;
+        in_turn = λ _. (mid, prepared, i.in_turn);
         room_used = omega (arith, prepared.room, i.room_used);
         untouched = λ none. absurd (omega (arith, some, ap length none));
         begun = tt;
@@ -129,6 +131,7 @@ module _ {W B E S : Type 0} (number : W → ℕ) (holds : holding.Ghosts B W S) 
   appended owed old mid new (Err e) prepared some i =
       record {
         words = tt;
+        in_turn = tt;
         room_used = tt;
         untouched = λ none. absurd (omega (arith, some, ap length none));
         begun = rw (← prepared.words) i.begun;

@@ -67,6 +67,8 @@ pub record WritesAll {W B E S : Type 0} (number : W → ℕ) (holds : holding.Gh
 -- the same of a call that asks for room for them all first
 pub record Appends {W B E S : Type 0} (number : W → ℕ) (holds : holding.Ghosts B W S) (writes : writing.Ghosts B W E) (owed : List ℕ) (old : B) (answer : Result (Unit {0}) E) (new : B) : Type 0 where
   pub words : OnOk answer (map number (holds.words new) ≡ owed ++ map number (holds.words old))
+  -- each by a write of its own behind the one request for room
+  pub in_turn : OnOk answer (0 < length owed → (ready : B) × IsPrepared holds writes (length owed) old ready × WrittenInTurn number writes owed ready new)
   pub room_used : OnOk answer (writes.room old ≤ writes.room new + length owed)
   -- where there are none, the backend isn't touched
   pub untouched : owed ≡ [] → IsOk answer × (new ≡ old)

@@ -42,8 +42,8 @@ impl From<AllocError> for TableError {
 
 /// A model of the symbols `0`, `1`, .. by their weights, which add up to two to the precision.
 ///
-/// Symbol `i` has an interval as long as the `i`th weight, right behind those of the symbols before
-/// it. A symbol of weight 0, or past the list, is impossible.
+/// The intervals stand in the order of the list, each as long as its symbol's weight. There is none for
+/// a weight of 0, nor for a number past the list: such a symbol is impossible.
 ///
 /// A quantile's symbol is looked up in two steps: its high bits, its bucket, name the few symbols
 /// that it can be, and a binary search among these, mostly of no step at all, finds the one.

@@ -14,8 +14,8 @@ use std::alloc::{AllocError, Global};
 
 /// A model of the symbols `0`, `1`, .. by their weights, which a caller lends: nothing is copied.
 ///
-/// Symbol `i` has an interval as long as the `i`th weight, right behind those of the symbols before it. A symbol of
-/// weight 0, or past the list, is impossible. Each look-up goes over the weights from the first on.
+/// The intervals stand in the order of the list, each as long as its symbol's weight; a weight of 0, and a number past
+/// the list, have none. Each look-up goes over the weights from the first on.
 #[derive(Drop)]
 pub struct Row<'a, P: BitArray, const PRECISION: usize> {
     weights: &'a [P],

@@ -21,7 +21,7 @@ use std::marker::PhantomData;
 /// # Examples
 ///
 /// ```
-/// let quantizer = LeakyQuantizer::<u32, 24>::new(-100, 100)?;
+/// let quantizer = LeakyQuantizer::<u32, 24>::new(-127, 128)?;
 /// if let Some(gaussian) = Gaussian::new(229376, 147456) {
 ///     // Of mean 3.5 and deviation 2.25, in 65536ths.
 ///     coder.encode_symbol(&7, quantizer.quantize(gaussian))?;

@@ -31,7 +31,7 @@ leaves_from index (weight ∷ weights) =
 abbrev pub united : Weighed → Weighed → ℕ → Weighed
 united x y index = record { weight = x.weight + y.weight; index = index; tree = Node x.tree y.tree }
 
--- the two least are replaced by their union under the next index, so many times at most, until one is left
+-- so many times at most: where there are two, the first two of the sorted set leave it, and their union comes in with the next index
 abbrev pub merged : ℕ → ℕ → List Weighed → List Weighed
 merged zero next set = set
 merged (suc n) next (x ∷ y ∷ set) = merged n (next + 1) (put_in (united x y next) set)

@@ -26,8 +26,8 @@ use smallvec::SmallVec;
 use std::alloc::{AllocError, Global};
 use std::marker::{Model, PhantomData};
 
-/// A list of bits over words of the type `Word`. A word holds its bits from the lowest up, and a full word stays
-/// outside the backend until the next bit comes.
+/// A list of bits over words of the type `Word`. Bits fill a word from its lowest place upwards. A word that is full
+/// goes to the backend with the next bit, and not before.
 ///
 /// Contracts see a `BitsValue`: all bits, those of the word outside the backend, and the backend.
 #[derive(Debug, Drop)]

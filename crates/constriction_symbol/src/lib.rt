@@ -6,8 +6,8 @@
 //! the last one first. Codebooks can be mixed in one stream.
 //!
 //! ```
-//! let golomb = ExpGolomb::<u32>::new();
 //! let mut encoder = DefaultQueueEncoder::new(alloc);
+//! let golomb = ExpGolomb::<u32>::new();
 //! encoder.encode_iid_symbols([0u32, 5, 7].iter(), &golomb)?; // the bits 1, 00110, 0001000
 //!
 //! let mut decoder = encoder.into_decoder()?;
