@@ -1,4 +1,4 @@
-"""Code that a page says is of a file stands in that file, and examples print what the definitions give."""
+"""Code that a page says is of a file stands in that file, and the example programs print what the definitions give."""
 
 from __future__ import annotations
 
@@ -51,16 +51,16 @@ def programs():
 
 
 def prints():
-    """What the programs print, as far as it is computed."""
-    page, words = Page("docs/EXAMPLES.md"), [1, 2, 0x9ABCDEF0, 0x12345678, 256]
+    """What the programs that docs/EXAMPLES.md links to print, as far as it is computed."""
+    page, words = Page(f"{EXAMPLES}/src/programs/chain.rt"), [1, 2, 0x9ABCDEF0, 0x12345678, 256]
     page.has(f"let words = [1, 2, 0x{words[2]:x}, 0x{words[3]:x}, 256]")
     page.has("&[8388608, 4194304, 4194304]")
     symbols, left, _ = by.chain_split([[8388608, 4194304, 4194304]] * 2, words)
     page.has(f'println!(rt; "{{symbols:?}}")?; // {listed(symbols)}')
     page.has(f'println!(rt; "{{prefix:?}} {{exported:?}}")?; // {listed(left)} {listed(words[len(left):])}')
-    codewords = [by.golomb_codeword(number) for number in (0, 5, 7)]
+    page, codewords = Page(f"{EXAMPLES}/src/programs/bits.rt"), [by.golomb_codeword(number) for number in (0, 5, 7)]
     page.has(f"0 is {codewords[0]}, 5 is {codewords[1]}, 7 is {codewords[2]}")
-    codewords = by.huffman_codewords([2, 2, 4, 1, 1])
+    page, codewords = Page(f"{EXAMPLES}/src/programs/huffman.rt"), by.huffman_codewords([2, 2, 4, 1, 1])
     page.has(f"The codewords {', '.join(codewords[:-1])} and {codewords[-1]}")
 
 
