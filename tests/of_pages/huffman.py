@@ -69,14 +69,14 @@ def nodes(page, steps, ways):
         node = parents[node // 2]
     first, second, third = (f"{node} (bit {node % 2}, union {node // 2})" for node in climb)
     bits = series(node % 2 for node in climb)
-    page.has(f"From the leaf of symbol 3 it goes up by {first}, {second} and {third} to the root. That is {bits}")
+    page.has(f"From the leaf of symbol 3 the encoder goes up by {first}, {second} and {third} to the root. That is {bits}")
 
     page.row("Union", *[union for _, _, _, union, _ in steps])
     page.row("Bit 0, bit 1", *[f"{first}, {second}" for _, first, second, _, _ in steps])
     down = [steps[-1][3]]
     for bit in ways[3]:
         down.append(steps[down[-1] - len(WEIGHTS)][1 + int(bit)])
-    page.has(f"It begins at the root, {down[0]}, and takes a bit")
+    page.has(f"The decoder begins at the root, {down[0]}, and takes a bit")
     page.has(f"After the bits {series(ways[3])} it has gone from {down[0]} by {down[1]} and {down[2]} to {down[3]}")
     judge(down[3] == 3 and ways[0] == "00" and ways[5] == "10", "where first bits lead")
     page.has("the bits 00, 000 and 0011 lead to symbol 0 and take 2; the bits 10 lead to union 5")
