@@ -1,4 +1,7 @@
-"""docs/DEFINITIONS.md: what each file of definitions has, by the first sentence of its first comment. Run by itself this file writes the page."""
+"""docs/DEFINITIONS.md: what each file of definitions has, by the first sentence of its first comment.
+
+Run by itself this file writes the page.
+"""
 
 from __future__ import annotations
 
@@ -10,8 +13,9 @@ from judging import TOP, judge, read
 PAGE = "docs/DEFINITIONS.md"
 HEAD = """# Where a definition lives
 
-Contracts cite definitions from the `specs/` folder of each crate. This page lists the files by crate, with the first sentence of each.
-`python3 tests/of_pages/defined.py` writes it, and `tests/pages` fails where it is stale. The facade `constriction` passes definitions on and has none.
+Contracts cite definitions from the `specs/` folder of each crate. This page lists the files by crate, with the first
+sentence of each. `python3 tests/of_pages/defined.py` writes it, and `tests/pages` fails where it is stale. The facade
+`constriction` passes definitions on and has none.
 """
 
 
@@ -43,7 +47,8 @@ def page():
 
 
 def test():
-    judge(os.path.exists(f"{TOP}/{PAGE}") and read(PAGE) == page(), f"{PAGE} is stale: python3 tests/of_pages/defined.py writes it")
+    current = os.path.exists(f"{TOP}/{PAGE}") and read(PAGE) == page()
+    judge(current, f"{PAGE} is stale: python3 tests/of_pages/defined.py writes it")
 
 
 if __name__ == "__main__":

@@ -69,7 +69,8 @@ def nodes(page, steps, ways):
         node = parents[node // 2]
     first, second, third = (f"{node} (bit {node % 2}, union {node // 2})" for node in climb)
     bits = series(node % 2 for node in climb)
-    page.has(f"From the leaf of symbol 3 the encoder goes up by {first}, {second} and {third} to the root. That is {bits}")
+    climbed = f"From the leaf of symbol 3 the encoder goes up by {first}, {second} and {third} to the root."
+    page.has(f"{climbed} That is {bits}")
 
     page.row("Union", *[union for _, _, _, union, _ in steps])
     page.row("Bit 0, bit 1", *[f"{first}, {second}" for _, first, second, _, _ in steps])

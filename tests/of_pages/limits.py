@@ -1,4 +1,4 @@
-"""Pages are short, and say the present: each group of pages has a limit of words, and a date stands only in the caption of a table."""
+"""Pages are short, and say the present: each group has a limit of words, and only the caption of a table has a date."""
 
 from __future__ import annotations
 

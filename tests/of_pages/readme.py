@@ -1,4 +1,4 @@
-"""README.md and docs/PROGRAM.md: what commands print; README.md's table of speed, its number of crates and the gate's multiple."""
+"""README.md and docs/PROGRAM.md: what commands print, the table of speed, the number of crates, the gate's multiple."""
 
 from __future__ import annotations
 
