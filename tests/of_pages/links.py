@@ -1,4 +1,4 @@
-"""Each link of a page leads to a file, and to a heading where it names one; bench/words names rows of DIFFERENCES.md."""
+"""Each link of a page leads to a file, and to a heading where it names one; bench/words names rows of one."""
 
 from __future__ import annotations
 
