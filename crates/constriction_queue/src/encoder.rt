@@ -97,6 +97,9 @@ impl<Word: WordOf<State>, State: BitArray> RangeEncoder<Word, State, Vec<Word>> 
 
 impl<Word: WordOf<State>, State: BitArray, A: Allocator> RangeEncoder<Word, State, Vec<Word, A>> {
     /// Removes all symbols and pending words, and keeps the allocated memory.
+    ///
+    /// Pending words that stayed would spoil the next export: with 8-bit words and weights 127, 1, 127, 1, encoding
+    /// symbol 1 leaves 126 pending, and symbol 0 after a `clear` seals to `[0]` and not to `[126, 0]`.
     pub fn clear(&mut self)
         ensures run { run_by Word.BITS State.BITS self.new ≡ initial State.BITS }
         ensures held { self.new.held ≡ [] }

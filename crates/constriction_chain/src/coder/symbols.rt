@@ -1,6 +1,8 @@
 //! The two steps of the coder: decoding a symbol from the compressed words, and encoding it back.
 //!
 //! The trait `Encode` encodes lists of symbols in their order, and `EncodeReverse` encodes them from last to first.
+//!
+//! A decode that moves a word out without reading one doesn't ask for room first: its write is its only backend call.
 
 ghost use Rattle.constriction_base.specs.Steps.{Step};
 ghost use Rattle.constriction_chain.specs.Steps.{DecodeCall, EncodeCall, Halted, IsEndOfData, IsLackOfRoom};

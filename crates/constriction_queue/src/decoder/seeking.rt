@@ -1,4 +1,7 @@
 //! Seeking a decoder to a position: a number of words and an interval.
+//!
+//! A decoder has no `pos`: encoders record positions. A seek reads the words of a point, so a read can fail after the
+//! backend has moved. The interval and the point stay then (`stays`).
 
 ghost use Rattle.std.specs.Prelude.{◌≡◌, ◌⊎◌, ◌/◌, ◌^◌, ℕ};
 ghost use Rattle.constriction_queue.specs.States.{lower_of, range_of};

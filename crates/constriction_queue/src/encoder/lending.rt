@@ -1,4 +1,7 @@
 //! Lending an encoder's compressed words to a function.
+//!
+//! The function gets words and makes its own decoder, because the language has no bound for a closure that takes a
+//! decoder over a borrowed slice.
 
 ghost use Rattle.std.specs.Prelude.{◌≡◌, ◌+◌, ◌<◌, List, length, map, IfOk, OnErr};
 ghost use Rattle.std.specs.Fn.{FnOnceReturnsAt, FnOnceTakesAt};

@@ -1,4 +1,7 @@
 //! Coders for reading: over other backends, over borrowed words, over words in reading order, and with seeking.
+//!
+//! `into_reversed` goes through the trait `IntoReversed`: separate methods for cursors and reversed cursors have no
+//! proved callers.
 
 ghost use Rattle.constriction_base.specs.Readings.{BeginsHigh};
 ghost use Rattle.constriction_base.specs.Iterators.{FusedRead};

@@ -1,4 +1,8 @@
 //! Guards that lend a coder's compressed words: a guard writes them onto the backend, and its drop removes them.
+//!
+//! Contracts name the borrowed coder and the number of written words by `lender` and `written` of `specs/Guarded.antt`,
+//! because a model of the guard's own couldn't pass on the ghost name of the coder. `backend` says that the backend
+//! holds the coder's words, so a caller who decodes lent words needs no other contract.
 
 ghost use Rattle.constriction_base.specs.Readings.{NeverRefused};
 ghost use Rattle.std.specs.Prelude.{◌≡◌, ◌↔◌, ◌^◌, ◌++◌, ℕ, drop, map, Ok, Err, IfOk, IfErr, OnOk};
