@@ -1,10 +1,10 @@
-//! The coder: what it holds.
+//! The coder and its parts.
 //!
 //! - [`symbols`]: the two steps, `encode_symbol` and `decode_symbol`.
-//! - [`lists`]: lists that are put back from the last to the first.
-//! - [`precision`]: changes of the precision.
-//! - [`words`]: coders from words, and the words of a coder.
-//! - [`seeking`]: positions, and going to them.
+//! - [`lists`]: encoding lists of symbols from last to first.
+//! - [`precision`]: changing the precision.
+//! - [`words`]: importing and exporting words.
+//! - [`seeking`]: recording positions and seeking to them.
 
 pub mod lists;
 pub mod precision;
@@ -22,11 +22,20 @@ use constriction_words::{BitArray, WordOf};
 use std::alloc::AllocError;
 use std::marker::Model;
 
-/// A coder whose symbols come from bits of the compressed words alone, each under its own model: what a
-/// decode leaves of its quantile goes to the remainders, of which an encode takes it back.
+/// A coder that decodes each symbol from bits of the compressed words and from that symbol's model alone.
 ///
-/// Contracts see a `ChainValue`: the state (the two heads and the words of both backends), and the
-/// backends.
+/// A decode moves the rest of its quantile to the remainders, and an encode takes it back from there.
+///
+/// Contracts see a `ChainValue`: the state (the two heads and the words of both backends) and the backends.
+///
+/// # Examples
+///
+/// ```
+/// if let Ok(mut coder) = DefaultChainCoder::from_binary(alloc, words) { // `words` is a `Vec<u32>`
+///     let symbol = coder.decode_symbol(&table)?; // from the first 24 bits that are read
+///     coder.encode_symbol(&symbol, &table)?; // restores the state before the decode
+/// }
+/// ```
 #[derive(Debug, Drop)]
 pub struct ChainCoder<
     Word: WordOf<State>,
@@ -40,10 +49,10 @@ pub struct ChainCoder<
     heads: ChainCoderHeads<Word, State, PRECISION>,
 }
 
-/// A coder of words of 32 bits and remainders' heads of 64, for 24 bits of precision.
+/// A coder with 32-bit words, a 64-bit remainders head and a precision of 24 bits.
 pub type DefaultChainCoder = ChainCoder<u32, u64, Vec<u32>, Vec<u32>, 24>;
 
-/// A coder of words of 16 bits and remainders' heads of 32, for 12 bits of precision.
+/// A coder with 16-bit words, a 32-bit remainders head and a precision of 12 bits.
 pub type SmallChainCoder = ChainCoder<u16, u32, Vec<u16>, Vec<u16>, 12>;
 
 impl<
@@ -75,7 +84,7 @@ impl<
     ghost shows = { λ coder heads. (Word.number heads.0 ≡ coder.state.h) × (State.number heads.1 ≡ coder.state.r)
         × IsChainCoder Word.number C.Holds R.Holds Word.BITS State.BITS PRECISION coder };
 
-    /// The two heads.
+    /// Returns the two heads.
     #[inline]
     fn state(&self) -> ChainCoderHeads<Word, State, PRECISION> {
         let (compressed, remainders) = self.heads.parts();
@@ -90,8 +99,9 @@ impl<
     R: Holds<Word, Stack>,
     const PRECISION: usize,
 > ChainCoder<Word, State, C, R, PRECISION> {
-    /// Whether no bits are left over of the words that were decoded from. Then the remainders' side alone tells
-    /// what is to be exported.
+    /// Returns whether no bits are left over from the words that decodes have read.
+    ///
+    /// [`ChainCoder::into_compressed`] and [`ChainCoder::into_binary`] need this.
     #[inline]
     pub fn is_whole(&self) -> bool
         ensures value { IsTrue result ↔ (self.now.state.h ≡ 1) }
@@ -99,7 +109,14 @@ impl<
         self.heads.is_whole()
     }
 
-    /// The coder of the words of two backends, with these heads above them.
+    /// Makes a coder from two backends and the heads above their words.
+    ///
+    /// # Examples
+    ///
+    /// ```
+    /// let (compressed, remainders, heads) = coder.into_raw_parts();
+    /// let coder = ChainCoder::from_raw_parts(compressed, remainders, heads); // the same coder
+    /// ```
     #[inline]
     pub fn from_raw_parts(
         compressed: C,
@@ -117,7 +134,7 @@ impl<
         }
     }
 
-    /// The backends, which hold the words below the heads, and the heads.
+    /// Splits the coder into its backends, which hold the words below the heads, and the heads.
     #[inline]
     pub fn into_raw_parts(self) -> (C, R, ChainCoderHeads<Word, State, PRECISION>)
         ensures value { self ≡ at_heads Word.number State.number C.Holds R.Holds result.2 result.0 result.1 }
@@ -150,7 +167,11 @@ impl<
 
     ghost is_infallible = { λ coder. C.is_infallible coder.compressed × R.is_infallible coder.remainders };
 
-    /// The same heads over clones of the backends. It is refused only where one of these is.
+    /// Clones the coder: the same heads over clones of the backends.
+    ///
+    /// # Errors
+    ///
+    /// `AllocError` only where cloning a backend fails.
     fn clone(&self) -> Result<Self, AllocError> {
         let compressed = self.compressed.clone()?;
         let remainders = self.remainders.clone()?;

@@ -1,5 +1,7 @@
-//! A decode in two halves, between which the model is asked, and an encode, on the heads and the backends of a
-//! coder.
+//! Decoding in two halves, with a call of the model between them, and encoding, on the heads and the backends.
+//!
+//! The heads are two numbers here, and not a struct with a const parameter: in a function that is generic over two backends
+//! and a model, such a struct makes conditions too large for the checker.
 
 ghost use Rattle.constriction_base.specs.Steps.{Step};
 ghost use Rattle.constriction_base.specs.Tables.{Covers};
@@ -15,7 +17,7 @@ use constriction_base::backends::{Holds, ReadWords, Stack, WriteWords};
 use constriction_base::errors::CoderError;
 use constriction_words::{BitArray, Reciprocal, WordOf};
 
-/// The next quantile, and the head of the compressed words without it.
+/// Takes the next quantile, and returns it with the compressed head after it.
 #[inline]
 pub fn take<
     Word: WordOf<State>,
@@ -42,7 +44,7 @@ pub fn take<
     take_quantile(compressed, remainders, h, PRECISION as u32)
 }
 
-/// Leaves the place of a quantile in an interval to the remainders. Returns their head after it.
+/// Moves the place of a quantile in its interval to the remainders, and returns the remainders head after it.
 #[inline]
 pub fn keep<Word: WordOf<State>, State: BitArray, R: WriteWords<Word>>(
     remainders: &mut R,
@@ -70,7 +72,7 @@ pub fn keep<Word: WordOf<State>, State: BitArray, R: WriteWords<Word>>(
     }
 }
 
-/// The quotient by the length of an interval, and what it leaves: by a product where there is a reciprocal.
+/// Returns the quotient by the length of an interval and the remainder, by a product if there is a reciprocal.
 #[inline]
 fn divided<State: BitArray>(
     number: State,
@@ -91,7 +93,7 @@ fn divided<State: BitArray>(
     }
 }
 
-/// Puts a quantile of an interval back, that which the remainders tell. Returns both heads after it.
+/// Puts back the quantile that the remainders determine in an interval, and returns both heads after it.
 #[inline]
 pub fn give<Word: WordOf<State>, State: BitArray, C: WriteWords<Word>, R: ReadWords<Word, Stack>>(
     compressed: &mut C,

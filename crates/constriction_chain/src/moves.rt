@@ -1,4 +1,4 @@
-//! Words that move between the heads and a backend, as many as there are.
+//! Moving words between the heads and a backend.
 
 ghost use Rattle.constriction_base.specs.Steps.{IsSizes};
 ghost use Rattle.constriction_base.specs.Writing.{NotWritten};
@@ -12,7 +12,7 @@ use constriction_base::backends::{Holds, ReadWords, Stack, WriteWords};
 use constriction_base::head_words::{count_of_words, fill, write_words};
 use constriction_words::{BitArray, WordOf};
 
-/// Whether a number is below 2 to the bits of `State` less so many.
+/// Returns whether a number is below 2 to the power of (bits of `State` - `less`).
 #[inline]
 pub fn is_below_power<State: BitArray>(r: State, less: u32) -> bool
     requires { (0 < less) × (less ≤ State.BITS) }
@@ -21,8 +21,9 @@ pub fn is_below_power<State: BitArray>(r: State, less: u32) -> bool
     r.shifted_right(State::BITS - less).is_nothing()
 }
 
-/// The number that words begin with, of which the first isn't 0, in its window. Returns `None` where it is, or
-/// without enough words.
+/// Reads words into a remainders head until it is in its window.
+///
+/// Returns `None` if the first word is 0, or if there are too few words.
 pub fn begin_window<Word: WordOf<State>, State: BitArray, B: ReadWords<Word, Stack>>(
     source: &mut B,
     precision: u32,
@@ -51,8 +52,8 @@ pub fn begin_window<Word: WordOf<State>, State: BitArray, B: ReadWords<Word, Sta
     }
 }
 
-/// Writes both heads onto a backend, once there is room for all their words: the words of the number of the
-/// remainders without leading zeros, the lowest first, and then the head of the compressed words.
+/// Asks a backend for room for both heads and writes them: the words of the remainders head, lowest first and without
+/// leading zeros, then the compressed head.
 pub fn append_heads<Word: WordOf<State>, State: BitArray, B: WriteWords<Word>>(
     backend: &mut B,
     h: Word,

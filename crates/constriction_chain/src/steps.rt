@@ -1,4 +1,4 @@
-//! The parts of a step, each on one side of the coder.
+//! The parts of a step, each on one of the coder's two sides.
 
 ghost use Rattle.constriction_chain.specs.Chain.{IsRemaindersHead, IsSized, least};
 ghost use Rattle.constriction_chain.specs.Steps.{Given, Halts, Kept, Lacks, NotKept, Prepared, Regained, Taken};
@@ -12,7 +12,7 @@ use constriction_base::backends::{Holds, ReadWords, Stack, WriteWords};
 use constriction_base::errors::CoderError;
 use constriction_words::{BitArray, WordOf};
 
-/// Whether a quantile has to come from a word.
+/// Returns whether the next quantile has to come from a new word.
 #[inline]
 fn needs_word<Word: BitArray>(h: Word, precision: u32) -> bool
     requires { precision ≤ Word.BITS }
@@ -22,7 +22,7 @@ fn needs_word<Word: BitArray>(h: Word, precision: u32) -> bool
     precision == Word::BITS || h.shifted_right(precision).is_nothing()
 }
 
-/// A word's quantile, and the head with the word's other bits.
+/// Splits a word into a quantile and the head with the word's other bits.
 #[inline]
 fn from_word<Word: BitArray>(h: Word, word: Word, precision: u32) -> (Word, Word)
     requires sized { (1 ≤ precision) × (precision ≤ Word.BITS) }
@@ -41,8 +41,9 @@ fn from_word<Word: BitArray>(h: Word, word: Word, precision: u32) -> (Word, Word
     )
 }
 
-/// The next quantile, and the head after it. Where it needs a word, the other backend is first asked
-/// for room for one.
+/// Takes the next quantile, and returns it with the head after it.
+///
+/// If it needs a word, it first asks the remainders for room for one.
 #[inline]
 pub fn take_quantile<Word: BitArray, C: ReadWords<Word, Stack>, R: WriteWords<Word>>(
     compressed: &mut C,
@@ -75,7 +76,7 @@ pub fn take_quantile<Word: BitArray, C: ReadWords<Word, Stack>, R: WriteWords<Wo
     }
 }
 
-/// The number of the remainders with a place in an interval, brought back into its window.
+/// Adds a place in an interval to the remainders head, and brings the head back into its window.
 #[inline]
 pub fn gain<Word: WordOf<State>, State: BitArray, R: WriteWords<Word>>(
     remainders: &mut R,
@@ -103,7 +104,7 @@ pub fn gain<Word: WordOf<State>, State: BitArray, R: WriteWords<Word>>(
     }
 }
 
-/// Whether a quantile makes a head too long, so that a word is written.
+/// Returns whether a quantile makes the compressed head too long, so that a word has to be written.
 #[inline]
 fn owes_word<Word: BitArray>(h: Word, precision: u32) -> bool
     requires { (1 ≤ precision) × (precision ≤ Word.BITS) }
@@ -113,7 +114,7 @@ fn owes_word<Word: BitArray>(h: Word, precision: u32) -> bool
     precision == Word::BITS || !h.shifted_right(Word::BITS - precision).is_nothing()
 }
 
-/// Asks for room for the word that a quantile makes, where it makes one.
+/// Asks for room for a word if the quantile makes the compressed head too long.
 #[inline]
 pub fn prepare_for_quantile<Word: BitArray, C: WriteWords<Word>>(
     compressed: &mut C,
@@ -135,7 +136,7 @@ pub fn prepare_for_quantile<Word: BitArray, C: WriteWords<Word>>(
     }
 }
 
-/// The head with a quantile below it, of which a full head writes a word.
+/// Puts a quantile back onto the compressed head, which writes a word if it is full.
 #[inline]
 pub fn give_quantile<Word: BitArray, C: WriteWords<Word>>(
     compressed: &mut C,
@@ -165,7 +166,7 @@ pub fn give_quantile<Word: BitArray, C: WriteWords<Word>>(
     Ok(h.shifted_right(Word::BITS - precision))
 }
 
-/// Whether the number of the remainders is too short for an interval, so that a word is needed.
+/// Returns whether the remainders head is too short for an interval, so that a word is needed.
 #[inline]
 fn is_short<Word: BitArray, State: BitArray>(r: State, p: State, precision: u32) -> bool
     requires { IsSized Word.BITS State.BITS precision }
@@ -176,7 +177,7 @@ fn is_short<Word: BitArray, State: BitArray>(r: State, p: State, precision: u32)
         .is_below(p)
 }
 
-/// The number of the remainders, with a word below where an interval needs one; none where no word is left.
+/// Returns the remainders head, after a word moved in if the interval needs one, or `None` if no word is left.
 #[inline]
 pub fn regain<Word: WordOf<State>, State: BitArray, R: ReadWords<Word, Stack>>(
     remainders: &mut R,

@@ -6,10 +6,10 @@ use constriction_base::backends::{Holds, Stack, Words};
 use constriction_words::BitArray;
 use std::alloc::Allocator;
 
-/// Lends its words in the order in which they were written, the last one last.
+/// A backend that lends its words in the order in which they were written, last word last.
 ///
-/// It gives code that is generic over a backend what [`crate::RangeEncoder::iter_compressed`] asks for. An
-/// implementation chooses nothing here: the law ties what is lent to what is held.
+/// Generic code needs this bound to call [`crate::RangeEncoder::iter_compressed`]. An implementor proves that the
+/// lent words are the words that the backend holds, in reverse reading order. There is nothing to choose.
 pub trait LendsAsWritten<Word>: Holds<Word, Stack> + Words<Word> {
     // The stack is what is lent, turned round.
     ghost written_law: { (b : Self) →

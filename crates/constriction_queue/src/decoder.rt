@@ -1,8 +1,8 @@
-//! The decoder: what it holds.
+//! The decoder of the range coder.
 //!
 //! - [`symbols`]: the step, `decode_symbol`.
-//! - [`words`]: a decoder of words, and its parts.
-//! - [`seeking`]: going to positions.
+//! - [`words`]: making a decoder from words, and its parts.
+//! - [`seeking`]: seeking to positions.
 
 pub mod seeking;
 pub mod symbols;
@@ -14,15 +14,22 @@ use constriction_base::cursor::Cursor;
 use constriction_words::{BitArray, WordOf};
 use std::marker::Model;
 
-/// A queue of symbols that is read from words of the type `Word`, with an interval of states of the type
-/// `State`, which has a whole number of words, two at least.
+/// A queue of symbols, decoded from words of type `Word` with an interval of numbers of type `State`.
 ///
-/// It narrows the encoder's intervals, and knows which of their parts a symbol belongs to by the words that it
-/// reads. Past the end of its words it reads zero words.
+/// `State` has a whole number of words, at least two. The decoder narrows the same intervals as the encoder. The
+/// words that it has read say which part of the interval holds the next symbol. Past the last word it reads zero
+/// words.
 ///
-/// It holds how far the point lies above the interval's low end, modulo the numbers of a state. Contracts see a
-/// `Decoder`: the backend, the words that are left, the interval, and the point, which is the number of the words
-/// that were read last.
+/// The decoder stores the distance of the point from the lower end of the interval, modulo 2 to the bits of `State`.
+/// Contracts see a `Decoder`: the backend, the remaining words, the interval, and the point, which is the number that
+/// the last words read stand for.
+///
+/// # Examples
+///
+/// ```
+/// let mut decoder = DefaultRangeDecoder::from_compressed(words)?; // a `Vec<u32>` that an encoder exported
+/// decoder.decode_symbol(&table)?; // the first symbol encoded
+/// ```
 #[derive(Debug, Drop)]
 pub struct RangeDecoder<Word: WordOf<State>, State: BitArray, Backend: Holds<Word, Queue>> {
     pub(crate) bulk: Backend,
@@ -30,10 +37,10 @@ pub struct RangeDecoder<Word: WordOf<State>, State: BitArray, Backend: Holds<Wor
     pub(crate) distance: State,
 }
 
-/// A decoder of words of 32 bits and states of 64, for precisions up to 32.
+/// A decoder with 32-bit words and 64-bit states, for precisions up to 32 bits.
 pub type DefaultRangeDecoder<Backend = Cursor<u32, Vec<u32>>> = RangeDecoder<u32, u64, Backend>;
 
-/// A decoder of words of 16 bits and states of 32, for precisions up to 16.
+/// A decoder with 16-bit words and 32-bit states, for precisions up to 16 bits.
 pub type SmallRangeDecoder<Backend> = RangeDecoder<u16, u32, Backend>;
 
 impl<Word: WordOf<State>, State: BitArray, Backend: Holds<Word, Queue>> Model

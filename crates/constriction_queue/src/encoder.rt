@@ -1,12 +1,12 @@
-//! The encoder: what it holds, and how it begins.
+//! The encoder of the range coder, and its constructors.
 //!
 //! - [`symbols`]: the step, `encode_symbol`.
-//! - [`compressed`]: the words of an encoder, and how many they are.
-//! - [`guard`]: its words as a vector, for as long as they are looked at.
-//! - [`lending`]: its words, lent to a function.
-//! - [`through_guard`]: a decoder of what an encoder holds, which keeps it.
-//! - [`decoders`]: a decoder of what an encoder holds.
-//! - [`positions`]: where an encoder stands.
+//! - [`compressed`]: exporting an encoder's words, and counting them.
+//! - [`guard`]: the compressed words while a guard lends them.
+//! - [`lending`]: lending the compressed words to a function.
+//! - [`through_guard`]: a decoder of the compressed words that borrows the encoder.
+//! - [`decoders`]: turning an encoder into a decoder.
+//! - [`positions`]: recording positions.
 
 pub mod compressed;
 pub mod decoders;
@@ -30,15 +30,16 @@ use constriction_words::{BitArray, WordOf};
 use std::alloc::{AllocError, Allocator, Global};
 use std::marker::Model;
 
-/// A queue of symbols over words of the type `Word`, with an interval of states of the type `State`,
-/// which has a whole number of words, two at least.
+/// A queue of symbols over words of type `Word`, with an interval of numbers of type `State`.
 ///
-/// It narrows an interval of states, symbol by symbol, and writes the words that all of the interval's
-/// states have in common. While the interval reaches over the greatest state a carry may still come, so
-/// words are held back then.
+/// `State` has a whole number of words, at least two. Each symbol narrows the interval, and the encoder writes the
+/// words that all numbers of the interval have in common. While the interval passes the greatest number of `State`,
+/// a carry may still change these words, so the encoder keeps them pending.
 ///
-/// Contracts see an `Encoder`: the backend, the words written and held, and the interval. The run that it
-/// stands for (`run_by`) is one whole number that grows, with no words held back and no carries.
+/// Contracts see an `Encoder`: the backend, the words written and pending, and the interval. Its run (`run_by`) is
+/// one growing whole number, without pending words and without carries.
+///
+/// # Examples
 ///
 /// ```
 /// let mut encoder = DefaultRangeEncoder::new(alloc);
@@ -57,10 +58,10 @@ pub struct RangeEncoder<
     situation: EncoderSituation<Word>,
 }
 
-/// An encoder of words of 32 bits and states of 64, for precisions up to 32.
+/// An encoder with 32-bit words and 64-bit states, for precisions up to 32 bits.
 pub type DefaultRangeEncoder<Backend = Vec<u32>> = RangeEncoder<u32, u64, Backend>;
 
-/// An encoder of words of 16 bits and states of 32, for precisions up to 16.
+/// An encoder with 16-bit words and 32-bit states, for precisions up to 16 bits.
 pub type SmallRangeEncoder<Backend = Vec<u16>> = RangeEncoder<u16, u32, Backend>;
 
 impl<Word: WordOf<State>, State: BitArray, Backend: Holds<Word, Stack>> Model
@@ -80,7 +81,9 @@ impl<Word: WordOf<State>, State: BitArray, Backend: Holds<Word, Stack>> Model
 }
 
 impl<Word: WordOf<State>, State: BitArray> RangeEncoder<Word, State, Vec<Word>> {
-    /// An encoder without symbols. It takes no memory yet; `alloc` is where its words will be.
+    /// Makes an encoder without symbols.
+    ///
+    /// This allocates nothing. The encoder takes memory for its words from `alloc` later.
     #[inline]
     pub fn new(alloc: Global) -> Self
         requires { IsSizes Word.BITS State.BITS }
@@ -93,7 +96,10 @@ impl<Word: WordOf<State>, State: BitArray> RangeEncoder<Word, State, Vec<Word>> 
 }
 
 impl<Word: WordOf<State>, State: BitArray, A: Allocator> RangeEncoder<Word, State, Vec<Word, A>> {
-    /// Takes everything out: the encoder is as a new one, but keeps its memory. No word stays held back.
+    /// Removes all symbols and pending words, and keeps the allocated memory.
+    ///
+    /// Pending words that stayed would spoil the next export: with 8-bit words and weights 127, 1, 127, 1, encoding
+    /// symbol 1 leaves 126 pending, and symbol 0 after a `clear` seals to `[0]` and not to `[126, 0]`.
     pub fn clear(&mut self)
         ensures run { run_by Word.BITS State.BITS self.new ≡ initial State.BITS }
         ensures held { self.new.held ≡ [] }
@@ -110,8 +116,16 @@ impl<Word: WordOf<State>, State: BitArray, Backend: Holds<Word, Stack>> RangeEnc
     State,
     Backend,
 > {
-    /// An encoder without symbols, which writes behind the words of a backend. These stay in front of its
-    /// own; where there are none, it is as a new one.
+    /// Makes an encoder without symbols that writes behind the words of a backend.
+    ///
+    /// The backend's words stay in front of the encoder's own. Over an empty backend this is the same as a new encoder.
+    ///
+    /// # Examples
+    ///
+    /// ```
+    /// let header = [1u32, 2].to_vec(alloc)?;
+    /// let encoder = DefaultRangeEncoder::with_write_backend(header); // exports 1, 2, and then its own words
+    /// ```
     #[inline]
     pub fn with_write_backend(bulk: Backend) -> Self
         requires { IsSizes Word.BITS State.BITS }
@@ -126,9 +140,11 @@ impl<Word: WordOf<State>, State: BitArray, Backend: Holds<Word, Stack>> RangeEnc
         }
     }
 
-    /// Whether words are held back exactly while the interval reaches over the greatest state, the first of
-    /// them isn't all ones, the interval isn't that of an encoder without symbols, and their number leaves
-    /// room for a seal in a `usize`. Then [`RangeEncoder::from_raw_parts`] can be asked for.
+    /// Returns whether an interval and a situation fit together, as [`RangeEncoder::from_raw_parts`] requires.
+    ///
+    /// They do if words are pending exactly while the interval passes the greatest number of `State`. If words are
+    /// pending, the first of them isn't all ones, the interval isn't that of an encoder without symbols, and a `usize`
+    /// can count the pending words and a seal.
     pub fn parts_fit(state: RangeCoderState<Word, State>, situation: EncoderSituation<Word>) -> bool
         ensures { IsTrue result
             ↔ PartsFit Word.number Word.BITS State.BITS situation (lower_of state) (range_of state) }
@@ -148,7 +164,14 @@ impl<Word: WordOf<State>, State: BitArray, Backend: Holds<Word, Stack>> RangeEnc
         }
     }
 
-    /// The encoder of the words of a backend, an interval, and the words held back behind these words.
+    /// Makes an encoder from a backend, an interval, and the words that are pending behind the backend's words.
+    ///
+    /// # Examples
+    ///
+    /// ```
+    /// let (bulk, state, situation) = encoder.into_raw_parts();
+    /// let encoder = RangeEncoder::from_raw_parts(bulk, state, situation); // the same encoder
+    /// ```
     #[inline]
     pub fn from_raw_parts(
         bulk: Backend,
@@ -168,7 +191,7 @@ impl<Word: WordOf<State>, State: BitArray, Backend: Holds<Word, Stack>> RangeEnc
         }
     }
 
-    /// The backend with the words that were written so far, the interval, and the words held back.
+    /// Splits the encoder into the backend with the words written so far, the interval, and the pending words.
     #[inline]
     pub fn into_raw_parts(
         self,
@@ -190,7 +213,7 @@ impl<Word: WordOf<State>, State: BitArray, Backend: Holds<Word, Stack>> RangeEnc
         (bulk, interval, held)
     }
 
-    /// The backend, with the words that were written so far. Words held back aren't among them.
+    /// Returns the backend with the words written so far. Pending words aren't among them.
     #[inline]
     pub fn bulk(&self) -> &Backend
         ensures backend { result.now ≡ self.now.bulk }
@@ -208,8 +231,11 @@ impl<Word: WordOf<State>, State: BitArray, Backend: Holds<Word, Stack> + Clone> 
 
     ghost is_infallible = { λ encoder. Backend.is_infallible encoder.bulk };
 
-    /// The same interval and held words over a clone of the backend. It is refused only where the
-    /// backend's clone is.
+    /// Clones the encoder: the same interval and pending words over a clone of the backend.
+    ///
+    /// # Errors
+    ///
+    /// `AllocError` only where cloning the backend fails.
     fn clone(&self) -> Result<Self, AllocError> {
         let bulk = self.bulk.clone()?;
         Ok(RangeEncoder {

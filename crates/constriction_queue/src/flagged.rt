@@ -1,7 +1,6 @@
-//! Symbols under two models in one stream: the second from behind the first flag on.
+//! Two models in one stream: the first up to and including a flag symbol, the second behind it.
 //!
-//! A flag is a symbol like any other. It and the symbols before it stand under the first model, and those behind it
-//! under the second, where a symbol that is equal to the flag has no special meaning.
+//! A flag is a symbol like any other. Behind the first flag, a symbol that equals the flag has no special meaning.
 //!
 //! ```
 //! let first = WeightTable::<u8, 8>::new(alloc, &[128, 64, 64])?;
@@ -35,9 +34,10 @@ use constriction_stream::encoding::Encode;
 use constriction_words::{BitArray, WordOf};
 use std::marker::Model;
 
-/// A decoder of symbols under a model of `P1` bits until the flag has come, and under one of `P2` bits after it.
+/// A decoder that uses a model of `P1` bits up to and including a flag symbol, and one of `P2` bits after it.
 ///
-/// Contracts see a `Switch`: the decoder, the flag, and whether it has come.
+/// [`FlagSwitch::new`] makes it; the module has an example. Contracts see a `Switch`: the decoder, the flag, and
+/// whether the flag has come.
 #[derive(Debug, Drop)]
 pub struct FlagSwitch<
     Word: WordOf<State>,
@@ -74,7 +74,7 @@ impl<
     const P1: usize,
     const P2: usize,
 > FlagSwitch<Word, State, Backend, P1, P2> {
-    /// A switch before its flag.
+    /// Makes a switch whose flag hasn't come yet.
     pub fn new(decoder: RangeDecoder<Word, State, Backend>, flag: usize) -> Self
         ensures { result ≡ record { decoder = decoder; flag = flag; switched = false } }
     {
@@ -85,14 +85,14 @@ impl<
         }
     }
 
-    /// Whether the flag has come.
+    /// Returns whether the flag has come.
     pub fn switched(&self) -> bool
         ensures { result ≡ self.now.switched }
     {
         self.switched
     }
 
-    /// The decoder, behind the symbols that were taken.
+    /// Returns the decoder, behind the symbols decoded so far.
     pub fn into_inner(self) -> RangeDecoder<Word, State, Backend>
         ensures { result ≡ self.decoder }
     {
@@ -112,15 +112,16 @@ impl<
     const P1: usize,
     const P2: usize,
 > FlagSwitch<Word, State, Backend, P1, P2> {
-    /// Takes the next symbol: under `first` until the flag has come, and under `second` after it. The flag itself is
-    /// returned as a symbol.
+    /// Decodes the next symbol, with `first` until the flag has come and with `second` after it.
+    ///
+    /// The flag itself is returned as a symbol.
     ///
     /// # Errors
     ///
-    /// - `Frontend(InvalidData)` exactly where the words hold no symbol of a model of the precision that is asked.
-    ///   Nothing changed.
-    /// - `Backend(error)` only where a word had to be read and the read answered that error. The switch stays, and the
-    ///   decoder is as `decode_symbol` leaves it.
+    /// - `Frontend(InvalidData)` exactly if the words don't encode a symbol of any model with the precision in use. The
+    ///   switch is unchanged.
+    /// - `Backend(error)` only if a word had to be read and the read returned that error. The flag's state is unchanged,
+    ///   and the decoder is as `decode_symbol` leaves it.
     pub fn next_symbol<M1, M2>(
         &mut self,
         first: M1,
@@ -154,13 +155,13 @@ impl<
     }
 }
 
-/// Puts symbols behind the others: those up to and with the first flag under `first`, and those behind it under
-/// `second`.
-/// There must be no more of them than the encoder's `symbols_left`.
+/// Encodes symbols: those up to and including the first flag with `first`, and those behind it with `second`.
+///
+/// The list may have at most as many symbols as the encoder's `symbols_left`.
 ///
 /// # Errors
 ///
-/// That of the first symbol that is refused, as `encode_symbol` answers it. Exactly the symbols before it are encoded.
+/// The error of the first `encode_symbol` that fails. The encoder has encoded exactly the symbols before that one.
 pub fn encode_flagged<
     Word: WordOf<State>,
     State: BitArray,

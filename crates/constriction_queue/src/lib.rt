@@ -1,9 +1,9 @@
-//! A queue of symbols: range coding over words.
+//! The range coder: a queue of symbols.
 //!
-//! A [`encoder::RangeEncoder`] narrows an interval of numbers, symbol by symbol, and writes the words that the
-//! interval's numbers have in common. A [`decoder::RangeDecoder`] gives the symbols of such words, the first
-//! first. Any symbols can be mixed, each under a model and a precision of its own, if the decoder is given the
-//! same models in the same order.
+//! A [`encoder::RangeEncoder`] narrows an interval of numbers with each symbol, and writes the words that all
+//! numbers of the interval have in common. A [`decoder::RangeDecoder`] decodes the symbols from such words, in the
+//! order in which they were encoded. Each symbol may have its own model and precision, as long as the decoder gets
+//! the same models in the same order.
 //!
 //! ```
 //! let table = WeightTable::<u32, 24>::new(alloc, &[16777211, 5])?;
@@ -13,25 +13,25 @@
 //! let words = encoder.into_compressed()?; // a `Vec<u32>`
 //!
 //! let mut decoder = DefaultRangeDecoder::from_compressed(words)?;
-//! decoder.decode_symbol(&table)?; // 1, which was encoded first
+//! decoder.decode_symbol(&table)?; // 1, the first symbol encoded
 //! decoder.decode_symbol(&table)?; // 0
 //! Decode::<24>::maybe_exhausted(&decoder); // true
 //! ```
 //!
 //! The modules:
-//! - [`encoder`]: the encoder, its step, its words, and what else can be asked of it.
-//! - [`decoder`]: the decoder, its step, and going to positions.
-//! - [`flagged`]: symbols under two models in one stream, which change behind a flag.
+//! - [`encoder`]: the encoder, its step, its words and its positions.
+//! - [`decoder`]: the decoder, its step, and seeking.
+//! - [`flagged`]: two models in one stream, separated by a flag symbol.
 //! - [`as_written`]: backends that lend their words in the order in which they were written.
-//! - [`state`], [`situation`]: the interval, and whether words are held back.
-//! - `step`, `seal`: what a step and a seal write and leave, as functions of numbers.
-//! - `reading`: what a decoder reads, and which quantile that is.
-//! - `writing`: words that are owed to a backend.
+//! - [`state`], [`situation`]: the interval and the pending words.
+//! - `step`, `seal`: the arithmetic of a step and of a seal.
+//! - `reading`: reading words, and the quantile that they stand for.
+//! - `writing`: writing words to a backend.
 //!
-//! Contracts cite the definitions of `specs/Range.antt` (the run, which holds no word back, wraps nowhere and
-//! passes no carry on, its seal, and reading), and of `specs/Calls.antt` (what a call over a backend may answer
-//! and leave). `specs/Encoder.antt` and `specs/Decoder.antt` say which run and which moment of reading a coder
-//! stands for, and `specs/Flagged.antt` which model a symbol has in a stream of two.
+//! Contracts cite the definitions of `specs/Range.antt` (runs, seals and reading) and of `specs/Calls.antt` (the
+//! possible results of a call over a backend). A run is one whole number, without pending words and carries.
+//! `specs/Encoder.antt` and `specs/Decoder.antt` relate coders to runs, and `specs/Flagged.antt` says which of two
+//! models each symbol has.
 #![tactic(auto)]
 
 pub mod as_written;

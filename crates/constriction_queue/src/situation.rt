@@ -1,4 +1,4 @@
-//! Whether an encoder holds words back.
+//! The pending words of an encoder.
 
 ghost use Rattle.std.specs.Prelude.{◌≡◌, ◌+◌, ◌<◌, ◌^◌};
 ghost use Rattle.std.specs.Int.NonZero.{non_zero_usize_get};
@@ -6,26 +6,35 @@ ghost use Rattle.constriction_queue.specs.declared.situation.EncoderSituation.Th
 
 use std::num::NonZeroUsize;
 
-/// Whether words are held back: they are while the interval reaches over the greatest state, since what
-/// follows may still add one to them.
+/// The pending words of an encoder.
+///
+/// Words are pending while the interval passes the greatest number of `State`, because a later symbol may still add
+/// one to them.
+///
+/// # Examples
+///
+/// ```
+/// let (bulk, state, situation) = encoder.into_raw_parts();
+/// situation == EncoderSituation::Normal; // true for a new encoder
+/// ```
 #[derive(Debug, Clone, Copy, PartialEq, Eq)]
 pub enum EncoderSituation<Word> {
-    /// No word is held back.
+    /// No word is pending.
     Normal,
-    /// How many words are held, and the first of them. The others are all ones.
+    /// The number of pending words and the first of them. The others are all ones.
     Inverted(NonZeroUsize, Word),
 }
 
 impl<Word> Default for EncoderSituation<Word> {
     ghost is_default = { λ situation. situation ≡ Normal };
 
-    /// No word is held back.
+    /// Returns [`EncoderSituation::Normal`].
     fn default() -> Self {
         EncoderSituation::Normal
     }
 }
 
-/// Words that are held no longer: so many, the first of them, and what all others are.
+/// Pending words that are released: their number, the first of them, and the value of all others.
 #[derive(Drop, Debug, Clone, Copy)]
 pub struct HeldWords<Word> {
     pub count: NonZeroUsize,
@@ -33,7 +42,7 @@ pub struct HeldWords<Word> {
     pub others: Word,
 }
 
-/// A count that isn't 0 as one that cannot be.
+/// Converts a count that isn't 0 to its nonzero type.
 #[inline]
 pub(crate) fn nonzero_count(count: usize) -> NonZeroUsize
     requires { 0 < count }

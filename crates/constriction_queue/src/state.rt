@@ -1,4 +1,7 @@
 //! The interval of a range coder.
+//!
+//! A struct keeps the length as a `State` with an invariant; `range()` returns it as a nonzero number. `new` takes a plain
+//! `State` and refuses 0 like every other length that is too short.
 
 ghost use Rattle.std.specs.Prelude.{◌≡◌, ◌↔◌, ◌+◌, ◌-◌, ◌*◌, ◌<◌, ◌≤◌, ◌^◌, IfOk, IsOk};
 
@@ -6,10 +9,12 @@ use constriction_words::{BitArray, WordOf};
 use std::alloc::AllocError;
 use std::marker::PhantomData;
 
-/// An interval of states: where it begins, and how long it is, which is never below two to (the bits of
-/// `State` - the bits of `Word`).
+/// An interval of numbers: its lower end and its length, which is at least 2 to the power of (bits of `State` - bits
+/// of `Word`).
 ///
 /// Contracts see it by `lower_of` and `range_of`.
+///
+/// # Examples
 ///
 /// ```
 /// RangeCoderState::<u8, u16>::new(0, 256) // Ok: 256 is two to the 8
@@ -28,13 +33,13 @@ impl<Word: WordOf<State>, State: BitArray> Clone for RangeCoderState<Word, State
 
     ghost is_infallible = { λ _. Unit {0} };
 
-    /// The same interval.
+    /// Returns the same interval.
     fn clone(&self) -> Result<Self, AllocError> {
         Ok(*self)
     }
 }
 
-/// A number that isn't 0 as one that cannot be.
+/// Converts a number that isn't 0 to its nonzero type.
 #[inline]
 fn nonzero<State: BitArray>(number: State) -> State::NonZero
     requires { 0 < State.number number }
@@ -51,7 +56,7 @@ impl<Word: WordOf<State>, State: BitArray> Default for RangeCoderState<Word, Sta
 
     ghost is_default = { λ state. (lower_of state ≡ 0) × (range_of state + 1 ≡ 2 ^ State.BITS) };
 
-    /// All states but the last, as before the first symbol.
+    /// Returns the interval before the first symbol: all numbers but the greatest.
     fn default() -> Self {
         RangeCoderState::start()
     }
@@ -60,12 +65,13 @@ impl<Word: WordOf<State>, State: BitArray> Default for RangeCoderState<Word, Sta
 impl<Word: WordOf<State>, State: BitArray> RangeCoderState<Word, State> {
     ghost use Rattle.constriction_queue.specs.States.{lower_of, range_of};
 
-    /// The interval from `lower`, of `range` states.
+    /// Makes the interval of `range` numbers from `lower` on.
+    ///
+    /// Any `lower` is allowed: an interval that passes the greatest number continues at 0.
     ///
     /// # Errors
     ///
-    /// `Err(())` exactly where `range` is below two to (the bits of `State` - the bits of `Word`). `lower` is
-    /// free: the interval may reach over the greatest state, and goes on at 0 then.
+    /// `Err(())` exactly if `range` is below 2 to the power of (bits of `State` - bits of `Word`).
     pub fn new(lower: State, range: State) -> Result<Self, ()>
         ensures variant { IsOk result ↔ (2 ^ (State.BITS - Word.BITS) ≤ State.number range) }
         ensures lower { IfOk result (λ state. lower_of state ≡ State.number lower) }
@@ -81,7 +87,7 @@ impl<Word: WordOf<State>, State: BitArray> RangeCoderState<Word, State> {
         })
     }
 
-    /// An interval that is long enough.
+    /// Makes an interval that is known to be long enough.
     #[inline]
     pub(crate) fn long(lower: State, range: State) -> Self
         requires { 2 ^ (State.BITS - Word.BITS) ≤ State.number range }
@@ -95,7 +101,7 @@ impl<Word: WordOf<State>, State: BitArray> RangeCoderState<Word, State> {
         }
     }
 
-    /// All states but the last.
+    /// Returns the interval of all numbers but the greatest.
     #[inline]
     pub(crate) fn start() -> Self
         ensures lower { lower_of result ≡ 0 }
@@ -108,7 +114,7 @@ impl<Word: WordOf<State>, State: BitArray> RangeCoderState<Word, State> {
         }
     }
 
-    /// Where the interval begins.
+    /// Returns the lower end of the interval.
     #[inline]
     pub fn lower(&self) -> State
         ensures { State.number result ≡ lower_of self.now }
@@ -116,7 +122,7 @@ impl<Word: WordOf<State>, State: BitArray> RangeCoderState<Word, State> {
         self.lower
     }
 
-    /// How long it is.
+    /// Returns the length of the interval.
     #[inline]
     pub fn range(&self) -> State::NonZero
         ensures { State.nonzero_number result ≡ range_of self.now }
@@ -124,7 +130,7 @@ impl<Word: WordOf<State>, State: BitArray> RangeCoderState<Word, State> {
         nonzero(self.range)
     }
 
-    /// How long it is, as a state.
+    /// Returns the length of the interval as a `State`.
     #[inline]
     pub(crate) fn length(&self) -> State
         ensures value { State.number result ≡ range_of self.now }

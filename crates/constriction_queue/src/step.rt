@@ -1,4 +1,4 @@
-//! One step of an encoder, as numbers: what it writes, and what is left.
+//! The arithmetic of an encoder's step.
 
 ghost use Rattle.std.specs.Prelude.{◌≡◌, ◌↔◌, ◌+◌, ◌-◌, ◌*◌, ◌<◌, ◌≤◌, ◌^◌, ◌/◌, [], IsTrue, None, Some, Ok, Err, IfOk};
 ghost use Rattle.std.specs.Prelude.{IfErr};
@@ -16,7 +16,7 @@ use constriction_base::backends::{Holds, Stack, WriteWords};
 use constriction_words::{BitArray, WordOf};
 use std::num::NonZeroUsize;
 
-/// Whether an interval reaches over the end of the states.
+/// Returns whether an interval passes the greatest number.
 #[inline(always)]
 pub fn reaches_over<State: BitArray>(lower: State, range: State) -> bool
     ensures { IsTrue result ↔ (2 ^ State.BITS ≤ State.number lower + State.number range) }
@@ -24,7 +24,7 @@ pub fn reaches_over<State: BitArray>(lower: State, range: State) -> bool
     State::greatest().minus(lower).is_below(range)
 }
 
-/// The held words, after a carry into them if there is one.
+/// Returns the pending words, after a carry into them if there is one.
 #[inline]
 pub fn carried<Word: BitArray>(count: NonZeroUsize, first: Word, carry: bool) -> HeldWords<Word>
     requires { Word.number first + 1 < 2 ^ Word.BITS }
@@ -46,7 +46,7 @@ pub fn carried<Word: BitArray>(count: NonZeroUsize, first: Word, carry: bool) ->
     }
 }
 
-/// The part of an interval, and the held words that it lets go.
+/// A part of an interval, and the pending words that it releases.
 #[derive(Drop)]
 pub struct Part<Word, State> {
     pub lower: State,
@@ -55,7 +55,7 @@ pub struct Part<Word, State> {
     pub released: Option<HeldWords<Word>>,
 }
 
-/// The part of an interval that belongs to a symbol.
+/// Returns the part of an interval that belongs to a symbol.
 #[inline(always)]
 pub fn narrowed<Word: WordOf<State>, State: BitArray>(
     lower: State,
@@ -110,7 +110,7 @@ pub fn narrowed<Word: WordOf<State>, State: BitArray>(
     }
 }
 
-/// What a shift leaves: an interval that is long enough, and a word that left it and isn't held.
+/// The result of a shift: a normalized interval, and a word that left it and isn't pending.
 #[derive(Drop)]
 pub struct Shifted<Word, State> {
     pub lower: State,
@@ -119,7 +119,7 @@ pub struct Shifted<Word, State> {
     pub top: Option<Word>,
 }
 
-/// An interval that grows by a word if it is short.
+/// Extends a short interval by a word.
 #[inline(always)]
 pub fn grow<Word: WordOf<State>, State: BitArray>(
     lower: State,
@@ -178,7 +178,7 @@ pub fn grow<Word: WordOf<State>, State: BitArray>(
     }
 }
 
-/// An encoder's interval and situation after a step, whose words are written.
+/// Takes an encoder's step: writes its words, and returns the new interval and situation.
 #[inline(always)]
 pub fn step_onto<Word: WordOf<State>, State: BitArray, Backend: WriteWords<Word>>(
     bulk: &mut Backend,

@@ -1,4 +1,7 @@
-//! Words that are owed to a backend.
+//! Writing pending words and others to a backend.
+//!
+//! Only the single word of a common step is written in line (`write_step`); the code for several words is out of line.
+//! So the common path of an encode has no call but that of a growing vector.
 
 ghost use Rattle.std.specs.Prelude.{◌≡◌, ◌+◌, ◌<◌, ◌≤◌, ◌^◌, ◌++◌, ◌∷◌, ◌⊎◌, [], None, Some, length, IfErr};
 ghost use Rattle.constriction_base.specs.Writing.{Appends, WritesAll};
@@ -8,7 +11,7 @@ use crate::situation::HeldWords;
 use constriction_base::backends::{Holds, Stack, WriteWords};
 use constriction_words::BitArray;
 
-/// Writes words that are held no longer.
+/// Writes released words.
 fn write_held<Word: BitArray, Backend: WriteWords<Word>>(
     bulk: &mut Backend,
     held: HeldWords<Word>,
@@ -29,7 +32,7 @@ fn write_held<Word: BitArray, Backend: WriteWords<Word>>(
     Ok(())
 }
 
-/// The same, if there are any.
+/// Writes released words if there are any.
 fn write_released<Word: BitArray, Backend: WriteWords<Word>>(
     bulk: &mut Backend,
     held: Option<HeldWords<Word>>,
@@ -43,7 +46,7 @@ fn write_released<Word: BitArray, Backend: WriteWords<Word>>(
     }
 }
 
-/// Writes a word, if there is one.
+/// Writes a word if there is one.
 #[inline]
 fn write_word<Word: BitArray, Backend: WriteWords<Word>>(
     bulk: &mut Backend,
@@ -61,7 +64,7 @@ fn write_word<Word: BitArray, Backend: WriteWords<Word>>(
     }
 }
 
-/// How many words these are.
+/// Returns the number of released words.
 #[inline]
 fn held_count<Word: BitArray>(held: &Option<HeldWords<Word>>) -> usize
     ensures { result ≡ length (released_of Word.number held.now) }
@@ -83,7 +86,7 @@ fn count_in<Word: BitArray>(word: &Option<Word>) -> usize
     }
 }
 
-/// How many words are owed.
+/// Returns the number of words that a call has to write.
 #[inline]
 pub fn owed_count<Word: BitArray>(
     held: &Option<HeldWords<Word>>,
@@ -96,7 +99,7 @@ pub fn owed_count<Word: BitArray>(
     held_count(held) + count_in(top) + count_in(last)
 }
 
-/// Writes held words, then one, then another. No room is asked for.
+/// Writes released words, then one, then another, without asking for room.
 fn write_parts<Word: BitArray, Backend: WriteWords<Word>>(
     bulk: &mut Backend,
     held: Option<HeldWords<Word>>,
@@ -117,8 +120,7 @@ fn write_parts<Word: BitArray, Backend: WriteWords<Word>>(
     write_word(bulk, last)
 }
 
-/// Writes held words, then one, then another, and others behind them. Room for all of them is asked for first,
-/// where there is any of them.
+/// Writes released words, then one, then another, then others. If there are any, it first asks for room for all.
 pub fn write_owed_behind<Word: BitArray, Backend: WriteWords<Word>>(
     bulk: &mut Backend,
     held: Option<HeldWords<Word>>,
@@ -145,8 +147,7 @@ pub fn write_owed_behind<Word: BitArray, Backend: WriteWords<Word>>(
     write_released(bulk, behind)
 }
 
-/// Writes held words, then one, then another. Room for all of them is asked for first, where there is
-/// any of them.
+/// Writes released words, then one, then another. If there are any, it first asks for room for all.
 pub fn write_owed<Word: BitArray, Backend: WriteWords<Word>>(
     bulk: &mut Backend,
     held: Option<HeldWords<Word>>,
@@ -160,7 +161,7 @@ pub fn write_owed<Word: BitArray, Backend: WriteWords<Word>>(
     write_owed_behind(bulk, held, top, last, None)
 }
 
-/// Writes a word, and another behind it if there is one. Room for both is asked for first.
+/// Writes a word, and another if there is one. It first asks for room for both.
 #[inline(always)]
 fn write_two<Word: BitArray, Backend: WriteWords<Word>>(
     bulk: &mut Backend,
@@ -196,8 +197,7 @@ fn write_two<Word: BitArray, Backend: WriteWords<Word>>(
     }
 }
 
-/// Writes several words that were held, and then another if there is one. This is rare, so it is kept apart
-/// from the other writes.
+/// Writes several released words, and then another if there is one. This is rare, so it isn't inlined.
 #[cold]
 #[inline(never)]
 fn write_several<Word: BitArray, Backend: WriteWords<Word>>(
@@ -212,8 +212,7 @@ fn write_several<Word: BitArray, Backend: WriteWords<Word>>(
     write_owed(bulk, Some(held), top, None)
 }
 
-/// Writes what a step owes: the held words that it lets go, and then another if there is one. Mostly this is
-/// one word, or none.
+/// Writes the words of a step: the released words, and then another if there is one. Usually this is at most one.
 #[inline(always)]
 pub fn write_step<Word: BitArray, Backend: WriteWords<Word>>(
     bulk: &mut Backend,

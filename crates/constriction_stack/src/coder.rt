@@ -1,11 +1,10 @@
-//! The coder: what it holds, its parts, and when it is empty.
+//! The coder, its parts, and when it is empty.
 //!
 //! - [`symbols`]: the two steps, `encode_symbol` and `decode_symbol`.
-//! - [`lists`]: lists that are put on from the last to the first.
-//! - [`words`]: words from a coder, a coder from words, and how many they are.
-//! - [`decoders`]: the same state over another backend, coders over borrowed words or words in the order of
-//!   reading, and going to positions.
-//! - [`guard`]: its words on the backend, for as long as they are looked at.
+//! - [`lists`]: encoding lists of symbols from last to first.
+//! - [`words`]: importing and exporting words, and counting them.
+//! - [`decoders`]: coders over other backends, over borrowed words, over words in reading order, and positions.
+//! - [`guard`]: the compressed words while a guard lends them.
 
 pub mod decoders;
 pub mod guard;
@@ -22,11 +21,21 @@ use constriction_words::{BitArray, WordOf};
 use std::alloc::{AllocError, Allocator, Global};
 use std::marker::{Model, PhantomData};
 
-/// A stack of symbols over words of the type `Word`, with a head (the state `x` of rANS) of the type
-/// `State`, which has a whole number of words, two at least. The words below the head are in the backend, the top one
-/// last.
+/// A stack of symbols: a head (the state `x` of rANS) of type `State` above a backend of words of type `Word`.
 ///
-/// Contracts see an `AnsValue`: the state (the head and the words below it), and the backend.
+/// `State` has a whole number of words, at least two. The backend holds the words below the head, the top word
+/// last. [`AnsCoder::new`] makes an empty coder.
+///
+/// Contracts see an `AnsValue`: the state (the head and the words below it) and the backend.
+///
+/// # Examples
+///
+/// ```
+/// let mut coder = DefaultAnsCoder::new(alloc);
+/// coder.encode_symbol(&1, &table)?;
+/// coder.encode_symbol(&0, &table)?;
+/// coder.decode_symbol(&table)?; // 0, the last symbol encoded
+/// ```
 #[derive(Drop)]
 pub struct AnsCoder<Word: WordOf<State>, State: BitArray, Backend: Holds<Word, Stack> = Vec<Word>> {
     bulk: Backend,
@@ -34,10 +43,10 @@ pub struct AnsCoder<Word: WordOf<State>, State: BitArray, Backend: Holds<Word, S
     word: PhantomData<Word>,
 }
 
-/// A coder of words of 32 bits and heads of 64, for precisions up to 32.
+/// A coder with 32-bit words and a 64-bit head, for precisions up to 32 bits.
 pub type DefaultAnsCoder<Backend = Vec<u32>> = AnsCoder<u32, u64, Backend>;
 
-/// A coder of words of 16 bits and heads of 32, for precisions up to 16.
+/// A coder with 16-bit words and a 32-bit head, for precisions up to 16 bits.
 pub type SmallAnsCoder<Backend = Vec<u16>> = AnsCoder<u16, u32, Backend>;
 
 impl<Word: WordOf<State>, State: BitArray, Backend: Holds<Word, Stack>> Model
@@ -50,8 +59,16 @@ impl<Word: WordOf<State>, State: BitArray, Backend: Holds<Word, Stack>> Model
 }
 
 impl<Word: WordOf<State>, State: BitArray> AnsCoder<Word, State, Vec<Word>> {
-    /// A coder that holds nothing: head 0, and no words. It takes no memory yet; `alloc` is where
-    /// its words will be.
+    /// Makes an empty coder: head 0 and no words.
+    ///
+    /// This allocates nothing. The coder takes memory for its words from `alloc` later.
+    ///
+    /// # Examples
+    ///
+    /// ```
+    /// let coder = DefaultAnsCoder::new(alloc);
+    /// coder.is_empty(); // true
+    /// ```
     #[inline(always)]
     pub fn new(alloc: Global) -> Self
         requires { IsSizes Word.BITS State.BITS }
@@ -67,7 +84,7 @@ impl<Word: WordOf<State>, State: BitArray> AnsCoder<Word, State, Vec<Word>> {
 }
 
 impl<Word: WordOf<State>, State: BitArray, A: Allocator> AnsCoder<Word, State, Vec<Word, A>> {
-    /// Takes everything off: the coder is as a new one, but keeps its memory.
+    /// Removes everything from the coder, and keeps its allocated memory.
     pub fn clear(&mut self)
         ensures state { self.new.state ≡ empty }
         ensures coder { IsCoder Word.number ⟦<Vec<Word, A> as Holds<Word, Stack>>⟧ Word.BITS State.BITS self.new }
@@ -82,8 +99,10 @@ impl<Word: WordOf<State>, State: BitArray, Backend: Holds<Word, Stack>> AnsCoder
     State,
     Backend,
 > {
-    /// Whether the head is 0. A new coder is empty, and one from which all symbols were taken; but
-    /// symbols whose interval begins at 0 leave an empty coder empty, and still come back.
+    /// Returns whether the head is 0.
+    ///
+    /// A new coder is empty, and so is one from which all symbols were decoded. Encoding a symbol whose interval
+    /// begins at 0 onto an empty coder leaves it empty; decoding still returns that symbol.
     #[inline]
     pub fn is_empty(&self) -> bool
         ensures { IsTrue result ↔ (self.now.state.head ≡ 0) }
@@ -97,9 +116,18 @@ impl<Word: WordOf<State>, State: BitArray, Backend: Holds<Word, Stack>> AnsCoder
     State,
     Backend,
 > {
-    /// The coder of the words of a backend below a head. Any head is taken: where it is below 2 to
-    /// the (bits of `State` - bits of `Word`) though there are words, decoding is as ever, and
-    /// encoding is safe but isn't undone by decoding.
+    /// Makes a coder from a backend and a head.
+    ///
+    /// The head may be any number. If the backend has words and the head is below 2 to the power of (bits of
+    /// `State` - bits of `Word`), the state isn't normalized: decoding works as usual, but decoding a symbol encoded
+    /// onto this state need not restore it.
+    ///
+    /// # Examples
+    ///
+    /// ```
+    /// let coder = DefaultAnsCoder::from_raw_parts(Vec::new(alloc), 7u64);
+    /// coder.is_empty(); // false: the head is 7
+    /// ```
     #[inline(always)]
     pub fn from_raw_parts(bulk: Backend, state: State) -> Self
         requires { IsSizes Word.BITS State.BITS }
@@ -114,7 +142,7 @@ impl<Word: WordOf<State>, State: BitArray, Backend: Holds<Word, Stack>> AnsCoder
         }
     }
 
-    /// The backend, which holds the words below the head, and the head.
+    /// Splits the coder into its backend, which holds the words below the head, and its head.
     #[inline]
     pub fn into_raw_parts(self) -> (Backend, State)
         ensures backend { result.0 ≡ self.backend }
@@ -129,7 +157,7 @@ impl<Word: WordOf<State>, State: BitArray, Backend: Holds<Word, Stack>> AnsCoder
         (bulk, head)
     }
 
-    /// The backend, which holds the words below the head.
+    /// Returns the backend, which holds the words below the head.
     #[inline]
     pub fn bulk(&self) -> &Backend
         ensures backend { result.now ≡ self.now.backend }
@@ -144,7 +172,14 @@ impl<Word: WordOf<State>, State: BitArray, Backend: WriteWords<Word>> AnsCoder<
     State,
     Backend,
 > {
-    /// A coder that holds nothing, over a backend that holds nothing: head 0, and no words.
+    /// Makes an empty coder over an empty backend: head 0 and no words.
+    ///
+    /// # Examples
+    ///
+    /// ```
+    /// let buffer = Cursor::new_at_write_beginning(words.as_mut_slice()); // the coder overwrites `words`
+    /// let mut coder = DefaultAnsCoder::with_write_backend(buffer);
+    /// ```
     #[inline(always)]
     pub fn with_write_backend(bulk: Backend) -> Self
         requires sizes { IsSizes Word.BITS State.BITS }
@@ -164,7 +199,11 @@ impl<Word: WordOf<State>, State: BitArray, Backend: Holds<Word, Stack> + Clone> 
 
     ghost is_infallible = { λ coder. Backend.is_infallible coder.backend };
 
-    /// The same head over a clone of the backend. It is refused only where the backend's clone is.
+    /// Clones the coder: the same head over a clone of the backend.
+    ///
+    /// # Errors
+    ///
+    /// `AllocError` only where cloning the backend fails.
     fn clone(&self) -> Result<Self, AllocError> {
         let bulk = self.bulk.clone()?;
         Ok(AnsCoder {

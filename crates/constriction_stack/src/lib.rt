@@ -1,10 +1,10 @@
-//! A stack of symbols: asymmetric numeral systems (ANS) over words.
+//! The stack coder: asymmetric numeral systems (ANS), a stack of symbols.
 //!
-//! An [`coder::AnsCoder`] holds a number, the head, above a stack of words. Encoding a symbol under
-//! an entropy model makes the head greater by about the symbol's information content, and moves a
-//! word out of it where it is full. Decoding takes the symbols off again, the last one first: on
-//! each valid state the two steps undo each other. Any symbols can be mixed, each under a model and
-//! a precision of its own, if the decoder is given the same models in the reverse order.
+//! An [`coder::AnsCoder`] holds a number, the head, above a stack of words. Encoding a symbol multiplies
+//! the head by about the inverse of the symbol's probability. When the head is full, the coder moves a word
+//! out of it onto the stack. Decoding removes the symbols in reverse order, and is the inverse of encoding on
+//! every normalized state. Each symbol may have its own model and precision, as long as the decoder gets the
+//! same models in reverse order.
 //!
 //! ```
 //! let table = WeightTable::<u32, 24>::new(alloc, &[16777211, 5])?;
@@ -18,17 +18,17 @@
 //!         coder.decode_symbol(&table)?;                        // 0, which was encoded last
 //!         coder.decode_symbol(&table)?;                        // 1
 //!     }
-//!     Err(words) => {}                                         // they ended with a zero word
+//!     Err(words) => {}                                         // the last word was zero
 //! }
 //! ```
 //!
 //! The modules:
-//! - [`coder`]: the coder, its steps, its words, and what else can be asked of it.
-//! - `steps`: what a step does to the head, as functions of numbers.
+//! - [`coder`]: the coder, its steps, its words and its positions.
+//! - `steps`: the arithmetic of a step on the head.
 //!
-//! Contracts cite the definitions of `specs/Ans.antt`: states, pop and push, the words of a state, and
-//! what a step over a backend may return and leave. They speak of numbers and lists: a word, or a head,
-//! is its number, and the words below the head are the list in which they would be read, the top one first.
+//! Contracts cite the definitions of `specs/Ans.antt`: states, pop and push, the words of a state, and the
+//! possible results of a step over a backend. They describe words and heads as natural numbers, and the words
+//! below the head as the list in which they would be read, top word first.
 #![tactic(auto)]
 
 pub mod coder;

@@ -1,4 +1,4 @@
-//! The steps of a coder on its head and its backend.
+//! The arithmetic of a step, on a head and a backend.
 
 ghost use Rattle.std.specs.Prelude.{◌≡◌, ◌+◌, ◌-◌, ◌*◌, ◌/◌, ◌%◌, ◌^◌, ◌<◌, ◌≤◌, map, IfSome, MatchResult, Err};
 ghost use Rattle.constriction_base.specs.Steps.{IsStep, IsSizes};
@@ -8,7 +8,7 @@ ghost use Rattle.constriction_stack.specs.Ans.{EncodesOnto, RefillsBy, refilled,
 use constriction_base::backends::{Holds, ReadWords, Stack, WriteWords};
 use constriction_words::{BitArray, Reciprocal, WordOf};
 
-/// What a pop leaves of a head, before a word moves in.
+/// Returns the head after a pop, before a word moves in.
 #[inline]
 pub fn popped_head<State: BitArray>(head: State, left: State, p: State, precision: u32) -> State
     requires within { precision < State.BITS }
@@ -22,7 +22,7 @@ pub fn popped_head<State: BitArray>(head: State, left: State, p: State, precisio
     head.shifted_right(precision).times(p).plus(offset)
 }
 
-/// A head into which the next word moves, if it is low and there is one.
+/// Returns the head after the next word moved in, if the head is low and a word is left.
 #[inline]
 pub fn refilled<Word: WordOf<State>, State: BitArray, Backend: ReadWords<Word, Stack>>(
     bulk: &mut Backend,
@@ -49,7 +49,7 @@ pub fn refilled<Word: WordOf<State>, State: BitArray, Backend: ReadWords<Word, S
     Ok(head.shifted_left(Word::BITS).plus(word.widen()))
 }
 
-/// A head after a push, whose low word is written where there is no room for it.
+/// Returns the head after a push, and first writes the head's low word if the head has no room for the step.
 #[inline(always)]
 pub fn pushed_onto<Word: WordOf<State>, State: BitArray, Backend: WriteWords<Word>>(
     bulk: &mut Backend,
@@ -85,10 +85,10 @@ pub fn pushed_onto<Word: WordOf<State>, State: BitArray, Backend: WriteWords<Wor
     ))
 }
 
-/// What a push makes of a head with room.
+/// Returns the head after a push onto a head with room.
 ///
-/// By a reciprocal it is the head and `left`, and for each whole `p` in the head what a table has beside it: so only
-/// the quotient waits for the head.
+/// With a reciprocal this is `head + left + head / p * (2^precision - p)`, so that the quotient is the only
+/// operation that waits for the head.
 #[inline]
 fn pushed<State: BitArray>(
     head: State,

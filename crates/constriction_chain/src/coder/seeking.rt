@@ -1,4 +1,4 @@
-//! Positions of a coder: where each backend stands, and the heads.
+//! Positions of a coder: the positions of both backends, and the heads.
 
 ghost use Rattle.constriction_chain.specs.Chain.{at_heads, value_of};
 ghost use Rattle.constriction_chain.specs.Positions.{neither};
@@ -9,7 +9,7 @@ use crate::heads::ChainCoderHeads;
 use constriction_base::backends::{Holds, Pos, PosSeek, Seek, SeeksBack, Stack};
 use constriction_words::{BitArray, WordOf};
 
-/// Where the two backends of a coder stand.
+/// The positions of a coder's two backends. The coder's `pos` makes it.
 #[derive(Debug, Clone, Copy, PartialEq, Eq, Hash, Drop)]
 pub struct BackendPosition<CompressedPosition, RemaindersPosition> {
     /// The position of the compressed words.
@@ -25,7 +25,7 @@ impl<
     R: Holds<Word, Stack> + PosSeek,
     const PRECISION: usize,
 > PosSeek for ChainCoder<Word, State, C, R, PRECISION> {
-    /// Where the backends stand, and the heads.
+    /// The backends' positions and the heads.
     type Position = (
         BackendPosition<C::Position, R::Position>,
         ChainCoderHeads<Word, State, PRECISION>,
@@ -45,7 +45,7 @@ impl<
 
     ghost can_tell = { λ coder. C.can_tell coder.compressed × R.can_tell coder.remainders };
 
-    /// Where the backends stand now, and the heads.
+    /// Returns the backends' positions and the heads.
     fn pos(
         &self,
     ) -> (
@@ -85,19 +85,19 @@ impl<
         ⊎ (C.sought old.compressed position.0.compressed new.compressed
         × R.stays old.remainders position.0.remainders new.remainders)) };
 
-    /// Goes to a position that was recorded before: the compressed backend first, then the remainders.
+    /// Goes to a recorded position. The compressed backend seeks first, then the remainders.
     ///
     /// # Errors
     ///
-    /// `Err(())` where one of the backends refuses to go to its position. The heads stay then, and a
-    /// backend that was moved before stays moved.
+    /// `Err(())` if one of the backends refuses to seek to its position. The heads are unchanged. If the remainders
+    /// refuse, the compressed backend has already moved.
     ///
     /// # Examples
     ///
     /// ```
     /// let position = coder.pos();
     /// let symbol = coder.decode_symbol(&table)?;
-    /// coder.seek(position);                    // Ok(()), where the compressed backend is a `Cursor`
+    /// coder.seek(position);                    // Ok(()) if the compressed backend is a `Cursor`
     /// coder.decode_symbol(&table)?;            // `symbol` again
     /// ```
     fn seek(

@@ -1,5 +1,8 @@
-//! The two steps: a symbol is taken out of the compressed words, or put back. Lists of symbols are put back in
-//! their order by the trait `Encode`, and from the last to the first by `EncodeReverse`.
+//! The two steps of the coder: decoding a symbol from the compressed words, and encoding it back.
+//!
+//! The trait `Encode` encodes lists of symbols in their order, and `EncodeReverse` encodes them from last to first.
+//!
+//! A decode that moves a word out without reading one doesn't ask for room first: its write is its only backend call.
 
 ghost use Rattle.constriction_base.specs.Steps.{Step};
 ghost use Rattle.constriction_chain.specs.Steps.{DecodeCall, EncodeCall, Halted, IsEndOfData, IsLackOfRoom};
@@ -42,21 +45,22 @@ impl<
 
     ghost is_end_of_data = { IsEndOfData R.is_lack_of_room };
 
-    /// Takes a symbol out of the compressed words, under a model of the coder's precision.
+    /// Decodes a symbol from the compressed words, with a model of the coder's precision.
     ///
-    /// It reads one word at most, and writes one to the remainders at most. Before it reads, it asks the
-    /// remainders for room for one word.
+    /// The coder reads at most one compressed word and writes at most one word to the remainders. Before it reads, it
+    /// asks the remainders for room for one word.
     ///
     /// # Errors
     ///
-    /// After each of them the heads are as before, and the remainders have the room that they had at least.
-    /// - `Frontend(OutOfCompressedData)` where a word is needed, the remainders didn't refuse the room for
-    ///   one, and the read says that no word is left. Nothing changed but that room.
-    /// - `Backend(Compressed(error))` where a word is needed and its read answered that error. The words of
-    ///   a backend that knows them are as before.
-    /// - `Backend(Remainders(error))` where a word is needed and no room was made for one among the
-    ///   remainders, which leaves all as before; or where the remainders refused a word, which leaves the
-    ///   compressed words one fewer at most, and all as before over a backend that makes room.
+    /// After each error the heads are unchanged, and the remainders have at least as much room as before.
+    ///
+    /// - `Frontend(OutOfCompressedData)` if a word is needed, the remainders granted room for one, and no compressed
+    ///   word is left. Only that room changed.
+    /// - `Backend(Compressed(error))` if a word is needed and its read returned that error. The compressed words are
+    ///   unchanged if the backend knows its words.
+    /// - `Backend(Remainders(error))` if a word is needed and the remainders refused room for one: nothing changed. Or if
+    ///   the remainders refused to write a word: the compressed backend has lost at most one word, and nothing changed
+    ///   if the backend of the remainders grants room.
     #[inline]
     fn decode_symbol<M>(
         &mut self,
@@ -84,7 +88,7 @@ impl<
         }
     }
 
-    /// Whether the compressed words may have ended, or the remainders may be full.
+    /// Returns whether the compressed words may have ended, or the remainders may be full.
     #[inline]
     fn maybe_exhausted(&self) -> bool
         ensures value { result ≡ C.seems_exhausted self.now.compressed || R.seems_full self.now.remainders }
@@ -126,28 +130,29 @@ impl<
     ghost never_full = { λ e impossible lack.
         never_lack C.WriteError R.ReadError C.is_lack_of_room e impossible lack };
 
-    /// There is no limit.
+    /// Returns `usize::MAX`: the chain coder has no limit on the number of symbols.
     #[inline]
     fn symbols_left(&self) -> usize {
         usize::MAX
     }
 
-    /// Puts a symbol back, under a model of the coder's precision: what a decode of it took.
+    /// Encodes a symbol with a model of the coder's precision. This is the inverse of decoding it.
     ///
-    /// It writes one word to the compressed words at most, and asks for room for it first; and it reads one
-    /// word of the remainders at most.
+    /// The coder writes at most one compressed word, after asking for room for it, and reads at most one word of the
+    /// remainders.
     ///
     /// # Errors
     ///
-    /// After each of them the heads are as before, and the compressed words have the room that they had at least.
-    /// - `Frontend(ImpossibleSymbol)` exactly where the model doesn't know the symbol. Nothing changed.
-    /// - `Frontend(OutOfRemainders)` where a word of the remainders is needed and the read says that none is
-    ///   left. Nothing changed but the room that was asked for.
-    /// - `Backend(Remainders(error))` where a word is needed and its read answered that error. The words of
-    ///   a backend that knows them are as before.
-    /// - `Backend(Compressed(error))` where a word had to be written, and no room was made for it, which
-    ///   leaves all as before; or its write was refused, which leaves the remainders one word fewer at most
-    ///   and comes only over a backend that doesn't make room.
+    /// After each error the heads are unchanged, and the compressed words have at least as much room as before.
+    ///
+    /// - `Frontend(ImpossibleSymbol)` exactly if the model doesn't contain the symbol. The coder is unchanged.
+    /// - `Frontend(OutOfRemainders)` if a word of the remainders is needed and none is left. Only the room that was asked
+    ///   for changed.
+    /// - `Backend(Remainders(error))` if a word of the remainders is needed and its read returned that error. The
+    ///   remainders are unchanged if the backend knows its words.
+    /// - `Backend(Compressed(error))` if a word had to be written and the backend refused room for it: nothing changed. Or
+    ///   if its write was refused, which happens only over a backend that doesn't grant room: the remainders have lost at
+    ///   most one word.
     #[inline]
     fn encode_symbol<M>(
         &mut self,
@@ -181,7 +186,7 @@ impl<
         }
     }
 
-    /// Whether the remainders may have ended, or the compressed words may be full.
+    /// Returns whether the remainders may have ended, or the compressed words may be full.
     #[inline]
     fn maybe_full(&self) -> bool
         ensures value { result ≡ R.seems_exhausted self.now.remainders || C.seems_full self.now.compressed }

@@ -1,4 +1,7 @@
-//! Decoders that go to positions: how many words stand before, and the interval.
+//! Seeking a decoder to a position: a number of words and an interval.
+//!
+//! A decoder has no `pos`: encoders record positions. A seek reads the words of a point, so a read can fail after the
+//! backend has moved. The interval and the point stay then (`stays`).
 
 ghost use Rattle.std.specs.Prelude.{◌≡◌, ◌⊎◌, ◌/◌, ◌^◌, ℕ};
 ghost use Rattle.constriction_queue.specs.States.{lower_of, range_of};
@@ -12,7 +15,7 @@ use constriction_words::{BitArray, WordOf};
 
 impl<Word: WordOf<State>, State: BitArray, Backend: Holds<Word, Queue> + PosSeek> PosSeek
     for RangeDecoder<Word, State, Backend> {
-    /// The backend's position, and the interval.
+    /// The backend's position and the interval.
     type Position = (Backend::Position, RangeCoderState<Word, State>);
 }
 
@@ -40,13 +43,16 @@ where
         ⊎ ((moved : Backend) × (e : Backend.ReadError) × Backend.sought old.bulk position.0 moved
         × RefusesPoint Word.number Backend.ReadWords.own Word.BITS State.BITS moved e new.bulk)) };
 
-    /// Goes to a position that an encoder recorded: the interval that was recorded, over the words that the
-    /// backend holds at its position, of which it reads as many as a state has.
+    /// Goes to a position that an encoder recorded: the recorded interval, over the backend's words at its position.
+    ///
+    /// Reads as many words there as a state has.
     ///
     /// # Errors
     ///
-    /// `Err(())` where the backend can't go to its position, or refuses a read. The interval and the point
-    /// stay.
+    /// `Err(())` if the backend can't seek to its position, or refuses a read. The interval and the point are
+    /// unchanged.
+    ///
+    /// # Examples
     ///
     /// ```
     /// encoder.encode_symbol(&1, &table)?;

@@ -1,4 +1,4 @@
-//! The step: the next symbol is taken.
+//! The step of the decoder: decoding one symbol.
 
 ghost use Rattle.std.specs.Prelude.{◌≡◌, ◌↔◌, ◌≤◌, ◌^◌, Err, IsTrue};
 ghost use Rattle.std.specs.Bool.{OnFalse};
@@ -21,10 +21,10 @@ use constriction_stream::decoding::Decode;
 use constriction_words::{BitArray, WordOf};
 use thiserror::Error;
 
-/// Why a decoder itself refuses a step.
+/// The error of a decoding step that isn't the backend's.
 #[derive(Debug, Clone, Copy, PartialEq, Eq, Error)]
 pub enum DecoderFrontendError {
-    /// The words hold no symbol of the model.
+    /// The words don't encode any symbol of a model with this precision.
     #[error("Tried to decode from compressed data that is invalid for the employed entropy model.")]
     InvalidData,
 }
@@ -38,7 +38,7 @@ impl<Word: WordOf<State>, State: BitArray, Backend: Holds<Word, Queue>> Code
     ghost shows = { λ decoder state. (lower_of state ≡ decoder.lower) × (range_of state ≡ decoder.range)
         × IsDecoder Word.number Backend.Holds Word.BITS State.BITS decoder };
 
-    /// The interval.
+    /// Returns the interval.
     #[inline]
     fn state(&self) -> RangeCoderState<Word, State> {
         self.state
@@ -65,15 +65,16 @@ impl<
 
     ghost is_end_of_data = { λ _. ⊥ };
 
-    /// Takes the next symbol, under a model of `PRECISION` bits, which are those of a word at most.
+    /// Decodes the next symbol with a model of `PRECISION` bits, at most the bits of a word.
     ///
-    /// It reads one word at most. Where no word is left, it goes on with zero words.
+    /// The decoder reads at most one word. If no word is left, it uses a zero word.
     ///
     /// # Errors
-    /// - `Frontend(InvalidData)` exactly where the words hold no symbol of a model of the precision.
-    ///   Nothing changed.
-    /// - `Backend(error)` only where a word had to be read and the read answered that error. The
-    ///   interval and the point are as before, and so are the words of a backend that knows them.
+    ///
+    /// - `Frontend(InvalidData)` exactly if the words don't encode a symbol of any model with this precision. The
+    ///   decoder is unchanged.
+    /// - `Backend(error)` only if a word had to be read and the read returned that error. The interval and the point
+    ///   are unchanged, and so are the words if the backend knows its words.
     #[inline]
     fn decode_symbol<M>(
         &mut self,
@@ -116,7 +117,7 @@ impl<
         }
     }
 
-    /// Whether the words may have ended: the backend's are used up as far as it knows, and the point lies
+    /// Returns whether the words may have ended: the backend knows of no further word, and either the point lies
     /// where a seal puts it, or no symbol was decoded.
     #[inline]
     fn maybe_exhausted(&self) -> bool

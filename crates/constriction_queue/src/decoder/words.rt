@@ -1,4 +1,4 @@
-//! A decoder of words, and its parts.
+//! Making a decoder from words, and its parts.
 
 ghost use Rattle.std.specs.Prelude.{◌≡◌, ◌↔◌, ◌+◌, ◌-◌, ◌%◌, ◌<◌, ◌^◌, map, IfOk, IfErr, IsOk, IsTrue};
 ghost use Rattle.constriction_base.specs.Steps.{IsSizes};
@@ -19,12 +19,21 @@ impl<Word: WordOf<State>, State: BitArray, Backend: ReadWords<Word, Queue>> Rang
     State,
     Backend,
 > {
-    /// A decoder of a backend's words. It reads as many of them as a state has. Where fewer are there, the read
-    /// that finds none left is the last, and zeros stand for those that are missing.
+    /// Makes a decoder over a backend, and reads as many words as a state has.
+    ///
+    /// If the backend has fewer words, the decoder stops at the first read that finds none, and uses zero words for
+    /// the missing ones.
     ///
     /// # Errors
     ///
-    /// That of a read. The backend is gone then.
+    /// The error of a read. The backend is consumed.
+    ///
+    /// # Examples
+    ///
+    /// ```
+    /// let words = Cursor::new_at_write_beginning([7u32, 9].as_slice());
+    /// let mut decoder = DefaultRangeDecoder::with_backend(words)?;
+    /// ```
     pub fn with_backend(mut bulk: Backend) -> Result<Self, Backend::ReadError>
     where
         Backend: Drop,
@@ -46,15 +55,17 @@ impl<Word: WordOf<State>, State: BitArray, Backend: ReadWords<Word, Queue>> Rang
         }
     }
 
-    /// A decoder of words, such as [`crate::RangeEncoder::into_compressed`] gives.
+    /// Makes a decoder from words, such as those that [`crate::RangeEncoder::into_compressed`] returns.
     ///
     /// # Errors
     ///
-    /// That of a read. A cursor returns none.
+    /// The error of a read. Cursors have none.
+    ///
+    /// # Examples
     ///
     /// ```
-    /// let mut decoder = DefaultRangeDecoder::from_compressed(words)?; // of a `Vec<u32>`
-    /// decoder.decode_symbol(&table)?; // what was encoded first
+    /// let mut decoder = DefaultRangeDecoder::from_compressed(words)?; // `words` is a `Vec<u32>`
+    /// decoder.decode_symbol(&table)?; // the first symbol encoded
     /// ```
     pub fn from_compressed<Buf: IntoReadWords<Word, Queue, IntoReadWords = Backend>>(
         compressed: Buf,
@@ -73,11 +84,17 @@ impl<Word: WordOf<State>, State: BitArray, Backend: ReadWords<Word, Queue>> Rang
         Self::with_backend(compressed.into_read_words())
     }
 
-    /// A decoder of borrowed words.
+    /// Makes a decoder that borrows words.
     ///
     /// # Errors
     ///
-    /// That of a read. A cursor returns none.
+    /// The error of a read. Cursors have none.
+    ///
+    /// # Examples
+    ///
+    /// ```
+    /// let mut decoder = RangeDecoder::<u32, u64, _>::for_compressed(&words)?; // `words` is a `Vec<u32>`
+    /// ```
     pub fn for_compressed<'a, Buf: AsReadWords<'a, Word, Queue, AsReadWords = Backend>>(
         compressed: &'a Buf,
     ) -> Result<Self, Backend::ReadError>
@@ -95,7 +112,7 @@ impl<Word: WordOf<State>, State: BitArray, Backend: ReadWords<Word, Queue>> Rang
         Self::with_backend(compressed.as_read_words())
     }
 
-    /// Whether the words may have ended: what `maybe_exhausted` of the trait `Decode` answers at each precision.
+    /// Returns whether the words may have ended, as `maybe_exhausted` of the trait `Decode` does at every precision.
     #[inline]
     pub fn maybe_exhausted(&self) -> bool
         ensures { IsTrue result ↔ MayBeExhausted Word.BITS State.BITS Backend.seems_exhausted self.now }
@@ -109,12 +126,21 @@ impl<Word: WordOf<State>, State: BitArray, Backend: Holds<Word, Queue>> RangeDec
     State,
     Backend,
 > {
-    /// The decoder of the words that are left in a backend, an interval, and a point in it: the number of
-    /// the words that were read last, as many as a state has.
+    /// Makes a decoder from a backend with the remaining words, an interval, and a point.
+    ///
+    /// The point is the number that the last words read stand for, as many words as a state has.
     ///
     /// # Errors
     ///
-    /// The backend, exactly where the point doesn't lie in the interval.
+    /// Returns the backend, exactly if the point doesn't lie in the interval.
+    ///
+    /// # Examples
+    ///
+    /// ```
+    /// let words = Cursor::new_at_write_beginning([7u32, 9].as_slice());
+    /// let start = RangeCoderState::new(0u64, u64::MAX)?;
+    /// let decoder = DefaultRangeDecoder::from_raw_parts(words, start, 5u64); // Ok: 5 is in the interval
+    /// ```
     pub fn from_raw_parts(
         bulk: Backend,
         state: RangeCoderState<Word, State>,
@@ -139,7 +165,7 @@ impl<Word: WordOf<State>, State: BitArray, Backend: Holds<Word, Queue>> RangeDec
         })
     }
 
-    /// The backend with the words that are left, the interval, and the point.
+    /// Splits the decoder into the backend with the remaining words, the interval, and the point.
     #[inline]
     pub fn into_raw_parts(self) -> (Backend, RangeCoderState<Word, State>, State)
         ensures parts { self ≡ decoder_of Word.number Backend.Holds
@@ -154,7 +180,7 @@ impl<Word: WordOf<State>, State: BitArray, Backend: Holds<Word, Queue>> RangeDec
         (bulk, state, distance.wrapping_plus(state.lower()))
     }
 
-    /// The backend, with the words that are left. Those of the point aren't among them.
+    /// Returns the backend with the remaining words. The words of the point aren't among them.
     #[inline]
     pub fn bulk(&self) -> &Backend
         ensures backend { result.now ≡ self.now.bulk }
@@ -172,8 +198,11 @@ impl<Word: WordOf<State>, State: BitArray, Backend: Holds<Word, Queue> + Clone> 
 
     ghost is_infallible = { λ decoder. Backend.is_infallible decoder.bulk };
 
-    /// The same interval and point over a clone of the backend. It is refused only where the backend's
-    /// clone is.
+    /// Clones the decoder: the same interval and point over a clone of the backend.
+    ///
+    /// # Errors
+    ///
+    /// `AllocError` only where cloning the backend fails.
     fn clone(&self) -> Result<Self, AllocError> {
         let bulk = self.bulk.clone()?;
         Ok(RangeDecoder {

@@ -1,4 +1,4 @@
-//! The words of an encoder, and how many they are.
+//! Exporting an encoder's words, and counting them.
 
 ghost use Rattle.std.specs.Prelude.{◌≡◌, ◌↔◌, ◌+◌, ◌*◌, ◌^◌, ◌++◌, [], drop, length, map, reverse, IsTrue, IfOk, IfErr};
 ghost use Rattle.constriction_queue.specs.Encoder.{IsEncoder, SizesFit, run_by, sealed_by};
@@ -17,13 +17,13 @@ impl<Word: WordOf<State>, State: BitArray, Backend: WriteWords<Word>> RangeEncod
     State,
     Backend,
 > {
-    /// The words of the encoder: those written and held, and a seal behind them, which is nothing where no
-    /// symbol was encoded. It asks the backend for room for all that is missing.
+    /// Returns the encoder's words: those written, those pending, and a seal. Without symbols there is no seal.
+    ///
+    /// The encoder first asks the backend for room for all words that it still has to write.
     ///
     /// # Errors
     ///
-    /// What the backend returns where it has no room for them, or refuses to write one. The encoder is gone
-    /// then.
+    /// The backend's error if it has no room for these words, or refuses to write one. The encoder is consumed.
     pub fn into_compressed(self) -> Result<Backend, Backend::WriteError>
     where
         Backend: Drop,
@@ -45,7 +45,7 @@ impl<Word: WordOf<State>, State: BitArray, Backend: WriteWords<Word>> RangeEncod
         }
     }
 
-    /// Whether the backend may be full: what `maybe_full` of the trait `Encode` answers at each precision.
+    /// Returns whether the backend may be full, as `maybe_full` of the trait `Encode` does at every precision.
     #[inline]
     pub fn maybe_full(&self) -> bool
         ensures { result ≡ Backend.seems_full self.now.bulk }
@@ -53,22 +53,26 @@ impl<Word: WordOf<State>, State: BitArray, Backend: WriteWords<Word>> RangeEncod
         self.bulk.maybe_full()
     }
 
-    /// The words of the encoder, sealed so that any words may follow them: those written and held, one word of the
-    /// seal, and then the least number of zero words, `State::BITS / Word::BITS - 1` at most, with which all that
-    /// begins with these words is read as the same symbols. It is nothing where no symbol was encoded. Where a state
-    /// is two words, they are the words of [`RangeEncoder::into_compressed`], which in a wider state hold only
-    /// where nothing follows them. It asks the backend for room for all that is missing before it writes.
+    /// Returns the encoder's words with a seal that any words may follow.
+    ///
+    /// The seal is one word and then the least number of zero words, at most `State::BITS / Word::BITS - 1`, with which
+    /// every list that begins with the encoder's words decodes to the same symbols. Without symbols there is no seal.
+    /// If a state is two words wide, the result is that of [`RangeEncoder::into_compressed`]. For wider states, the
+    /// words of `into_compressed` decode to the symbols only if nothing follows them.
+    ///
+    /// The encoder asks the backend for room for all words that it still has to write before it writes any.
     ///
     /// # Errors
     ///
-    /// What the backend returns where it has no room for them, or refuses to write one. The encoder is gone
-    /// then.
+    /// The backend's error if it has no room for these words, or refuses to write one. The encoder is consumed.
+    ///
+    /// # Examples
     ///
     /// ```
     /// let mut words = encoder.into_self_delimited()?; // of a `RangeEncoder<u8, u32>`: [2, 0, 0]
-    /// words.extend_from_slice(&[255, 7])?; // what a container puts behind them
+    /// words.extend_from_slice(&[255, 7])?; // what a container appends
     /// let mut decoder = RangeDecoder::<u8, u32, _>::from_compressed(words)?;
-    /// decoder.decode_symbol(&table)?; // what was encoded first
+    /// decoder.decode_symbol(&table)?; // the first symbol encoded
     /// ```
     pub fn into_self_delimited(self) -> Result<Backend, Backend::WriteError>
     where
@@ -97,8 +101,9 @@ impl<Word: WordOf<State>, State: BitArray, Backend: BoundedReadWords<Word, Stack
     State,
     Backend,
 > {
-    /// Whether the number of bits of the encoder's words is a `usize`. Then [`RangeEncoder::num_words`] and
-    /// [`RangeEncoder::num_bits`] can be asked for.
+    /// Returns whether the number of bits of the encoder's words fits a `usize`.
+    ///
+    /// [`RangeEncoder::num_words`] and [`RangeEncoder::num_bits`] require this.
     pub fn sizes_fit(&self) -> bool
         ensures { IsTrue result ↔ SizesFit Word.BITS State.BITS self.now }
     {
@@ -110,7 +115,7 @@ impl<Word: WordOf<State>, State: BitArray, Backend: BoundedReadWords<Word, Stack
         words <= usize::MAX / Word::BITS as usize
     }
 
-    /// The number of words that [`RangeEncoder::into_compressed`] gives.
+    /// Returns the number of words that [`RangeEncoder::into_compressed`] returns.
     pub fn num_words(&self) -> usize
         requires { SizesFit Word.BITS State.BITS self.now }
         ensures { result ≡ length (sealed_by Word.BITS State.BITS self.now) }
@@ -119,7 +124,7 @@ impl<Word: WordOf<State>, State: BitArray, Backend: BoundedReadWords<Word, Stack
         self.bulk.remaining() + owed_count(&seal.held, &seal.point, &seal.zero)
     }
 
-    /// The number of bits of the words that [`RangeEncoder::into_compressed`] gives.
+    /// Returns the number of bits of the words that [`RangeEncoder::into_compressed`] returns.
     pub fn num_bits(&self) -> usize
         requires { SizesFit Word.BITS State.BITS self.now }
         ensures { result ≡ Word.BITS * length (sealed_by Word.BITS State.BITS self.now) }
@@ -127,7 +132,7 @@ impl<Word: WordOf<State>, State: BitArray, Backend: BoundedReadWords<Word, Stack
         Word::BITS as usize * self.num_words()
     }
 
-    /// Whether no word was written, and no symbol encoded.
+    /// Returns whether the encoder has written no word and encoded no symbol.
     pub fn is_empty(&self) -> bool
         ensures { IsTrue result ↔ ((self.now.range + 1 ≡ 2 ^ State.BITS) × (self.now.words ≡ [])) }
     {
@@ -135,10 +140,17 @@ impl<Word: WordOf<State>, State: BitArray, Backend: BoundedReadWords<Word, Stack
     }
 }
 
-/// The words of an encoder, in the order in which [`RangeEncoder::into_compressed`] gives them.
-/// [`RangeEncoder::iter_compressed`] makes it.
+/// An iterator over an encoder's words in the order of [`RangeEncoder::into_compressed`].
 ///
-/// Contracts see the numbers of the words that are left.
+/// [`RangeEncoder::iter_compressed`] makes it. Contracts see the numbers of the remaining words.
+///
+/// # Examples
+///
+/// ```
+/// for word in encoder.iter_compressed() {
+///     send(word);
+/// }
+/// ```
 #[derive(Debug, Drop)]
 pub struct RangeCompressedIter<'a, Word: BitArray> {
     below: &'a [Word],
@@ -182,8 +194,11 @@ impl<Word: WordOf<State>, State: BitArray, Backend: Holds<Word, Stack> + Words<W
     State,
     Backend,
 > {
-    /// The words that [`RangeEncoder::into_compressed`] would give, the first one first: those that the
-    /// backend lends, those held, and the seal. The encoder stays as it is.
+    /// Returns an iterator over the words that [`RangeEncoder::into_compressed`] would return, and leaves the encoder
+    /// unchanged.
+    ///
+    /// Over any backend these are the lent words, then the pending words and the seal. They are the exported words if
+    /// the backend lends its words in writing order ([`crate::as_written::LendsAsWritten`]), as vectors and slices do.
     pub fn iter_compressed(&self) -> RangeCompressedIter<'_, Word>
         // The words that the backend lends, and then what the sealed words have behind those written.
         ensures lent { result ≡ map Word.number (Backend.lent self.now.bulk)

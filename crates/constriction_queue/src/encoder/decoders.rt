@@ -1,4 +1,4 @@
-//! A decoder of what an encoder holds.
+//! Turning an encoder into a decoder of its symbols.
 
 ghost use Rattle.std.specs.Prelude.{IfOk, IfErr, MatchResult};
 ghost use Rattle.constriction_queue.specs.Range.{initial};
@@ -20,12 +20,14 @@ impl<
     State: BitArray,
     Backend: WriteWords<Word> + IntoReadWords<Word, Queue> + BothWays<Word> + Drop,
 > RangeEncoder<Word, State, Backend> {
-    /// A decoder of the words that [`RangeEncoder::into_compressed`] gives.
+    /// Turns the encoder into a decoder of the words that [`RangeEncoder::into_compressed`] would return.
     ///
     /// # Errors
     ///
-    /// `Write(error)` where the backend has no room for the seal, or refuses to write it; `Read(error)`
-    /// where a read of the first words is refused. The encoder is gone then.
+    /// Every error consumes the encoder.
+    ///
+    /// - `Write(error)` if the backend has no room for the words that are still to be written, or refuses one.
+    /// - `Read(error)` if a read of the first words fails.
     pub fn into_decoder(
         self,
     ) -> Result<
@@ -81,7 +83,7 @@ impl<
         Backend.becomes (queue_reads ⟦<Backend::IntoReadWords as ReadWords<Word, Queue>>⟧)
         Word.BITS State.BITS encoder error };
 
-    /// A decoder of the sealed words.
+    /// Turns the encoder into a decoder of its sealed words.
     fn into_decoder(
         self,
     ) -> Result<
@@ -95,7 +97,7 @@ impl<
     }
 }
 
-/// A decoder of the sealed words, as [`RangeEncoder::into_decoder`] gives it.
+/// Converts an encoder as [`RangeEncoder::into_decoder`] does.
 impl<
     Word: WordOf<State>,
     State: BitArray,

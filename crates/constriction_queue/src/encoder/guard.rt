@@ -1,4 +1,4 @@
-//! The words of an encoder that is used again: a guard shows them, and its drop takes the seal off.
+//! Guards that lend an encoder's compressed words: a guard writes them, and its drop removes them.
 
 ghost use Rattle.std.specs.Prelude.{◌≡◌, ◌+◌, ◌<◌, drop, length, map, reverse, IfOk, OnOk, OnErr};
 ghost use Rattle.std.specs.Borrow.{sem, RestsIfErr};
@@ -14,10 +14,10 @@ use constriction_words::{BitArray, WordOf};
 use std::alloc::{AllocError, Allocator, Global};
 use std::fmt;
 
-/// An encoder whose held words and seal were written onto its vector, and are taken off again when this is
-/// dropped. [`RangeEncoder::get_compressed`] makes it.
+/// A guard over an encoder whose pending words and seal stand in its vector until the guard is dropped.
 ///
-/// The drop takes no memory. A guard that is forgotten leaves its words behind.
+/// [`RangeEncoder::get_compressed`] makes it, and has an example. The drop takes no memory. A forgotten guard leaves
+/// its words in the vector.
 pub struct EncoderGuard<'a, Word: WordOf<State>, State: BitArray, A: Allocator = Global> {
     pub(crate) inner: &'a mut RangeEncoder<Word, State, Vec<Word, A>>,
     pub(crate) count: usize,
@@ -26,7 +26,7 @@ pub struct EncoderGuard<'a, Word: WordOf<State>, State: BitArray, A: Allocator =
 impl<'a, Word: WordOf<State>, State: BitArray, A: Allocator> EncoderGuard<'a, Word, State, A> {
     ghost use Rattle.constriction_queue.specs.Guarded.{lender, lent_by};
 
-    /// The words that [`RangeEncoder::into_compressed`] would give.
+    /// Returns the words that [`RangeEncoder::into_compressed`] would return.
     pub fn words(&self) -> &[Word]
         ensures words { result.now ≡ lent_by self.now }
         ensures shows { map Word.number result.now ≡ reverse (lender self.now).now.words }
@@ -41,7 +41,7 @@ impl<'a, Word: WordOf<State>, State: BitArray, A: Allocator> EncoderGuard<'a, Wo
 impl<Word: WordOf<State>, State: BitArray, A: Allocator> Drop for EncoderGuard<'_, Word, State, A> {
     ghost use Rattle.constriction_queue.specs.Guarded.{lender, lent_back, written};
 
-    /// Takes the words off that were written.
+    /// Removes the words that the guard wrote.
     fn drop(self)
         ensures heads { HasHeads (lender self.entry).now (lent_back self.exit).now }
         ensures back { (lent_back self.exit).now.words ≡ drop (written self.entry) (lender self.entry).now.words }
@@ -53,15 +53,15 @@ impl<Word: WordOf<State>, State: BitArray, A: Allocator> Drop for EncoderGuard<'
 
 impl<Word: WordOf<State> + fmt::Debug, State: BitArray, A: Allocator> fmt::Debug
     for EncoderGuard<'_, Word, State, A> {
-    /// The list of the words.
+    /// Formats the list of the words.
     fn fmt<W: fmt::Write>(&self, f: &mut fmt::Formatter<W>) -> fmt::Result {
         f.debug_list().entries(self.words().iter()).finish()
     }
 }
 
 impl<Word: WordOf<State>, State: BitArray, A: Allocator> RangeEncoder<Word, State, Vec<Word, A>> {
-    /// Writes the held words and the seal onto the vector, and keeps the interval and the situation. Returns
-    /// how many they are.
+    /// Writes the pending words and the seal onto the vector, and returns how many it wrote. The interval and the
+    /// situation stay.
     pub(crate) fn put_seal(&mut self) -> Result<usize, AllocError>
         ensures shows { OnOk result (reverse self.new.words ≡ sealed_by Word.BITS State.BITS self.old) }
         ensures back { IfOk result (λ count. drop count self.new.words ≡ self.old.words) }
@@ -85,19 +85,22 @@ impl<Word: WordOf<State>, State: BitArray, A: Allocator> RangeEncoder<Word, Stat
     ghost use Rattle.constriction_queue.specs.contracts.encoder.RangeEncoder.{the_row};
     ghost use Rattle.constriction_queue.specs.Guarded.{lender, written};
 
-    /// The words that [`RangeEncoder::into_compressed`] would give, for as long as the guard lives: those
-    /// written and held, and the seal. When the guard is dropped, the encoder is as before.
+    /// Returns a guard that lends the words that [`RangeEncoder::into_compressed`] would return.
+    ///
+    /// Dropping the guard restores the encoder.
     ///
     /// # Errors
     ///
-    /// Want of memory, where the vector had to grow. The encoder is as before.
+    /// `AllocError` if the vector had to grow and there was no memory. The encoder is unchanged.
+    ///
+    /// # Examples
     ///
     /// ```
     /// {
     ///     let guard = encoder.get_compressed()?;
     ///     send(guard.words());
     /// }
-    /// encoder.encode_symbol(&2, &table)?; // goes on as if its words had not been looked at
+    /// encoder.encode_symbol(&2, &table)?; // continues from the state before the guard
     /// ```
     pub fn get_compressed(&mut self) -> Result<EncoderGuard<'_, Word, State, A>, AllocError>
         ensures same_reference { IfOk result (λ g. (lender g).ghost_name ≡ self.entry.ghost_name) }

@@ -1,4 +1,7 @@
-//! The words of an encoder, lent to a function.
+//! Lending an encoder's compressed words to a function.
+//!
+//! The function gets words and makes its own decoder, because the language has no bound for a closure that takes a
+//! decoder over a borrowed slice.
 
 ghost use Rattle.std.specs.Prelude.{◌≡◌, ◌+◌, ◌<◌, List, length, map, IfOk, OnErr};
 ghost use Rattle.std.specs.Fn.{FnOnceReturnsAt, FnOnceTakesAt};
@@ -11,18 +14,22 @@ use constriction_words::{BitArray, WordOf};
 use std::alloc::{AllocError, Allocator};
 
 impl<Word: WordOf<State>, State: BitArray, A: Allocator> RangeEncoder<Word, State, Vec<Word, A>> {
-    /// Lends a function the words that [`RangeEncoder::into_compressed`] would give, and returns what it
-    /// answers. The encoder is as before then. [`RangeDecoder::from_compressed`] makes a decoder of the words.
+    /// Lends a function the words that [`RangeEncoder::into_compressed`] would return, and returns its result.
+    ///
+    /// The encoder is unchanged afterwards. [`RangeDecoder::from_compressed`] makes a decoder of the words.
     ///
     /// [`RangeDecoder::from_compressed`]: crate::RangeDecoder::from_compressed
     ///
     /// # Errors
     ///
-    /// Want of memory, where the vector had to grow. The function isn't called, and the encoder is as before.
+    /// `AllocError` if the vector had to grow and there was no memory. The function isn't called, and the encoder is
+    /// unchanged.
+    ///
+    /// # Examples
     ///
     /// ```
     /// encoder.with_compressed(|words| send(words))?;
-    /// encoder.encode_symbol(&2, &table)?; // goes on behind what was encoded last
+    /// encoder.encode_symbol(&2, &table)?; // the next symbol of the same stream
     /// ```
     pub fn with_compressed<R, F: FnOnce(&[Word]) -> R>(&mut self, f: F) -> Result<R, AllocError>
         requires { (lent : List Word) → map Word.number lent ≡ sealed_by Word.BITS State.BITS self.old

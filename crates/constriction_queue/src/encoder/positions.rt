@@ -1,4 +1,4 @@
-//! Where an encoder stands: how many words were written and are held, and the interval.
+//! Positions of an encoder: the number of words written and pending, and the interval.
 
 ghost use Rattle.std.specs.Prelude.{◌≡◌, ◌↔◌, ◌<◌, ◌^◌, length, IsTrue};
 ghost use Rattle.constriction_queue.specs.States.{lower_of, range_of, IsPosition};
@@ -12,7 +12,7 @@ use constriction_words::{BitArray, WordOf};
 
 impl<Word: WordOf<State>, State: BitArray, Backend: Holds<Word, Stack> + PosSeek> PosSeek
     for RangeEncoder<Word, State, Backend> {
-    /// How many words were written and are held, and the interval.
+    /// The number of words written and pending, and the interval.
     type Position = (Backend::Position, RangeCoderState<Word, State>);
 }
 
@@ -25,10 +25,10 @@ impl<Word: WordOf<State>, State: BitArray, Backend: CountsWords<Word>> Pos
 
     ghost can_tell = { λ encoder. (run_by Word.BITS State.BITS encoder).moves < 2 ^ 64 };
 
-    /// How many words were written and are held, and the interval. A decoder of the words that the encoder
-    /// exports later goes there by `seek`.
+    /// Returns the number of words written and pending, and the interval.
     ///
-    /// The number of these words must be a `usize`, see [`RangeEncoder::pos_fits`].
+    /// A decoder of the words that the encoder exports later can seek to this position. The number of these words has
+    /// to fit a `usize`, see [`RangeEncoder::pos_fits`].
     fn pos(&self) -> (usize, RangeCoderState<Word, State>) {
         (self.bulk.pos() + self.held(), self.state)
     }
@@ -39,7 +39,7 @@ impl<Word: WordOf<State>, State: BitArray, Backend: CountsWords<Word>> RangeEnco
     State,
     Backend,
 > {
-    /// How many words are held.
+    /// Returns the number of pending words.
     #[inline]
     fn held(&self) -> usize
         ensures { result ≡ length self.now.held }
@@ -50,7 +50,7 @@ impl<Word: WordOf<State>, State: BitArray, Backend: CountsWords<Word>> RangeEnco
         }
     }
 
-    /// Whether the number of words written and held is a `usize`. Then `pos` can be asked for.
+    /// Returns whether the number of words written and pending fits a `usize`, as `pos` requires.
     pub fn pos_fits(&self) -> bool
         ensures { IsTrue result ↔ ((run_by Word.BITS State.BITS self.now).moves < 2 ^ 64) }
     {

@@ -1,4 +1,4 @@
-//! The step: a symbol is put behind the others. Lists of symbols are put by the trait `Encode`.
+//! The step of the encoder: encoding one symbol. The trait `Encode` encodes lists of symbols.
 
 ghost use Rattle.std.specs.Prelude.{◌≡◌, ◌+◌, ◌≤◌, ◌<◌, []};
 ghost use Rattle.std.specs.Bool.{OnFalse};
@@ -29,7 +29,7 @@ impl<Word: WordOf<State>, State: BitArray, Backend: Holds<Word, Stack>> Code
     ghost shows = { λ encoder state. (lower_of state ≡ encoder.lower) × (range_of state ≡ encoder.range)
         × IsEncoder Word.number Backend.Holds Word.BITS State.BITS encoder };
 
-    /// The interval.
+    /// Returns the interval.
     #[inline]
     fn state(&self) -> RangeCoderState<Word, State> {
         self.state
@@ -62,8 +62,10 @@ impl<
 
     ghost never_full = { λ e impossible lack. lack };
 
-    /// How many more symbols the encoder can be asked to encode: the words that it holds back, which a step
-    /// makes one more at most, and those of a seal, 16 at most, are counted in a `usize`.
+    /// Returns how many more symbols the encoder can encode.
+    ///
+    /// The limit keeps the number of pending words, which grows by at most one a step, and of the at most 16 words of a
+    /// seal within a `usize`.
     #[inline]
     fn symbols_left(&self) -> usize {
         match self.situation {
@@ -72,19 +74,17 @@ impl<
         }
     }
 
-    /// Puts a symbol behind the others, under a model of `PRECISION` bits, which are those of a word at
-    /// most.
+    /// Encodes a symbol behind the others, with a model of `PRECISION` bits, at most the bits of a word.
     ///
-    /// It asks the backend for room for the words that it has to write, where there are any, and only
-    /// then writes them. It sets its interval last.
+    /// If words have to be written, the encoder first asks the backend for room for all of them, then writes them, and
+    /// updates its interval last.
     ///
     /// # Errors
     ///
-    /// - `Frontend(ImpossibleSymbol)` exactly where the model doesn't know the symbol. Nothing
-    ///   changed.
-    /// - `Backend(error)` only where words had to be written, and the backend refused room for them, or
-    ///   a write. The interval and the held words are as before, and the backend holds a beginning of the
-    ///   words; over a vector it holds what it held.
+    /// - `Frontend(ImpossibleSymbol)` exactly if the model doesn't contain the symbol. The encoder is unchanged.
+    /// - `Backend(error)` only if words had to be written, and the backend refused room for them or one of the writes.
+    ///   The interval and the pending words are unchanged. The backend has taken the first few of the words; a vector is
+    ///   unchanged.
     #[inline]
     fn encode_symbol<M>(
         &mut self,
@@ -125,8 +125,10 @@ impl<
         }
     }
 
-    /// Whether the backend may be full. Where no words are held back, false promises that the next step
-    /// isn't refused for lack of room: it writes one word at most.
+    /// Returns whether the backend may be full.
+    ///
+    /// If no words are pending and this returns `false`, the next step doesn't fail for lack of room: it writes at most
+    /// one word.
     #[inline]
     fn maybe_full(&self) -> bool
         ensures value { result ≡ Backend.seems_full self.now.bulk }

@@ -1,4 +1,4 @@
-//! Reading the words that a guard lends: a guard as a buffer of a cursor, and a decoder over it.
+//! Decoding the words that a guard lends: the guard as the buffer of a cursor.
 
 ghost use Rattle.std.specs.Prelude.{◌≡◌, ◌+◌, ◌<◌, drop, length, reverse, IfOk, OnErr};
 ghost use Rattle.constriction_queue.specs.Encoder.{HasHeads, sealed_by};
@@ -97,20 +97,23 @@ impl<'a, Word: WordOf<State>, State: BitArray, A: Allocator> IntoSeekReadWords<W
 impl<Word: WordOf<State>, State: BitArray, A: Allocator> RangeEncoder<Word, State, Vec<Word, A>> {
     ghost use Rattle.constriction_queue.specs.Guarded.{lender, written, SealLacksRoom};
 
-    /// A decoder of the words that [`RangeEncoder::into_compressed`] would give, through a guard. When the
-    /// decoder is dropped, the encoder is as before. No clause here says so, nor what is left where memory is
-    /// refused: those of [`RangeEncoder::with_compressed`] say both.
+    /// Returns a decoder of the words that [`RangeEncoder::into_compressed`] would return, through a guard.
+    ///
+    /// Dropping the decoder restores the encoder. No clause of this call says so, nor what an error leaves; tests show
+    /// both. The contract of [`RangeEncoder::with_compressed`] has both.
     ///
     /// # Errors
     ///
-    /// Want of memory, where the vector had to grow. The encoder is as before.
+    /// `AllocError` if the vector had to grow and there was no memory. The encoder is unchanged.
+    ///
+    /// # Examples
     ///
     /// ```
     /// {
     ///     let mut decoder = encoder.decoder()?;
-    ///     decoder.decode_symbol(&table)?; // what was encoded first
+    ///     decoder.decode_symbol(&table)?; // the first symbol encoded
     /// }
-    /// encoder.encode_symbol(&2, &table)?; // goes on behind what was encoded last
+    /// encoder.encode_symbol(&2, &table)?; // the next symbol of the same stream
     /// ```
     pub fn decoder(
         &mut self,

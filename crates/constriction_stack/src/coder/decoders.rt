@@ -1,5 +1,7 @@
-//! Coders for reading: the same state over another backend, coders over borrowed words and over words in the
-//! order in which they are read, and coders that go to positions.
+//! Coders for reading: over other backends, over borrowed words, over words in reading order, and with seeking.
+//!
+//! `into_reversed` goes through the trait `IntoReversed`: separate methods for cursors and reversed cursors have no
+//! proved callers.
 
 ghost use Rattle.constriction_base.specs.Readings.{BeginsHigh};
 ghost use Rattle.constriction_base.specs.Iterators.{FusedRead};
@@ -40,7 +42,7 @@ impl<
 
     ghost fails = { λ _ _. ⊥ };
 
-    /// The same state over a backend for reading. It is never refused.
+    /// Moves the state to a backend for reading. This never fails.
     fn into_decoder(self) -> Result<AnsCoder<Word, State, Backend::IntoReadWords>, Infallible> {
         Ok(self.into_decoder())
     }
@@ -59,7 +61,7 @@ impl<
         × (decoder.backend.buf.now ≡ coder.backend.items) × (decoder.backend.pos ≡ length coder.backend.items)
         × IsCoder Word.number ⟦<Cursor<Word, &'a [Word]> as Holds<Word, Stack>>⟧ Word.BITS State.BITS decoder };
 
-    /// The same state over the coder's words, which are borrowed.
+    /// Returns a coder with the same state that borrows this coder's words.
     fn as_decoder(&'a self) -> AnsCoder<Word, State, Cursor<Word, &'a [Word]>> {
         AnsCoder::from_raw_parts(
             AsReadWords::<'a, Word, Stack>::as_read_words(&self.bulk),
@@ -73,7 +75,7 @@ impl<Word: WordOf<State>, State: BitArray, Backend: IntoReadWords<Word, Stack>> 
     State,
     Backend,
 > {
-    /// The same state over a backend for reading.
+    /// Moves the state to a backend for reading.
     pub fn into_decoder(self) -> AnsCoder<Word, State, Backend::IntoReadWords>
         ensures state { result.state ≡ self.state }
         ensures place { Backend.becomes self.backend result.backend }
@@ -90,13 +92,13 @@ impl<Word: WordOf<State>, State: BitArray, Backend: Holds<Word, Stack>> AnsCoder
     State,
     Backend,
 > {
-    /// The same state over borrowed words, for reading.
+    /// Returns a coder with the same state that borrows this coder's words, for reading.
     ///
     /// # Examples
     ///
     /// ```
     /// let mut decoder = coder.as_decoder();
-    /// decoder.decode_symbol(&table)?; // what was encoded last; `coder` still holds it
+    /// decoder.decode_symbol(&table)?; // the last symbol encoded; `coder` still holds it
     /// ```
     pub fn as_decoder<'a>(&'a self) -> AnsCoder<Word, State, Backend::AsReadWords>
     where
@@ -114,12 +116,20 @@ impl<'a, Word: WordOf<State> + 'a, State: BitArray> AnsCoder<
     State,
     Cursor<Word, &'a [Word]>,
 > {
-    /// The coder whose words these are, as [`AnsCoder::into_compressed`] gives them. Of no words it
-    /// is an empty coder.
+    /// Makes a coder that borrows words in the form that [`AnsCoder::into_compressed`] returns.
+    ///
+    /// From no words this makes an empty coder.
     ///
     /// # Errors
     ///
-    /// `CompressedDataEndsWithZeroWord` exactly where the last word is zero.
+    /// `CompressedDataEndsWithZeroWord` exactly if the last word is zero.
+    ///
+    /// # Examples
+    ///
+    /// ```
+    /// let mut coder = DefaultAnsCoder::from_compressed_slice([7u32, 9].as_slice())?;
+    /// coder.state(); // 9 * 2^32 + 7
+    /// ```
     pub fn from_compressed_slice(
         compressed: &'a [Word],
     ) -> Result<Self, CompressedDataEndsWithZeroWord>
@@ -137,7 +147,13 @@ impl<'a, Word: WordOf<State> + 'a, State: BitArray> AnsCoder<
         }
     }
 
-    /// The coder that any words stand for, as [`AnsCoder::into_binary`] gives them.
+    /// Makes a coder that borrows arbitrary words, in the form that [`AnsCoder::into_binary`] returns.
+    ///
+    /// # Examples
+    ///
+    /// ```
+    /// let coder = DefaultAnsCoder::from_binary_slice([5u32].as_slice()); // head 2^32 + 5
+    /// ```
     pub fn from_binary_slice(binary: &'a [Word]) -> Self
         requires { IsSizes Word.BITS State.BITS }
         ensures state { result.state
@@ -158,17 +174,18 @@ impl<Word: WordOf<State>, State: BitArray, Buf: Words<Word> + Drop> AnsCoder<
     State,
     Reverse<Cursor<Word, Buf>>,
 > {
-    /// The coder whose words these are, in the reverse of the order in which
-    /// [`AnsCoder::into_compressed`] gives them. Of no words it is an empty coder.
+    /// Makes a coder from words in the reverse of the order in which [`AnsCoder::into_compressed`] returns them.
+    ///
+    /// From no words this makes an empty coder.
     ///
     /// # Errors
     ///
-    /// The buffer as it came, exactly where the first word is zero.
+    /// Returns the unchanged buffer, exactly if the first word is zero.
     ///
     /// # Examples
     ///
     /// ```
-    /// // words that a coder gave as [1, 2, 3, 4, 5], as a file holds them that is written from its end
+    /// // A coder exported [1, 2, 3, 4, 5], and a program wrote the file from its end.
     /// let coder = AnsCoder::<u8, u16, _>::from_reversed_compressed([5u8, 4, 3, 2, 1].as_slice());
     /// ```
     pub fn from_reversed_compressed(compressed: Buf) -> Result<Self, Buf>
@@ -190,8 +207,15 @@ impl<Word: WordOf<State>, State: BitArray, Buf: Words<Word> + Drop> AnsCoder<
         }
     }
 
-    /// The coder that any words stand for, in the reverse of the order in which
-    /// [`AnsCoder::into_binary`] gives them.
+    /// Makes a coder from arbitrary words, in the reverse of the order in which [`AnsCoder::into_binary`]
+    /// returns them.
+    ///
+    /// # Examples
+    ///
+    /// ```
+    /// // The same coder as that of `from_binary_slice` from [5, 0].
+    /// let coder = DefaultAnsCoder::from_reversed_binary([0u32, 5].as_slice());
+    /// ```
     pub fn from_reversed_binary(binary: Buf) -> Self
         requires { IsSizes Word.BITS State.BITS }
         ensures state { result.state
@@ -213,14 +237,22 @@ impl<
     ReadError: Drop,
     Iter: Iterator<Item = Result<Word, ReadError>>,
 > AnsCoder<Word, State, FallibleIteratorReadWords<Iter>> {
-    /// The coder whose words an iterator gives, in the reverse of the order in which
-    /// [`AnsCoder::into_compressed`] gives them. It takes words into the head until that is full; the
-    /// others are taken when decoding needs them.
+    /// Makes a coder from an iterator over words in the reverse of the order in which
+    /// [`AnsCoder::into_compressed`] returns them.
+    ///
+    /// Takes words into the head until it is full. Decoding takes the other words when it needs them.
     ///
     /// # Errors
     ///
-    /// The iterator as the reads left it, exactly where the first word is zero or where an item that was
-    /// taken is an error.
+    /// Returns the iterator as the reads left it, exactly if the first word is zero or an item that was taken is
+    /// an error.
+    ///
+    /// # Examples
+    ///
+    /// ```
+    /// let file = [Ok(9u32), Ok(7), Err("the disk failed")];
+    /// let coder = AnsCoder::<u32, u64, _>::from_reversed_compressed_iter(file.into_iter()); // head 9 * 2^32 + 7
+    /// ```
     pub fn from_reversed_compressed_iter(compressed: Iter) -> Result<Self, Fuse<Iter>>
         requires sizes { IsSizes Word.BITS State.BITS }
         requires can { Iter.can_next compressed }
@@ -239,13 +271,14 @@ impl<
         }
     }
 
-    /// The coder that any words stand for, which an iterator gives in the reverse of the order in
-    /// which [`AnsCoder::into_binary`] gives them. It takes words into the head until that is full;
-    /// the others are taken when decoding needs them.
+    /// Makes a coder from an iterator over arbitrary words, in the reverse of the order in which
+    /// [`AnsCoder::into_binary`] returns them.
+    ///
+    /// Takes words into the head until it is full. Decoding takes the other words when it needs them.
     ///
     /// # Errors
     ///
-    /// That of an item that was taken. The iterator is gone then.
+    /// The error of an item that was taken. The iterator is consumed.
     pub fn from_reversed_binary_iter(binary: Iter) -> Result<Self, ReadError>
         requires sizes { IsSizes Word.BITS State.BITS }
         requires can { Iter.can_next binary }
@@ -266,9 +299,10 @@ impl<Word: WordOf<State>, State: BitArray, Backend: IntoReversed<Word>> AnsCoder
     State,
     Backend,
 > {
-    /// The same state over the buffer turned round. Between a cursor and a reversed cursor it leads
-    /// both ways: the words below the head stand before the position of the one, the one that is read
-    /// first as the last, and behind the position of the other, in the order in which they are read.
+    /// Reverses the buffer below the head and keeps the state.
+    ///
+    /// This converts between a cursor, where the words below the head stand before the position and the next word
+    /// to read is the last of them, and a reversed cursor, where they stand behind the position in reading order.
     pub fn into_reversed(self) -> AnsCoder<Word, State, Backend::IntoReversed>
         ensures state { result.state ≡ self.state }
         ensures turned { Backend.turns self.backend result.backend }
@@ -285,7 +319,7 @@ impl<Word: WordOf<State>, State: BitArray, Backend: IntoSeekReadWords<Word, Stac
     State,
     Backend,
 > {
-    /// The same state over a backend for reading that can go to positions.
+    /// Moves the state to a backend for reading that can seek.
     pub fn into_seekable_decoder(self) -> AnsCoder<Word, State, Backend::IntoSeekReadWords>
         ensures state { result.state ≡ self.state }
         ensures place { Backend.becomes self.backend result.backend }
@@ -302,7 +336,7 @@ impl<Word: WordOf<State>, State: BitArray, Backend: Holds<Word, Stack>> AnsCoder
     State,
     Backend,
 > {
-    /// The same state over borrowed words, for reading, which can go to positions.
+    /// Returns a coder with the same state that borrows this coder's words, for reading and seeking.
     pub fn as_seekable_decoder<'a>(&'a self) -> AnsCoder<Word, State, Backend::AsSeekReadWords>
     where
         Backend: AsSeekReadWords<'a, Word, Stack>,
@@ -315,7 +349,7 @@ impl<Word: WordOf<State>, State: BitArray, Backend: Holds<Word, Stack>> AnsCoder
     }
 }
 
-/// The same state over borrowed words, for reading, as [`AnsCoder::as_decoder`] gives it.
+/// Converts a borrowed coder as [`AnsCoder::as_decoder`] does.
 impl<'a, Word: WordOf<State>, State: BitArray, Backend: AsReadWords<'a, Word, Stack>> From<
     &'a AnsCoder<Word, State, Backend>,
 > for AnsCoder<Word, State, <Backend as AsReadWords<'a, Word, Stack>>::AsReadWords> {
@@ -331,7 +365,7 @@ impl<'a, Word: WordOf<State>, State: BitArray, Backend: AsReadWords<'a, Word, St
 
 impl<Word: WordOf<State>, State: BitArray, Backend: Holds<Word, Stack> + PosSeek> PosSeek
     for AnsCoder<Word, State, Backend> {
-    /// The backend's position, and the head.
+    /// The backend's position and the head.
     type Position = (Backend::Position, State);
 }
 
@@ -342,7 +376,7 @@ impl<Word: WordOf<State>, State: BitArray, Backend: Holds<Word, Stack> + Pos> Po
 
     ghost can_tell = { λ coder. Backend.can_tell coder.backend };
 
-    /// Where the backend stands now, and the head.
+    /// Returns the backend's position and the head.
     fn pos(&self) -> (Backend::Position, State)
         requires { Backend.can_tell self.now.backend }
         ensures place { Backend.stands_at self.now.backend result.0 }
@@ -366,13 +400,12 @@ impl<Word: WordOf<State>, State: BitArray, Backend: Holds<Word, Stack> + Seek> S
         × (new.state ≡ state_of Word.number Backend.Holds old.state.head new.backend)
         × (new.backend ≡ old.backend → new ≡ old) };
 
-    /// Goes to a position that was recorded before: the head that was recorded, over the words that
-    /// the backend holds at its position.
+    /// Goes to a recorded position: the recorded head, over the words that the backend holds at its position.
     ///
     /// # Errors
     ///
-    /// `Err(())` where the backend refuses to go to its position. The head stays, and the coder is as before
-    /// where the backend is.
+    /// `Err(())` if the backend refuses to seek to its position. The head is unchanged; the coder is unchanged if
+    /// the backend is.
     ///
     /// # Examples
     ///

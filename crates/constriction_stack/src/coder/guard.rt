@@ -1,5 +1,8 @@
-//! The words of a coder that is used again: a guard shows them on the backend, and its drop takes
-//! them off.
+//! Guards that lend a coder's compressed words: a guard writes them onto the backend, and its drop removes them.
+//!
+//! Contracts name the borrowed coder and the number of written words by `lender` and `written` of `specs/Guarded.antt`,
+//! because a model of the guard's own couldn't pass on the ghost name of the coder. `backend` says that the backend
+//! holds the coder's words, so a caller who decodes lent words needs no other contract.
 
 ghost use Rattle.constriction_base.specs.Readings.{NeverRefused};
 ghost use Rattle.std.specs.Prelude.{◌≡◌, ◌↔◌, ◌^◌, ◌++◌, ℕ, drop, map, Ok, Err, IfOk, IfErr, OnOk};
@@ -20,12 +23,13 @@ use constriction_base::head_words::{append_words, count_of_words, words_below_on
 use constriction_words::{BitArray, WordOf};
 use std::fmt;
 
-/// A coder whose head's words were written onto its backend, and are taken off again when this is
-/// dropped. [`AnsCoder::get_compressed`] makes it with `SEALED` 0, and [`AnsCoder::get_binary`]
-/// with `SEALED` 1.
+/// A guard over a coder whose head's words stand on the backend until the guard is dropped.
 ///
-/// The drop reads as many words as were written, and so takes no memory. Where a read is refused it
-/// stops. A guard that is forgotten leaves its words on the backend, below the head.
+/// [`AnsCoder::get_compressed`] makes it with `SEALED` 0, and [`AnsCoder::get_binary`] with `SEALED` 1; the
+/// first has an example.
+///
+/// The drop reads back as many words as were written, so it takes no memory. It stops at a read that fails. A
+/// forgotten guard leaves its words on the backend, below the head.
 pub struct CoderGuard<'a, Word: WordOf<State>, State: BitArray, Backend, const SEALED: usize>
 where
     Backend: WriteWords<Word> + ReadWords<Word, Stack>,
@@ -48,7 +52,7 @@ where
 {
     ghost use Rattle.constriction_stack.specs.Guarded.{lender};
 
-    /// The backend, with the words on it.
+    /// Returns the backend, with all words of the coder on it.
     pub fn backend(&self) -> &Backend
         ensures backend { result.now ≡ (lender self.now).now.backend }
         ensures coder { IsCoder Word.number Backend.Holds Word.BITS State.BITS (lender self.now).now }
@@ -66,7 +70,7 @@ where
 {
     ghost use Rattle.constriction_stack.specs.Guarded.{lender, lent_back, written};
 
-    /// Takes the words off that were written.
+    /// Removes the words that the guard wrote.
     fn drop(self)
         ensures kept { (lent_back self.exit).now.state.head ≡ (lender self.entry).now.state.head }
         ensures back { NeverRefused Backend.reads →
@@ -84,7 +88,7 @@ where
     Backend: WriteWords<Word> + ReadWords<Word, Stack> + fmt::Debug,
     Backend::ReadError: Drop,
 {
-    /// The backend's.
+    /// Formats the backend.
     fn fmt<W: fmt::Write>(&self, f: &mut fmt::Formatter<W>) -> fmt::Result {
         self.backend().fmt(f)
     }
@@ -95,7 +99,7 @@ where
     Backend: WriteWords<Word> + ReadWords<Word, Stack>,
     Backend::ReadError: Drop,
 {
-    /// Writes the head's words onto the backend, and keeps the head. Returns how many they are.
+    /// Writes the head's words onto the backend, keeps the head, and returns how many words it wrote.
     fn put_compressed(&mut self) -> Result<usize, Backend::WriteError>
         ensures coder { IsCoder Word.number Backend.Holds Word.BITS State.BITS self.old }
         ensures shows { OnOk result (ShowsExported Word.BITS self.old.state self.new.state) }
@@ -113,8 +117,7 @@ where
         Ok(count)
     }
 
-    /// Writes the head's words below its leading 1 onto the backend, and keeps the head. Returns
-    /// how many they are.
+    /// Writes the head's words below its leading 1 onto the backend, keeps the head, and returns how many it wrote.
     fn put_binary(&mut self) -> Result<usize, CoderError<(), Backend::WriteError>>
         ensures coder { IsCoder Word.number Backend.Holds Word.BITS State.BITS self.old }
         ensures shows { OnOk result (ShowsBinary Word.BITS self.old.state self.new.state) }
@@ -145,15 +148,16 @@ where
     ghost use Rattle.constriction_stack.specs.contracts.coder.AnsCoder.{the_row};
     ghost use Rattle.constriction_stack.specs.Guarded.{lender, written};
 
-    /// The words that [`AnsCoder::into_compressed`] would give, on the backend of the guard for as
-    /// long as it lives: those below the head, and then the head's, the lowest first, without
-    /// leading zero words. It asks the backend for room for the head's words; where the head is 0
-    /// there are none. When the guard is dropped, the coder is as before.
+    /// Returns a guard that lends the words that [`AnsCoder::into_compressed`] would return.
+    ///
+    /// While the guard lives, its backend holds the words below the head and then the words of the head, lowest
+    /// first, without leading zero words. The coder first asks the backend for room for the head's words; if the
+    /// head is 0, there are none. Dropping the guard restores the coder.
     ///
     /// # Errors
     ///
-    /// What the backend returns where it has no room for all the head's words, or refuses to write one of
-    /// them. The words that were written before are taken off again, as far as reads are not refused.
+    /// The backend's error if it has no room for all words of the head, or refuses to write one of them. The
+    /// coder removes the words that it wrote before, unless a read fails.
     ///
     /// # Examples
     ///
@@ -162,7 +166,7 @@ where
     ///     let guard = coder.get_compressed()?;
     ///     send(guard.backend().words());
     /// }
-    /// coder.encode_symbol(&2, &table)?; // the coder goes on as if its words had not been looked at
+    /// coder.encode_symbol(&2, &table)?; // continues from the state before the guard
     /// ```
     pub fn get_compressed(
         &mut self,
@@ -184,18 +188,18 @@ where
         Ok(CoderGuard { inner: self, count })
     }
 
-    /// The words that [`AnsCoder::into_binary`] would give, on the backend of the guard for as long
-    /// as it lives: those below the head, and then the head's words below its leading 1, the lowest
-    /// first, zero words at the top too. It asks the backend for room for the head's words; where
-    /// the head is 1 there are none. When the guard is dropped, the coder is as before.
+    /// Returns a guard that lends the words that [`AnsCoder::into_binary`] would return.
+    ///
+    /// While the guard lives, its backend holds the words below the head and then the head's words below its
+    /// leading 1, lowest first, zero words at the top included. The coder first asks the backend for room for the
+    /// head's words; if the head is 1, there are none. Dropping the guard restores the coder.
     ///
     /// # Errors
     ///
-    /// - `Frontend(())` exactly where the head is 0, or its bit length less one is no multiple of
-    ///   the bits of a word. Nothing changed.
-    /// - `Backend(error)` where the backend has no room for all the head's words, or refuses to
-    ///   write one of them. The words that were written before are taken off again, as far as reads
-    ///   are not refused.
+    /// - `Frontend(())` exactly if the head is 0, or if its bit length minus one isn't a multiple of the bits of a
+    ///   word. The coder is unchanged.
+    /// - `Backend(error)` if the backend has no room for all words of the head, or refuses to write one of them.
+    ///   The coder removes the words that it wrote before, unless a read fails.
     pub fn get_binary(
         &mut self,
     ) -> Result<CoderGuard<'_, Word, State, Backend, 1>, CoderError<(), Backend::WriteError>>
@@ -221,8 +225,7 @@ where
     }
 }
 
-/// Writes the lowest words of a head onto a backend, the lowest first. Where a write is refused,
-/// the words before it are taken off again.
+/// Writes the lowest words of a head onto a backend, lowest first, and removes them again if a write fails.
 fn show_words<Word: WordOf<State>, State: BitArray, Backend>(
     bulk: &mut Backend,
     head: State,

@@ -1,5 +1,7 @@
-//! Lists of symbols that are put on from the last to the first, by the coder itself: what `EncodeReverse` does,
-//! called with no trait in scope, as in the Rust crate.
+//! Encoding lists of symbols from last to first, as methods of the coder, so that no trait has to be in scope.
+//!
+//! The contracts speak of the iterator's `next_back`, so a caller doesn't have to know `Rev`. They ask that the iterator
+//! ends and can be asked from the back.
 
 ghost use Rattle.constriction_stream.specs.Lists.{GivesAtMost, LowersByItems, StepsUntilFault, TriesItem};
 ghost use Rattle.constriction_stream.specs.Symbols.{EncodesPair, EncodesSymbol};
@@ -17,13 +19,14 @@ impl<Word: WordOf<State>, State: BitArray, Backend: WriteWords<Word>> AnsCoder<
     State,
     Backend,
 > {
-    /// Encodes symbols from the last to the first, each by its own model, up to the first that is refused. A decoder
-    /// then gives them in the order of the list.
+    /// Encodes symbols from last to first, each with its own model.
+    ///
+    /// Decoding then returns the symbols in the order of the list.
     ///
     /// # Errors
     ///
-    /// That of the first step that is refused. Exactly the symbols behind it are encoded, and the items before it
-    /// aren't asked for.
+    /// The error of the first step that fails. The coder has encoded exactly the symbols behind that one, and
+    /// doesn't ask the iterator for the items before it.
     pub fn encode_symbols_reverse<S, M, I, const PRECISION: usize>(
         &mut self,
         symbols_and_models: I,
@@ -47,15 +50,14 @@ impl<Word: WordOf<State>, State: BitArray, Backend: WriteWords<Word>> AnsCoder<
         EncodeReverse::<PRECISION>::encode_symbols_reverse(self, symbols_and_models)
     }
 
-    /// Encodes symbols from the last to the first, each by its own model, where an item may be an error in place of
-    /// both.
+    /// Encodes symbols from last to first, each with its own model, where any item may be an error instead.
     ///
     /// # Errors
     ///
-    /// After each of them exactly the symbols behind the item are encoded.
+    /// After each error, the coder has encoded exactly the symbols behind the item in question.
     ///
-    /// - `InvalidEntropyModel(error)`, where an item is an error. It leaves the coder.
-    /// - `CodingError(error)`, where a step is refused.
+    /// - `InvalidEntropyModel(error)` if the item is an error. The item doesn't change the coder.
+    /// - `CodingError(error)` if a step fails.
     pub fn try_encode_symbols_reverse<S, M, E, I, const PRECISION: usize>(
         &mut self,
         symbols_and_models: I,
@@ -80,13 +82,14 @@ impl<Word: WordOf<State>, State: BitArray, Backend: WriteWords<Word>> AnsCoder<
         EncodeReverse::<PRECISION>::try_encode_symbols_reverse(self, symbols_and_models)
     }
 
-    /// Encodes symbols from the last to the first, all by one model, up to the first that is refused. A decoder
-    /// then gives them in the order of the list.
+    /// Encodes symbols from last to first, all with the same model.
+    ///
+    /// Decoding then returns the symbols in the order of the list.
     ///
     /// # Errors
     ///
-    /// That of the first step that is refused. Exactly the symbols behind it are encoded, and those before it
-    /// aren't asked for.
+    /// The error of the first step that fails. The coder has encoded exactly the symbols behind that one, and
+    /// doesn't ask the iterator for those before it.
     ///
     /// # Examples
     ///

@@ -1,5 +1,6 @@
-//! The two steps: a symbol is put on, or taken off. Lists of symbols are put on in their order by the trait
-//! `Encode`, and from the last to the first by `EncodeReverse`.
+//! The two steps of the coder: encoding and decoding one symbol.
+//!
+//! The trait `Encode` encodes lists of symbols in their order, and `EncodeReverse` encodes them from last to first.
 
 ghost use Rattle.constriction_base.specs.declared.errors.DefaultEncoderFrontendError.TheVariants.{ImpossibleSymbol};
 ghost use Rattle.constriction_stack.specs.Ans.{DecodeCall, EncodeCall, IsCoder};
@@ -28,7 +29,7 @@ impl<Word: WordOf<State>, State: BitArray, Backend: Holds<Word, Stack>> Code
     ghost shows = { λ coder head. (State.number head ≡ coder.state.head)
         × IsCoder Word.number Backend.Holds Word.BITS State.BITS coder };
 
-    /// The head.
+    /// Returns the head.
     #[inline]
     fn state(&self) -> State {
         self.state
@@ -61,22 +62,22 @@ impl<
 
     ghost never_full = { λ e impossible lack. lack };
 
-    /// There is no limit.
+    /// Returns `usize::MAX`: the stack coder has no limit on the number of symbols.
     #[inline]
     fn symbols_left(&self) -> usize {
         usize::MAX
     }
 
-    /// Puts a symbol on, under a model of `PRECISION` bits, which are those of a word at most.
+    /// Encodes a symbol with a model of `PRECISION` bits, at most the bits of a word.
     ///
-    /// It writes one word at most (the renormalization of rANS), and only then asks the backend for room.
+    /// The coder writes at most one word (the renormalization of rANS). It asks the backend for room for one word
+    /// only if it has to write one.
     ///
     /// # Errors
     ///
-    /// - `Frontend(ImpossibleSymbol)` exactly where the model doesn't know the symbol. Nothing
-    ///   changed.
-    /// - `Backend(error)` only where a word had to be written, and the backend refused room for one
-    ///   word, or the write. The head and the words are as before.
+    /// - `Frontend(ImpossibleSymbol)` exactly if the model doesn't contain the symbol. The coder is unchanged.
+    /// - `Backend(error)` only if a word had to be written, and the backend refused room for it or the write
+    ///   itself. The head and the words are unchanged.
     #[inline]
     fn encode_symbol<M>(
         &mut self,
@@ -113,7 +114,7 @@ impl<
         }
     }
 
-    /// Whether the backend may be full: false promises that no step is refused for lack of room.
+    /// Returns whether the backend may be full. If it returns `false`, the next step doesn't fail for lack of room.
     #[inline]
     fn maybe_full(&self) -> bool
         ensures value { result ≡ Backend.seems_full self.now.backend }
@@ -143,15 +144,14 @@ impl<
 
     ghost is_end_of_data = { λ _. ⊥ };
 
-    /// Takes a symbol off, under a model of `PRECISION` bits, which are those of a word at most.
+    /// Decodes a symbol with a model of `PRECISION` bits, at most the bits of a word.
     ///
-    /// It reads one word at most. Where no word is left, it goes on: a coder that holds nothing
-    /// gives symbols without end.
+    /// The coder reads at most one word. It never runs out: an empty coder decodes symbols without end.
     ///
     /// # Errors
     ///
-    /// `Backend(error)` only where a word had to be read and the read returned that error. The head is as
-    /// before, and so are the words of a backend that knows them.
+    /// `Backend(error)` only if a word had to be read and the read returned that error. The head is unchanged, and
+    /// so are the words if the backend knows its words.
     #[inline]
     fn decode_symbol<M>(
         &mut self,
@@ -180,7 +180,7 @@ impl<
         }
     }
 
-    /// Whether the head is 0, as that of a coder from which all symbols were taken.
+    /// Returns whether the head is 0, as it is after all symbols were decoded.
     #[inline]
     fn maybe_exhausted(&self) -> bool
         ensures value { IsTrue result ↔ (self.now.state.head ≡ 0) }

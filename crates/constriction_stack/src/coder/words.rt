@@ -1,7 +1,7 @@
-//! The words of a coder: words from a coder and a coder from words, in two forms, and how many they are.
+//! Importing and exporting a coder's words in two forms, and counting them.
 //!
-//! In the compressed form the head's words have no leading zeros. In the binary form a leading 1 that isn't
-//! written marks the top of the head, so that any words are those of a coder.
+//! In the compressed form, the head's words have no leading zeros. In the binary form, an implicit leading 1
+//! marks the top of the head, so that every list of words is the export of a coder.
 
 ghost use Rattle.constriction_base.specs.Readings.{BeginsHigh};
 ghost use Rattle.constriction_base.specs.Steps.{IsSizes};
@@ -23,8 +23,8 @@ use std::fmt;
 use std::marker::{Model, PhantomData};
 use thiserror::Error;
 
-/// Words that end with a zero word are those of no coder: the word that was written last is the
-/// highest of the head's, which isn't 0.
+/// The error for compressed words that end with a zero word. No coder exports such words, because the last
+/// word is the highest word of the head, without leading zeros.
 #[derive(Debug, Clone, Copy, PartialEq, Eq, Error)]
 #[error("Tried to decode from compressed data that ends with a zero word, which is invalid for an ANS coder.")]
 pub struct CompressedDataEndsWithZeroWord;
@@ -34,16 +34,24 @@ impl<Word: WordOf<State>, State: BitArray, Backend: ReadWords<Word, Stack>> AnsC
     State,
     Backend,
 > {
-    /// The coder whose words these are, as [`AnsCoder::into_compressed`] gives them. Of no words it
-    /// is an empty coder.
+    /// Makes a coder from words in the form that [`AnsCoder::into_compressed`] returns.
     ///
-    /// It reads words into the head until that is full (two words, where `State` has the bits of
-    /// two) or none is left.
+    /// Reads words into the head until it is full (two words if `State` has twice the bits of `Word`) or until
+    /// no word is left. From no words this makes an empty coder.
     ///
     /// # Errors
     ///
-    /// The backend as the reads left it, exactly where the last word is zero (which was then read) or where
-    /// a read returned an error.
+    /// Returns the backend as the reads left it, exactly if the last word is zero (that word was read) or if a
+    /// read returned an error.
+    ///
+    /// # Examples
+    ///
+    /// ```
+    /// let words = coder.into_compressed()?;
+    /// if let Ok(mut coder) = DefaultAnsCoder::from_compressed(words) {
+    ///     coder.decode_symbol(&table)?; // the last symbol encoded
+    /// }
+    /// ```
     pub fn from_compressed(mut bulk: Backend) -> Result<Self, Backend>
     where
         Backend::ReadError: Drop,
@@ -90,14 +98,16 @@ impl<Word: WordOf<State>, State: BitArray, Backend: WriteWords<Word>> AnsCoder<
     State,
     Backend,
 > {
-    /// The words of the coder: those below the head, and then the head's words, the lowest first,
-    /// without leading zero words. It asks the backend for room for the head's words; where the
-    /// head is 0 there are none, and the backend comes back as it is.
+    /// Returns the coder's words: the words below the head, then the words of the head, lowest first, without
+    /// leading zero words.
+    ///
+    /// The coder first asks the backend for room for the head's words. If the head is 0, the backend is returned
+    /// unchanged.
     ///
     /// # Errors
     ///
-    /// What the backend returns where it has no room for all the head's words, or refuses to write one of
-    /// them. The coder is gone then.
+    /// The backend's error if it has no room for all words of the head, or refuses to write one of them. The
+    /// coder is consumed.
     pub fn into_compressed(self) -> Result<Backend, Backend::WriteError>
     where
         Backend: Drop,
@@ -125,22 +135,22 @@ impl<Word: WordOf<State>, State: BitArray, Backend: ReadWords<Word, Stack>> AnsC
     State,
     Backend,
 > {
-    /// The coder that any words stand for, as [`AnsCoder::into_binary`] gives them back, zero words
-    /// at the top too. Of no words it is a coder with head 1.
+    /// Makes a coder from arbitrary words. [`AnsCoder::into_binary`] returns the same words, zero words at the
+    /// top included.
     ///
-    /// It reads words into the head, below a leading 1, until that is full (one word, where `State`
-    /// has the bits of two) or none is left.
+    /// Reads words into the head, below a leading 1, until it is full (one word if `State` has twice the bits of
+    /// `Word`) or until no word is left. From no words this makes a coder with head 1.
     ///
     /// # Errors
     ///
-    /// That of a read. The backend is gone then.
+    /// The error of a read. The backend is consumed.
     ///
     /// # Examples
     ///
     /// ```
     /// let mut coder = DefaultAnsCoder::from_binary([5u32, 0].to_vec(alloc)?)?; // head 2^32, word 5 below
     /// let symbol = coder.decode_symbol(&table)?;
-    /// coder.encode_symbol(&symbol, &table)?; // as before
+    /// coder.encode_symbol(&symbol, &table)?; // restores the state before the decode
     /// coder.into_binary(); // Ok([5, 0])
     /// ```
     pub fn from_binary(mut bulk: Backend) -> Result<Self, Backend::ReadError>
@@ -172,19 +182,18 @@ impl<Word: WordOf<State>, State: BitArray, Backend: WriteWords<Word>> AnsCoder<
     State,
     Backend,
 > {
-    /// The words of a coder whose head is a 1 above whole words: those below the head, and then the
-    /// head's words below its leading 1, the lowest first, zero words at the top too. It asks the
-    /// backend for room for the head's words; where the head is 1 there are none, and the backend
-    /// comes back as it is.
+    /// Returns the words of a coder whose head is a 1 above whole words: the words below the head, then the
+    /// head's words below its leading 1, lowest first, zero words at the top included.
+    ///
+    /// The coder first asks the backend for room for the head's words. If the head is 1, the backend is returned
+    /// unchanged.
     ///
     /// # Errors
     ///
-    /// After each of them the coder is gone.
+    /// Every error consumes the coder.
     ///
-    /// - `None` exactly where the head is 0, or its bit length less one is no multiple of the bits of
-    ///   a word.
-    /// - `Some(error)` where the backend has no room for all the head's words, or refuses to write
-    ///   one of them.
+    /// - `None` exactly if the head is 0, or if its bit length minus one isn't a multiple of the bits of a word.
+    /// - `Some(error)` if the backend has no room for all words of the head, or refuses to write one of them.
     pub fn into_binary(self) -> Result<Backend, Option<Backend::WriteError>>
     where
         Backend: Drop,
@@ -216,8 +225,9 @@ impl<Word: WordOf<State>, State: BitArray, Backend: BoundedReadWords<Word, Stack
     State,
     Backend,
 > {
-    /// Whether the number of bits of the coder's words is a `usize`. Then [`AnsCoder::num_words`],
-    /// [`AnsCoder::num_bits`] and [`AnsCoder::num_valid_bits`] can be asked for.
+    /// Returns whether the number of bits of the coder's words fits a `usize`.
+    ///
+    /// [`AnsCoder::num_words`], [`AnsCoder::num_bits`] and [`AnsCoder::num_valid_bits`] require this.
     pub fn sizes_fit(&self) -> bool
         ensures { IsTrue result ↔ SizesFit Word.BITS self.now.state }
     {
@@ -228,8 +238,9 @@ impl<Word: WordOf<State>, State: BitArray, Backend: BoundedReadWords<Word, Stack
         words <= usize::MAX / Word::BITS as usize
     }
 
-    /// The number of words that [`AnsCoder::into_compressed`] gives: those below the head, and the
-    /// head's words without leading zero words.
+    /// Returns the number of words that [`AnsCoder::into_compressed`] returns.
+    ///
+    /// These are the words below the head, and the words of the head without leading zero words.
     pub fn num_words(&self) -> usize
         requires { SizesFit Word.BITS self.now.state }
         ensures { result ≡ length (exported Word.BITS self.now.state) }
@@ -237,7 +248,7 @@ impl<Word: WordOf<State>, State: BitArray, Backend: BoundedReadWords<Word, Stack
         self.bulk.remaining() + count_of_words::<Word, State>(self.state)
     }
 
-    /// The number of bits of the words that [`AnsCoder::into_compressed`] gives.
+    /// Returns the number of bits of the words that [`AnsCoder::into_compressed`] returns.
     pub fn num_bits(&self) -> usize
         requires { SizesFit Word.BITS self.now.state }
         ensures { result ≡ Word.BITS * length (exported Word.BITS self.now.state) }
@@ -245,8 +256,8 @@ impl<Word: WordOf<State>, State: BitArray, Backend: BoundedReadWords<Word, Stack
         Word::BITS as usize * self.num_words()
     }
 
-    /// The number of bits that tell anything: those of the words below the head, and the bits of the
-    /// head below its leading 1. It is 0 for a new coder.
+    /// Returns the number of bits that carry information: the bits of the words below the head, and the bits of
+    /// the head below its leading 1. For a new coder this is 0.
     pub fn num_valid_bits(&self) -> usize
         requires { SizesFit Word.BITS self.now.state }
         ensures { result ≡ valid_bit_count Word.BITS self.now.state }
@@ -256,10 +267,17 @@ impl<Word: WordOf<State>, State: BitArray, Backend: BoundedReadWords<Word, Stack
     }
 }
 
-/// The words of a coder, in the order in which [`AnsCoder::into_compressed`] gives them, the top one
-/// last. [`AnsCoder::iter_compressed`] makes it.
+/// An iterator over a coder's words in the order of [`AnsCoder::into_compressed`], top word last.
 ///
-/// Contracts see the numbers of the words that are left.
+/// [`AnsCoder::iter_compressed`] makes it. Contracts see the numbers of the remaining words.
+///
+/// # Examples
+///
+/// ```
+/// for word in coder.iter_compressed() {
+///     send(word);
+/// }
+/// ```
 #[derive(Debug, Drop)]
 pub struct AnsCompressedIter<'a, Word: WordOf<State>, State: BitArray> {
     below: &'a [Word],
@@ -307,9 +325,11 @@ impl<Word: WordOf<State>, State: BitArray, Backend: Holds<Word, Stack> + Words<W
     State,
     Backend,
 > {
-    /// The words that [`AnsCoder::into_compressed`] would give, the first one first: those that the
-    /// backend lends, and then the head's, the lowest first, without leading zero words. The coder
-    /// stays as it is.
+    /// Returns an iterator over the words that [`AnsCoder::into_compressed`] would return, and leaves the coder
+    /// unchanged.
+    ///
+    /// The words that the backend lends come first, then the words of the head, lowest first, without leading
+    /// zero words.
     pub fn iter_compressed(&self) -> AnsCompressedIter<'_, Word, State>
         ensures words { result ≡ map Word.number (Backend.lent self.now.backend)
             ++ reverse (digits_of (2 ^ Word.BITS) self.now.state.head) }
@@ -329,7 +349,7 @@ impl<
     State: BitArray,
     Backend: Holds<Word, Stack> + Words<Word>,
 > fmt::Debug for AnsCoder<Word, State, Backend> {
-    /// The list of the words of [`AnsCoder::iter_compressed`].
+    /// Formats the coder as the list of the words of [`AnsCoder::iter_compressed`].
     fn fmt<W: fmt::Write>(&self, f: &mut fmt::Formatter<W>) -> fmt::Result {
         f.debug_list().entries(self.iter_compressed()).finish()
     }
