@@ -33,8 +33,8 @@ WEIGHTS = {
     "constriction_commands": 4.0,
     "constriction_cli": 0.8,
     "constriction_inputs": 3.0,
-    "constriction_calls": 12.0,
-    "constriction_c": 6.0,
+    "constriction_calls": 7.0,
+    "constriction_c": 5.2,
 }
 
 
