@@ -37,7 +37,7 @@ pub trait EntropyModel<const PRECISION: usize>: Drop {
     // The precision is allowed.
     ghost sized: { (m : Self) → (1 ≤ PRECISION) × (PRECISION ≤ Self.Probability.BITS) };
 
-    // The length of an interval fits `Probability`, so no symbol has all numbers of all its bits.
+    // Where the precision is all bits of `Probability`, there are at least two symbols.
     ghost two_symbols: { (m : Self) → PRECISION ≡ Self.Probability.BITS → 2 ≤ length (table m) };
 }
 

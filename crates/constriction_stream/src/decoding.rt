@@ -46,7 +46,9 @@ pub trait Decode<const PRECISION: usize>: Code {
     /// A coder that continues past the end of its data has no such error.
     ghost is_end_of_data: { CoderError Self.FrontendError Self.BackendError → Type 0 };
 
-    /// Decodes a symbol: the one whose interval of the model holds the coder's next quantile.
+    /// Decodes a symbol under a model.
+    ///
+    /// The coder makes the step of the symbol's interval in the model's table.
     ///
     /// # Errors
     ///
