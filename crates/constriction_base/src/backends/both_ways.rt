@@ -1,7 +1,8 @@
 //! The same words, read from either end.
 //!
 //! The law of `BothWays` could not be a law of `Holds`: it is false for a cursor, whose position separates its stack
-//! from its queue.
+//! from its queue. A coder that only lends its words to a decoder needs no `BothWays`, because the lent words are
+//! those of `Holds<Word, Queue>`.
 
 ghost use Rattle.std.specs.Prelude.{◌≡◌, reverse};
 
