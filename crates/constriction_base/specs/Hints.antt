@@ -1,14 +1,14 @@
--- Hints for the search of a quantile's symbol among the starts of intervals.
+-- Hints for finding a quantile's symbol among the starts of intervals.
 use Rattle.std.specs.Prelude.{ℕ, ◌+◌, ◌*◌, ◌<◌, ◌≤◌, List, length, slice_index}
 use Rattle.constriction_base.specs.Tables.{end_of}
 
--- the interval of this symbol holds the place, or ends at it
+-- The interval of this symbol holds the place or ends at it.
 pub record IsHint (starts : List ℕ) (high place symbol : ℕ) : Type 0 where
   pub known : symbol < length starts
   pub from : slice_index starts symbol ≤ place
   pub to : place ≤ end_of starts symbol high
 
--- a hint for each place that is a multiple of the width, from 0 on; they go up
+-- The hints belong to the multiples of the width, from 0 on, and never fall.
 pub record AreHints (starts : List ℕ) (high width : ℕ) (hints : List ℕ) : Type 0 where
   pub each : (k : ℕ) → k < length hints → IsHint starts high (k * width) (slice_index hints k)
   pub rising : (k : ℕ) → k + 1 < length hints → slice_index hints k ≤ slice_index hints (k + 1)

@@ -1,26 +1,26 @@
--- What a table of weights is to those who read its contracts.
+-- What contracts say of a weight table: its entries, and that they are a lawful table.
 use Rattle.std.specs.Prelude.{◌≡◌, ℕ, ◌^◌, ◌≤◌, List, length, map}
 use Rattle.constriction_base.specs.Tables.{IsTable, table_of, weights_between}
 use Rattle.constriction_base.specs.Models.{Model}
 use Rattle.constriction_base.specs.laws.Weights.{starts_make_table, two_entries}
 use Rattle.constriction_base.specs.declared.weights.WeightTable.{WeightTable}
 
--- its entries: each symbol of a weight above 0, where its interval begins, and how long it is
+-- The entries: each symbol of a weight above 0, the start of its interval, and the interval's length.
 abbrev pub entries : {Probability NonZero : Type 0} {precision : ℕ} {word : _} → WeightTable Probability precision NonZero word → List (ℕ × ℕ × ℕ)
 entries {precision = precision} {word = word} t = table_of (weights_between (map word.number t.starts.items) (2 ^ precision))
 
--- it keeps a reciprocal of each weight, so that no encoder divides
+-- The table keeps a reciprocal of each weight, so that no encoder divides.
 abbrev pub KeepsReciprocals : {Probability NonZero : Type 0} {precision : ℕ} {word : _} → WeightTable Probability precision NonZero word → Type 0
 KeepsReciprocals t = length t.reciprocals.items ≡ length t.starts.items
 
--- the table as a model
+-- The weight table as a model.
 abbrev pub model_of : {Probability NonZero : Type 0} {precision : ℕ} {word : _} → WeightTable Probability precision NonZero word → Model ℕ
 model_of {precision = precision} t = record { precision = precision; table = entries t }
 
--- the entries cut what is below two to the precision
+-- The entries partition the numbers below 2 ^ precision.
 pub entries_are_table : {Probability NonZero : Type 0} {precision : ℕ} {word : _} (t : WeightTable Probability precision NonZero word) → IsTable precision (entries t)
 entries_are_table {precision = precision} {word = word} t = starts_make_table word.number precision t.starts.items t.has_symbols t.rising
 
--- where the precision is all bits, there are two at least
+-- Where the precision is all bits of a word, there are at least two entries.
 pub entries_are_two : {Probability NonZero : Type 0} {precision : ℕ} {word : _} (t : WeightTable Probability precision NonZero word) → precision ≡ word.BITS → 2 ≤ length (entries t)
 entries_are_two {precision = precision} {word = word} t all = two_entries word.number precision word.BITS t.starts.items t.has_symbols t.rising t.last all

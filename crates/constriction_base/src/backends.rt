@@ -1,16 +1,16 @@
-//! Backends: where a coder's words are kept.
+//! Backends: where a coder keeps its words.
 //!
-//! A backend is known by what it holds: the list of the words that its next reads give, the next one
-//! first. A read takes the first word of that list. A write puts a word before it, since what is
-//! written is a stack: the word that was written last is read first.
+//! Contracts describe a backend by the list of words that its next reads return, the next word first. A read takes the
+//! first word of the list. A write puts a word in front, because writing is always onto a stack: the word written last
+//! is read first.
 //!
-//! - `semantics`: the two orders in which words are read.
-//! - `reading`: reading words, and knowing how many are left.
+//! - `semantics`: the two reading orders.
+//! - `reading`: reading words, and how many are left.
 //! - `writing`: writing words, and asking for room.
 //! - `seeking`: positions, and going to them.
 //! - `lending`: buffers that lend their words as a slice.
-//! - `conversions`: what turns into a backend for reading, or lends one.
-//! - `taking`: words that are taken off again.
+//! - `conversions`: values that turn into a backend for reading, or lend one.
+//! - `taking`: taking written words off again.
 //! - `both_ways`: the same words as a stack and as a queue.
 
 pub mod both_ways;

@@ -1,4 +1,4 @@
-//! A buffer and a position in it.
+//! `Cursor`: a buffer of words and a position in it.
 
 ghost use Rattle.std.specs.Prelude.{◌≡◌, ◌+◌, ◌-◌, ◌<◌, ◌≤◌, Result, Ok, length, min};
 ghost use Rattle.constriction_base.specs.Backends.{Place};
@@ -14,12 +14,12 @@ mod seeking;
 mod stack;
 mod writing;
 
-/// A buffer of words and a position in it, which parts the words of a stack from those of a queue.
+/// A buffer of words with a position, which separates the words of a stack from those of a queue.
 ///
-/// As a stack it holds the words before the position, and the one right before it is read first. As a
-/// queue it holds the words from the position on, and the one at the position is read first. A write
-/// sets the word at the position and moves past it, and is refused at the buffer's end. Contracts see
-/// the buffer and the position, which is never past the buffer's length.
+/// As a stack, the cursor holds the words before the position and reads the one right before it first. As a queue, it
+/// holds the words from the position on and reads the one at the position first. A write replaces the word at the
+/// position and moves past it. At the end of the buffer, a write is refused. Contracts see the buffer and the
+/// position, which never exceeds the buffer's length.
 ///
 /// # Examples
 ///
@@ -48,7 +48,14 @@ impl<Word: BitArray, Buf: Words<Word> + Drop> Model for Cursor<Word, Buf> {
 }
 
 impl<Word: BitArray, Buf: Words<Word> + Drop> Cursor<Word, Buf> {
-    /// A cursor before the first word: an empty stack, or a queue of the buffer's words.
+    /// Creates a cursor before the first word: an empty stack, or a queue of all words of the buffer.
+    ///
+    /// # Examples
+    ///
+    /// ```
+    /// let mut cursor = Cursor::new_at_write_beginning([7u32, 9].as_slice());
+    /// ReadWords::<u32, Queue>::read(&mut cursor) // Ok(Some(7))
+    /// ```
     pub fn new_at_write_beginning(buf: Buf) -> Self
         ensures { result ≡ record { buf = buf; pos = 0 } }
     {
@@ -59,7 +66,14 @@ impl<Word: BitArray, Buf: Words<Word> + Drop> Cursor<Word, Buf> {
         }
     }
 
-    /// A cursor behind the last word: a stack of the buffer's words, or an empty queue.
+    /// Creates a cursor behind the last word: a stack of all words of the buffer, or an empty queue.
+    ///
+    /// # Examples
+    ///
+    /// ```
+    /// let mut cursor = Cursor::new_at_write_end([7u32, 9].as_slice());
+    /// ReadWords::<u32, Stack>::read(&mut cursor) // Ok(Some(9))
+    /// ```
     pub fn new_at_write_end(buf: Buf) -> Self
         ensures { result ≡ record { buf = buf; pos = length (Buf.lent buf) } }
     {
@@ -71,7 +85,7 @@ impl<Word: BitArray, Buf: Words<Word> + Drop> Cursor<Word, Buf> {
         }
     }
 
-    /// The buffer, of which the position is no place past the end.
+    /// Returns the buffer. The cursor's position is at most its length.
     pub fn buf(&self) -> &Buf
         ensures buffer { result.now ≡ self.now.buf }
         ensures within { self.now.pos ≤ length (Buf.lent self.now.buf) }
@@ -79,7 +93,7 @@ impl<Word: BitArray, Buf: Words<Word> + Drop> Cursor<Word, Buf> {
         &self.buf
     }
 
-    /// The buffer and the position.
+    /// Returns the buffer and the position, which is at most the buffer's length.
     pub fn into_buf_and_pos(self) -> (Buf, usize)
         ensures buffer { result.0 ≡ self.buf }
         ensures pos { result.1 ≡ self.pos }

@@ -8,18 +8,25 @@ use std::alloc::AllocError;
 use std::fmt::Display;
 use thiserror::Error;
 
-/// Why a coder refused a call: its frontend, which knows symbols and their models, did, or its
-/// backend, which reads and writes words.
+/// The error of a coder: either its frontend or its backend refused the call.
 ///
-/// A backend's error becomes a `CoderError` by `?`. A frontend's error never does: it is written
-/// as `CoderError::Frontend(error)`.
+/// The frontend knows symbols and their models. The backend reads and writes words. The `?` operator turns a backend's
+/// error into a `CoderError`. It never does so for a frontend's error, which is written `CoderError::Frontend(error)`.
+///
+/// # Examples
+///
+/// ```
+/// let refusal: DefaultEncoderError<AllocError> =
+///     CoderError::Frontend(DefaultEncoderFrontendError::ImpossibleSymbol);
+/// refusal // displays as `Impossible symbol.`
+/// ```
 #[derive(Debug, Clone, PartialEq, Eq, Hash, Drop, Error)]
 #[error_bound(F: Display, B: Display)]
 pub enum CoderError<F, B> {
-    /// The frontend refused: the symbol, the model or the data is not one that it can code.
+    /// The frontend refused: it can't code the symbol, the model or the data.
     #[error("{0}")]
     Frontend(F),
-    /// The backend refused a read, a write or to make room.
+    /// The backend refused a read, a write, or a request for room.
     #[error("{0}")]
     Backend(B),
 }
@@ -32,10 +39,16 @@ impl<F, B> From<B> for CoderError<F, B> {
     }
 }
 
-/// What an encoder's frontend can refuse.
+/// The error of an encoder's frontend.
+///
+/// # Examples
+///
+/// ```
+/// DefaultEncoderFrontendError::ImpossibleSymbol // displays as `Impossible symbol.`
+/// ```
 #[derive(Debug, Clone, Copy, PartialEq, Eq, Hash, Error)]
 pub enum DefaultEncoderFrontendError {
-    /// The model does not know the symbol, so that no interval stands for it.
+    /// The model doesn't know the symbol: the symbol has no interval.
     #[error("Impossible symbol.")]
     ImpossibleSymbol,
 }
@@ -44,25 +57,42 @@ pub enum DefaultEncoderFrontendError {
 pub type DefaultEncoderError<E> = CoderError<DefaultEncoderFrontendError, E>;
 
 /// The error of a call that both reads from a backend and writes to it.
+///
+/// # Examples
+///
+/// ```
+/// let refusal: ReadWriteError<Infallible, BoundedWriteError> =
+///     ReadWriteError::Write(BoundedWriteError::OutOfSpace);
+/// refusal // displays as `out of space`
+/// ```
 #[derive(Debug, Clone, PartialEq, Eq, Hash, Drop, Error)]
 #[error_bound(R: Display, W: Display)]
 pub enum ReadWriteError<R, W> {
     /// A read was refused.
     #[error("{0}")]
     Read(R),
-    /// A write, or room for one, was refused.
+    /// A write, or a request for room, was refused.
     #[error("{0}")]
     Write(W),
 }
 
-/// Why a backend that has an end refused a write.
+/// The error of a write to a backend that has an end.
+///
+/// # Examples
+///
+/// ```
+/// let mut words = [0u32; 0];
+/// let mut cursor = Cursor::new_at_write_beginning(words.as_mut_slice());
+/// cursor.write(7) // Err(BoundedWriteError::OutOfSpace)
+/// ```
 #[derive(Debug, Clone, Copy, PartialEq, Eq, Hash, Error)]
 pub enum BoundedWriteError {
-    /// The buffer ends here.
+    /// The buffer ends at the position of the write.
     #[error("out of space")]
     OutOfSpace,
-    /// A growth found no memory. A `Cursor` never returns this: it stands here for what is coded
-    /// onto a cursor and needs memory of its own.
+    /// There was no memory.
+    ///
+    /// A `Cursor` never returns this error. It serves coders over a cursor that need memory of their own.
     #[error("out of memory")]
     Memory,
 }

@@ -1,4 +1,8 @@
-//! The number that a coder holds above its words: how many words it has, and words that move between it and a backend.
+//! Words that move between a coder's head and a backend. The head is the number that a coder keeps above its words.
+//!
+//! Where there are no words to write, `append_words` doesn't call the backend. A refused write returns how many words
+//! were written before it, because the stack coder's guard takes these off again, and generic code can't count them on
+//! the backend.
 
 ghost use Rattle.std.specs.Prelude.{Err, IfErr, IfNone, IfOk, IfSome, MatchResult, Ok, drop, ℕ, ◌+◌, ◌<◌};
 ghost use Rattle.std.specs.Prelude.{true, ◌^◌, ◌≡◌, ◌≤◌, ◌⊎◌};
@@ -12,7 +16,7 @@ use crate::backends::semantics::Stack;
 use crate::backends::writing::WriteWords;
 use constriction_words::{BitArray, WordOf};
 
-/// How many words a head has without leading zeros.
+/// Returns the number of words of a head, without leading zero words.
 #[inline]
 pub fn count_of_words<Word: WordOf<State>, State: BitArray>(head: State) -> usize
     requires { IsSizes Word.BITS State.BITS }
@@ -27,7 +31,9 @@ pub fn count_of_words<Word: WordOf<State>, State: BitArray>(head: State) -> usiz
     count
 }
 
-/// How many words a head has below its leading one, if these are whole words.
+/// Returns the number of words below the leading one of a head, or `None` where these bits aren't whole words.
+///
+/// It also returns `None` for the head 0.
 pub fn words_below_one<Word: WordOf<State>, State: BitArray>(head: State) -> Option<usize>
     requires { IsSizes Word.BITS State.BITS }
     ensures value { IfSome result (λ m. IsOneAbove Word.BITS m (State.number head)) }
@@ -43,11 +49,11 @@ pub fn words_below_one<Word: WordOf<State>, State: BitArray>(head: State) -> Opt
     Some((bits / Word::BITS) as usize)
 }
 
-/// Writes the lowest words of a head onto a backend, the lowest first. It asks for no room.
+/// Writes the lowest `count` words of a head to a backend, the lowest word first, without a request for room.
 ///
 /// # Errors
 ///
-/// That of a write, and how many words were written before it: these stay.
+/// The error of a write, together with the number of words that were written before it. These words stay.
 pub fn write_words<Word: WordOf<State>, State: BitArray, Backend: WriteWords<Word>>(
     bulk: &mut Backend,
     head: State,
@@ -76,12 +82,14 @@ pub fn write_words<Word: WordOf<State>, State: BitArray, Backend: WriteWords<Wor
     Ok(())
 }
 
-/// Writes the lowest words of a head onto a backend, the lowest first, once there is room for them all. Where there are
-/// none, the backend isn't called.
+/// Asks for room for the lowest `count` words of a head and writes them to a backend, the lowest word first.
+///
+/// Where `count` is 0, the backend isn't called.
 ///
 /// # Errors
 ///
-/// That of `prepare`, or of a write, and how many words were written before it: these stay.
+/// The error of `prepare` or of a write, together with the number of words that were written before it. These words
+/// stay.
 pub fn append_words<Word: WordOf<State>, State: BitArray, Backend: WriteWords<Word>>(
     bulk: &mut Backend,
     head: State,
@@ -96,7 +104,7 @@ pub fn append_words<Word: WordOf<State>, State: BitArray, Backend: WriteWords<Wo
     ensures back { MatchResult result
         (λ _. drop count (Backend.words bulk.new) ≡ Backend.words bulk.old)
         (λ refused. drop refused.0 (Backend.words bulk.new) ≡ Backend.words bulk.old) }
-    // None is written but where a write was refused.
+    // Words are only written before an error where it is a write that was refused.
     ensures refused { IfErr result (λ refused. (refused.0 ≡ 0)
         ⊎ RefusesWrite Word.number Backend.Holds Backend.WriteWords.own
         (fixed_digits (2 ^ Word.BITS) count (State.number head)) bulk.old refused.1 bulk.new) }
@@ -111,12 +119,15 @@ pub fn append_words<Word: WordOf<State>, State: BitArray, Backend: WriteWords<Wo
     write_words(bulk, head, count)
 }
 
-/// A head above 0, into which words move as long as it is below 2 to the `bits` and one is left; and whether it came
-/// that far. Where it is that far already, the backend isn't called.
+/// Reads words into a head until it reaches `2 ^ bits` or no word is left.
+///
+/// Returns the new head, and whether it reached `2 ^ bits`. Each word becomes the lowest word of the head. Where the
+/// head is that large already, the backend isn't called. The caller proves that the head is above 0, and that a state
+/// has room for `bits` bits and one more word.
 ///
 /// # Errors
 ///
-/// That of a read. The words that moved in before are gone.
+/// The error of a read. The words that were read before it are lost.
 pub fn fill<Word: WordOf<State>, State: BitArray, Backend: ReadWords<Word, Stack>>(
     bulk: &mut Backend,
     head: State,

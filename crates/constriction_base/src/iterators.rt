@@ -1,4 +1,4 @@
-//! An iterator of Results of words as a backend.
+//! An iterator of `Result`s of words as a backend for reading.
 
 ghost use Rattle.std.specs.Prelude.{◌≡◌, ◌↔◌, List, [], Some, None, Ok, Err, Result, Option, true, false};
 ghost use Rattle.std.specs.Iterator.{Drains};
@@ -9,11 +9,11 @@ use crate::backends::{Holds, ReadWords, Semantics};
 use std::iter::Fuse;
 use std::marker::Model;
 
-/// Reads the words that an iterator gives, in their order.
+/// A backend that reads the words that an iterator returns, in their order.
 ///
-/// As a stack and as a queue alike, the iterator's first item is read first. An item `Err(error)` is
-/// the read's error, and the reads after it go on with the items behind it. Once the iterator has
-/// ended it is not called again. Contracts see the iterator, and whether it has ended.
+/// Both as a stack and as a queue, it reads the iterator's first item first. An item `Err(error)` is the error of that
+/// read, and the next read continues with the item behind it. Once the iterator has ended, it is not called again.
+/// Contracts see the iterator, and whether it has ended.
 ///
 /// # Examples
 ///
@@ -44,7 +44,19 @@ impl<Iter: Iterator> Model for FallibleIteratorReadWords<Iter> {
 impl<Word, ReadError, Iter: Iterator<Item = Result<Word, ReadError>>> FallibleIteratorReadWords<
     Iter,
 > {
-    /// A backend over an iterator. The lists that it can give are those that the iterator can give.
+    /// Creates a backend over an iterator.
+    ///
+    /// The results that its reads can give are exactly those that the iterator can give. The caller proves that the
+    /// iterator's `next` may be called.
+    ///
+    /// # Examples
+    ///
+    /// ```
+    /// let words = [Ok(9u32), Err("lost")].to_vec(alloc)?;
+    /// let mut backend = FallibleIteratorReadWords::new(words.into_iter());
+    /// ReadWords::<u32, Stack>::read(&mut backend) // Ok(Some(9))
+    /// ReadWords::<u32, Stack>::read(&mut backend) // Err("lost")
+    /// ```
     pub fn new(iter: Iter) -> Self
         requires { Iter.can_next iter }
         ensures value { result ≡ (iter, false) }
@@ -63,7 +75,7 @@ impl<Iter: Iterator> IntoIterator for FallibleIteratorReadWords<Iter> {
     ghost into_iter_gives = { λ backend rest. (fuse_source rest ≡ backend.0) × (fuse_done rest ≡ backend.1)
         × (fuse_done rest ≡ false → Iter.can_next (fuse_source rest)) };
 
-    /// The iterator as the reads left it, which gives nothing more once it has ended.
+    /// Returns the iterator as the reads left it. Once it has ended, it returns only `None`.
     fn into_iter(self) -> Fuse<Iter> {
         let FallibleIteratorReadWords { inner } = self;
         inner

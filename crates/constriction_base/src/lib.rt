@@ -1,21 +1,20 @@
-//! What entropy coders stand on: where their words go, and what their probabilities are.
+//! What every entropy coder builds on: backends that hold its words, and models that hold its probabilities.
 //!
-//! A coder knows two things of the world outside it. Its backend is a list of words, of which a read
-//! takes the next and a write puts one in front. Its model is a table: intervals that cut the
-//! numbers below two to the precision, one for each symbol. Contracts above this crate speak of
-//! such lists and tables and of nothing else.
+//! A coder knows two things of the outside world. Its backend is a list of words: a read takes the first word, a write
+//! puts one in front. Its model is a table: each symbol has an interval, and the intervals partition the numbers below
+//! `2 ^ PRECISION`. The contracts of the crates above speak only of such lists and tables.
 //!
-//! - [`backends`]: the traits of backends, `ReadWords`, `WriteWords` and those around them, for the
-//!   two ways to read, `Stack` and `Queue`.
-//! - [`vectors`], [`slices`]: backends that lend their words, and a `Vec` as a stack that grows.
-//! - [`small_vectors`]: a `SmallVec` as a stack, whose first word takes no memory.
-//! - [`cursor`]: `Cursor`, a buffer and a position in it, which reads both ways and has an end.
-//! - [`reverse`]: `Reverse`, the other way to read a cursor.
-//! - [`iterators`]: an iterator of words, or of refusals, to be read.
-//! - [`model`]: the traits of models, with the law that a model is a table.
-//! - [`weights`]: `WeightTable`, a model by the weights of its symbols, with a fast search.
-//! - [`errors`]: what coders and backends return where they refuse.
-//! - [`head_words`]: the words of the number that a coder holds above its words.
+//! - [`backends`]: the backend traits (`ReadWords`, `WriteWords` and others) and the two reading orders, `Stack` and
+//!   `Queue`.
+//! - [`vectors`], [`slices`]: buffers that lend their words, and `Vec` as a stack that grows.
+//! - [`small_vectors`]: `SmallVec` as a stack whose first word needs no memory.
+//! - [`cursor`]: `Cursor`, a buffer of fixed length with a position, readable in both directions.
+//! - [`reverse`]: `Reverse`, which swaps the two reading directions of a cursor.
+//! - [`iterators`]: an iterator of `Result`s of words as a backend for reading.
+//! - [`model`]: the model traits, with the law that a model is a table.
+//! - [`weights`]: `WeightTable`, a model made from the weights of its symbols, with a fast search.
+//! - [`errors`]: the errors of coders and backends.
+//! - [`head_words`]: words that move between a coder's head (the number above its words) and a backend.
 #![tactic(auto)]
 
 pub mod backends;

@@ -1,9 +1,9 @@
-//! What a coder asks of a model: which interval of the quantiles stands for a symbol.
+//! Model traits: which interval of the quantiles stands for a symbol.
 //!
-//! A model of a precision of so many bits cuts the numbers below two to the precision, its
-//! quantiles, into intervals, one for each symbol that it knows. [`EncoderModel`] finds a symbol's
-//! interval, [`DecoderModel`] the interval that holds a quantile; both stand on [`EntropyModel`],
-//! whose laws say that the intervals are a table. A `&M` is a model wherever `M` is.
+//! A model of a given precision (in bits) partitions its quantiles, the numbers below `2 ^ PRECISION`, into intervals,
+//! one for each symbol that it knows. [`EncoderModel`] finds the interval of a symbol. [`DecoderModel`] finds the
+//! interval that holds a quantile. Both require [`EntropyModel`], whose laws say that the intervals are a table. A
+//! `&M` is a model wherever `M` is one.
 
 ghost use Rattle.std.specs.Prelude.{◌≡◌, ℕ, ◌^◌, ◌<◌, ◌≤◌, List, length, IfSome, IfNone};
 ghost use Rattle.constriction_base.specs.Tables.{Has, Impossible, IsTable, Covers};
@@ -11,44 +11,49 @@ ghost use Rattle.constriction_words.specs.Reciprocals.{IsReciprocalOf};
 
 use constriction_words::{BitArray, Reciprocal};
 
-/// A table of symbols, each with an interval of the numbers below two to the precision: a quantized
-/// probability mass function.
+/// A model of symbols: a table that gives each symbol an interval of the numbers below `2 ^ PRECISION`.
 ///
-/// An implementation chooses freely which table it is, as far as the laws allow: which symbols have an
-/// interval, in which order these follow on one another, and how long each is.
+/// An implementor chooses which symbols have an interval, the order of the intervals, and their lengths. It then
+/// proves three laws for each value of the type:
 ///
-/// Its laws hold for each value of each implementation:
-///
-/// - `lawful`: the intervals follow on one another from 0 to two to the precision, with no gap and
-///   no overlap, none is empty, and no symbol has two.
-/// - `sized`: the precision is at least one bit, and at most the bits of `Probability`.
-/// - `two_symbols`: where the precision is all bits of `Probability`, there are at least two symbols.
-///   The length of an interval has to fit `Probability`, and an interval of all numbers would not.
+/// - `lawful`: the intervals lie one after another from 0 to `2 ^ PRECISION`, without gap or overlap. None is empty,
+///   and no symbol has two.
+/// - `sized`: the precision is at least 1 bit and at most the bits of `Probability`.
+/// - `two_symbols`: where the precision is all bits of `Probability`, the table has at least two symbols. The length
+///   of an interval has to fit `Probability`, which the length of all numbers would not.
 pub trait EntropyModel<const PRECISION: usize>: Drop {
-    /// What is coded.
+    /// The type of the symbols.
     type Symbol: Drop;
 
-    /// The numbers of the table: a quantile, where an interval begins and, above 0, how long it is.
+    /// The word type of quantiles, of the starts of intervals and, as `NonZero`, of their lengths.
     type Probability: BitArray;
 
-    // Its entries: a symbol, where its interval begins, and how long it is.
+    // The entries of the table: a symbol, the start of its interval, and the interval's length.
     ghost table: { Self → List (Self.Symbol × ℕ × ℕ) };
 
-    // The intervals cut the numbers with no gap and no overlap.
+    // The intervals partition the numbers below `2 ^ PRECISION`.
     ghost lawful: { (m : Self) → IsTable PRECISION (table m) };
 
     // The precision is allowed.
     ghost sized: { (m : Self) → (1 ≤ PRECISION) × (PRECISION ≤ Self.Probability.BITS) };
 
-    // An interval of all the numbers would not fit all bits: no symbol is alone with them.
+    // Where the precision is all bits of `Probability`, there are at least two symbols.
     ghost two_symbols: { (m : Self) → PRECISION ≡ Self.Probability.BITS → 2 ≤ length (table m) };
 }
 
 /// A model that an encoder can use.
 ///
-/// An implementation chooses nothing here: the table says what each call returns.
+/// An implementor proves that each call returns the entry of the symbol in the table, or `None` where the table has
+/// none.
+///
+/// # Examples
+///
+/// ```
+/// let table = WeightTable::<u8, 8>::new(alloc, &[255, 1])?;
+/// table.left_cumulative_and_probability(&1) // Some((255, 1))
+/// ```
 pub trait EncoderModel<const PRECISION: usize>: EntropyModel<PRECISION> {
-    /// Where the symbol's interval begins, and how long it is, or `None` if the model doesn't know it.
+    /// Returns the start and the length of the symbol's interval, or `None` where the model doesn't know the symbol.
     fn left_cumulative_and_probability(
         &self,
         symbol: &Self::Symbol,
@@ -58,10 +63,11 @@ pub trait EncoderModel<const PRECISION: usize>: EntropyModel<PRECISION> {
             (Self.Probability.nonzero_number found.1)) }
         ensures impossible { IfNone result (Impossible (Self.table self.now) symbol.now) };
 
-    /// The same, and the reciprocal of how long the interval is, where the model has one.
+    /// Returns the start and the length of the symbol's interval, and the length's reciprocal where the model has one.
     ///
-    /// An encoder that divides by it then takes a product in place of the division. A model that keeps no reciprocals
-    /// has none, and needs no such method of its own.
+    /// An encoder that divides by the length then takes a product instead of a division. A model without reciprocals
+    /// needs no such method of its own: the default returns none. Returns `None` where the model doesn't know the
+    /// symbol.
     fn left_cumulative_and_reciprocal(
         &self,
         symbol: &Self::Symbol,
@@ -88,11 +94,19 @@ pub trait EncoderModel<const PRECISION: usize>: EntropyModel<PRECISION> {
 
 /// A model that a decoder can use.
 ///
-/// An implementation chooses nothing here: the table says what each call returns.
+/// An implementor proves that each call returns an entry of the table, and that its interval holds the quantile.
+///
+/// # Examples
+///
+/// ```
+/// let table = WeightTable::<u8, 8>::new(alloc, &[255, 1])?;
+/// table.quantile_function(255) // (1, 255, 1)
+/// ```
 pub trait DecoderModel<const PRECISION: usize>: EntropyModel<PRECISION> {
-    /// The symbol whose interval holds the quantile, where that begins, and how long it is.
+    /// Returns the symbol whose interval holds the quantile, the start of the interval, and its length.
     ///
-    /// Each number below two to the precision is a quantile, and each has just one such symbol.
+    /// The caller proves that the quantile is below `2 ^ PRECISION`. Each quantile lies in the interval of exactly one
+    /// symbol.
     fn quantile_function(
         &self,
         quantile: Self::Probability,

@@ -1,7 +1,8 @@
-//! A cursor with its two roles changed.
+//! `Reverse`: a cursor whose stack and queue are swapped.
 //!
-//! Words that stand in the order in which a stack reads them, as in a file that is written from its
-//! end, are read by `Reverse(Cursor::new_at_write_beginning(words))`.
+//! `Reverse(Cursor::new_at_write_beginning(words))` reads as a stack the words of a buffer that lists them in the
+//! order of reading, for example of a file that is written from its end. The impls are for cursors alone: a generic
+//! impl can be proved, but its callers can't.
 
 ghost use Rattle.constriction_base.specs.laws.Room.{within};
 
@@ -12,10 +13,10 @@ use crate::cursor::Cursor;
 use constriction_words::BitArray;
 use std::convert::Infallible;
 
-/// A backend with its roles changed: its queue is a stack, and its stack is a queue.
+/// A backend whose queue and stack are swapped.
 ///
-/// As a stack it reads the words from the position on, the one at the position first; as a queue the
-/// words before the position, the one right before it first. Positions are the cursor's.
+/// As a stack, it reads the words from the position on, the one at the position first. As a queue, it reads the words
+/// before the position, the one right before it first. Positions are those of the cursor.
 ///
 /// # Examples
 ///
@@ -91,7 +92,7 @@ impl<Word: BitArray, Buf: Words<Word> + Drop> BoundedReadWords<Word, Queue>
 }
 
 impl<Word: BitArray, Buf: Words<Word> + Drop> PosSeek for Reverse<Cursor<Word, Buf>> {
-    /// How many words of the buffer stand before the position.
+    /// The number of words of the buffer before the position.
     type Position = usize;
 }
 

@@ -1,5 +1,6 @@
-//! Borrowed words, as a buffer and as what turns into a cursor: as a stack at the end of the words, as a
-//! queue at their beginning.
+//! Borrowed words as a buffer, and as a value that turns into a cursor.
+//!
+//! The cursor stands at the end of the words as a stack, and at their beginning as a queue.
 
 ghost use Rattle.std.specs.Prelude.{◌≡◌, length, reverse};
 ghost use Rattle.std.proofs.Common.{sym};

@@ -1,8 +1,8 @@
-//! A vector of words as a stack, of which one word lies in the value itself.
+//! A small vector of words as a stack, whose first word lies in the value itself.
 //!
-//! It holds one codeword that is turned round, and asks for memory only where it grows past that word. So its
-//! writes and `prepare` return want of memory there, and nothing else; reading it never fails, takes no memory and
-//! keeps the capacity. Any allocator serves.
+//! It holds one reversed codeword and asks for memory only when it grows past its first word. Only then may a write or
+//! `prepare` return lack of memory, which is their only error. Reading never fails, takes no memory and keeps the
+//! capacity. The impls hold for every allocator.
 
 ghost use Rattle.std.specs.Prelude.{◌≡◌, ◌+◌, ◌-◌, false, ◌<◌, ◌≤◌, ◌==◌, Option, Result, Ok, Err, length, reverse};
 ghost use Rattle.constriction_base.specs.Backends.{Reads, Writes};
@@ -64,10 +64,10 @@ impl<A: Allocator + Copy> WriteWords<usize> for SmallVec<usize, 1, A> {
 
     ghost seems_full = { λ _. false };
 
-    /// Puts a word on the stack, and asks for no memory where it is the only one.
+    /// Writes a word onto the stack. The first word needs no memory.
     #[tactic(auto, using(crate::proofs::Ends::reverse_push))]
     fn write(&mut self, word: usize) -> Result<(), AllocError> {
-        // The capacity is never less than the one word.
+        // The capacity is at least the one inline word.
         let _inline = self.capacity();
         self.push(word)?;
         Ok(())
@@ -77,9 +77,9 @@ impl<A: Allocator + Copy> WriteWords<usize> for SmallVec<usize, 1, A> {
         false
     }
 
-    /// Asks for room for `count` further words, and for no memory where they are one at most with those that are held.
+    /// Asks for room for `count` further words. This needs no memory where the words held and these are at most one.
     fn prepare(&mut self, count: usize) -> Result<(), AllocError> {
-        // The capacity is never less than the one word, nor than the number of words.
+        // The capacity is at least one, and at least the number of words.
         let _inline = self.capacity();
         let _held = self.len();
         match self.reserve(count) {

@@ -1,7 +1,7 @@
-//! A vector of words as a stack, whose last word is the first to be read.
+//! A vector of words as a stack, which reads its last word first.
 //!
-//! Its writes and `prepare` return want of memory, and nothing else; reading it never fails, takes no
-//! memory and keeps the capacity. Any allocator serves.
+//! The only error of its writes and of `prepare` is lack of memory. Reading never fails, takes no memory and keeps the
+//! capacity. The impls hold for every allocator.
 
 ghost use Rattle.std.specs.Prelude.{◌≡◌, ◌+◌, ◌-◌, false, ◌<◌, ◌≤◌, ◌==◌, Option, Result, Ok, Err, reverse, vec_len};
 ghost use Rattle.std.specs.Prelude.{vec_capacity, take};
@@ -103,7 +103,7 @@ impl<Word: BitArray, A: Allocator> WriteWords<Word> for Vec<Word, A> {
 }
 
 impl<Word: BitArray, A: Allocator> PosSeek for Vec<Word, A> {
-    /// How many words stand before the position.
+    /// The number of words before the position.
     type Position = usize;
 }
 

@@ -1,4 +1,13 @@
-//! A model by the weights of its symbols.
+//! `WeightTable`: a model made from the weights of its symbols.
+//!
+//! Weights of 0 at the end of the list are cut off, so that the start of each remaining symbol fits `Probability`.
+//! Starts and hints are one allocation each. Contracts see a table by `entries` of `specs/`, because a law of a trait
+//! ranges over all values of a model.
+//!
+//! Each reciprocal takes one 128-bit division, 33 to 41 ns in a prototype, where the rest of a table takes 10.4 to
+//! 10.8 ns a symbol. Two 64-bit divisions would take 19 to 29 ns, but only serve weights below 2^32, so the simpler
+//! form stands here. An encode with a table of `for_decoding` divides, on a path that an encode with a table of `new`
+//! never takes.
 
 mod hints;
 pub mod starts;
@@ -18,16 +27,22 @@ use constriction_words::{BitArray, Reciprocal};
 use std::alloc::{AllocError, Global};
 use thiserror::Error;
 
-/// Why weights make no table.
+/// The error of making a table from weights.
+///
+/// # Examples
+///
+/// ```
+/// WeightTable::<u8, 8>::new(alloc, &[255, 2]) // Err(TableError::WrongTotal), as the total has to be 256
+/// ```
 #[derive(Debug, Clone, Copy, PartialEq, Eq, Hash, Error)]
 pub enum TableError {
-    /// There is no weight at all.
+    /// The list of weights is empty.
     #[error("no weights")]
     Empty,
-    /// The weights do not add up to two to the precision.
+    /// The weights don't add up to `2 ^ PRECISION`.
     #[error("wrong total")]
     WrongTotal,
-    /// The table found no memory.
+    /// There was no memory for the table.
     #[error("out of memory")]
     Memory,
 }
@@ -40,22 +55,31 @@ impl From<AllocError> for TableError {
     }
 }
 
-/// A model of the symbols `0`, `1`, .. by their weights, which add up to two to the precision.
+/// A model of the symbols `0`, `1`, .. by their weights, which add up to `2 ^ PRECISION`.
 ///
-/// The intervals stand in the order of the list, each as long as its symbol's weight. There is none for
-/// a weight of 0, nor for a number past the list: such a symbol is impossible.
+/// The intervals lie in the order of the list, and each is as long as its symbol's weight. A symbol of weight 0 and a
+/// number past the end of the list have no interval: they are impossible symbols.
 ///
-/// A quantile's symbol is looked up in two steps: its high bits, its bucket, name the few symbols
-/// that it can be, and a binary search among these, mostly of no step at all, finds the one.
+/// A decoder finds a quantile's symbol in two steps. The quantile's high bits, its bucket, name the few symbols that
+/// it can be. A binary search among these, usually of no step at all, finds the symbol.
+///
+/// # Examples
+///
+/// ```
+/// let table = WeightTable::<u8, 8>::new(alloc, &[128, 0, 128])?;
+/// table.left_cumulative_and_probability(&2) // Some((128, 128))
+/// table.left_cumulative_and_probability(&1) // None
+/// table.quantile_function(127) // (0, 0, 128)
+/// ```
 #[derive(Drop)]
 pub struct WeightTable<Probability: BitArray, const PRECISION: usize> {
-    /// Where each symbol's interval begins, up to the last symbol of a weight above 0.
+    /// The start of each symbol's interval, up to the last symbol of a weight above 0.
     starts: Vec<Probability>,
-    /// For each bucket the symbol of its first quantile, and behind them the last symbol.
+    /// For each bucket the symbol of its first quantile, and behind these the last symbol.
     hints: Vec<usize>,
-    /// How many low bits of a quantile its bucket leaves out.
+    /// The number of low bits of a quantile that its bucket leaves out.
     shift: u32,
-    /// The reciprocal of each symbol's weight, and of 1 where that is 0; or none at all.
+    /// The reciprocal of each symbol's weight (of 1 where the weight is 0), or no entry at all.
     reciprocals: Vec<Reciprocal>,
     pub ghost positive: { 1 ≤ PRECISION },
     pub ghost fits: { PRECISION ≤ Probability.BITS },
@@ -73,27 +97,28 @@ pub struct WeightTable<Probability: BitArray, const PRECISION: usize> {
 impl<Probability: BitArray, const PRECISION: usize> WeightTable<Probability, PRECISION> {
     ghost use Rattle.constriction_base.specs.WeightTables.{entries, KeepsReciprocals};
 
-    /// The table of these weights (a quantized probability mass function), for encoding and for decoding.
+    /// Creates the table of these weights, for encoding and decoding.
     ///
-    /// With all bits of `Probability` as precision the total does not fit one weight, so that at least two are
-    /// above 0. It keeps a start for each symbol up to the last of a weight above 0, and more than two hints
-    /// for each of these, at most four, in `alloc`. At a precision of at most 63 bits it keeps a reciprocal of each
-    /// weight too, 24 bytes a symbol, so that the encoders that divide by weights need no division.
-    /// [`for_decoding`](WeightTable::for_decoding) makes a table without these, in less time.
+    /// Where the precision is all bits of `Probability`, the total doesn't fit a single weight, so at least two
+    /// weights are above 0. The table keeps the start of each symbol up to the last of a weight above 0, and at most
+    /// four hints for each of these symbols and one more, in `alloc`. At a precision of at most 63 bits it also keeps
+    /// a reciprocal of each weight (24 bytes a symbol), so that encoders that divide by weights need no division.
+    /// [`for_decoding`](WeightTable::for_decoding) creates a table without reciprocals in less time.
     ///
     /// # Errors
     ///
-    /// Looked for in this order:
+    /// Checked in this order:
     ///
-    /// - `Empty`, for an empty list.
-    /// - `WrongTotal`, where the weights do not add up to two to the precision. The sum is exact, whatever the
-    ///   width of `Probability`.
-    /// - `Memory`, for want of memory.
+    /// - `Empty`: the list is empty.
+    /// - `WrongTotal`: the weights don't add up to `2 ^ PRECISION`. The sum is exact, whatever the width of
+    ///   `Probability`.
+    /// - `Memory`: there is no memory for the table.
     ///
     /// # Examples
     ///
     /// ```
-    /// let table = WeightTable::<u8, 8>::new(rt.alloc(), &[255, 1])?;
+    /// let table = WeightTable::<u8, 8>::new(alloc, &[255, 1])?;
+    /// table.quantile_function(255) // (1, 255, 1)
     /// ```
     pub fn new(alloc: Global, weights: &[Probability]) -> Result<Self, TableError>
         requires { (1 ≤ PRECISION) × (PRECISION ≤ Probability.BITS) }
@@ -112,11 +137,11 @@ impl<Probability: BitArray, const PRECISION: usize> WeightTable<Probability, PRE
         }
     }
 
-    /// The table of these weights without reciprocals, for decoding, and for encoders that divide by no weight, as the
-    /// range coder's.
+    /// Creates the table of these weights without reciprocals, for decoding.
     ///
-    /// It is the same table as that of [`new`](WeightTable::new), made in less time and memory. Encoders that divide by
-    /// weights take it too, and are slower.
+    /// It also serves encoders that don't divide by weights, such as the range coder's. It has the same entries as the
+    /// table of [`new`](WeightTable::new) and takes less time and memory. Encoders that divide by weights accept it
+    /// too, but run slower.
     ///
     /// # Errors
     ///
@@ -125,7 +150,8 @@ impl<Probability: BitArray, const PRECISION: usize> WeightTable<Probability, PRE
     /// # Examples
     ///
     /// ```
-    /// let table = WeightTable::<u8, 8>::for_decoding(rt.alloc(), &[255, 1])?;
+    /// let table = WeightTable::<u8, 8>::for_decoding(alloc, &[255, 1])?;
+    /// table.quantile_function(254) // (0, 0, 255)
     /// ```
     pub fn for_decoding(alloc: Global, weights: &[Probability]) -> Result<Self, TableError>
         requires { (1 ≤ PRECISION) × (PRECISION ≤ Probability.BITS) }
@@ -153,7 +179,7 @@ impl<Probability: BitArray, const PRECISION: usize> WeightTable<Probability, PRE
         })
     }
 
-    /// The same table, with a reciprocal of each weight where the precision is at most 63 bits.
+    /// Adds a reciprocal of each weight where the precision is at most 63 bits. The entries stay the same.
     fn with_reciprocals(mut self, alloc: Global) -> Result<Self, AllocError>
         ensures kept { IfOk result (λ t. entries t ≡ entries self) }
         ensures reciprocals { IfOk result (λ t. PRECISION ≤ 63 → KeepsReciprocals t) }
@@ -165,7 +191,7 @@ impl<Probability: BitArray, const PRECISION: usize> WeightTable<Probability, PRE
         Ok(self)
     }
 
-    /// The reciprocal of each symbol's weight, and of 1 where that is 0.
+    /// Returns the reciprocal of each symbol's weight, and of 1 where the weight is 0.
     fn made_reciprocals(&self, alloc: Global) -> Result<Vec<Reciprocal>, AllocError>
         requires { PRECISION ≤ 63 }
         ensures count { IfOk result (λ made. length made.items ≡ length self.now.starts.items) }
@@ -181,7 +207,7 @@ impl<Probability: BitArray, const PRECISION: usize> WeightTable<Probability, PRE
         Ok(made)
     }
 
-    /// Which bucket a quantile is in.
+    /// Returns the bucket of a quantile.
     fn bucket(&self, quantile: Probability) -> usize
         requires { Probability.number quantile < 2 ^ PRECISION }
         ensures within { result + 1 < length self.now.hints.items }
@@ -191,7 +217,7 @@ impl<Probability: BitArray, const PRECISION: usize> WeightTable<Probability, PRE
         quantile.shifted_right(self.shift).to_index()
     }
 
-    /// Where the interval of a symbol begins.
+    /// Returns the start of a symbol's interval.
     fn start(&self, symbol: usize) -> Probability
         requires { symbol < length self.now.starts.items }
         ensures { Probability.number result ≡ slice_index (map Probability.number self.now.starts.items) symbol }
@@ -199,7 +225,7 @@ impl<Probability: BitArray, const PRECISION: usize> WeightTable<Probability, PRE
         self.starts[symbol]
     }
 
-    /// How long the interval of a symbol is.
+    /// Returns the length of a symbol's interval.
     fn weight(&self, symbol: usize) -> Probability
         requires { symbol < length self.now.starts.items }
         ensures { Probability.number result
@@ -215,7 +241,7 @@ impl<Probability: BitArray, const PRECISION: usize> WeightTable<Probability, PRE
         }
     }
 
-    /// The reciprocal of a symbol's weight, where the table keeps it.
+    /// Returns the reciprocal of a symbol's weight, where the table keeps it.
     fn reciprocal(&self, symbol: usize) -> Option<Reciprocal>
         ensures ok { IfSome result (λ r.
             0 < slice_index (weights_between (map Probability.number self.now.starts.items) (2 ^ PRECISION)) symbol

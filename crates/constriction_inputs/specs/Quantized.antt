@@ -1,4 +1,4 @@
--- Models by a family of distributions, cut at half symbols: each symbol has a model by a location and a scale of its own.
+-- Models of a family of distributions, cut halfway between symbols, where each symbol has its own location and scale.
 use Rattle.std.specs.Prelude.{◌≡◌, ℕ, zero, suc, ℤ, pos, ◌+◌, ◌^◌, ◌<◌, ◌+ℤ◌, ◌-ℤ◌, ◌<ℤ◌, List, [], ◌∷◌, length, map, unsigned_abs, Option, Some, None, IsSome}
 use Rattle.std.specs.List.{AllByRecursion, zip}
 use Rattle.constriction_base.specs.Models.{Item, pairs_of}
@@ -8,20 +8,20 @@ use Rattle.constriction_models.specs.Quantized.{indexed}
 use Rattle.constriction_models.specs.declared.families.Family.{Family}
 use Rattle.constriction_models.specs.declared.families.Family.TheVariants.{Gaussian, Laplace, Logistic}
 
--- the family of a code
+-- The family with this number.
 abbrev pub family_of : ℕ → Option Family
 family_of zero = Some Gaussian
 family_of (suc zero) = Some Laplace
 family_of (suc (suc zero)) = Some Logistic
 family_of (suc (suc (suc other))) = None
 
--- how much of 2 ^ 32 lies below a place, by a family, a location and a scale. By no family it is nothing
+-- How much of 2 ^ 32 lies below a place, by a family, a location and a scale; without a family it is 0.
 abbrev pub below_by : Option Family → ℤ → ℕ → ℤ → ℕ
 below_by (Some family) location scale = family_below family location scale
 below_by None location scale = λ place. 0
 
--- what a caller hands in for models: the code of a family, the first and the last symbol of a range, and a location and a scale
--- for each symbol that is coded, in units of 2 ^ -16
+-- What a caller hands in for models: the number of a family, the first and the last symbol of a range, and a location
+-- and a scale for each coded symbol, in multiples of 2 ^ -16.
 pub record ByFamily : Type 0 where
   pub family : ℕ
   pub min : ℤ
@@ -29,42 +29,42 @@ pub record ByFamily : Type 0 where
   pub locations : List ℤ
   pub scales : List ℕ
 
--- how many symbols the range has
+-- The number of symbols of the range.
 abbrev pub symbols_in : ℤ → ℤ → ℕ
 symbols_in min max = unsigned_abs (max -ℤ min) + 1
 
--- the table of places in the range, for each location and its scale: the place of the first symbol is 0
+-- The table of the indices in the range, for each location and its scale; the first symbol has the index 0.
 abbrev pub tables_by : ℕ → Option Family → ℤ → ℕ → List ℤ → List ℕ → List (List (ℕ × ℕ × ℕ))
 tables_by precision family min count locations scales =
     map (λ (at : ℤ × ℕ). indexed precision (below_by family at.0 at.1) min count) (zip locations scales)
 
--- those of what a caller hands in
+-- The tables of what a caller hands in.
 abbrev pub family_tables : ℕ → ByFamily → List (List (ℕ × ℕ × ℕ))
 family_tables precision by = tables_by precision (family_of by.family) by.min (symbols_in by.min by.max) by.locations by.scales
 
--- symbols, each under the table of its own location and scale
+-- Symbols, each under the table of its own location and scale.
 abbrev pub family_items : ℕ → ByFamily → List ℕ → List (Item ℕ)
 family_items precision by symbols = pairs_of precision (λ table. table) symbols (family_tables precision by)
 
--- ---- what a call asks for
--- there are as many locations, and as many scales
+-- ---- what a call requires
+-- There are this many locations and this many scales.
 abbrev pub AreAsMany : ByFamily → ℕ → Type 0
 AreAsMany by count = (length by.locations ≡ count) × (length by.scales ≡ count)
 
--- a range has two symbols at least, and two to the precision at most
+-- The range has at least two and at most 2 ^ precision symbols.
 abbrev pub IsRange : ℕ → ℤ → ℤ → Type 0
 IsRange precision min max = (min <ℤ max) × (max <ℤ (min +ℤ pos (2 ^ precision)))
 
--- a code is that of a family, and each scale is above 0
+-- The number is that of a family, and each scale is above 0.
 abbrev pub AreScaled : ℕ → List ℕ → Type 0
 AreScaled family scales = IsSome (family_of family) × AllByRecursion (λ scale. 0 < scale) scales
 
--- each symbol is the place of one of the range
+-- Each symbol is an index in the range.
 abbrev pub ArePlacesInRange : ℤ → ℤ → List ℕ → Type 0
 ArePlacesInRange min max symbols = AllByRecursion (λ symbol. symbol < symbols_in min max) symbols
 
 -- ---- intervals
--- of each item where its interval begins, and how long it is
+-- The start and the length of each item's interval.
 abbrev pub AreIntervalsOf : List (Item ℕ) → List ℕ → List ℕ → Type 0
 AreIntervalsOf [] [] [] = Unit {0}
 AreIntervalsOf (item ∷ items) (left ∷ lefts) (p ∷ ps) = Has item.model.table item.symbol left p × AreIntervalsOf items lefts ps

@@ -7,11 +7,17 @@ ghost use Rattle.constriction_inputs.specs.declared.refusal.Refusal.TheVariants 
 use crate::refusal::Refusal;
 use constriction_words::BitArray;
 
-/// Looks whether a buffer of `size` words has room for so many behind its first `len`.
+/// Checks that a buffer of `size` words has room for `count` words behind its first `len`.
 ///
 /// # Errors
 ///
-/// As [`append`] of so many words.
+/// Those of [`append`] for `count` words.
+///
+/// # Examples
+///
+/// ```
+/// room_for(3, 6, 8) // Err(Refusal::NoSpace(9))
+/// ```
 pub fn room_for(count: usize, len: usize, size: usize) -> Result<(), Refusal>
     ensures ok { OnOk result (len + count ≤ size) }
     ensures err { IfErr result
@@ -27,12 +33,24 @@ pub fn room_for(count: usize, len: usize, size: usize) -> Result<(), Refusal>
     Ok(())
 }
 
-/// Puts words behind the first `len` words of a buffer, and counts them.
+/// Puts words behind the first `len` words of a buffer, and adds their number to `len`.
+///
+/// The caller proves that `len` is at most the length of the buffer.
 ///
 /// # Errors
 ///
-/// Where the buffer ends before all of them `NoSpace`, which names the length that the buffer would need. A length
-/// that is no `usize` can't be named: then `NoMemory`, as there is no such buffer.
+/// Nothing changes after an error.
+///
+/// - `NoSpace`: the buffer is too short. The error contains the length that it would need, in words.
+/// - `NoMemory`: that length is no `usize`, so no buffer could have it.
+///
+/// # Examples
+///
+/// ```
+/// let mut buffer = [7u32, 0, 0];
+/// let mut len = 1;
+/// append(&[8, 9], &mut buffer, &mut len)?; // the buffer is [7, 8, 9], and `len` is 3
+/// ```
 pub fn append<Word: BitArray>(
     added: &[Word],
     buffer: &mut [Word],

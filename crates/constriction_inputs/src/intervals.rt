@@ -1,5 +1,4 @@
-//! Intervals without a table, as rows of three weights: of what lies below, of the interval itself, and of what lies
-//! above.
+//! Intervals without a table, as rows of three weights: below the interval, the interval itself, and above it.
 
 ghost use Rattle.std.specs.Prelude.{◌≡◌, ◌≢◌, ◌↔◌, ◌⊎◌, ◌*◌, ◌+◌, ◌^◌, ◌≤◌, length, map, IsTrue, IfOk, IfErr, OnOk};
 ghost use Rattle.std.specs.Prelude.{IsErrOf};
@@ -12,15 +11,23 @@ use constriction_base::weights::starts::ones;
 use constriction_words::BitArray;
 use std::alloc::{AllocError, Global};
 
-/// The rows of intervals, one behind another, and a 1 for each as symbols: symbol 1 of a row is the interval.
+/// Returns the rows of intervals, one behind another, and a symbol 1 for each: symbol 1 of a row is the interval.
+///
+/// `lefts` has the start of each interval, and `ps` its length.
 ///
 /// # Errors
 ///
-/// Looked for in this order:
+/// Checked in this order:
 ///
-/// - `WrongLength`, where the two lists are not of one length.
-/// - `WrongInterval`, where an interval is empty, or ends past two to the precision.
-/// - `NoMemory`, for want of memory.
+/// - `WrongLength`: the two lists differ in length.
+/// - `WrongInterval`: an interval is empty or ends past `2 ^ PRECISION`.
+/// - `NoMemory`: there is no memory for the rows or the symbols.
+///
+/// # Examples
+///
+/// ```
+/// rows_by_intervals::<u8, 4>(alloc, &[3], &[5])? // ([3, 5, 8], [1])
+/// ```
 pub fn rows_by_intervals<P: BitArray, const PRECISION: usize>(
     alloc: Global,
     lefts: &[P],
@@ -56,7 +63,7 @@ pub fn rows_by_intervals<P: BitArray, const PRECISION: usize>(
     Ok((rows, symbols))
 }
 
-/// Whether a number and a length are an interval of the numbers below two to the precision.
+/// Returns whether a start and a length make an interval of the numbers below `2 ^ PRECISION`.
 fn is_interval<P: BitArray, const PRECISION: usize>(left: P, p: P) -> bool
     requires { (1 ≤ PRECISION) × (PRECISION ≤ P.BITS) }
     ensures { IsTrue result ↔ IsIntervalWithin PRECISION (P.number left) (P.number p) }
@@ -68,7 +75,7 @@ fn is_interval<P: BitArray, const PRECISION: usize>(left: P, p: P) -> bool
     !last.minus(left).is_below(p.minus(P::unit()))
 }
 
-/// Whether all of them are.
+/// Returns whether each start and its length make an interval.
 fn are_intervals<P: BitArray, const PRECISION: usize>(lefts: &[P], ps: &[P]) -> bool
     requires sizes { (1 ≤ PRECISION) × (PRECISION ≤ P.BITS) }
     requires counted { length lefts.now ≡ length ps.now }
@@ -82,7 +89,7 @@ fn are_intervals<P: BitArray, const PRECISION: usize>(lefts: &[P], ps: &[P]) -> 
     true
 }
 
-/// What lies above an interval.
+/// Returns the weight of what lies above an interval.
 fn above<P: BitArray, const PRECISION: usize>(left: P, p: P) -> P
     requires sizes { (1 ≤ PRECISION) × (PRECISION ≤ P.BITS) }
     requires interval { IsIntervalWithin PRECISION (P.number left) (P.number p) }
@@ -91,7 +98,7 @@ fn above<P: BitArray, const PRECISION: usize>(left: P, p: P) -> P
     ones::<P>(PRECISION).minus(left).minus(p.minus(P::unit()))
 }
 
-/// The weights of intervals, one row behind another.
+/// Returns the weights of intervals, one row behind another.
 fn rows_made<P: BitArray, const PRECISION: usize>(
     alloc: Global,
     lefts: &[P],

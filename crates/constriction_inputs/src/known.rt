@@ -1,4 +1,4 @@
-//! Whether weights give the symbols that they are to code an interval.
+//! Whether weights give an interval to the symbols that are to be coded.
 
 ghost use Rattle.std.specs.Prelude.{◌≡◌, ◌↔◌, ◌*◌, length, map, IsTrue};
 ghost use Rattle.constriction_base.specs.Models.{AreKnown, Knows};
@@ -6,7 +6,9 @@ ghost use Rattle.constriction_inputs.specs.Weights.{row_items, weights_model};
 
 use constriction_words::BitArray;
 
-/// Whether each row of `width` weights knows the symbol at its place. It takes no memory.
+/// Returns whether each row of `width` weights knows the symbol at its place. This takes no memory.
+///
+/// The caller proves that there are `width` weights for each symbol.
 pub fn all_known_in_rows<P: BitArray, const PRECISION: usize>(
     weights: &[P],
     width: usize,
@@ -26,7 +28,7 @@ pub fn all_known_in_rows<P: BitArray, const PRECISION: usize>(
     true
 }
 
-/// Whether a symbol has a weight above 0.
+/// Returns whether a symbol has a weight above 0.
 pub fn is_known<P: BitArray, const PRECISION: usize>(weights: &[P], symbol: usize) -> bool
     ensures { IsTrue result ↔ Knows (weights_model PRECISION (map P.number weights.now)) symbol }
 {

@@ -1,12 +1,13 @@
-//! What a caller over buffers hands in, as one in another language: models, words in a buffer; and why it is refused.
-//! `constriction_calls` has the coders for such callers.
+//! Models and words that a caller over buffers hands in, and why a call refuses them.
 //!
-//! - [`refusal`]: why a call was refused.
-//! - [`models`]: how a caller says the models of symbols.
+//! Such a caller may be written in another language. The coders for it are in `constriction_calls`.
+//!
+//! - [`refusal`]: the error of a refused call.
+//! - [`models`]: the forms in which a caller states the models of symbols.
 //! - [`rows`]: rows of weights as models.
 //! - [`known`]: whether weights give symbols an interval.
 //! - [`intervals`]: intervals without a table.
-//! - [`quantized`]: the numbers of models, for callers who look at them.
+//! - [`quantized`]: the numbers of models, for callers who inspect them.
 //! - [`buffers`]: words put behind others in a buffer.
 #![tactic(auto)]
 

@@ -1,8 +1,8 @@
-//! How a caller says the models of a list of symbols, and the models that these make.
+//! The forms in which a caller states the models of a list of symbols, and the models made from them.
 //!
-//! - `weights`: one table of weights for all.
-//! - `rows`: a row of weights for each.
-//! - `families`: a family of distributions, and a location and a scale for each.
+//! - `weights`: one table of weights for all symbols.
+//! - `rows`: a row of weights for each symbol.
+//! - `families`: a family of distributions, with a location and a scale for each symbol.
 
 mod families;
 mod rows;
@@ -21,45 +21,53 @@ pub use rows::Rows;
 use std::alloc::Global;
 pub use weights::Weights;
 
-/// Models of a list of symbols, one for each place.
+/// The models of a list of symbols, one for each place in the list.
+///
+/// An implementor lists the tables of its models and proves that `at` returns a model with the table of that place.
 pub trait ModelList<P: BitArray, const PRECISION: usize>: Drop {
-    /// What they are.
+    /// The type of the models.
     type Model: EncoderModel<PRECISION, Symbol = usize, Probability = P>
         + DecoderModel<PRECISION, Symbol = usize, Probability = P>;
 
-    // Their tables.
+    // The tables of the models, in order.
     ghost tables: { Self → List (List (ℕ × ℕ × ℕ)) };
 
-    /// The model at a place.
+    /// Returns the model at a place. The caller proves that the list has that place.
     fn at(&self, place: usize) -> &Self::Model
         requires { place < length (tables self.now) }
         ensures { Self.Model.table result.now ≡ get_or (tables self.now) place (Self.Model.table result.now) };
 }
 
-/// What a caller hands in for the models of a list of symbols.
+/// What a caller hands in to state the models of a list of symbols.
+///
+/// An implementor names the form of what is handed in (`coded`), and proves that `check` refuses it in exactly the
+/// cases of that form, that `know` decides whether the models know the symbols, and that `list` returns the models.
 pub trait Models<P: BitArray, const PRECISION: usize> {
-    /// The models that this makes.
+    /// The type of the list of models.
     type List: ModelList<P, PRECISION>;
 
-    // Such symbols, with these models.
+    // The symbols, together with what their models are made from.
     ghost coded: { Self → List ℕ → Coded };
 
-    /// Looks whether it makes models for so many symbols. It takes no memory.
+    /// Checks that it makes models for these symbols. This takes no memory.
     ///
     /// # Errors
     ///
-    /// `WrongLength`, `WrongInterval` and `WrongWeights`, in this order, each just in its case.
+    /// `WrongLength`, `WrongInterval` and `WrongWeights`, checked in this order, each exactly in its case.
     fn check(&self, symbols: &[usize]) -> Result<(), Refusal>
         requires { (1 ≤ PRECISION) × (PRECISION ≤ P.BITS) }
         ensures { AsksFit PRECISION (coded self.now symbols.now) (Else Never) result };
 
-    /// Whether the models know their symbols. It takes no memory.
+    /// Returns whether the models know their symbols. This takes no memory.
+    ///
+    /// The caller proves that `check` would succeed.
     fn know(&self, symbols: &[usize]) -> bool
         requires { AreFit PRECISION (coded self.now symbols.now) }
         ensures { IsTrue result ↔ AreKnown (items PRECISION (coded self.now symbols.now)) };
 
-    /// The models of the symbols, for steps that divide by a symbol's weight, or that don't. `None` says that memory is
-    /// missing.
+    /// Returns the models of the symbols, or `None` where there is no memory for them.
+    ///
+    /// `divides` says whether the coder's steps divide by weights. The caller proves that `check` would succeed.
     fn list(&self, alloc: Global, symbols: &[usize], divides: bool) -> Option<Self::List>
         requires precision { (1 ≤ PRECISION) × (PRECISION ≤ P.BITS) }
         requires fit { AreFit PRECISION (coded self.now symbols.now) }
@@ -69,7 +77,16 @@ pub trait Models<P: BitArray, const PRECISION: usize> {
             ≡ pairs_of PRECISION (λ table. table) others (Self.List.tables list)) };
 }
 
-/// One model for so many symbols.
+/// One model for all symbols of a list.
+///
+/// # Examples
+///
+/// ```
+/// let weights = Weights { weights: &[255u8, 1] };
+/// if let Some(list) = Models::<u8, 8>::list(&weights, alloc, &[0, 1], false) {
+///     ModelList::<u8, 8>::at(&list, 1).quantile_function(255) // (1, 255, 1)
+/// }
+/// ```
 #[derive(Drop)]
 pub struct One<M> {
     model: M,
@@ -92,7 +109,16 @@ impl<
     }
 }
 
-/// A model for each symbol.
+/// A model for each symbol of a list.
+///
+/// # Examples
+///
+/// ```
+/// let rows = Rows { weights: &[255u8, 1, 128, 128], width: 2 };
+/// if let Some(list) = Models::<u8, 8>::list(&rows, alloc, &[0, 1], false) {
+///     ModelList::<u8, 8>::at(&list, 1).quantile_function(255) // (1, 128, 128)
+/// }
+/// ```
 #[derive(Drop)]
 pub struct Each<M> {
     models: Vec<M>,

@@ -1,5 +1,4 @@
-//! Models in whole numbers, for callers who look at them: where the intervals of a family's symbols lie, and weights of
-//! counts.
+//! The numbers of models, for callers who inspect them: the intervals of a family's symbols, and weights from counts.
 
 pub mod counts;
 pub mod intervals;

@@ -12,10 +12,18 @@ use constriction_base::model::EntropyModel;
 use constriction_words::BitArray;
 use std::alloc::{AllocError, Global};
 
-/// A model of the symbols `0`, `1`, .. by their weights, which a caller lends: nothing is copied.
+/// A model of the symbols `0`, `1`, .. by weights that it borrows, without a copy.
 ///
-/// The intervals stand in the order of the list, each as long as its symbol's weight; a weight of 0, and a number past
-/// the list, have none. Each look-up goes over the weights from the first on.
+/// The intervals lie in the order of the list, and each is as long as its symbol's weight. A symbol of weight 0 and a
+/// number past the end of the list have no interval. Each search runs over the weights from the first one on.
+///
+/// # Examples
+///
+/// ```
+/// if let Some(row) = Row::<u8, 8>::new(&[255, 1]) {
+///     row.left_cumulative_and_probability(&1) // Some((255, 1))
+/// }
+/// ```
 #[derive(Drop)]
 pub struct Row<'a, P: BitArray, const PRECISION: usize> {
     weights: &'a [P],
@@ -25,7 +33,9 @@ pub struct Row<'a, P: BitArray, const PRECISION: usize> {
 }
 
 impl<'a, P: BitArray, const PRECISION: usize> Row<'a, P, PRECISION> {
-    /// The model of these weights, if they add up to two to the precision.
+    /// Creates the model of these weights, or returns `None` where they don't add up to `2 ^ PRECISION`.
+    ///
+    /// The type has an example.
     pub fn new(weights: &'a [P]) -> Option<Self>
         requires { (1 ≤ PRECISION) × (PRECISION ≤ P.BITS) }
         ensures ok { IfSome result
@@ -41,7 +51,11 @@ impl<'a, P: BitArray, const PRECISION: usize> Row<'a, P, PRECISION> {
     }
 }
 
-/// Rows that add up to two to the precision, as models.
+/// Returns `count` rows of `width` weights each as models. The caller proves that each adds up to `2 ^ PRECISION`.
+///
+/// # Errors
+///
+/// The allocation's error. It is the only one.
 pub fn total_rows<'a, P: BitArray, const PRECISION: usize>(
     alloc: Global,
     weights: &'a [P],

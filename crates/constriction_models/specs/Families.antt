@@ -1,4 +1,4 @@
--- Families of distributions, one of which is chosen.
+-- The distribution function of a family that is chosen at run time.
 use Rattle.std.specs.Prelude.{ℕ, ℤ}
 use Rattle.constriction_models.specs.Interpolation.{scaled}
 use Rattle.constriction_models.specs.Normal.{normal_values}
@@ -10,13 +10,13 @@ use Rattle.constriction_models.specs.declared.families.Family.TheVariants as fam
 use Rattle.constriction_models.specs.declared.families.OneOf.{OneOf}
 use Rattle.constriction_models.specs.declared.families.OneOf.TheVariants.{First, Second, Third}
 
--- the distribution function of a location and a scale
+-- The distribution function of a family, a location and a scale.
 abbrev pub family_below : Family → ℤ → ℕ → ℤ → ℕ
 family_below family.Gaussian location scale = scaled normal_values 16 location scale
 family_below family.Laplace location scale = scaled laplace_values 64 location scale
 family_below family.Logistic location scale = scaled logistic_values 64 location scale
 
--- that of a distribution of one of three kinds
+-- The distribution function of a distribution of one of three types.
 abbrev pub below_of_one : {A B C : Type 0} → (A → ℤ → ℕ) → (B → ℤ → ℕ) → (C → ℤ → ℕ) → OneOf A B C → ℤ → ℕ
 below_of_one first second third (First d) = first d
 below_of_one first second third (Second d) = second d

@@ -1,38 +1,40 @@
--- Distribution functions by a table of values, between which they go straight.
+-- Distribution functions with a table of values, interpolated linearly between them.
 use Rattle.std.specs.Prelude.{◌≡◌, ℕ, ◌+◌, ◌-◌, ◌*◌, ◌/◌, ◌%◌, List, [], ◌∷◌, length, slice_index, Bool, true, ◌&&◌, nat_le, nat_lt, cond, ℤ, pos, negsuc, ◌+ℤ◌, ◌-ℤ◌}
 
--- none of the numbers is below the one before it, and the first is not below this
+-- No number is below the one before it, and the first is not below `low`.
 unfoldable pub rises_from : ℕ → List ℕ → Bool
 rises_from low [] = true
 rises_from low (x ∷ xs) = nat_le low x && rises_from x xs
 
--- values at 2048 steps and the end: they go up to 2 ^ 32
+-- The 2049 values at the ends of 2048 steps never fall, and the last is 2 ^ 32.
 pub record AreValues (values : List ℕ) : Type 0 where
   pub len : length values ≡ 2049
   pub rises : rises_from 0 values ≡ true
   pub last : slice_index values 2048 ≡ 4294967296
 
--- so many 65536ths of the way from one value to the next
+-- The value `part` 65536ths of the way from the k-th value to the next.
 unfoldable pub interpolated : List ℕ → ℕ → ℕ → ℕ
 interpolated values k part = slice_index values k + (slice_index values (k + 1) - slice_index values k) * part / 65536
 
--- the value at a place, in 65536ths of a step
+-- The value at a place, which is a number of 65536ths of a step.
 unfoldable pub value_at : List ℕ → ℕ → ℕ
 value_at values place = interpolated values (place / 65536) (place % 65536)
 
--- the value so far above the table's beginning, where all of it is as wide as this and 2 ^ 36 times the rate is what a unit has in 65536ths of a step
+-- The value at a distance above the beginning of a table of this width, where a unit has rate / 2 ^ 36 of the 65536ths
+-- of a step.
 unfoldable pub value_above : List ℕ → ℕ → ℕ → ℕ → ℕ
 value_above values wide rate far = cond (nat_lt far wide) (value_at values (far * rate / 68719476736)) 4294967296
 
--- nothing lies below the table's beginning
+-- The value at a signed distance from the beginning of the table: nothing lies below it.
 unfoldable pub value_beyond : List ℕ → ℕ → ℕ → ℤ → ℕ
 value_beyond values wide rate (pos far) = value_above values wide rate far
 value_beyond values wide rate (negsuc _) = 0
 
--- the value at a place, where the table's middle lies at another
+-- The value at a place, for a table of this width around `middle`.
 unfoldable pub located : List ℕ → ℕ → ℕ → ℤ → ℤ → ℕ
 located values wide rate middle place = value_beyond values wide rate (place -ℤ middle +ℤ pos (wide / 2))
 
--- the distribution function of a location and a scale, all of them multiples of 2 ^ -16, where the table is so many scales wide
+-- The distribution function of a location and a scale, in multiples of 2 ^ -16, where the table is `width` scales
+-- wide.
 unfoldable pub scaled : List ℕ → ℕ → ℤ → ℕ → ℤ → ℕ
 scaled values width location scale = located values (width * scale) (9223372036854775808 / width / scale) location

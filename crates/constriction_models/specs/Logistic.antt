@@ -4,7 +4,8 @@ use Rattle.std.proofs.Common.{refl, arith}
 use Rattle.constriction_models.specs.Interpolation.{AreValues, rises_from}
 use Rattle.constriction_models.specs.Rules.{powers, mirrored, rounded, decay, exponential}
 
--- 2 ^ 32 times it at -32 + k / 32 scales, rounded to the nearest, for k from 0 to 2048: exp (x) / (1 + exp (x)) below the middle
+-- 2 ^ 32 times the function at -32 + k / 32 scales, rounded to the nearest integer, for k from 0 to 2048. It is exp
+-- (x) / (1 + exp (x)) below the middle.
 unfoldable pub logistic_values : List ℕ
 logistic_values = mirrored 4294967296 (map (λ p. rounded 4294967296 p (2 ^ 160 + p)) (powers (2 ^ 160) 1025 (2 ^ 160) (decay (2 ^ 160) 32)))
 
@@ -12,6 +13,6 @@ pub logistic_are_values : AreValues logistic_values
 unfolding rises_from logistic_values powers mirrored rounded decay exponential
 logistic_are_values = record { len = refl; rises = refl; last = refl }
 
--- the table is so many scales wide
+-- The table is 64 scales wide.
 pub logistic_is_wide : (1 ≤ 64) × (64 ≤ 64)
 logistic_is_wide = (omega arith, omega arith)

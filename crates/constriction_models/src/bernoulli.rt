@@ -1,4 +1,4 @@
-//! Two symbols, one of which comes with a probability.
+//! `BernoulliModel`: a model of two symbols.
 
 ghost use Rattle.std.specs.Prelude.{◌≡◌, ◌-◌, ◌^◌, ◌<◌, ◌≤◌, ◌⊎◌, ◌↔◌, IfSome, IsNone};
 ghost use Rattle.constriction_base.specs.Tables.{Has};
@@ -15,8 +15,10 @@ use std::marker::PhantomData;
 /// # Examples
 ///
 /// ```
-/// // `true` comes with a probability of 3 in 256.
-/// if let Some(model) = BernoulliModel::<u8, 8>::new(3) { .. }
+/// // `true` has a probability of 3 in 256.
+/// if let Some(model) = BernoulliModel::<u8, 8>::new(3) {
+///     model.left_cumulative_and_probability(&true) // Some((253, 3))
+/// }
 /// ```
 #[derive(Drop)]
 pub struct BernoulliModel<Probability: WordOf<u32>, const PRECISION: usize> {
@@ -30,8 +32,15 @@ pub struct BernoulliModel<Probability: WordOf<u32>, const PRECISION: usize> {
 }
 
 impl<Probability: WordOf<u32>, const PRECISION: usize> BernoulliModel<Probability, PRECISION> {
-    /// The model in which `true` has this weight and `false` what is left of two to the precision; `None` where either
-    /// has nothing.
+    /// Creates the model in which `true` has this weight and `false` has the rest of `2 ^ PRECISION`.
+    ///
+    /// Returns `None` where either weight would be 0.
+    ///
+    /// # Examples
+    ///
+    /// ```
+    /// BernoulliModel::<u8, 8>::new(0).is_none() // true
+    /// ```
     pub fn new(weight: Probability) -> Option<Self>
         requires { (1 ≤ PRECISION) × (PRECISION ≤ Probability.BITS) }
         ensures ok { IfSome result (λ m. ⟦<BernoulliModel<Probability, PRECISION> as EntropyModel<PRECISION>>⟧.table m
@@ -48,7 +57,7 @@ impl<Probability: WordOf<u32>, const PRECISION: usize> BernoulliModel<Probabilit
         })
     }
 
-    /// The interval of a symbol.
+    /// Returns the start and the length of a symbol's interval.
     #[inline(always)]
     fn interval_of(&self, symbol: bool) -> (Probability, <Probability as BitArray>::NonZero)
         ensures { Has (bernoulli PRECISION self.now.weight) symbol (Probability.number result.0)

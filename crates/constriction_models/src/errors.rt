@@ -1,14 +1,21 @@
-//! Why symbols make no model.
+//! The error where a number of symbols makes no model.
 
 use thiserror::Error;
 
-/// Why so many symbols make no model of a precision.
+/// The error where a number of symbols makes no model of a precision.
+///
+/// # Examples
+///
+/// ```
+/// UniformModel::<u8, 8>::new(1) // Err(SupportError::TooFew)
+/// UniformModel::<u8, 8>::new(257) // Err(SupportError::TooMany)
+/// ```
 #[derive(Debug, Clone, Copy, PartialEq, Eq, Hash, Error)]
 pub enum SupportError {
     /// There are fewer than two symbols.
     #[error("fewer than two symbols")]
     TooFew,
-    /// There are more symbols than two to the precision.
+    /// There are more than `2 ^ PRECISION` symbols.
     #[error("more symbols than two to the precision")]
     TooMany,
 }

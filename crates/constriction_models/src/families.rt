@@ -1,4 +1,4 @@
-//! Families of distributions, chosen while a program runs.
+//! `Family`: a family of distributions, chosen at run time.
 
 ghost use Rattle.std.specs.Prelude.{◌≡◌, ◌↔◌, IfSome, IsNone};
 ghost use Rattle.constriction_models.specs.Families.{below_of_one, family_below, one_never_falls};
@@ -8,14 +8,22 @@ use crate::gaussian::Gaussian;
 use crate::laplace::Laplace;
 use crate::logistic::Logistic;
 
-/// A distribution of one of three kinds.
+/// A distribution of one of three types.
+///
+/// # Examples
+///
+/// ```
+/// if let Some(logistic) = Logistic::new(0, 65536) {
+///     let distribution: FamilyDistribution = OneOf::Third(logistic);
+/// }
+/// ```
 #[derive(Drop)]
 pub enum OneOf<A, B, C> {
-    /// Of the first kind.
+    /// A distribution of the first type.
     First(A),
-    /// Of the second kind.
+    /// A distribution of the second type.
     Second(B),
-    /// Of the third kind.
+    /// A distribution of the third type.
     Third(C),
 }
 
@@ -47,12 +55,20 @@ impl<
     }
 }
 
-/// A family of distributions, each of which has a location and a scale.
+/// A family of distributions with a location and a scale.
+///
+/// # Examples
+///
+/// ```
+/// if let Some(distribution) = Family::Laplace.distribution(0, 65536) {
+///     distribution.cumulative(0) // 2147483648, half of 2^32
+/// }
+/// ```
 #[derive(Debug, Clone, Copy, PartialEq, Eq)]
 pub enum Family {
     /// The normal distributions.
     Gaussian,
-    /// Laplace's distributions.
+    /// The Laplace distributions.
     Laplace,
     /// The logistic distributions.
     Logistic,
@@ -62,7 +78,7 @@ pub enum Family {
 pub type FamilyDistribution = OneOf<Gaussian, Laplace, Logistic>;
 
 impl Family {
-    /// The distribution of a location and a scale above 0, both as multiples of `2^-16`; `None` where the scale is 0.
+    /// Returns the distribution of a location and a scale, both multiples of `2^-16`, or `None` where the scale is 0.
     #[inline]
     pub fn distribution(self, location: i64, scale: u32) -> Option<FamilyDistribution>
         ensures ok { IfSome result

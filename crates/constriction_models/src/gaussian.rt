@@ -1,4 +1,4 @@
-//! The normal distribution.
+//! `Gaussian`: the normal distribution.
 
 mod table;
 
@@ -7,11 +7,26 @@ ghost use Rattle.constriction_models.specs.Normal.{normal_values, normal_are_val
 use crate::gaussian::table::{GUESSES, VALUES};
 use crate::location_scale::{LocationScale, StandardDistribution};
 
-/// The normal distribution of mean 0 and deviation 1, cut off at 8 deviations on either side.
+/// The normal distribution of mean 0 and standard deviation 1, cut off 8 standard deviations from the mean.
+///
+/// # Examples
+///
+/// ```
+/// let values = StandardNormal::table(); // 2049 values; values[1024] is half of 2^32
+/// ```
 #[derive(Clone, Copy)]
 pub struct StandardNormal;
 
 /// The normal distribution of a mean (the location) and a standard deviation (the scale).
+///
+/// # Examples
+///
+/// ```
+/// // Mean 3.5 and standard deviation 2, as multiples of 2^-16.
+/// if let Some(gaussian) = Gaussian::new(229376, 131072) {
+///     gaussian.cumulative(229376) // 2147483648, half of 2^32
+/// }
+/// ```
 pub type Gaussian = LocationScale<StandardNormal>;
 
 impl StandardDistribution for StandardNormal {

@@ -4,7 +4,7 @@ ghost use Rattle.std.specs.Prelude.{◌≡◌, ◌-◌, ◌^◌, ◌<◌};
 
 use constriction_words::{BitArray, WordOf};
 
-/// Where an interval begins, and how long it is.
+/// Returns the start and the length of an interval as words.
 #[inline(always)]
 pub fn interval<Probability: WordOf<u32>>(
     left: u64,

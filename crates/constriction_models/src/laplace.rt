@@ -1,4 +1,4 @@
-//! Laplace's distribution.
+//! `Laplace`: the Laplace distribution.
 
 mod table;
 
@@ -7,11 +7,26 @@ ghost use Rattle.constriction_models.specs.Laplace.{laplace_values, laplace_are_
 use crate::laplace::table::{GUESSES, VALUES};
 use crate::location_scale::{LocationScale, StandardDistribution};
 
-/// Laplace's distribution of location 0 and scale 1, cut off at 32 scales on either side.
+/// The Laplace distribution of location 0 and scale 1, cut off 32 scales from the middle.
+///
+/// # Examples
+///
+/// ```
+/// let values = StandardLaplace::table(); // 2049 values; values[1024] is half of 2^32
+/// ```
 #[derive(Clone, Copy)]
 pub struct StandardLaplace;
 
-/// Laplace's distribution of a location and a scale: it falls off as `exp(-|x - location| / scale)`.
+/// The Laplace distribution of a location and a scale. Its density is proportional to `exp(-|x - location| / scale)`.
+///
+/// # Examples
+///
+/// ```
+/// // Location 3.5 and scale 2, as multiples of 2^-16.
+/// if let Some(laplace) = Laplace::new(229376, 131072) {
+///     laplace.cumulative(229376) // 2147483648, half of 2^32
+/// }
+/// ```
 pub type Laplace = LocationScale<StandardLaplace>;
 
 impl StandardDistribution for StandardLaplace {

@@ -1,21 +1,20 @@
-//! Models in whole numbers: the same table on every machine.
+//! Models in integer arithmetic: every machine computes the same table.
 //!
-//! A receiver has to know the sender's table to the last unit. A table that was computed in floats may come out
-//! otherwise on another machine, and then the message is lost. Here every model is computed in whole numbers, and
-//! proved to be a table.
+//! A decoder needs exactly the encoder's table. A table computed in floating point may differ on another machine, and
+//! then the message is lost. All models of this crate are computed in integers, and each is proved to be a table.
 //!
-//! - [`distribution`]: `CumulativeDistribution`, a distribution function in whole numbers, of which one thing is asked:
+//! - [`distribution`]: `CumulativeDistribution`, a cumulative distribution function in integers, whose one law is that
 //!   it never falls.
-//! - [`quantizer`]: `LeakyQuantizer`, which cuts such a distribution at half symbols, and
-//!   `LeakilyQuantizedDistribution`, the model that it makes; `IndexedDistribution` is the same of places in the range,
-//!   as `usize`.
-//! - [`location_scale`]: `LocationScale`, a distribution by the table of a standard one, a location and a scale.
-//! - [`gaussian`], [`laplace`], [`logistic`]: `Gaussian`, `Laplace`, `Logistic`.
-//! - [`families`]: `Family`, one of these three, chosen while a program runs.
-//! - [`uniform`], [`bernoulli`]: `UniformModel` and `BernoulliModel`, of equal symbols and of two.
+//! - [`quantizer`]: `LeakyQuantizer`, which cuts such a function halfway between symbols, and the models that it
+//!   makes: `LeakilyQuantizedDistribution`, and `IndexedDistribution`, whose symbols are indices of type `usize`.
+//! - [`location_scale`]: `LocationScale`, a distribution from the table of a standard one, a location and a scale.
+//! - [`gaussian`], [`laplace`], [`logistic`]: the distributions `Gaussian`, `Laplace` and `Logistic`.
+//! - [`families`]: `Family`, one of these three, chosen at run time.
+//! - [`uniform`], [`bernoulli`]: `UniformModel`, whose symbols have equal weights, and `BernoulliModel`, which has two
+//!   symbols.
 //! - [`counts`]: `weights_of_counts`, weights in proportion to counts.
-//! - [`lookup`]: `ContiguousLookupDecoderModel`, a model that lists the symbol of each quantile.
-//! - [`errors`]: `SupportError`, why so many symbols make no model.
+//! - [`lookup`]: `ContiguousLookupDecoderModel`, a model with a list of each quantile's symbol.
+//! - [`errors`]: `SupportError`, the error where the number of symbols makes no model.
 #![tactic(auto)]
 
 pub mod bernoulli;

@@ -1,4 +1,4 @@
-//! Families of distributions: a standard one, moved to a location and stretched by a scale.
+//! `LocationScale`: a standard distribution, moved to a location and stretched by a scale.
 
 ghost use Rattle.std.specs.Prelude.{◌≡◌, ℕ, ◌*◌, ◌/◌, ◌<◌, ◌≤◌, ◌↔◌, List, length, IfSome, IsNone};
 ghost use Rattle.constriction_models.specs.Interpolation.{AreValues, scaled};
@@ -9,57 +9,68 @@ use crate::interpolation::{guessed, located};
 use std::alloc::AllocError;
 use std::marker::PhantomData;
 
-/// The standard distribution of a family, of location 0 and scale 1, by a table of its distribution function.
+/// The standard distribution of a family, with location 0 and scale 1, as a table of its distribution function.
 ///
-/// The table has its values at 2049 places, each as far from the next, from half its width below 0 to half its width
-/// above. What lies farther out is taken for nothing.
+/// The table has the values at 2049 evenly spaced places, from half its width below 0 to half its width above 0.
+/// Whatever lies farther out counts as nothing.
 ///
-/// Its laws hold for each implementation:
+/// An implementor proves that `table` returns the values and that `guesses` has 1025 numbers, together with two laws:
 ///
-/// - `are_values`: the values never fall, and the last is all, `2^32`.
-/// - `width_law`: the table is at least one scale wide, and at most 64.
+/// - `are_values`: there are 2049 values, they never fall, and the last is `2^32`.
+/// - `width_law`: the table is at least 1 and at most 64 scales wide.
 pub trait StandardDistribution: Copy {
     // The values, in parts of 2 ^ 32.
     ghost values: { List ℕ };
 
-    // Its width, as contracts see it.
+    // The width, as contracts see it.
     ghost WIDTH: { ℕ };
 
-    /// How many scales the table is wide.
+    /// The width of the table in scales.
     const WIDTH: u64;
 
-    // They never fall, and the last is all.
+    // There are 2049 values, they never fall, and the last is 2 ^ 32.
     ghost are_values: { AreValues values };
 
-    // It has a width, and is no wider than 64 scales.
+    // The table is at least 1 and at most 64 scales wide.
     ghost width_law: { (1 ≤ WIDTH) × (WIDTH ≤ 64) };
 
-    /// The values.
+    /// Returns the values.
     fn table() -> &'static [u64]
         ensures { result.now ≡ values };
 
-    /// About where the value is each 1024th of all, in 65536ths of a step. Any list of that length is right, and one
-    /// that is near makes a decode fast.
+    /// Returns about where each multiple of `2^22` is reached, in 65536ths of a step.
+    ///
+    /// Every list of that length is correct; a close one makes decoding fast.
     fn guesses() -> &'static [u32]
         ensures { length result.now ≡ 1025 };
 }
 
-/// The distribution of a family that has its middle at a location and is stretched by a scale, both whole multiples
-/// of `2^-16`.
+/// The distribution of a family with a location and a scale, both multiples of `2^-16`.
 ///
-/// Its values are those of the family's table, and between two of them it goes straight.
+/// Its values are those of the family's table, interpolated linearly.
+///
+/// # Examples
+///
+/// ```
+/// // The normal distribution of mean 3.5 and standard deviation 2.
+/// if let Some(gaussian) = LocationScale::<StandardNormal>::new(229376, 131072) {
+///     gaussian.cumulative(229376) // 2147483648, half of 2^32
+/// }
+/// ```
 #[derive(Drop, Copy)]
 pub struct LocationScale<D: StandardDistribution> {
     location: i64,
     scale: u32,
-    /// `2^36` times how many 65536ths of a step of the table a unit has.
+    /// `2^36` times the number of 65536ths of a step of the table in one unit.
     rate: u64,
     standard: PhantomData<D>,
     ghost rated: { rate ≡ 9223372036854775808 / D.WIDTH / scale },
 }
 
 impl<D: StandardDistribution> LocationScale<D> {
-    /// The distribution of a location and a scale above 0, both as multiples of `2^-16`; `None` where the scale is 0.
+    /// Creates the distribution of a location and a scale, or returns `None` where the scale is 0.
+    ///
+    /// Both are multiples of `2^-16`. The type has an example.
     #[inline]
     pub fn new(location: i64, scale: u32) -> Option<Self>
         ensures ok { IfSome result
@@ -83,7 +94,7 @@ impl<D: StandardDistribution> Clone for LocationScale<D> {
 
     ghost is_infallible = { λ _. Unit {0} };
 
-    /// The same distribution.
+    /// Returns the same distribution. This never fails.
     fn clone(&self) -> Result<Self, AllocError> {
         Ok(*self)
     }

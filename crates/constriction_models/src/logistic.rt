@@ -1,4 +1,4 @@
-//! The logistic distribution.
+//! `Logistic`: the logistic distribution.
 
 mod table;
 
@@ -7,11 +7,26 @@ ghost use Rattle.constriction_models.specs.Logistic.{logistic_values, logistic_a
 use crate::location_scale::{LocationScale, StandardDistribution};
 use crate::logistic::table::{GUESSES, VALUES};
 
-/// The logistic distribution of location 0 and scale 1, cut off at 32 scales on either side.
+/// The logistic distribution of location 0 and scale 1, cut off 32 scales from the middle.
+///
+/// # Examples
+///
+/// ```
+/// let values = StandardLogistic::table(); // 2049 values; values[1024] is half of 2^32
+/// ```
 #[derive(Clone, Copy)]
 pub struct StandardLogistic;
 
 /// The logistic distribution of a location and a scale: `1 / (1 + exp(-(x - location) / scale))` lies below `x`.
+///
+/// # Examples
+///
+/// ```
+/// // Location 3.5 and scale 2, as multiples of 2^-16.
+/// if let Some(logistic) = Logistic::new(229376, 131072) {
+///     logistic.cumulative(229376) // 2147483648, half of 2^32
+/// }
+/// ```
 pub type Logistic = LocationScale<StandardLogistic>;
 
 impl StandardDistribution for StandardLogistic {

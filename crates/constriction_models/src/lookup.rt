@@ -1,4 +1,7 @@
-//! A model with the symbol of each quantile in a list.
+//! `ContiguousLookupDecoderModel`: a model with a list of each quantile's symbol.
+//!
+//! It lists the symbols of any model and asks that model for the interval, so it needs no sums. Each symbol takes 16
+//! bits in the list: at 16 bits of precision, a list of `usize` would take half a megabyte.
 
 ghost use Rattle.std.specs.Prelude.{◌≡◌, ◌^◌, ◌≤◌, IfOk, IsErrOf};
 ghost use Rattle.constriction_models.specs.Lookup.{AreFound, HasHighSymbol, HasLowSymbols};
@@ -8,21 +11,39 @@ use constriction_words::{BitArray, WordOf};
 use std::alloc::Global;
 use thiserror::Error;
 
-/// Why a model makes no lookup table.
+/// The error where a model makes no lookup table.
+///
+/// # Examples
+///
+/// ```
+/// match ContiguousLookupDecoderModel::new(alloc, model) {
+///     Ok(lookup) => {}
+///     Err(LookupError::Symbol) => {} // `model` knows a symbol above 65535
+///     Err(LookupError::Memory) => {}
+/// }
+/// ```
 #[derive(Debug, Clone, Copy, PartialEq, Eq, Hash, Error)]
 pub enum LookupError {
     /// The model knows a symbol above 65535.
     #[error("a symbol above 65535")]
     Symbol,
-    /// The table found no memory.
+    /// There was no memory for the list.
     #[error("out of memory")]
     Memory,
 }
 
-/// A model of the symbols `0`, `1`, .. that lists the symbol of each quantile, so that a decode finds it in one step.
+/// A model of the symbols `0`, `1`, .. that lists the symbol of each quantile, so that a decoder finds it in one step.
 ///
-/// It is the same table as that of the model which it is made of. Two bytes are listed for each quantile: 8 KiB at a
-/// precision of 12 bits, and 128 KiB at 16.
+/// It has the same table as the model that it is made from. The list takes two bytes for each quantile: 8 KiB at a
+/// precision of 12 bits, and 128 KiB at 16 bits.
+///
+/// # Examples
+///
+/// ```
+/// let model = UniformModel::<u8, 8>::new(10)?;
+/// let lookup = ContiguousLookupDecoderModel::new(alloc, model)?;
+/// lookup.quantile_function(60) // (2, 50, 25), as the weights are 25
+/// ```
 #[derive(Drop)]
 pub struct ContiguousLookupDecoderModel<
     M: EncoderModel<PRECISION, Symbol = usize>,
@@ -34,7 +55,7 @@ pub struct ContiguousLookupDecoderModel<
     ghost found: { AreFound (M.table model) symbols.items (2 ^ PRECISION) },
 }
 
-/// The symbol of each quantile of a model.
+/// Returns the symbol of each quantile of a model.
 fn symbols_of<M: DecoderModel<PRECISION, Symbol = usize>, const PRECISION: usize>(
     alloc: Global,
     model: &M,
@@ -66,11 +87,14 @@ impl<
 where
     M::Probability: WordOf<u32>,
 {
-    /// The table of a model, of a precision of at most 16 bits.
+    /// Creates the lookup table of a model. The caller proves that the precision is at most 16 bits.
+    ///
+    /// The type has an example.
     ///
     /// # Errors
     ///
-    /// `Symbol` where the model knows a symbol above 65535, and `Memory` for want of memory.
+    /// - `Symbol`: the model knows a symbol above 65535.
+    /// - `Memory`: there is no memory for the list.
     pub fn new(alloc: Global, model: M) -> Result<Self, LookupError>
         requires { PRECISION ≤ 16 }
         ensures ok { IfOk result

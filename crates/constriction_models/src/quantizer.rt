@@ -1,4 +1,4 @@
-//! Distributions cut at half symbols.
+//! `LeakyQuantizer`: distributions cut halfway between symbols.
 
 mod indexed;
 
@@ -15,15 +15,17 @@ use constriction_words::{BitArray, WordOf};
 pub use indexed::IndexedDistribution;
 use std::marker::PhantomData;
 
-/// A range of symbols, which cuts distributions at half symbols: every symbol of the range gets a weight above 0,
-/// however unlikely it is (the cut leaks to all of them), and no other symbol does.
+/// A range of symbols, which cuts distributions halfway between neighbouring symbols.
+///
+/// Every symbol of the range gets a weight above 0, however unlikely it is (the cut leaks to all of them). No other
+/// symbol has a weight.
 ///
 /// # Examples
 ///
 /// ```
 /// let quantizer = LeakyQuantizer::<u32, 24>::new(-127, 128)?;
 /// if let Some(gaussian) = Gaussian::new(229376, 147456) {
-///     // Of mean 3.5 and deviation 2.25, in 65536ths.
+///     // Mean 3.5 and standard deviation 2.25, as multiples of 2^-16.
 ///     coder.encode_symbol(&7, quantizer.quantize(gaussian))?;
 /// }
 /// ```
@@ -42,11 +44,14 @@ pub struct LeakyQuantizer<Probability: WordOf<u32>, const PRECISION: usize> {
 impl<Probability: WordOf<u32>, const PRECISION: usize> LeakyQuantizer<Probability, PRECISION> {
     ghost use Rattle.constriction_models.specs.Quantizers.{first_symbol, symbol_count};
 
-    /// The quantizer of the symbols from `min` to `max`, of which there are two at least.
+    /// Creates the quantizer of the symbols from `min` to `max`, both included.
+    ///
+    /// The type has an example.
     ///
     /// # Errors
     ///
-    /// `TooFew` where `max` isn't above `min`, and `TooMany` where there are more symbols than two to the precision.
+    /// - `TooFew`: `max` isn't above `min`.
+    /// - `TooMany`: there are more than `2 ^ PRECISION` symbols.
     pub fn new(min: i32, max: i32) -> Result<Self, SupportError>
         requires { (1 ≤ PRECISION) × (PRECISION ≤ Probability.BITS) }
         ensures first { IfOk result (λ q. first_symbol q ≡ min) }
@@ -68,7 +73,7 @@ impl<Probability: WordOf<u32>, const PRECISION: usize> LeakyQuantizer<Probabilit
         })
     }
 
-    /// The model of a distribution, cut at half symbols.
+    /// Returns the model of a distribution, cut halfway between the symbols of the range.
     pub fn quantize<D: CumulativeDistribution>(
         &self,
         distribution: D,
@@ -87,11 +92,21 @@ impl<Probability: WordOf<u32>, const PRECISION: usize> LeakyQuantizer<Probabilit
     }
 }
 
-/// A distribution, cut at half symbols: a model of each symbol of a range.
+/// A distribution cut halfway between symbols: a model that knows every symbol of a range.
 ///
-/// Of `2^P` each of `n` symbols gets 1, and the rest is shared out as the distribution says: the `k`th symbol begins
-/// at `floor((2^P - n) * F / 2^32) + k`, where `F` is how much of `2^32` lies below the half before it, nothing below
-/// the first symbol, and all below the end.
+/// Each of the `n` symbols gets 1 of the `2^P`, and the distribution shares out the rest. The interval of the `k`th
+/// symbol begins at `floor((2^P - n) * F / 2^32) + k`. Here `F` is how much of `2^32` lies below the edge between this
+/// symbol and the one before it: 0 for the first symbol (`k` is 0), and `2^32` for the end (`k` is `n`).
+///
+/// # Examples
+///
+/// ```
+/// let quantizer = LeakyQuantizer::<u32, 24>::new(0, 1)?;
+/// if let Some(gaussian) = Gaussian::new(32768, 65536) {
+///     // The mean 0.5 is the edge between the two symbols.
+///     quantizer.quantize(gaussian).left_cumulative_and_probability(&1) // Some((8388608, 8388608))
+/// }
+/// ```
 #[derive(Drop)]
 pub struct LeakilyQuantizedDistribution<
     D: CumulativeDistribution,
@@ -107,7 +122,7 @@ impl<
     Probability: WordOf<u32>,
     const PRECISION: usize,
 > LeakilyQuantizedDistribution<D, Probability, PRECISION> {
-    /// How much of `2^32` lies below the `k`th symbol, or below the end.
+    /// Returns how much of `2^32` lies below the `k`th symbol, or below the end.
     #[inline(always)]
     fn below(&self, k: u64) -> u64
         requires { k ≤ self.now.quantizer.count }
@@ -124,7 +139,7 @@ impl<
             .cumulative((self.quantizer.min as i64 + k as i64) * 65536 - 32768)
     }
 
-    /// What is left of two to the precision after 1 for each symbol.
+    /// Returns what is left of `2 ^ PRECISION` after 1 for each symbol.
     #[inline(always)]
     fn free(&self) -> u64
         ensures { result ≡ 2 ^ PRECISION - self.now.quantizer.count }
@@ -132,7 +147,7 @@ impl<
         (1u64 << PRECISION as u32) - self.quantizer.count
     }
 
-    /// Where the interval of the `k`th symbol begins, or where the last ends.
+    /// Returns the start of the `k`th symbol's interval, or the end of the last interval.
     #[inline(always)]
     fn start(&self, k: u64) -> u64
         requires { k ≤ self.now.quantizer.count }
@@ -142,7 +157,7 @@ impl<
         self.free() * self.below(k) / 4294967296 + k
     }
 
-    /// The symbol so far above the first.
+    /// Returns the symbol that lies `k` above the first.
     #[inline(always)]
     fn symbol(&self, k: u64) -> i32
         requires { k < self.now.quantizer.count }
@@ -151,7 +166,7 @@ impl<
         (self.quantizer.min as i64 + k as i64) as i32
     }
 
-    /// About how far above the first the symbol of a quantile is.
+    /// Returns about how far above the first symbol the symbol of a quantile lies.
     #[inline(always)]
     fn near(&self, quantile: u64) -> u64
         requires { quantile < 2 ^ PRECISION }
@@ -169,7 +184,7 @@ impl<
         symbol as u64
     }
 
-    /// How far above the first a symbol is, if it is one of the range.
+    /// Returns how far above the first symbol a symbol lies, if it is in the range.
     #[inline(always)]
     fn place(&self, symbol: i32) -> Option<u64>
         ensures { MatchOption result
@@ -255,7 +270,7 @@ impl<D: CumulativeDistribution, Probability: WordOf<u32>, const PRECISION: usize
     }
 }
 
-/// A place between two others: the wanted one where it lies there.
+/// Returns a number strictly between two others: the wanted one where it lies there.
 #[inline(always)]
 fn between(low: u64, high: u64, wanted: u64) -> u64
     requires { low + 1 < high }
@@ -269,7 +284,7 @@ fn between(low: u64, high: u64, wanted: u64) -> u64
     }
 }
 
-/// More than twice as much, up to a bound.
+/// Returns twice the width and one, and starts again at 1 beyond a bound.
 #[inline(always)]
 fn doubled(width: u64) -> u64
     ensures { result < 4294967296 }

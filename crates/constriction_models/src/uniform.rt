@@ -1,4 +1,8 @@
-//! Symbols that are all as likely.
+//! `UniformModel`: a model of equally likely symbols.
+//!
+//! Each share is rounded down and the last symbol gets the rest. An encode therefore takes a product and no division,
+//! and a decode takes one division. The last symbol's weight exceeds that of the others by less than the number of
+//! symbols.
 
 ghost use Rattle.std.specs.Prelude.{◌≡◌, ◌+◌, ◌/◌, ◌^◌, ◌<◌, ◌≤◌, ◌↔◌, IfOk, IsErrOf};
 ghost use Rattle.constriction_models.specs.Uniform.{even_start, uniform};
@@ -10,13 +14,15 @@ use constriction_base::model::{DecoderModel, EncoderModel, EntropyModel};
 use constriction_words::{BitArray, WordOf};
 use std::marker::PhantomData;
 
-/// A model of the symbols `0`, `1`, .. of equal weights: each has the whole part of its share of two to the precision,
-/// and the last one what is left over besides.
+/// A model of the symbols `0`, `1`, .. with equal weights: each weight is `2 ^ PRECISION / count`, rounded down.
+///
+/// The last symbol also gets what is left over.
 ///
 /// # Examples
 ///
 /// ```
-/// let model = UniformModel::<u8, 8>::new(10)?; // weights of 25, and the last one 31
+/// let model = UniformModel::<u8, 8>::new(10)?; // weights of 25, the last one 31
+/// model.left_cumulative_and_probability(&9) // Some((225, 31))
 /// ```
 #[derive(Drop)]
 pub struct UniformModel<Probability: WordOf<u32>, const PRECISION: usize> {
@@ -32,11 +38,12 @@ pub struct UniformModel<Probability: WordOf<u32>, const PRECISION: usize> {
 }
 
 impl<Probability: WordOf<u32>, const PRECISION: usize> UniformModel<Probability, PRECISION> {
-    /// The model of so many symbols.
+    /// Creates the model of the symbols below `count`. The type has an example.
     ///
     /// # Errors
     ///
-    /// `TooFew` where there are fewer than two, and `TooMany` where there are more than two to the precision.
+    /// - `TooFew`: `count` is below 2.
+    /// - `TooMany`: `count` is above `2 ^ PRECISION`.
     pub fn new(count: usize) -> Result<Self, SupportError>
         requires { (1 ≤ PRECISION) × (PRECISION ≤ Probability.BITS) }
         ensures ok { IfOk result
@@ -60,7 +67,7 @@ impl<Probability: WordOf<u32>, const PRECISION: usize> UniformModel<Probability,
         })
     }
 
-    /// Where the interval of a symbol begins, or where the last ends.
+    /// Returns the start of a symbol's interval, or the end of the last interval.
     #[inline(always)]
     fn start(&self, symbol: u64) -> u64
         requires { symbol ≤ self.now.count }
@@ -72,7 +79,7 @@ impl<Probability: WordOf<u32>, const PRECISION: usize> UniformModel<Probability,
         1u64 << PRECISION as u32
     }
 
-    /// The symbol whose interval holds a quantile.
+    /// Returns the symbol whose interval holds a quantile.
     #[inline(always)]
     fn symbol_at(&self, quantile: u64) -> u64
         requires { quantile < 2 ^ PRECISION }

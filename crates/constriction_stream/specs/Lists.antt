@@ -1,15 +1,15 @@
--- What list calls and iterators do: a step at each item, in order.
+-- List calls and iterators: one step at each item, in order.
 use Rattle.std.specs.Prelude.{◌≡◌, ℕ, ◌+◌, ◌≤◌, List, Option, None, Some, Result, Ok, Err, MatchOption, MatchResult}
 use Rattle.std.specs.Iterator.{Count, IsFinite, size, Drains, YieldsThen}
 use Rattle.constriction_base.specs.Steps.{InTurn}
 use Rattle.constriction_stream.specs.declared.errors.TryCodingError.{TryCodingError}
 use Rattle.constriction_stream.specs.declared.errors.TryCodingError.TheVariants.{InvalidEntropyModel, CodingError}
 
--- steps at the items in order, none of which is refused, lead from old to new
+-- Steps at all items in order, none of which is refused, lead from the old coder to the new one.
 abbrev pub StepsAll : {C A E : Type 0} → (C → A → Result (Unit {0}) E → C → Type 0) → C → List A → C → Type 0
 StepsAll step old items new = InTurn (λ item before after. step before item (Ok tt) after) items old new
 
--- steps at an iterator's items in order up to the first that is refused: exactly the items before it were coded
+-- Steps at an iterator's items in order, up to the first that is refused; exactly the items before it are coded.
 abbrev pub StepsUntilFault : {C I A E : Type 0} → (C → A → Result (Unit {0}) E → C → Type 0) → (I → Type 0) → (I → Option A → I → Type 0)
     → C → Result (Unit {0}) E → C → Type 0
 StepsUntilFault {C} {I} {A} step gives next old result new =
@@ -18,34 +18,35 @@ StepsUntilFault {C} {I} {A} step gives next old result new =
     (λ _. (mid ≡ new) × Drains next iterator coded)
     (λ e. (item : A) × (rest : I) × YieldsThen next iterator coded (Some item) rest × step mid item (Err e) new)
 
--- each such iterator can be asked, and ends; and to a coder that counts symbols it gives so many items at most
+-- Each such iterator may be asked for items and ends. For a coder that counts symbols, it gives at most this many.
 abbrev pub GivesAtMost : {I : Type 0} → (I → Type 0) → (I → Type 0) → (I → Count) → Type 0 → ℕ → Type 0
 GivesAtMost {I} gives can_next remaining counts most =
     (iterator : I) → gives iterator → can_next iterator × IsFinite (remaining iterator) × (counts → size (remaining iterator) ≤ most)
 
--- what is left is lowered by no more than the items that each such iterator gives at most
+-- The number of symbols left falls by at most the number of items that each such iterator can give.
 abbrev pub LowersByItems : {I : Type 0} → (I → Type 0) → (I → Count) → ℕ → ℕ → Type 0
 LowersByItems {I} gives remaining old new =
     (count : ℕ) → ((iterator : I) → gives iterator → size (remaining iterator) ≤ count) → old ≤ new + count
 
--- what a step answers, as the answer of a call whose items may be errors
+-- The answer of a step as the answer of a call whose items may be errors.
 abbrev pub as_tried : {T E Q : Type 0} → Result T E → Result T (TryCodingError E Q)
 as_tried (Ok x) = Ok x
 as_tried (Err e) = Err (CodingError e)
 
--- the step at an item; or, at an error in its place, this error and the coder as it was
+-- The step at an item; where the item is an error, the answer is that error and the coder is unchanged.
 abbrev pub TriesItem : {C A T E Q : Type 0} → (C → A → Result T E → C → Type 0) → C → Result A Q → Result T (TryCodingError E Q) → C → Type 0
 TriesItem {T = T} {E = E} step old (Ok item) result new = (answer : Result T E) × step old item answer new × (result ≡ as_tried answer)
 TriesItem step old (Err q) result new = (result ≡ Err (InvalidEntropyModel q)) × (new ≡ old)
 
--- a call of `next`: no model was left, and the coder is as it was; or one model was taken, and this is the answer at it
+-- A call of `next`: either no model is left and the coder is unchanged, or one model is taken and the answer is that
+-- of the step at it.
 abbrev pub AnswersNext : {C I A T : Type 0} → (C → A → T → C → Type 0) → (I → Option A → I → Type 0) → I → C → Option T → I → C → Type 0
 AnswersNext {A = A} step next models old result rest new =
     MatchOption result
     (next models None rest × (new ≡ old))
     (λ answer. (model : A) × next models (Some model) rest × step old model answer new)
 
--- the same where a number of answers by one model is left
+-- The same where a given number of answers under one model is left.
 abbrev pub CountsDown : {C T : Type 0} → (C → T → C → Type 0) → ℕ → C → Option T → ℕ → C → Type 0
 CountsDown step amt old result rest new =
     MatchOption result

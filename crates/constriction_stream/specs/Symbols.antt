@@ -1,24 +1,26 @@
--- What the step calls do with a model's table: the step of one of its entries.
+-- A step call and a model's table: the call makes the step of one entry.
 use Rattle.std.specs.Prelude.{◌≡◌, ℕ, List, ◌⊎◌, Result, Ok, Err, MatchResult}
 use Rattle.constriction_base.specs.Steps.{Step}
 use Rattle.constriction_base.specs.Tables.{AtEntry, Impossible}
 use Rattle.constriction_base.specs.declared.errors.CoderError.{CoderError}
 use Rattle.constriction_base.specs.declared.errors.CoderError.TheVariants.{Frontend, Backend}
 
--- the step of the symbol's entry; or, where the table has none, a frontend's refusal that leaves the coder
+-- The coder makes the step of the symbol's entry; where the table has none, the frontend refuses and the coder is
+-- unchanged.
 abbrev pub EncodesSymbol : {C S F B : Type 0} → (C → Step → Result (Unit {0}) (CoderError F B) → C → Type 0) → (F → Type 0)
     → ℕ → List (S × ℕ × ℕ) → S → C → Result (Unit {0}) (CoderError F B) → C → Type 0
 EncodesSymbol {F = F} encodes is_impossible precision table symbol old result new =
     AtEntry precision table symbol (λ step. encodes old step result new)
     ⊎ (Impossible table symbol × (e : F) × is_impossible e × (result ≡ Err (Frontend e)) × (new ≡ old))
 
--- the same of a symbol that is lent and a model, whose table this is
+-- The same for a lent symbol and a model, which has this table.
 abbrev pub EncodesPair : {C S A M F B : Type 0} → (C → Step → Result (Unit {0}) (CoderError F B) → C → Type 0) → (F → Type 0)
     → ℕ → (M → List (S × ℕ × ℕ)) → (A → S) → C → A × M → Result (Unit {0}) (CoderError F B) → C → Type 0
 EncodesPair encodes is_impossible precision table lent old pair result new =
     EncodesSymbol encodes is_impossible precision (table pair.1) (lent pair.0) old result new
 
--- the step of an entry, whose symbol is the answer; or an error, of such a step or before any entry was looked for
+-- The coder makes the step of an entry and returns its symbol. An error is that of such a step, or comes before any
+-- entry is looked for.
 abbrev pub DecodesSymbol : {C S E : Type 0} → (C → Step → Result (Unit {0}) E → C → Type 0) → (C → E → C → Type 0)
     → ℕ → List (S × ℕ × ℕ) → C → Result S E → C → Type 0
 DecodesSymbol {S = S} decodes halts precision table old result new =
@@ -26,38 +28,38 @@ DecodesSymbol {S = S} decodes halts precision table old result new =
     (λ symbol. AtEntry precision table symbol (λ step. decodes old step (Ok tt) new))
     (λ e. halts old e new ⊎ ((symbol : S) × AtEntry precision table symbol (λ step. decodes old step (Err e) new)))
 
--- the same of a model, whose table this is
+-- The same for a model, which has this table.
 abbrev pub DecodesByModel : {C S M E : Type 0} → (C → Step → Result (Unit {0}) E → C → Type 0) → (C → E → C → Type 0)
     → ℕ → (M → List (S × ℕ × ℕ)) → C → M → Result S E → C → Type 0
 DecodesByModel decodes halts precision table old model result new = DecodesSymbol decodes halts precision (table model) old result new
 
--- what a call of a backend answers, as the answer of a coder
+-- The answer of a backend's call as the answer of a coder.
 abbrev pub as_backend : {T F B : Type 0} → Result T B → Result T (CoderError F B)
 as_backend (Ok x) = Ok x
 as_backend (Err e) = Err (Backend e)
 
--- an error of the backend, of which this holds
+-- The error is the backend's, and the property holds of it.
 abbrev pub IsBackendError : {F B : Type 0} → CoderError F B → (B → Type 0) → Type 0
 IsBackendError (Frontend e) holds = ⊥
 IsBackendError (Backend e) holds = holds e
 
--- a step whose answer is that of a backend, so that the coder itself refuses none
+-- The answer of the step is a backend's, so the coder itself refuses no step.
 abbrev pub ByBackend : {C F B : Type 0} → (C → Step → Result (Unit {0}) B → C → Type 0)
     → C → Step → Result (Unit {0}) (CoderError F B) → C → Type 0
 ByBackend {B = B} steps old step answer new = (result : Result (Unit {0}) B) × steps old step result new × (answer ≡ as_backend result)
 
--- no step is refused for lack of room
+-- No step is refused for lack of room.
 abbrev pub HasRoom : {C E : Type 0} → (C → Step → Result (Unit {0}) E → C → Type 0) → (E → Type 0) → C → Type 0
 HasRoom {C} {E} encodes is_lack_of_room coder =
     (step : Step) (e : E) (new : C) → encodes coder step (Err e) new → is_lack_of_room e → ⊥
 
--- no step is refused because the data ended, neither where the model is asked nor before
+-- No step is refused because the data ended, neither before nor after the model is asked.
 abbrev pub GoesOn : {C E : Type 0} → (C → Step → Result (Unit {0}) E → C → Type 0) → (C → E → C → Type 0) → (E → Type 0) → C → Type 0
 GoesOn {C} {E} decodes halts is_end_of_data coder =
     ((step : Step) (e : E) (new : C) → decodes coder step (Err e) new → is_end_of_data e → ⊥)
     × ((e : E) (new : C) → halts coder e new → is_end_of_data e → ⊥)
 
--- a backend's answer is no frontend's refusal
+-- The answer of a backend is never a frontend's error.
 pub never_frontend : {T F B : Type 0} (answer : Result T B) (e : F) → ◌≡◌ {A = Result T (CoderError F B)} (Err (Frontend e)) (as_backend answer) → ⊥
 never_frontend (Ok x) e is = cc
 never_frontend (Err refusal) e is = cc

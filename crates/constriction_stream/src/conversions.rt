@@ -1,40 +1,53 @@
-//! From encoders to decoders.
+//! Conversions from encoders to decoders.
+//!
+//! `State` and the decoders of `IntoDecoder` and `AsDecoder` are `Drop`, so that generic code can drop them.
 
 ghost use Rattle.std.specs.Prelude.{IfOk, IfErr};
 
 use crate::decoding::Decode;
 use crate::encoding::Encode;
 
-/// An encoder that becomes a decoder of what it holds.
+/// An encoder that turns into a decoder of the data that it holds.
+///
+/// An implementor chooses freely which decoders and which errors may come of an encoder, and proves that
+/// `into_decoder` returns one of these.
 pub trait IntoDecoder<const PRECISION: usize>: Encode<PRECISION> {
-    /// The decoder.
+    /// The type of the decoder.
     type IntoDecoder: Decode<PRECISION, Word = Self::Word, State = Self::State> + Drop;
 
-    /// Why there is none.
+    /// The error where the encoder can't turn into a decoder.
     type Error;
 
-    /// The decoder that an encoder may become. It is chosen freely: it is what the two have in common.
+    /// Relates the encoder to the decoder that it may turn into. An implementor chooses it freely.
     ghost becomes: { Self → Self.IntoDecoder → Type 0 };
 
-    /// Why an encoder may not become one. It is chosen freely, and nothing where each becomes one.
+    /// Relates the encoder to the error that may come instead. An implementor chooses it freely.
+    ///
+    /// It never holds where each encoder turns into a decoder.
     ghost fails: { Self → Self.Error → Type 0 };
 
-    /// The decoder of what the encoder holds.
+    /// Turns into a decoder of the data that the encoder holds.
+    ///
+    /// # Errors
+    ///
+    /// The errors that `fails` allows.
     fn into_decoder(self) -> Result<Self::IntoDecoder, Self::Error>
         ensures ok { IfOk result (λ decoder. becomes self decoder) }
         ensures err { IfErr result (λ e. fails self e) };
 }
 
-/// An encoder whose content a decoder can read meanwhile.
+/// An encoder that lends its content to a decoder.
+///
+/// An implementor chooses freely which decoders an encoder may lend its content to, and proves that `as_decoder`
+/// returns one of these. The encoder keeps its content.
 pub trait AsDecoder<'a, const PRECISION: usize>: Encode<PRECISION> {
-    /// The decoder, which borrows what it reads.
+    /// The type of the decoder, which borrows the data that it reads.
     type AsDecoder: Decode<PRECISION, Word = Self::Word, State = Self::State> + Drop;
 
-    /// The decoder that an encoder may lend its content to. It is chosen freely: it is what the two have in
-    /// common.
+    /// Relates the encoder to the decoder that may read its content. An implementor chooses it freely.
     ghost reads: { Self → Self.AsDecoder → Type 0 };
 
-    /// A decoder of what the encoder holds, which keeps it.
+    /// Returns a decoder of the data that the encoder holds and keeps.
     fn as_decoder(&'a self) -> Self::AsDecoder
         ensures { reads self.now result };
 }

@@ -1,4 +1,4 @@
-//! Decoders: steps, and iterators of steps.
+//! `Decode`: decoders, with single steps and iterators of steps.
 
 ghost use Rattle.std.specs.Prelude.{◌≡◌, Result};
 ghost use Rattle.std.specs.Bool.{OnFalse};
@@ -12,41 +12,54 @@ use constriction_base::errors::CoderError;
 use constriction_base::model::{DecoderModel, EntropyModel};
 use constriction_words::WordOf;
 
-/// A coder that gives symbols, under models of `PRECISION` bits.
+/// A coder that returns symbols, under models of `PRECISION` bits.
 ///
-/// `PRECISION` is at least 1 and at most the number of bits of a word, which the models promise.
+/// The models guarantee that `PRECISION` is at least 1 and at most the number of bits of a word.
 ///
-/// What an implementation chooses freely is said at each ghost member. Generic code knows of a choice only
-/// what the clauses say; a caller that needs more names the coder.
+/// An implementor chooses the ghost members freely and proves two things: `decode_symbol` makes the step of one entry
+/// of the model's table or refuses as `decodes` and `halts` allow, and `maybe_exhausted` returns `false` only where
+/// `has_data` holds and the next step isn't refused for want of data. Generic code knows only these clauses. A caller
+/// that needs more names the coder.
 pub trait Decode<const PRECISION: usize>: Code {
-    /// Why the coder itself refuses a step, as that its data ended or is invalid for the model.
+    /// The error of a step that the coder itself refuses, for example because its data ended or is invalid.
     type FrontendError;
 
-    /// Why what holds the compressed data refuses a step.
+    /// The error of a step that the backend refuses.
     type BackendError;
 
-    /// What the step of an interval may return, and the coder that it leaves. It is chosen freely: it is
-    /// what the coder does.
+    /// Relates the coder before a step, the step, its answer, and the coder after it.
+    ///
+    /// This is where an implementor states what its coder does.
     ghost decodes: { Self → Step → Result (Unit {0}) (CoderError Self.FrontendError Self.BackendError)
         → Self → Type 0 };
 
-    /// How a step may be refused before the model is asked, and the coder that this leaves. It is chosen
-    /// freely, and nothing where the model is always asked.
+    /// Relates the coder, an error that comes before the model is asked, and the coder after it.
+    ///
+    /// It never holds where the model is always asked. An implementor chooses it freely.
     ghost halts: { Self → CoderError Self.FrontendError Self.BackendError → Self → Type 0 };
 
-    /// What the coder says of what it holds where `maybe_exhausted` returns false. It is chosen freely.
+    /// What holds of the coder where `maybe_exhausted` returns `false`. An implementor chooses it freely.
     ghost has_data: { Self → Type 0 };
 
-    /// The error says that the data ended. It is chosen freely, and no error for a coder that goes on past
-    /// the end.
+    /// Holds of the errors that say that the data ended. An implementor chooses it freely.
+    ///
+    /// A coder that continues past the end of its data has no such error.
     ghost is_end_of_data: { CoderError Self.FrontendError Self.BackendError → Type 0 };
 
-    /// Decodes a symbol: that of the model's interval which holds the coder's next quantile.
+    /// Decodes a symbol under a model.
+    ///
+    /// The coder makes the step of the symbol's interval in the model's table.
     ///
     /// # Errors
     ///
-    /// `Frontend(error)` and `Backend(error)` as `halts` says, where the model isn't asked, and as `decodes`
-    /// says, where it is.
+    /// - `Frontend(error)` or `Backend(error)` as `halts` allows, before the model is asked.
+    /// - `Frontend(error)` or `Backend(error)` as `decodes` allows, after the model is asked.
+    ///
+    /// # Examples
+    ///
+    /// ```
+    /// let symbol = decoder.decode_symbol(&table)?;
+    /// ```
     fn decode_symbol<M>(
         &mut self,
         model: M,
@@ -56,7 +69,17 @@ pub trait Decode<const PRECISION: usize>: Code {
         M::Probability: WordOf<Self::Word>,
         ensures step { DecodesSymbol decodes halts PRECISION (M.table model) self.old result self.new };
 
-    /// Decodes a symbol for each of the models, as the iterator is asked for it. It doesn't end at an error.
+    /// Returns an iterator that decodes one symbol for each of the models.
+    ///
+    /// It decodes a symbol only when it is asked for the next item, and it continues after an error.
+    ///
+    /// # Examples
+    ///
+    /// ```
+    /// for symbol in decoder.decode_symbols([&table, &other]) {
+    ///     symbols.push(symbol?)?;
+    /// }
+    /// ```
     final fn decode_symbols<I>(
         &mut self,
         models: I,
@@ -74,8 +97,10 @@ pub trait Decode<const PRECISION: usize>: Code {
         }
     }
 
-    /// The same of models that may be errors: such an item is answered by `InvalidEntropyModel`, and leaves
-    /// the decoder.
+    /// Returns an iterator that decodes one symbol for each of the models, where an item may be an error instead.
+    ///
+    /// For such an item it returns `InvalidEntropyModel` and leaves the decoder unchanged. Otherwise it is as
+    /// [`decode_symbols`](Decode::decode_symbols).
     final fn try_decode_symbols<I>(
         &mut self,
         models: I,
@@ -93,7 +118,9 @@ pub trait Decode<const PRECISION: usize>: Code {
         }
     }
 
-    /// Decodes `amt` symbols, all by one model, as the iterator is asked for them. It doesn't end at an error.
+    /// Returns an iterator that decodes `amt` symbols, all under one model.
+    ///
+    /// It decodes a symbol only when it is asked for the next item, and it continues after an error.
     ///
     /// # Examples
     ///
@@ -123,8 +150,9 @@ pub trait Decode<const PRECISION: usize>: Code {
         }
     }
 
-    /// Whether all that was encoded may have been taken. False promises that it was not, and that the next
-    /// step isn't refused because the data ended.
+    /// Returns whether all encoded symbols may have been decoded.
+    ///
+    /// `false` guarantees that `has_data` holds and that the next step is not refused because the data ended.
     fn maybe_exhausted(&self) -> bool
         ensures data { OnFalse result (has_data self.now) }
         ensures goes_on { OnFalse result (GoesOn decodes halts is_end_of_data self.now) }

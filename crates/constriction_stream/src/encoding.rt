@@ -1,4 +1,4 @@
-//! Encoders: steps, and lists of steps.
+//! `Encode`: encoders, with single steps and lists of steps.
 
 ghost use Rattle.std.specs.Prelude.{◌≡◌, ◌+◌, ◌<◌, ◌≤◌, ℕ, Result, Err};
 ghost use Rattle.std.specs.Bool.{OnFalse};
@@ -17,12 +17,14 @@ use constriction_base::model::{EncoderModel, EntropyModel};
 use constriction_words::WordOf;
 pub use reverse::EncodeReverse;
 
-/// What lends a symbol, as `&Symbol` does. List calls take symbols in this way.
+/// A value that lends a symbol, such as `&Symbol`. List calls take symbols in this form.
+///
+/// An implementor chooses freely which symbol it lends and proves that `lend` returns that symbol.
 pub trait Lent<Symbol> {
-    /// The symbol that it lends.
+    /// The symbol that the value lends.
     ghost lent: { Self → Symbol };
 
-    /// The symbol.
+    /// Returns the symbol.
     fn lend(&self) -> &Symbol
         ensures { result.now ≡ lent self.now };
 }
@@ -37,54 +39,70 @@ impl<Symbol> Lent<Symbol> for &Symbol {
 
 /// A coder that takes symbols, under models of `PRECISION` bits.
 ///
-/// `PRECISION` is at least 1 and at most the number of bits of a word, which the models promise.
+/// The models guarantee that `PRECISION` is at least 1 and at most the number of bits of a word.
 ///
-/// What an implementation chooses freely is said at each ghost member. Generic code knows of a choice only
-/// what the clauses and the laws say; a caller that needs more names the coder.
+/// An implementor chooses the ghost members freely and proves that each call obeys them, together with two laws: no
+/// step returns the error of an impossible symbol, and that error isn't lack of room. Generic code knows only these
+/// clauses and laws. A caller that needs more names the coder.
 pub trait Encode<const PRECISION: usize>: Code {
-    /// Why the coder itself refuses a step, as that the model doesn't know the symbol.
+    /// The error of a step that the coder itself refuses, for example because the model doesn't know the symbol.
     type FrontendError;
 
-    /// Why what holds the compressed data refuses a step.
+    /// The error of a step that the backend refuses.
     type BackendError;
 
-    /// What the step of an interval may return, and the coder that it leaves. It is chosen freely: it is
-    /// what the coder does.
+    /// Relates the coder before a step, the step, its answer, and the coder after it.
+    ///
+    /// This is where an implementor states what its coder does.
     ghost encodes: { Self → Step → Result (Unit {0}) (CoderError Self.FrontendError Self.BackendError)
         → Self → Type 0 };
 
-    /// The error says that the model doesn't know the symbol. It is chosen freely among the errors that no
-    /// step returns (`never_impossible`).
+    /// Holds of the errors that say that the model doesn't know the symbol.
+    ///
+    /// An implementor chooses it freely among the errors that no step returns (`never_impossible`).
     ghost is_impossible_symbol: { Self.FrontendError → Type 0 };
 
-    /// The coder counts symbols, and can be asked to encode no more than are left. It is chosen freely:
-    /// where it fails, no call asks for room for symbols.
+    /// Holds where the coder counts symbols and can be asked to encode only as many as `symbols_left`.
+    ///
+    /// An implementor chooses it freely. Where it fails, no call requires room for symbols.
     ghost counts_symbols: { Type 0 };
 
-    /// How many more symbols the coder can be asked to encode. It is chosen freely, but `encode_symbol`
-    /// lowers it by 1 at most.
+    /// The number of symbols that the coder can still be asked to encode.
+    ///
+    /// An implementor chooses it freely, but `encode_symbol` lowers it by at most 1.
     ghost symbols_left: { Self → ℕ };
 
-    /// The error says that the coder is full. It is chosen freely among the errors that no impossible
-    /// symbol has (`never_full`): where no error does, `maybe_full` promises nothing.
+    /// Holds of the errors that say that the coder is full.
+    ///
+    /// An implementor chooses it freely among the errors that no impossible symbol has (`never_full`). Where it holds
+    /// of no error, `maybe_full` guarantees nothing.
     ghost is_lack_of_room: { CoderError Self.FrontendError Self.BackendError → Type 0 };
 
-    /// Where the coder stands so that `maybe_full` can tell. It is chosen freely: where it fails,
-    /// `maybe_full` promises nothing.
+    /// Holds where `maybe_full` can tell whether there is room. An implementor chooses it freely.
+    ///
+    /// Where it fails, `maybe_full` guarantees nothing.
     ghost tells_room: { Self → Type 0 };
 
-    /// How many more symbols the coder can be asked to encode. A step lowers it by 1 at most. It is
-    /// `usize::MAX` for coders that know no such limit.
+    /// Returns the number of symbols that the coder can still be asked to encode.
+    ///
+    /// A step lowers it by at most 1. Coders without such a limit return `usize::MAX`.
     fn symbols_left(&self) -> usize
         ensures { result ≡ symbols_left self.now };
 
-    /// Encodes a symbol by the model's interval for it. To a coder that counts symbols at least one must be
-    /// left.
+    /// Encodes a symbol under a model.
+    ///
+    /// The caller of a coder that counts symbols proves that at least one symbol is left.
     ///
     /// # Errors
     ///
-    /// - `Frontend(error)`, where the model doesn't know the symbol. The coder is as before.
-    /// - `Frontend(error)` and `Backend(error)` where the coder refuses the step, as `encodes` says.
+    /// - `Frontend(error)`: the model doesn't know the symbol. The coder is unchanged.
+    /// - `Frontend(error)` or `Backend(error)`: the coder refuses the step, as `encodes` allows.
+    ///
+    /// # Examples
+    ///
+    /// ```
+    /// coder.encode_symbol(&1, &table)?;
+    /// ```
     fn encode_symbol<M>(
         &mut self,
         symbol: &M::Symbol,
@@ -98,13 +116,14 @@ pub trait Encode<const PRECISION: usize>: Code {
             (M.table model) symbol.now self.old result self.new }
         ensures fewer_left { symbols_left self.old ≤ symbols_left self.new + 1 };
 
-    /// Encodes symbols in order, each by its own model, up to the first that is refused. To a coder that
-    /// counts symbols as many must be left as there are items.
+    /// Encodes symbols in order, each under its own model, and stops at the first error.
+    ///
+    /// The caller of a coder that counts symbols proves that as many symbols are left as there are items.
     ///
     /// # Errors
     ///
-    /// That of the first step that is refused. Exactly the symbols before it are encoded, and the items
-    /// behind it aren't asked for.
+    /// The error of the first step that is refused. Exactly the symbols before it are encoded, and the items behind it
+    /// are not taken from the iterator.
     ///
     /// # Examples
     ///
@@ -137,15 +156,16 @@ pub trait Encode<const PRECISION: usize>: Code {
         Ok(())
     }
 
-    /// Encodes symbols in order, each by its own model, where an item may be an error in place of both. To
-    /// a coder that counts symbols as many must be left as there are items.
+    /// Encodes symbols in order, each under its own model, where an item may be an error instead.
+    ///
+    /// The caller of a coder that counts symbols proves that as many symbols are left as there are items.
     ///
     /// # Errors
     ///
-    /// After each of them exactly the symbols before the item are encoded.
+    /// After either error, exactly the symbols before the item are encoded.
     ///
-    /// - `InvalidEntropyModel(error)`, where an item is an error. It leaves the coder.
-    /// - `CodingError(error)`, where a step is refused.
+    /// - `InvalidEntropyModel(error)`: the item is an error. It changes nothing of the coder.
+    /// - `CodingError(error)`: the step is refused.
     fn try_encode_symbols<S, M, E, I>(
         &mut self,
         symbols_and_models: I,
@@ -176,13 +196,20 @@ pub trait Encode<const PRECISION: usize>: Code {
         Ok(())
     }
 
-    /// Encodes symbols in order, all by one model, up to the first that is refused. To a coder that counts
-    /// symbols as many must be left as there are items.
+    /// Encodes symbols in order, all under one model, and stops at the first error.
+    ///
+    /// The caller of a coder that counts symbols proves that as many symbols are left as there are items.
     ///
     /// # Errors
     ///
-    /// That of the first step that is refused. Exactly the symbols before it are encoded, and those behind it
-    /// aren't asked for.
+    /// The error of the first step that is refused. Exactly the symbols before it are encoded, and the symbols behind
+    /// it are not taken from the iterator.
+    ///
+    /// # Examples
+    ///
+    /// ```
+    /// coder.encode_iid_symbols([2usize, 0, 1].as_slice(), &table)?;
+    /// ```
     fn encode_iid_symbols<S, M, I>(
         &mut self,
         symbols: I,
@@ -212,19 +239,20 @@ pub trait Encode<const PRECISION: usize>: Code {
         Ok(())
     }
 
-    /// Whether the next step may be refused for lack of room. Where the coder can tell, false promises that
-    /// it is not.
+    /// Returns whether the next step may be refused for lack of room.
+    ///
+    /// Where `tells_room` holds, `false` guarantees that it is not.
     fn maybe_full(&self) -> bool
         ensures room { OnFalse result (tells_room self.now → HasRoom encodes is_lack_of_room self.now) }
     {
         true
     }
 
-    // The error of an impossible symbol is no step's own refusal.
+    // No step returns the error of an impossible symbol.
     ghost never_impossible: { (old : Self) (step : Step) (e : Self.FrontendError) (new : Self) → is_impossible_symbol e
         → encodes old step (Err (coder_error.Frontend e)) new → ⊥ };
 
-    // It doesn't say that the coder is full.
+    // The error of an impossible symbol doesn't say that the coder is full.
     ghost never_full: { (e : Self.FrontendError) → is_impossible_symbol e
         → is_lack_of_room (coder_error.Frontend e) → ⊥ };
 }

@@ -1,4 +1,4 @@
-//! Errors of calls that take models which may be errors themselves.
+//! Errors of calls that take models or symbols which may be errors themselves.
 
 ghost use Rattle.std.specs.Prelude.{◌≡◌};
 ghost use Rattle.constriction_stream.specs.declared.errors.TryCodingError.TheVariants as try_coding;
@@ -6,11 +6,23 @@ ghost use Rattle.constriction_stream.specs.declared.errors.TryCodingError.TheVar
 use std::fmt::Display;
 use thiserror::Error;
 
-/// The model of a step was an error, or the step itself was refused.
+/// The error of a call whose items may be errors: either an item was one, or the coder refused the step.
+///
+/// The `?` operator turns a coder's error into a `CodingError`.
+///
+/// # Examples
+///
+/// ```
+/// match coder.try_encode_symbols(items) {
+///     Ok(()) => {}
+///     Err(TryCodingError::InvalidEntropyModel(error)) => {} // an item of `items` was `Err(error)`
+///     Err(TryCodingError::CodingError(error)) => {} // the coder refused a symbol
+/// }
+/// ```
 #[derive(Debug, PartialEq, Eq, Hash, Drop, Error)]
 #[error_bound(C: Display, E: Display)]
 pub enum TryCodingError<C, E> {
-    /// In place of a model, or of a symbol and its model, there was an error.
+    /// The item was an error instead of a model, or of a symbol and its model.
     #[error("Error while constructing entropy model or data: {0}")]
     InvalidEntropyModel(E),
     /// The coder refused the step.

@@ -1,10 +1,13 @@
-//! Iterators over the symbols that a decoder gives. Each decodes only as it is asked, gives one answer for
-//! each model, and goes on after an error. Where one is dropped, its decoder stands after the symbols that
-//! were taken.
+//! Iterators over the symbols that a decoder returns.
 //!
-//! - [`decode_symbols`]: a symbol for each of the models.
-//! - [`try_decode_symbols`]: the same, where a model may be an error.
-//! - [`decode_iid_symbols`]: a number of symbols by one model.
+//! Each decodes a symbol only when it is asked for the next item, returns one answer for each model, and continues
+//! after an error. After an iterator is dropped, its decoder stands behind the symbols that were taken. The fields are
+//! public, because contracts name the decoder and the models that are left. The calls that make the iterators are
+//! `final`: as plain default methods they would make every implementation of `Decode` fail.
+//!
+//! - [`decode_symbols`]: one symbol for each of the models.
+//! - [`try_decode_symbols`]: one symbol for each of the models, where an item may be an error instead.
+//! - [`decode_iid_symbols`]: a given number of symbols under one model.
 
 pub mod decode_iid_symbols;
 pub mod decode_symbols;

@@ -1,20 +1,20 @@
-//! The coder traits: what code is written against that encodes and decodes symbols, whatever the coder.
+//! The coder traits: code that encodes and decodes symbols is written against them, for any coder.
 //!
-//! An encoder takes symbols, each with the model that says how likely it is, and a decoder gives them back
-//! under the same models. A step is given an interval of the numbers below two to the precision: where it
-//! begins and how long it is. What a coder does with an interval is its own (`Encode::encodes`,
-//! `Decode::decodes`); that the interval is the model's for this symbol, what becomes of a symbol that the
-//! model doesn't know, and how lists go on and stop, is the same for all coders and is said here.
+//! An encoder takes symbols, each with the model that states its probability. A decoder returns them under the same
+//! models. In each step, a coder gets only an interval of the numbers below `2 ^ PRECISION`: its start and its length.
+//! What a coder does with the interval is its own (`Encode::encodes`, `Decode::decodes`). The traits state what is
+//! common to all coders: the interval is the one of the model for this symbol, an impossible symbol is refused, and
+//! list calls make one step for each item and stop at the first error.
 //!
 //! - [`coder`]: `Code`, the words and the state that every coder has.
-//! - [`encoding`]: `Encode`, with single steps and lists of symbols; `EncodeReverse`, lists from the last
-//!   symbol to the first.
-//! - [`decoding`]: `Decode`, with single steps and iterators of symbols.
+//! - [`encoding`]: `Encode`, single steps and lists of symbols; `EncodeReverse`, lists from the last symbol to the
+//!   first.
+//! - [`decoding`]: `Decode`, single steps and iterators of symbols.
 //! - [`iterators`]: the iterators.
 //! - [`conversions`]: `IntoDecoder` and `AsDecoder`, from an encoder to a decoder.
 //! - [`errors`]: the error of calls whose models may be errors.
 //!
-//! Code that works with any coder names what it needs of it:
+//! Code that works with any coder states what it needs:
 //!
 //! ```
 //! fn send<C: Encode<24>, M: EncoderModel<24>>(

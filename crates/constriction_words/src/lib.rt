@@ -1,16 +1,14 @@
-//! Words: whole numbers of a fixed number of bits, for code that is generic over them.
+//! Words: unsigned integers of a fixed number of bits, for code that is generic over them.
 //!
-//! - [`bit_array`]: `BitArray`, what a word is and the exact arithmetic on it, and its six impls,
-//!   for `u8`, `u16`, `u32`, `u64`, `u128` and `usize`.
-//! - [`reciprocal`]: `Reciprocal`, by which a number is divided by another one without a division.
-//! - [`word_of`]: `WordOf<T>`, by which a word widens to a `T` and a `T` narrows to a word, and its
-//!   eighteen impls.
+//! - [`bit_array`]: `BitArray`, the trait of word types with exact arithmetic, and its six impls for `u8`, `u16`,
+//!   `u32`, `u64`, `u128` and `usize`.
+//! - [`reciprocal`]: `Reciprocal`, which divides by a fixed number with one product and one shift.
+//! - [`word_of`]: `WordOf<T>`, which widens a word to a `T` and narrows a `T` to a word, and its eighteen impls.
 //!
-//! A coder is written once, over its own types of words, and each of its steps is proved once for
-//! all of them. Contracts see a word as the natural number that it stands for. What generic code
-//! may use without asking its callers: a word's number is below `2 ^ BITS`, a nonzero number is
-//! above 0, and the word of a `WordOf<T>` is no wider than `T`. So the mean of two words, which
-//! takes no sum that might not fit, has a contract and no condition:
+//! Each coder is written once, generic over its word types, and each of its steps is proved once for all of them.
+//! Contracts see a word as the natural number that it stands for. Generic code can rely on three laws without asking
+//! its callers: a word's number is below `2 ^ BITS`, a nonzero number is above 0, and the word of a `WordOf<T>` is no
+//! wider than `T`. For example, the mean of two words, computed without their sum, has a contract and no condition:
 //!
 //! ```
 //! fn mean<Word: BitArray>(first: Word, second: Word) -> Word
@@ -21,8 +19,8 @@
 //! }
 //! ```
 //!
-//! No method of either trait has the name of a method of `num_traits`. Code that wants the methods of
-//! both writes both bounds, as `Word: BitArray + PrimInt`, and calls each method by its bare name.
+//! No method of `BitArray` or `WordOf` shares its name with a method of `num_traits`. Code that needs both writes both
+//! bounds, as in `Word: BitArray + PrimInt`, and calls every method by its bare name.
 #![tactic(auto)]
 
 pub mod bit_array;

@@ -1,12 +1,26 @@
-//! `Reciprocal`: what divides by one number, by a product in place of a division.
+//! `Reciprocal`: exact division by a fixed number, by a product instead of a division.
+//!
+//! Let `k` be the place of the highest set bit of the divisor `p`, and let `q` and `r` be the quotient and the
+//! remainder of `2^(64+k) - 1` by `p`. Where `r < 2^k`, multiplier and addend are both `q`; otherwise they are `q + 1`
+//! and 0. Both fit 64 bits. Powers of two fall in the first case.
+//!
+//! A reciprocal of 64 bits serves every state of at most 64 bits, because a product of two 64-bit numbers is one
+//! machine instruction. A form of 32 bits gains nothing.
 
 ghost use Rattle.std.specs.Prelude.{◌≡◌, ◌+◌, ◌*◌, ◌/◌, ◌<◌, ℕ};
 
-/// The reciprocal of a number above 0, as a multiplier, an addend and a shift that give the exact quotient, rounded
-/// down, of every number below 2^64.
+/// The reciprocal of a number above 0, which gives the exact quotient, rounded down, of every number below 2^64.
 ///
-/// Where many numbers are divided by the same one, as states by a symbol's weight, it is made once. A quotient then
-/// takes one product of 128 bits and a shift, which on most machines is several times as fast as a division.
+/// It consists of a multiplier, an addend and a shift. It pays off where many numbers are divided by the same one, as
+/// coder states by a symbol's weight: it is made once, and each quotient then takes one 128-bit product and a shift.
+/// On most machines this is several times as fast as a division.
+///
+/// # Examples
+///
+/// ```
+/// let ten = Reciprocal::new(10);
+/// ten.quotient(1239) // 123
+/// ```
 #[derive(Clone, Copy)]
 pub struct Reciprocal {
     multiplier: u64,
@@ -19,9 +33,9 @@ pub struct Reciprocal {
 impl Reciprocal {
     ghost use Rattle.constriction_words.specs.Reciprocals.{IsReciprocalOf};
 
-    /// The reciprocal of a number above 0.
+    /// Returns the reciprocal of `divisor`. The caller proves that `divisor` is above 0.
     ///
-    /// It takes one division of 128 bits, and no loop.
+    /// This takes one 128-bit division and one 128-bit remainder, and no loop.
     ///
     /// # Examples
     ///
@@ -53,7 +67,7 @@ impl Reciprocal {
         }
     }
 
-    /// The quotient of a number by the one that this is the reciprocal of, rounded down.
+    /// Returns the quotient of `number` by the divisor of this reciprocal, rounded down.
     #[inline]
     pub fn quotient(self, number: u64) -> u64
         ensures { (divisor : ℕ) → IsReciprocalOf self divisor → result ≡ number / divisor }

@@ -1,27 +1,34 @@
-//! `WordOf`: words of one type as words of a wider one, and back.
+//! `WordOf`: conversions between a word and a word type at least as wide.
 
 ghost use Rattle.std.specs.Prelude.{◌≡◌, ◌%◌, ◌^◌, ◌≤◌};
 ghost use Rattle.std.proofs.Common.{rules};
 
 use crate::bit_array::BitArray;
 
-/// A word that is no wider than `T`: each of its numbers is one of `T`'s.
+/// A word that is no wider than the word type `T`, so that each of its numbers is also a number of `T`.
 ///
-/// Each type of words is `WordOf` itself. Beyond that `u8` is `WordOf` each of the others; `u16` of
-/// `u32`, `u64`, `u128` and `usize`; `u32` of `u64` and `u128`; and `u64` of `u128`.
+/// Each word type is `WordOf` itself. In addition, `u8` is `WordOf` every other word type; `u16` is `WordOf` `u32`,
+/// `u64`, `u128` and `usize`; `u32` is `WordOf` `u64` and `u128`; and `u64` is `WordOf` `u128`.
 ///
-/// Generic code knows that `BITS` of the word is at most `T`'s, with no condition of its own:
-/// `width_law` says so.
+/// An implementor proves that `widen` keeps the number, that `narrow` keeps the lowest `BITS` bits, and `width_law`:
+/// the word's `BITS` is at most that of `T`. Generic code may rely on `width_law` without a condition of its own.
+///
+/// # Examples
+///
+/// ```
+/// let wide: u64 = 7u32.widen(); // 7
+/// let low = <u32 as WordOf<u64>>::narrow(4294967303); // 7, as 4294967303 is 2^32 + 7
+/// ```
 pub trait WordOf<T: BitArray>: BitArray {
-    /// The same number, in the wider type.
+    /// Returns the same number in the wider type.
     fn widen(self) -> T
         ensures { T.number result ≡ Self.number self };
 
-    /// The lowest `BITS` bits of a wider number: what it leaves when divided by `2 ^ BITS`.
+    /// Returns the lowest `BITS` bits of a wider number: its remainder modulo `2 ^ BITS`.
     fn narrow(wide: T) -> Self
         ensures { Self.number result ≡ T.number wide % 2 ^ Self.BITS };
 
-    // A word is no wider than what it is a word of.
+    // A word is no wider than `T`.
     ghost width_law: { Self.BITS ≤ T.BITS };
 }
 

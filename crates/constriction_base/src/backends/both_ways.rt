@@ -1,4 +1,8 @@
 //! The same words, read from either end.
+//!
+//! The law of `BothWays` could not be a law of `Holds`: it is false for a cursor, whose position separates its stack
+//! from its queue. A coder that only lends its words to a decoder needs no `BothWays`, because the lent words are
+//! those of `Holds<Word, Queue>`.
 
 ghost use Rattle.std.specs.Prelude.{◌≡◌, reverse};
 
@@ -7,18 +11,19 @@ use crate::backends::reading::Holds;
 use crate::backends::semantics::{Queue, Stack};
 use crate::backends::writing::WriteWords;
 
-/// What holds the same words as a stack and as a queue: a queue gives first what was written first.
+/// A backend that holds the same words as a stack and as a queue: the queue reads first what was written first.
 ///
-/// It is what a coder asks of its backend that writes its words as a stack and hands them on as a
-/// queue. A cursor doesn't have it, since its position parts the words of the one from those of the
-/// other. An implementation chooses nothing here: the law ties the two lists of [`Holds`].
+/// A coder needs it of a backend that it writes to as a stack and hands on as a queue. `Vec` and slices have it. A
+/// cursor doesn't, because its position separates the words of its stack from those of its queue.
+///
+/// An implementor proves one law: the list of the queue is the reverse of the list of the stack.
 pub trait BothWays<Word>: Holds<Word, Stack> + Holds<Word, Queue> {
-    // The one list is the other turned round.
+    // The queue's list is the stack's list in reverse.
     ghost turned_law: { (b : Self)
         → ⟦<Self as Holds<Word, Queue>>⟧.words b ≡ reverse (⟦<Self as Holds<Word, Stack>>⟧.words b) };
 }
 
-/// Hands on what was written, to be read in the order in which it was written.
+/// Turns a backend into one that reads its words in the order in which they were written.
 ///
 /// # Examples
 ///

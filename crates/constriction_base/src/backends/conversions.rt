@@ -1,7 +1,8 @@
-//! What turns into a backend for reading, or lends one.
+//! Traits of values that turn into a backend for reading, or lend one.
 //!
-//! The backend holds the same words. `becomes` says more: over which buffer it stands, and where, so
-//! that positions that were recorded before lead to the same words.
+//! The new backend holds the same words. Equal words alone are not enough for recorded positions: with a word put in
+//! front and the cursor behind it, they would lead elsewhere. Therefore `becomes` also states the buffer of the new
+//! backend and where it stands.
 
 ghost use Rattle.std.specs.Prelude.{◌≡◌};
 
@@ -9,77 +10,81 @@ use crate::backends::reading::{Holds, ReadWords};
 use crate::backends::seeking::Seek;
 use crate::backends::semantics::{Semantics, Stack};
 
-/// Turns into a backend from which its words are read.
+/// Turns into a backend for reading.
 ///
-/// An implementation chooses freely what `becomes` says; vectors and slices say the buffer and the
-/// position of the cursor that they become.
+/// An implementor chooses `becomes` freely and proves that the new backend holds the same words. Vectors and slices
+/// state in `becomes` the buffer and the position of the cursor that they turn into.
 pub trait IntoReadWords<Word, S: Semantics>: Holds<Word, S> {
     type IntoReadWords: ReadWords<Word, S> + Drop;
 
-    /// The second value is the first one, turned into a backend for reading.
+    /// Relates the value to the backend that it turns into.
     ghost becomes: { Self → Self.IntoReadWords → Type 0 };
 
-    /// The backend, which holds the same words.
+    /// Turns into a backend that reads the same words.
     fn into_read_words(self) -> Self::IntoReadWords
         ensures words { ⟦<Self::IntoReadWords as Holds<Word, S>>⟧.words result ≡ Self.words self }
         ensures place { becomes self result };
 }
 
-/// Lends a backend from which its words are read.
+/// Lends a backend for reading.
 ///
-/// An implementation chooses freely what `becomes` says, as for [`IntoReadWords`].
+/// An implementor chooses `becomes` freely and proves that the lent backend holds the same words, as for
+/// [`IntoReadWords`].
 pub trait AsReadWords<'a, Word, S: Semantics>: Holds<Word, S> {
     type AsReadWords: ReadWords<Word, S> + Drop;
 
-    /// The second value is a backend for reading over what the first one lends.
+    /// Relates the value to the backend that it lends.
     ghost becomes: { Self → Self.AsReadWords → Type 0 };
 
-    /// The backend, which holds the same words.
+    /// Lends a backend that reads the same words.
     fn as_read_words(&'a self) -> Self::AsReadWords
         ensures words { ⟦<Self::AsReadWords as Holds<Word, S>>⟧.words result ≡ Self.words self.now }
         ensures place { becomes self.now result };
 }
 
-/// Turns into a backend from which its words are read, and which can go to positions.
+/// Turns into a backend for reading that can also seek.
 ///
-/// An implementation chooses freely what `becomes` says, as for [`IntoReadWords`].
+/// An implementor chooses `becomes` freely and proves that the new backend holds the same words, as for
+/// [`IntoReadWords`].
 pub trait IntoSeekReadWords<Word, S: Semantics>: Holds<Word, S> {
     type IntoSeekReadWords: ReadWords<Word, S> + Seek + Drop;
 
-    /// The second value is the first one, turned into a backend for reading.
+    /// Relates the value to the backend that it turns into.
     ghost becomes: { Self → Self.IntoSeekReadWords → Type 0 };
 
-    /// The backend, which holds the same words.
+    /// Turns into a backend that reads the same words and can seek.
     fn into_seek_read_words(self) -> Self::IntoSeekReadWords
         ensures words { ⟦<Self::IntoSeekReadWords as Holds<Word, S>>⟧.words result ≡ Self.words self }
         ensures place { becomes self result };
 }
 
-/// Lends a backend from which its words are read, and which can go to positions.
+/// Lends a backend for reading that can also seek.
 ///
-/// An implementation chooses freely what `becomes` says, as for [`IntoReadWords`].
+/// An implementor chooses `becomes` freely and proves that the lent backend holds the same words, as for
+/// [`IntoReadWords`].
 pub trait AsSeekReadWords<'a, Word, S: Semantics>: Holds<Word, S> {
     type AsSeekReadWords: ReadWords<Word, S> + Seek + Drop;
 
-    /// The second value is a backend for reading over what the first one lends.
+    /// Relates the value to the backend that it lends.
     ghost becomes: { Self → Self.AsSeekReadWords → Type 0 };
 
-    /// The backend, which holds the same words.
+    /// Lends a backend that reads the same words and can seek.
     fn as_seek_read_words(&'a self) -> Self::AsSeekReadWords
         ensures words { ⟦<Self::AsSeekReadWords as Holds<Word, S>>⟧.words result ≡ Self.words self.now }
         ensures place { becomes self.now result };
 }
 
-/// Turns its buffer round, and keeps the stack that it holds.
+/// Reverses its buffer in place and still holds the same stack.
 ///
-/// An implementation chooses freely what `turns` says; cursors say the buffer and the position.
+/// An implementor chooses `turns` freely and proves that the new value holds the same stack. Cursors state in `turns`
+/// the buffer and the position.
 pub trait IntoReversed<Word>: Holds<Word, Stack> {
     type IntoReversed: Holds<Word, Stack> + Drop;
 
-    /// The second value is the first one, with its buffer turned round.
+    /// Relates the value to the one over the reversed buffer.
     ghost turns: { Self → Self.IntoReversed → Type 0 };
 
-    /// The same stack, over the buffer turned round.
+    /// Returns the same stack over the reversed buffer.
     fn into_reversed_stack(self) -> Self::IntoReversed
         ensures stack { ⟦<Self::IntoReversed as Holds<Word, Stack>>⟧.words result ≡ Self.words self }
         ensures turned { turns self result };

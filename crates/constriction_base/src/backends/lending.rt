@@ -1,29 +1,30 @@
-//! Buffers of words.
+//! Buffers that lend their words as a slice.
 
 ghost use Rattle.std.specs.Prelude.{◌≡◌, ◌<◌, List, length, reverse, slice_set};
 
-/// Lends its words, the first in front.
+/// A buffer that lends its words as a slice, in the order of the buffer.
 ///
-/// An implementation chooses freely which words it lends.
+/// An implementor chooses `lent`, the list of words, freely and proves that `words` returns exactly that list.
 pub trait Words<Word> {
-    /// The words that are lent.
+    /// The words that the buffer lends.
     ghost lent: { Self → List Word };
 
-    /// The words.
+    /// Returns the words of the buffer.
     fn words(&self) -> &[Word]
         ensures { result.now ≡ lent self.now };
 }
 
-/// Its words can be changed, and stay as many as they are.
+/// A buffer whose words can be changed, while their number stays the same.
 ///
-/// An implementation chooses nothing here: what is changed is what it lends.
+/// An implementor proves what each call does to the lent words: `set_word` replaces one of them, and `reverse_words`
+/// reverses their order.
 pub trait WordsMut<Word>: Words<Word> {
-    /// Puts a word in the place of another.
+    /// Replaces the word at `index`. The caller proves that `index` is below the number of words.
     fn set_word(&mut self, index: usize, word: Word)
         requires { index < length (Self.lent self.old) }
         ensures { Self.lent self.new ≡ slice_set (Self.lent self.old) index word };
 
-    /// Turns the words round, so that the last stands in front.
+    /// Reverses the order of the words.
     fn reverse_words(&mut self)
         ensures { Self.lent self.new ≡ reverse (Self.lent self.old) };
 }

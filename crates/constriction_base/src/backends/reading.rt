@@ -1,31 +1,31 @@
-//! Reading words.
+//! Reading words from a backend.
 
 ghost use Rattle.std.specs.Prelude.{◌≡◌, ◌==◌, Bool, List, [], Option, Result, Ok, None, length, IsTrue};
 ghost use Rattle.constriction_base.specs.Backends.{Reads};
 
 use crate::backends::semantics::Semantics;
 
-/// What holds words that can be read in an order.
+/// A value that holds words in the reading order `S`.
 ///
-/// A type that is both a stack and a queue holds a list for each.
+/// A type that is both a stack and a queue has one list for each order.
 ///
-/// An implementation chooses freely what it lists: the clauses of the traits that read and write tie the
-/// list to their calls, where `is_list` holds.
+/// An implementor chooses the list freely. Where `is_list` holds, the clauses of the traits for reading and writing
+/// tie the list to their calls.
 pub trait Holds<Word, S: Semantics> {
-    /// The words that the next reads give, in their order. It means nothing where `is_list` fails.
+    /// The words that the next reads return, in order. The list means nothing where `is_list` fails.
     ghost words: { Self → List Word };
 
-    /// The type knows the words that it holds.
+    /// Holds where the type knows the words that it holds.
     ghost is_list: { Type 0 };
 }
 
-/// Words can be read, the next one first.
+/// A backend whose words can be read, in the order `S`.
 ///
-/// As a `Stack` a backend gives the word that was written last, as a `Queue` the one that was
-/// written first.
+/// A `Stack` reads the word that was written last. A `Queue` reads the word that was written first.
 ///
-/// An implementation chooses freely what a read may return and leave, and when it seems exhausted; where it
-/// knows its words, these bound both choices.
+/// An implementor chooses freely which answers a read may return, what it leaves, and when the backend seems
+/// exhausted. It then proves that every read obeys these choices and, where the backend knows its words, that a read
+/// takes the first of them.
 ///
 /// # Examples
 ///
@@ -34,41 +34,46 @@ pub trait Holds<Word, S: Semantics> {
 /// ReadWords::<u32, Stack>::read(&mut cursor) // Ok(Some(9))
 /// ```
 pub trait ReadWords<Word, S: Semantics>: Holds<Word, S> {
-    /// What a read may return in place of a word: `Infallible` for vectors and cursors, and what the
-    /// iterator gives for one over an iterator.
+    /// The error of a read.
+    ///
+    /// It is `Infallible` for vectors and cursors, and the iterator's own error type for `FallibleIteratorReadWords`.
     type ReadError;
 
-    /// What the next read may return, and what it leaves.
+    /// Relates the backend before a read, the answer, and the backend after it.
     ghost reads: { Self → Result (Option Word) Self.ReadError → Self → Type 0 };
 
-    /// What `maybe_exhausted` returns.
+    /// The answer of `maybe_exhausted`.
     ghost seems_exhausted: { Self → Bool };
 
-    /// Takes the next word, or returns `None` where no word is left, which changes nothing.
+    /// Takes the next word. Returns `Ok(None)` where no word is left.
+    ///
+    /// Of a backend that knows its words, only a read that returns a word changes them.
     ///
     /// # Errors
     ///
-    /// What `reads` says. It leaves the words of a backend that knows them.
+    /// The errors that `reads` allows. They leave the words of a backend that knows them unchanged.
     fn read(&mut self) -> Result<Option<Word>, Self::ReadError>
         ensures reads { reads self.old result self.new }
         ensures words { Self.is_list → Reads (Self.words self.old) result (Self.words self.new) };
 
-    /// Whether the next read may return that no word is left. `false` promises that a word is left.
+    /// Returns whether the backend may be exhausted, so that the next read may return `Ok(None)`.
+    ///
+    /// `false` guarantees that the next read doesn't return `Ok(None)`.
     fn maybe_exhausted(&self) -> bool
         ensures value { result ≡ seems_exhausted self.now }
         ensures exhausted { Self.is_list → Self.words self.now ≡ [] → IsTrue result }
         ensures ended { (after : Self) → reads self.now (Ok None) after → IsTrue result };
 }
 
-/// It is known how many words are left.
+/// A backend that knows how many words are left.
 ///
-/// An implementation chooses nothing here: it knows its words, and they are counted.
+/// An implementor proves that the backend knows its words and that `remaining` is their number.
 pub trait BoundedReadWords<Word, S: Semantics>: ReadWords<Word, S> {
-    /// The number of words that are left, in the order of reading `S`.
+    /// Returns the number of words left in the reading order `S`.
     fn remaining(&self) -> usize
         ensures { result ≡ length (Self.words self.now) };
 
-    /// Whether no word is left.
+    /// Returns whether no word is left.
     fn is_exhausted(&self) -> bool
         ensures { result ≡ (length (Self.words self.now) == 0) }
     {

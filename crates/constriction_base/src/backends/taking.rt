@@ -1,4 +1,4 @@
-//! Words that are taken off again.
+//! Taking written words off a backend.
 
 ghost use Rattle.std.specs.Prelude.{◌≡◌, drop};
 ghost use Rattle.constriction_base.specs.Readings.{NeverRefused};
@@ -7,9 +7,10 @@ use crate::backends::reading::ReadWords;
 use crate::backends::semantics::Stack;
 use crate::backends::writing::WriteWords;
 
-/// Takes so many words off, as far as the reads go: it stops where one is refused.
+/// Takes `count` words off the backend, and stops where a read is refused.
 ///
-/// A guard takes off so the words that it wrote onto a backend.
+/// Where no read is ever refused, exactly the first `count` words go, or all where there are fewer. A guard takes off
+/// in this way the words that it wrote onto a backend.
 pub fn take_back<Word, Backend>(bulk: &mut Backend, count: usize)
 where
     Word: Drop,

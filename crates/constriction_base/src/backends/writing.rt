@@ -1,49 +1,66 @@
-//! Writing words.
+//! Writing words to a backend.
+//!
+//! A refused `prepare` leaves the room that there was, so that a caller can put back the words that it took. `writes`
+//! has no default, because a default that holds for every backend would be vacuous: vectors state their items and that
+//! the capacity doesn't shrink, cursors their buffer and position. The answer of `maybe_full` is a ghost member, so
+//! that an implementation with a constant body is refused.
 
 ghost use Rattle.std.specs.Prelude.{◌≡◌, ◌+◌, ℕ, Bool, false, ◌∷◌, ◌<◌, ◌≤◌, Result, OnOk, OnErr, IfErr};
 
 use crate::backends::reading::Holds;
 use crate::backends::semantics::Stack;
 
-/// Words can be put on the stack that the type holds.
+/// A backend that words can be written to, as onto a stack.
 ///
-/// Which error a call may return is a function of what the backend holds at the moment of the call.
+/// Which errors a call may return depends only on the backend at the moment of the call.
 ///
-/// An implementation chooses freely what a write leaves of its value, which errors these are, how many writes are
-/// sure to succeed (it may name none), whether `prepare` makes room, which errors are lack of room and when it seems
-/// full. The laws tie these choices to one another, and the clauses tie them to the calls.
+/// An implementor chooses freely what a write leaves, which errors writes and `prepare` may return, how many writes
+/// are sure to succeed (possibly none), whether `prepare` makes room, which errors are lack of room, and when the
+/// backend seems full. It then proves that the calls obey these choices, and the laws that tie the choices to one
+/// another.
+///
+/// # Examples
+///
+/// ```
+/// let mut words: Vec<u32> = Vec::new(alloc);
+/// words.prepare(2)?;
+/// words.write(7)?;
+/// words.write(9)?; // neither write grows the vector
+/// ```
 pub trait WriteWords<Word>: Holds<Word, Stack> {
-    /// Why a word could not be written: want of memory for a vector, want of room for a cursor.
+    /// The error of a write: lack of memory for a vector, lack of room for a cursor.
     type WriteError;
 
-    /// What the next write of the word may return, and what it leaves: of the whole value, as the place and the
-    /// capacity, where `words` and `room` tell a part of it. So calls that write several words say by it that each is a
-    /// write to what the one before left.
+    /// Relates the backend before a write, the word, the answer, and the backend after the write.
+    ///
+    /// The relation includes state that `words` and `room` don't capture, such as a cursor's position and a vector's
+    /// capacity. Contracts of calls that write several words chain it: each write starts from the backend that the
+    /// previous one left.
     ghost writes: { Self → Word → Result (Unit {0}) Self.WriteError → Self → Type 0 };
 
-    /// Which error the next write may return.
+    /// Holds of the errors that the next write may return.
     ghost write_fails: { Self → Self.WriteError → Type 0 };
 
-    /// Which error the next call of `prepare` for so many words may return.
+    /// Holds of the errors that the next call of `prepare` for this number of words may return.
     ghost prepare_fails: { Self → ℕ → Self.WriteError → Type 0 };
 
-    /// How many writes are sure to succeed.
+    /// The number of writes that are sure to succeed.
     ghost room: { Self → ℕ };
 
-    /// A `prepare` that succeeds makes room.
+    /// Holds where a successful `prepare` makes room.
     ghost makes_room: { Type 0 };
 
-    /// The error says that the backend is full, and not that memory is missing.
+    /// Holds of the errors that mean that the backend is full, as opposed to a lack of memory.
     ghost is_lack_of_room: { Self.WriteError → Type 0 };
 
-    /// What `maybe_full` returns.
+    /// The answer of `maybe_full`.
     ghost seems_full: { Self → Bool };
 
     /// Writes a word, which is then the first to be read.
     ///
     /// # Errors
     ///
-    /// What `write_fails` says of the backend as it was. The words stay.
+    /// One of the errors that `write_fails` allows for the backend before the call. The words stay unchanged.
     fn write(&mut self, word: Word) -> Result<(), Self::WriteError>
         ensures writes { writes self.old word result self.new }
         ensures ok { OnOk result (Self.words self.new ≡ word ∷ Self.words self.old) }
@@ -51,20 +68,22 @@ pub trait WriteWords<Word>: Holds<Word, Stack> {
         ensures kept { OnErr result (Self.words self.new ≡ Self.words self.old) }
         ensures err { IfErr result (λ e. write_fails self.old e) };
 
-    /// Whether the next write, or a `prepare` for it, may be refused for lack of room. `false` promises
-    /// that it is not, so a backend that grows as long as there is memory always returns `false`.
+    /// Returns whether the backend may be full.
+    ///
+    /// `false` guarantees that neither the next write nor a `prepare` for one word is refused for lack of room. A
+    /// backend that grows as long as there is memory always returns `false`.
     fn maybe_full(&self) -> bool
         ensures value { result ≡ seems_full self.now }
         ensures room_left { result ≡ false → (e : Self.WriteError) → is_lack_of_room e → write_fails self.now e → ⊥ };
 
-    /// Asks for room for `count` further words, and changes no word. A write may return no error then that
-    /// it could not return before.
+    /// Asks for room for `count` further words. No word changes.
     ///
-    /// After `Ok` over a vector the next `count` writes succeed. Over a cursor it promises nothing.
+    /// After `Ok` over a vector, the next `count` writes succeed. Over a cursor, `Ok` guarantees nothing. A call of
+    /// `prepare` never adds an error to those that the next write may return.
     ///
     /// # Errors
     ///
-    /// What `prepare_fails` says of the backend as it was. The room that there was stays.
+    /// One of the errors that `prepare_fails` allows for the backend before the call. The room does not shrink.
     fn prepare(&mut self, count: usize) -> Result<(), Self::WriteError>
         ensures words { Self.words self.new ≡ Self.words self.old }
         ensures room { OnOk result (room self.old ≤ room self.new) }
@@ -73,13 +92,13 @@ pub trait WriteWords<Word>: Holds<Word, Stack> {
         ensures fails { (e : Self.WriteError) → write_fails self.new e → write_fails self.old e }
         ensures err { IfErr result (λ e. prepare_fails self.old count e) };
 
-    // Where there is room, nothing is refused.
+    // Where there is room, no write is refused.
     ghost room_law: { (b : Self) (e : Self.WriteError) → 0 < room b → write_fails b e → ⊥ };
 
-    // No count up to the room is refused.
+    // No request for at most the room that there is fails.
     ghost prepare_law: { (b : Self) (count : ℕ) (e : Self.WriteError) → count ≤ room b → prepare_fails b count e → ⊥ };
 
-    // Where it doesn't seem full, room for a word is not refused for lack of room.
+    // Where the backend doesn't seem full, a request for one word is not refused for lack of room.
     ghost full_law: { (b : Self) (e : Self.WriteError) → seems_full b ≡ false → is_lack_of_room e → prepare_fails b 1 e
         → ⊥ };
 

@@ -1,4 +1,4 @@
-//! A cursor as a queue: the words from the position on, the one at the position first.
+//! A cursor as a queue: it reads the words from the position on, the one at the position first.
 
 ghost use Rattle.std.specs.Prelude.{◌≡◌, ◌+◌, ◌-◌, ◌<◌, ◌==◌, Option, Result, Ok, None, length, drop};
 ghost use Rattle.constriction_base.specs.Backends.{Reads};

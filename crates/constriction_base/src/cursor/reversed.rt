@@ -1,4 +1,4 @@
-//! Cursors over buffers that are turned round.
+//! Cursors over reversed buffers.
 
 ghost use Rattle.std.specs.Prelude.{◌≡◌, ◌+◌, ◌-◌, length, reverse, take, drop};
 
@@ -9,8 +9,7 @@ use constriction_words::BitArray;
 use std::marker::PhantomData;
 
 impl<Word: BitArray, Buf: WordsMut<Word> + Drop> Cursor<Word, Buf> {
-    /// Turns the buffer round and keeps the place between the same words, so that what was a stack is
-    /// a queue, and what was a queue is a stack.
+    /// Reverses the buffer and keeps the position between the same words, so that stack and queue swap.
     fn turned_round(self) -> Self
         ensures buffer { Buf.lent result.buf ≡ reverse (Buf.lent self.buf) }
         ensures place { result.pos ≡ length (Buf.lent self.buf) - self.pos }
@@ -31,16 +30,16 @@ impl<Word: BitArray, Buf: WordsMut<Word> + Drop> Cursor<Word, Buf> {
         }
     }
 
-    /// The same stack and the same queue, over the buffer turned round.
+    /// Returns the same stack and the same queue over the reversed buffer.
     ///
-    /// Words that were written as a stack are then read in the order in which they stand.
+    /// Words that were written as a stack then lie in the buffer in the order in which the stack reads them.
     ///
     /// # Examples
     ///
     /// ```
     /// let mut words = [1u32, 2, 3];
     /// let cursor = Cursor::new_at_write_end(words.as_mut_slice());
-    /// cursor.into_reversed() // reads 3, 2, 1 as before; the buffer is [3, 2, 1]
+    /// cursor.into_reversed() // still reads 3, 2, 1; the buffer is [3, 2, 1]
     /// ```
     pub fn into_reversed(self) -> Reverse<Self>
         ensures stack { ⟦<Reverse<Cursor<Word, Buf>> as Holds<Word, Stack>>⟧.words result
@@ -55,7 +54,7 @@ impl<Word: BitArray, Buf: WordsMut<Word> + Drop> Cursor<Word, Buf> {
 }
 
 impl<Word: BitArray, Buf: WordsMut<Word> + Drop> Reverse<Cursor<Word, Buf>> {
-    /// The same stack and the same queue, over the buffer turned round.
+    /// Returns the same stack and the same queue over the reversed buffer, as a plain cursor.
     pub fn into_reversed(self) -> Cursor<Word, Buf>
         ensures stack { ⟦<Cursor<Word, Buf> as Holds<Word, Stack>>⟧.words result
             ≡ ⟦<Reverse<Cursor<Word, Buf>> as Holds<Word, Stack>>⟧.words self }

@@ -1,4 +1,4 @@
-//! The positions of a cursor, which are the numbers of words before them.
+//! The positions of a cursor: each is the number of words of the buffer before it.
 
 ghost use Rattle.std.specs.Prelude.{◌≡◌, ◌+◌, ◌-◌, ◌<◌, ◌≤◌, Result, Ok, Err, length};
 ghost use Rattle.constriction_base.specs.laws.Room.{within, words_before};
@@ -8,7 +8,7 @@ use crate::cursor::Cursor;
 use constriction_words::BitArray;
 
 impl<Word: BitArray, Buf: Words<Word> + Drop> PosSeek for Cursor<Word, Buf> {
-    /// How many words of the buffer stand before the position.
+    /// The number of words of the buffer before the position.
     type Position = usize;
 }
 

@@ -1,4 +1,6 @@
-//! Writing to a cursor, at the position, until the buffer ends.
+//! Writing to a cursor, at its position, until the buffer ends.
+//!
+//! `write` has clauses beyond those of the trait: one word and the position change, and every other word stays.
 
 ghost use Rattle.std.specs.Prelude.{◌≡◌, ◌+◌, ◌-◌, ◌∷◌, ◌<◌, ◌≤◌, ◌==◌, Result, Ok, Err, length, reverse, IsOk, OnOk};
 ghost use Rattle.std.specs.Prelude.{OnErr, IfErr, slice_set, take};
@@ -28,11 +30,11 @@ impl<Word: BitArray, Buf: WordsMut<Word> + Drop> WriteWords<Word> for Cursor<Wor
 
     ghost seems_full = { λ c. c.pos == length (Buf.lent c.buf) };
 
-    /// Sets the word at the position and moves past it, and changes no other word.
+    /// Replaces the word at the position and moves past it. No other word changes.
     ///
     /// # Errors
     ///
-    /// `OutOfSpace` at the buffer's end. Nothing changes then.
+    /// `OutOfSpace` at the end of the buffer. The cursor is then unchanged.
     #[tactic(auto, using(crate::proofs::Ends::reverse_push))]
     fn write(&mut self, word: Word) -> Result<(), BoundedWriteError>
         ensures ok { OnOk result (reverse (take self.new.pos (Buf.lent self.new.buf))
@@ -58,7 +60,7 @@ impl<Word: BitArray, Buf: WordsMut<Word> + Drop> WriteWords<Word> for Cursor<Wor
         self.pos == self.buf.words().len()
     }
 
-    /// Returns `Ok` without a promise, and changes nothing.
+    /// Returns `Ok` and changes nothing. This guarantees no room.
     fn prepare(&mut self, _count: usize) -> Result<(), BoundedWriteError>
         ensures variant { IsOk result }
         ensures unchanged { self.new ≡ self.old }

@@ -1,4 +1,6 @@
-//! Mutably borrowed words, as a buffer that can be written to.
+//! Mutably borrowed words as a buffer that can be written to.
+//!
+//! The buffer reverses its words itself, so `into_reversed` of a cursor is a single pass.
 
 ghost use Rattle.std.specs.Prelude.{◌<◌, reverse};
 

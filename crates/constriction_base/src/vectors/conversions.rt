@@ -1,5 +1,6 @@
-//! Vectors turn into cursors over themselves, and lend cursors over their words: as a stack at the end
-//! of the words, as a queue at their beginning.
+//! Vectors turn into cursors over themselves, and lend cursors over their words.
+//!
+//! The cursor stands at the end of the words as a stack, and at their beginning as a queue.
 
 ghost use Rattle.std.specs.Prelude.{◌≡◌, length};
 

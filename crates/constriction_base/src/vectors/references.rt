@@ -1,4 +1,4 @@
-//! A borrowed vector of words, as a buffer and as what turns into a cursor over its words.
+//! A borrowed vector of words as a buffer, and as a value that turns into a cursor over its words.
 
 ghost use Rattle.std.specs.Prelude.{◌≡◌, length, reverse};
 ghost use Rattle.std.proofs.Common.{sym};

@@ -1,4 +1,7 @@
-//! Where a search for a quantile's symbol begins and ends: hints by the quantile's high bits.
+//! Hints: where the search for a quantile's symbol begins and ends, by the quantile's high bits.
+//!
+//! The number of buckets is a power of two. It is more than twice and at most four times the number of known symbols,
+//! but never above `2 ^ PRECISION` or 2^63.
 
 ghost use Rattle.std.specs.Prelude.{◌≡◌, ◌+◌, ◌-◌, ◌*◌, ◌^◌, ◌<◌, ◌≤◌, ◌⊎◌, length, map, slice_index, IfOk};
 ghost use Rattle.constriction_base.specs.Tables.{IsRising};
@@ -7,10 +10,10 @@ ghost use Rattle.constriction_base.specs.Hints.{AreHints};
 use constriction_words::BitArray;
 use std::alloc::{AllocError, Global};
 
-/// How many low bits of a quantile its bucket leaves out, where there are so many symbols.
+/// Returns the number of low bits of a quantile that its bucket leaves out, for this number of symbols.
 ///
-/// There are more than two buckets for each symbol, and at most four, unless the precision has no more bits, or
-/// the buckets would be more than 2^63.
+/// There are more than two and at most four buckets for each symbol. Fewer than that are possible only where the
+/// precision has no more bits, or where the number of buckets would exceed 2^63.
 pub fn shift_for(symbols: usize, precision: usize) -> u32
     requires some { 0 < symbols }
     requires within { (1 ≤ precision) × (precision ≤ 128) }
@@ -23,7 +26,7 @@ pub fn shift_for(symbols: usize, precision: usize) -> u32
     precision - precision.min(symbols.ilog2() + 2).min(63)
 }
 
-/// The last symbol, from this one on, whose interval begins at or below the quantile.
+/// Returns the last symbol, from `from` on, whose interval begins at or below the quantile.
 fn symbol_from<Probability: BitArray>(
     starts: &[Probability],
     from: usize,
@@ -44,7 +47,7 @@ fn symbol_from<Probability: BitArray>(
     symbol
 }
 
-/// For each bucket of quantiles the symbol of its first, and behind them the last symbol.
+/// Returns for each bucket the symbol of its first quantile, and behind these the last symbol.
 pub fn hints_of<Probability: BitArray, const PRECISION: usize>(
     alloc: Global,
     starts: &[Probability],

@@ -1,4 +1,4 @@
-//! Where the intervals of weights begin, and whether they end at two to the precision.
+//! The starts of the intervals of weights, and whether the weights add up to `2 ^ PRECISION`.
 
 ghost use Rattle.std.specs.Prelude.{◌≡◌, ◌≢◌, ◌+◌, ◌^◌, ◌<◌, ◌≤◌, length, map, sum_by, IfOk, IfSome, IfNone};
 ghost use Rattle.constriction_base.specs.Tables.{Sums, IsLastSymbol};
@@ -6,7 +6,7 @@ ghost use Rattle.constriction_base.specs.Tables.{Sums, IsLastSymbol};
 use constriction_words::BitArray;
 use std::alloc::{AllocError, Global};
 
-/// The number that so many ones are in binary.
+/// Returns the number whose binary form is `count` ones.
 pub fn ones<Word: BitArray>(count: usize) -> Word
     requires { (1 ≤ count) × (count ≤ Word.BITS) }
     ensures { Word.number result + 1 ≡ 2 ^ count }
@@ -14,7 +14,7 @@ pub fn ones<Word: BitArray>(count: usize) -> Word
     Word::greatest().shifted_right(Word::BITS - count as u32)
 }
 
-/// How many symbols there are, up to the last of a weight above 0, where the total is two to the precision.
+/// Returns the number of symbols up to the last of a weight above 0, or `None` where the total isn't `2 ^ PRECISION`.
 pub fn known_symbols<Probability: BitArray, const PRECISION: usize>(
     weights: &[Probability],
 ) -> Option<usize>
@@ -47,7 +47,7 @@ pub fn known_symbols<Probability: BitArray, const PRECISION: usize>(
     if known > 0 { Some(known) } else { None }
 }
 
-/// Where the intervals of these weights begin, and where one behind them would.
+/// Returns the start of each weight's interval, and behind these the sum of all weights.
 pub fn starts_of<Probability: BitArray>(
     alloc: Global,
     weights: &[Probability],

@@ -1,4 +1,4 @@
-//! A family of distributions, and a location and a scale for each symbol.
+//! `Families`: a family of distributions, with a location and a scale for each symbol.
 
 ghost use Rattle.std.specs.Prelude.{◌≡◌, ◌↔◌, ◌<◌, ◌≤◌, ◌<ℤ◌, Some, length, map, IfOk, IsTrue};
 ghost use Rattle.std.specs.List.{AllByRecursion};
@@ -17,15 +17,24 @@ use constriction_models::quantizer::{IndexedDistribution, LeakyQuantizer};
 use constriction_words::{BitArray, WordOf};
 use std::alloc::{AllocError, Global};
 
-/// A model of places in a range, by a distribution of one of the families.
+/// A model of the indices in a range, from a distribution of one of the families.
 pub type FamilyModel<P, const PRECISION: usize> = IndexedDistribution<
     FamilyDistribution,
     P,
     PRECISION,
 >;
 
-/// Symbols are places in the range from `min` to `max`: 0 stands for `min`. Each has the model of its own location and
-/// scale, in units of `2^-16`, by the family of a code: 0 is `Gaussian`, 1 is `Laplace`, 2 is `Logistic`.
+/// Models of a family: each symbol has its own location and scale, in multiples of `2^-16`.
+///
+/// Symbols are indices in the range from `min` to `max`: 0 stands for `min`. The number of the family is 0 for
+/// `Gaussian`, 1 for `Laplace` and 2 for `Logistic`.
+///
+/// # Examples
+///
+/// ```
+/// // Two symbols from -127 to 128 under Gaussian distributions of mean 0 and 3.5.
+/// let families = Families::new(0, -127, 128, &[0, 229376], &[65536, 147456]);
+/// ```
 #[derive(Clone, Copy, Drop)]
 pub struct Families<'a> {
     pub family: u32,
@@ -78,7 +87,7 @@ impl<'a, P: WordOf<u32>, const PRECISION: usize> Models<P, PRECISION> for Famili
 }
 
 impl<'a> Families<'a> {
-    /// Of these numbers.
+    /// Creates a value of these numbers and lists. The type has an example.
     #[inline]
     pub fn new(family: u32, min: i32, max: i32, locations: &'a [i64], scales: &'a [u32]) -> Self
         ensures numbers { (result.family ≡ family) × (result.min ≡ min) × (result.max ≡ max) }
@@ -93,13 +102,15 @@ impl<'a> Families<'a> {
         }
     }
 
-    /// The family, and the quantizer of the range. It takes no memory.
+    /// Returns the family and the quantizer of the range. This takes no memory.
     ///
     /// # Errors
     ///
-    /// In this order, each just in its case: `WrongLength`, where there are not as many scales as locations;
-    /// `WrongInterval`, where the range has fewer than two symbols, or more than two to the precision; `WrongWeights`,
-    /// where the code is that of no family, or a scale is 0.
+    /// Checked in this order, each exactly in its case:
+    ///
+    /// - `WrongLength`: the numbers of scales and of locations differ.
+    /// - `WrongInterval`: the range has fewer than two or more than `2 ^ PRECISION` symbols.
+    /// - `WrongWeights`: no family has the number, or a scale is 0.
     pub fn quantizer<P: WordOf<u32>, const PRECISION: usize>(
         &self,
     ) -> Result<(Family, LeakyQuantizer<P, PRECISION>), Refusal>
@@ -126,7 +137,7 @@ impl<'a> Families<'a> {
         Ok((family, quantizer))
     }
 
-    /// Whether each symbol is the place of one of the range: 0 is that of `min`.
+    /// Returns whether each symbol is the index of a symbol of the range.
     fn are_places(&self, symbols: &[usize]) -> bool
         requires { self.now.min <ℤ self.now.max }
         ensures { IsTrue result ↔ ArePlacesInRange self.now.min self.now.max symbols.now }
@@ -141,7 +152,7 @@ impl<'a> Families<'a> {
     }
 }
 
-/// The family of a code; `None` where it is that of none.
+/// Returns the family of a number, or `None` where no family has it.
 fn family_at(code: u32) -> Option<Family>
     ensures { result ≡ family_of code }
 {
@@ -153,7 +164,7 @@ fn family_at(code: u32) -> Option<Family>
     }
 }
 
-/// Whether all scales are above 0.
+/// Returns whether all scales are above 0.
 fn are_above_zero(scales: &[u32]) -> bool
     ensures { IsTrue result ↔ AllByRecursion (λ scale. 0 < scale) scales.now }
 {
@@ -165,7 +176,7 @@ fn are_above_zero(scales: &[u32]) -> bool
     true
 }
 
-/// The model of each location and its scale.
+/// Returns the model of each location and its scale.
 fn models_of<P: WordOf<u32>, const PRECISION: usize>(
     alloc: Global,
     family: Family,

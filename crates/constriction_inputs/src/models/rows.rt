@@ -1,4 +1,4 @@
-//! A row of weights for each symbol.
+//! `Rows`: a row of weights for each symbol.
 
 ghost use Rattle.std.specs.Prelude.{map};
 ghost use Rattle.constriction_inputs.specs.Coded.{ByRows};
@@ -11,7 +11,13 @@ use crate::rows::{Row, total_rows};
 use constriction_words::BitArray;
 use std::alloc::Global;
 
-/// Rows of `width` weights, one behind another: the next one for each symbol. Each row adds up to two to the precision.
+/// Rows of `width` weights, one behind another, one row for each symbol. Each row adds up to `2 ^ PRECISION`.
+///
+/// # Examples
+///
+/// ```
+/// let rows = Rows { weights: &[255u8, 1, 128, 128], width: 2 }; // two rows, at a precision of 8 bits
+/// ```
 #[derive(Clone, Copy, Drop)]
 pub struct Rows<'a, P> {
     pub weights: &'a [P],

@@ -1,4 +1,4 @@
-//! One table of weights for all symbols.
+//! `Weights`: one table of weights for all symbols.
 
 ghost use Rattle.std.specs.Prelude.{◌≡◌, ◌≤◌, map, IfSome};
 ghost use Rattle.constriction_base.specs.Tables.{table_of};
@@ -13,8 +13,15 @@ use constriction_base::weights::WeightTable;
 use constriction_words::BitArray;
 use std::alloc::Global;
 
-/// The weights of the symbols `0`, `1`, .., which add up to two to the precision. A symbol of weight 0, or past them,
-/// is impossible.
+/// The weights of the symbols `0`, `1`, .., which add up to `2 ^ PRECISION`.
+///
+/// A symbol of weight 0 and a number past the end of the list are impossible symbols.
+///
+/// # Examples
+///
+/// ```
+/// let weights = Weights { weights: &[255u8, 1] }; // at a precision of 8 bits
+/// ```
 #[derive(Clone, Copy, Drop)]
 pub struct Weights<'a, P> {
     pub weights: &'a [P],
@@ -58,8 +65,9 @@ impl<'a, P: BitArray, const PRECISION: usize> Models<P, PRECISION> for Weights<'
     }
 }
 
-/// The table of weights, with their reciprocals where steps divide by them. `None` says that the weights don't add up,
-/// or that memory is missing.
+/// Returns the table of weights, with their reciprocals where `divides` is true.
+///
+/// Returns `None` where the weights don't add up to `2 ^ PRECISION` or there is no memory.
 pub fn table_by<P: BitArray, const PRECISION: usize>(
     alloc: Global,
     weights: &[P],

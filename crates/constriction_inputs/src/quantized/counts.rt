@@ -1,4 +1,4 @@
-//! Weights in proportion to counts, into a caller's buffer.
+//! Weights in proportion to counts, written into a caller's buffer.
 
 ghost use Rattle.std.specs.Prelude.{◌≡◌, ◌<◌, ◌≤◌, ◌^◌, ℕ, length, map, slice_index};
 ghost use Rattle.constriction_inputs.specs.QuantizedCalls.{GivesWeightsOfCounts};
@@ -8,15 +8,17 @@ use constriction_models::counts::{CountsError, weights_of_counts};
 use constriction_words::{BitArray, WordOf};
 use std::alloc::Global;
 
-/// Writes weights in proportion to counts, which add up to two to the precision: each count above 0 gets a weight of
-/// 1 at least, and a count of 0 gets 0.
+/// Writes weights in proportion to counts, which add up to `2 ^ PRECISION`, into `weights`.
+///
+/// Each count above 0 gets a weight of at least 1, and a count of 0 gets the weight 0.
 ///
 /// # Errors
 ///
-/// In this order, and nothing changed:
-/// - `WrongLength` exactly where there are not as many weights as counts.
-/// - `WrongWeights` exactly where no count is above 0, or more than two to the precision are.
-/// - `NoMemory` where memory is missing.
+/// Checked in this order. Nothing changes after an error.
+///
+/// - `WrongLength`: exactly where the numbers of weights and of counts differ.
+/// - `WrongWeights`: exactly where no count or more than `2 ^ PRECISION` counts are above 0.
+/// - `NoMemory`: there is no memory.
 pub fn put_weights_of_counts<P: WordOf<u32>, const PRECISION: usize>(
     alloc: Global,
     counts: &[u64],
@@ -40,7 +42,7 @@ pub fn put_weights_of_counts<P: WordOf<u32>, const PRECISION: usize>(
     }
 }
 
-/// Writes numbers that have room in `P`.
+/// Writes numbers that fit `P`.
 fn put<P: WordOf<u32>>(made: &[u32], weights: &mut [P])
     requires counted { length made.now ≡ length weights.now }
     requires fit { (k : ℕ) → k < length made.now → slice_index made.now k < 2 ^ P.BITS }

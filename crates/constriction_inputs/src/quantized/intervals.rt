@@ -1,4 +1,7 @@
-//! Where the intervals of symbols begin, and how long they are, each in the table of its own location and scale.
+//! The start and the length of each symbol's interval, in the table of its own location and scale.
+//!
+//! With symbols in order and equal parameters, they are a whole table. A caller in another language can therefore
+//! inspect a model, or code by its intervals.
 
 ghost use Rattle.std.specs.Prelude.{◌≡◌, ◌<◌, ◌≤◌, Some, length, map};
 ghost use Rattle.std.specs.List.{AllByRecursion};
@@ -14,13 +17,15 @@ use constriction_models::families::Family;
 use constriction_models::quantizer::LeakyQuantizer;
 use constriction_words::{BitArray, WordOf};
 
-/// Writes for each symbol where its interval begins into `lefts`, and how long it is into `ps`, by its model. It takes
-/// no memory.
+/// Writes the start of each symbol's interval into `lefts` and its length into `ps`. This takes no memory.
 ///
 /// # Errors
 ///
-/// In this order, each just in its case, and nothing changed: `WrongLength`, where `lefts` or `ps` are not as many as
-/// the symbols; those of the models; `ImpossibleSymbol`, where a symbol is past the range.
+/// Checked in this order, each exactly in its case. Nothing changes after an error.
+///
+/// - `WrongLength`: `lefts` or `ps` doesn't have one place for each symbol.
+/// - The errors of the models, as those of [`Models::check`].
+/// - `ImpossibleSymbol`: a symbol lies past the range.
 pub fn intervals_of_quantized<P: WordOf<u32>, const PRECISION: usize>(
     families: &Families<'_>,
     symbols: &[usize],
@@ -63,7 +68,7 @@ pub fn intervals_of_quantized<P: WordOf<u32>, const PRECISION: usize>(
     Ok(())
 }
 
-/// Writes the intervals of places in the range.
+/// Writes the intervals of indices in the range.
 fn put_intervals<P: WordOf<u32>, const PRECISION: usize>(
     family: Family,
     quantizer: &LeakyQuantizer<P, PRECISION>,

@@ -1,4 +1,4 @@
-//! Sums of weights: whether they are two to the precision, and those of the weights before a symbol.
+//! Sums of weights: whether they are `2 ^ PRECISION`, and the sum before a symbol.
 
 ghost use Rattle.std.specs.Prelude.{◌≡◌, ◌↔◌, ◌+◌, ◌*◌, ◌^◌, ◌<◌, ◌≤◌, length, map, sum_by, take, IsTrue};
 ghost use Rattle.constriction_inputs.specs.Weights.{IsTotal, AreTotals};
@@ -6,7 +6,7 @@ ghost use Rattle.constriction_inputs.specs.Weights.{IsTotal, AreTotals};
 use constriction_base::weights::starts::ones;
 use constriction_words::BitArray;
 
-/// Whether the weights add up to two to the precision. The sum is exact, whatever the width of `P`.
+/// Returns whether the weights add up to `2 ^ PRECISION`. The sum is exact, whatever the width of `P`.
 pub fn is_total<P: BitArray, const PRECISION: usize>(weights: &[P]) -> bool
     requires { (1 ≤ PRECISION) × (PRECISION ≤ P.BITS) }
     ensures { IsTrue result ↔ IsTotal PRECISION (map P.number weights.now) }
@@ -30,7 +30,7 @@ pub fn is_total<P: BitArray, const PRECISION: usize>(weights: &[P]) -> bool
     is_reached
 }
 
-/// The sum of the weights before a symbol.
+/// Returns the sum of the weights before a symbol. The caller proves that it fits `P`.
 pub fn sum_before<P: BitArray>(weights: &[P], symbol: usize) -> P
     requires within { symbol ≤ length weights.now }
     requires fits { sum_by P.number (take symbol weights.now) < 2 ^ P.BITS }
@@ -43,7 +43,7 @@ pub fn sum_before<P: BitArray>(weights: &[P], symbol: usize) -> P
     sum
 }
 
-/// Whether a number is the product of two others.
+/// Returns whether a number is the product of two others.
 pub fn is_product(number: usize, first: usize, second: usize) -> bool
     ensures { IsTrue result ↔ (number ≡ first * second) }
 {
@@ -53,7 +53,7 @@ pub fn is_product(number: usize, first: usize, second: usize) -> bool
     }
 }
 
-/// Whether each of `count` rows of `width` weights adds up to two to the precision.
+/// Returns whether each of `count` rows of `width` weights adds up to `2 ^ PRECISION`.
 pub fn are_totals<P: BitArray, const PRECISION: usize>(
     weights: &[P],
     width: usize,

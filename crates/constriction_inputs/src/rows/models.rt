@@ -1,4 +1,4 @@
-//! What a row of weights is as a model.
+//! The model traits of a row of weights.
 
 ghost use Rattle.std.specs.Prelude.{map};
 ghost use Rattle.constriction_base.specs.Tables.{table_of};

@@ -1,11 +1,11 @@
--- That two symbols are a table.
+-- Two symbols make a table.
 use Rattle.std.specs.Prelude.{ℕ, ◌-◌, ◌^◌, ◌<◌, ◌≤◌, length, [], ◌∷◌, Bool, true, false}
 use Rattle.std.proofs.Common.{refl, inl, inr, arith, ap}
 use Rattle.std.proofs.lemmas.Bool.{true≢false}
 use Rattle.constriction_base.specs.Tables.{Has, IsTable}
 use Rattle.constriction_models.specs.Bernoulli.{bernoulli}
 
--- the second isn't the first
+-- The second symbol isn't the first.
 apart : (at weight : ℕ) (l p : ℕ) → Has ((true, at, weight) ∷ []) false l p → ⊥
 apart at weight l p (inl same) = true≢false (ap (λ (e : Bool × ℕ × ℕ). e.0) same)
 apart at weight l p (inr none) = absurd none

@@ -1,4 +1,4 @@
--- That equal weights are a table, and which symbol's interval holds a quantile.
+-- Equal weights make a table, and a division finds the symbol whose interval holds a quantile.
 use Rattle.std.specs.Prelude.{◌≡◌, ℕ, suc, ◌+◌, ◌-◌, ◌*◌, ◌/◌, ◌^◌, ◌<◌, ◌≤◌, length}
 use Rattle.std.proofs.Common.{refl, inl, inr, arith}
 use Rattle.std.proofs.Math.Nat.{div-mul-le_self, mul-div-le, lt-mul-div-succ, mul_comm, mul-le-mul_right, mul-lt-mul_of_pos_right}
@@ -18,7 +18,7 @@ pub even_end : (all count k : ℕ) → count ≤ k → even_start all count k �
 unfolding even_start
 even_end all count k past = grind (arith, nat_tests)
 
--- what each symbol but the last has
+-- The equal share is above 0.
 pub part_some : (all count : ℕ) → 0 < count → count ≤ all → 0 < all / count
 part_some all count some room = let one : 1 ≤ all / count = le-div 1 all count some (omega arith) in omega arith
 
@@ -57,13 +57,13 @@ uniform_impossible precision count s past = cut_impossible (λ k. k) (even_start
 pub uniform_interval : (precision count k : ℕ) → 2 ≤ count → count ≤ 2 ^ precision → k < count → IsProperInterval (even_start (2 ^ precision) count k) (even_start (2 ^ precision) count (k + 1)) (2 ^ precision)
 uniform_interval precision count k some room inside = cut_interval (even_start (2 ^ precision) count) count (2 ^ precision) k (even_is_cut (2 ^ precision) count (omega arith) room) some inside
 
--- a symbol that isn't behind the place of a quantile begins no later
+-- A symbol of at most the quotient begins at or below the quantile.
 pub even_low : (all count q k : ℕ) → k < count → k ≤ q / (all / count) → even_start all count k ≤ q
 even_low all count q k inside before =
     let part : ℕ = all / count in
     omega (arith, even_inside all count k inside, mul-le-mul_right part before, div-mul-le_self q part)
 
--- the one at the place ends behind it
+-- A symbol of at least the quotient ends above the quantile.
 pub even_high : (all count q k : ℕ) → 0 < count → count ≤ all → q < all → q / (all / count) ≤ k → q < even_start all count (k + 1)
 even_high all count q k some room inside behind =
     elim (cases_lt (k + 1) count) [

@@ -1,4 +1,4 @@
--- That such functions are distribution functions.
+-- Interpolated functions are distribution functions: they never fall and stay within 2 ^ 32.
 use Rattle.std.specs.Prelude.{◌≡◌, ℕ, zero, suc, ◌+◌, ◌-◌, ◌*◌, ◌/◌, ◌%◌, ◌<◌, ◌≤◌, List, [], ◌∷◌, length, slice_index, true, nat_le, ℤ, pos, negsuc, ◌+ℤ◌, ◌-ℤ◌, ◌≤ℤ◌, ◌<ℤ◌}
 use Rattle.std.proofs.Common.{refl, ap, ◌∙◌, inl, inr, arith, leb-true}
 use Rattle.std.proofs.Math.Nat.{mul-le-mul_left, mul-le-mul_right, mul-lt-mul_of_pos_right, div-mul-le_self, mul_assoc, mul_comm}
@@ -8,7 +8,7 @@ use Rattle.std.proofs.lemmas.Int.{ints}
 use Rattle.constriction_models.specs.Interpolation.{rises_from, AreValues, interpolated, value_at, value_above, value_beyond, located, scaled}
 use Rattle.constriction_models.specs.Quantized.{IsDistribution}
 
--- no number of such a list is below what it rises from
+-- No number of such a list is below `low`.
 pub rises_above : (low : ℕ) (xs : List ℕ) (k : ℕ) → rises_from low xs ≡ true → k < length xs → low ≤ slice_index xs k
 unfolding rises_from
 rises_above low [] k up inside = absurd (omega arith)
@@ -20,7 +20,7 @@ rises_above low (x ∷ xs) (suc k) up inside =
     let first : low ≤ x = leb-true low x parts.0 in
     omega (arith, rises_above x xs k parts.1 (omega arith))
 
--- nor below one before it
+-- No number of such a list is below an earlier one.
 pub rises_along : (low : ℕ) (xs : List ℕ) (i j : ℕ) → rises_from low xs ≡ true → i ≤ j → j < length xs → slice_index xs i ≤ slice_index xs j
 unfolding rises_from
 rises_along low [] i j up order inside = absurd (omega arith)
@@ -29,7 +29,7 @@ rises_along low (x ∷ xs) zero (suc j) up order inside = rises_above x xs j (an
 rises_along low (x ∷ xs) (suc i) zero up order inside = absurd (omega arith)
 rises_along low (x ∷ xs) (suc i) (suc j) up order inside = rises_along x xs i j (and_parts (nat_le low x) (rises_from x xs) up).1 (omega arith) (omega arith)
 
--- a part of the way lies on it
+-- A part of a distance is at most the distance.
 pub part_within : (long part : ℕ) → part < 65536 → long * part / 65536 ≤ long
 part_within long part h =
     let most : part ≤ 65536 = omega arith in
@@ -38,7 +38,7 @@ part_within long part h =
 pub part_grows : (long low high : ℕ) → low ≤ high → long * low / 65536 ≤ long * high / 65536
 part_grows long low high h = omega (arith, mul-le-mul_left long h)
 
--- what lies between two values
+-- An interpolated value lies between its two neighbours.
 pub between_within : (values : List ℕ) (k part : ℕ) → AreValues values → k < 2048 → part < 65536 → (slice_index values k ≤ interpolated values k part) × (interpolated values k part ≤ slice_index values (k + 1))
 unfolding interpolated
 between_within values k part is inside low =
@@ -50,7 +50,7 @@ same_step : (values : List ℕ) (first second p q : ℕ) → first ≡ second �
 unfolding interpolated
 same_step values first second p q e h = rw e (omega (arith, part_grows (slice_index values (second + 1) - slice_index values second) p q h))
 
--- the value at a place never falls
+-- The value at a place never falls.
 pub value_rises : (values : List ℕ) (low high : ℕ) → AreValues values → low ≤ high → high < 134217728 → value_at values low ≤ value_at values high
 unfolding value_at
 value_rises values low high is order inside =
@@ -73,24 +73,24 @@ value_within values place is inside =
     let here = between_within values step (place % 65536) is in_table (omega arith) in
     omega (arith, here.1, rises_along 0 values (step + 1) 2048 is.rises (omega arith) (omega (arith, is.len)), is.last)
 
--- the two values around a place
+-- The two table values around a place.
 pub values_around : (values : List ℕ) (place : ℕ) → AreValues values → place < 134217728 → (place / 65536 + 1 < length values) × (slice_index values (place / 65536) ≤ slice_index values (place / 65536 + 1)) × (slice_index values (place / 65536 + 1) ≤ 4294967296)
 values_around values place is inside =
     let step : ℕ = place / 65536 in
     let in_table : step < 2048 = omega arith in
     (omega (arith, is.len), rises_along 0 values step (step + 1) is.rises (omega arith) (omega (arith, is.len)), omega (arith, rises_along 0 values (step + 1) 2048 is.rises (omega arith) (omega (arith, is.len)), is.last))
 
--- a product with a part of the way fits
+-- The product of a distance and a part of 65536 fits 64 bits.
 pub part_fits : (long part : ℕ) → long ≤ 4294967296 → part < 65536 → long * part ≤ 281474976710656
 part_fits long part short small =
     let most : part ≤ 65536 = omega arith in
     omega (arith, mul-le-mul_left long most)
 
--- all of the table is within 2 ^ 27 parts of steps
+-- The whole table has at most 2 ^ 27 65536ths of a step.
 abbrev pub Fits : ℕ → ℕ → Type 0
 Fits wide rate = wide * rate ≤ 9223372036854775808
 
--- what a place far above the beginning has in parts of steps
+-- The product of a distance within the table and the rate fits 64 bits.
 pub product_fits : (wide rate far : ℕ) → Fits wide rate → far < wide → far * rate ≤ 9223372036854775808
 product_fits wide rate far fits inside =
     let less : far ≤ wide = omega arith in
@@ -133,7 +133,7 @@ unfolding value_beyond
 beyond_within values wide rate (pos x) is fits = above_within values wide rate x is fits
 beyond_within values wide rate (negsuc x) is fits = omega arith
 
--- what lies below the table, above it and in it
+-- The values below the table, above it and within it.
 pub beyond_none : (values : List ℕ) (wide rate : ℕ) (z : ℤ) → z <ℤ pos 0 → value_beyond values wide rate z ≡ 0
 unfolding value_beyond
 beyond_none values wide rate (pos n) low = absurd (omega (arith, ints))
@@ -155,7 +155,7 @@ located_is_distribution values wide rate middle is fits = record {
   within = λ x. beyond_within values wide rate (x -ℤ middle +ℤ pos (wide / 2)) is fits;
 }
 
--- all of the table is so many steps, or somewhat fewer where the divisions leave a rest
+-- The whole table has this many steps, or slightly fewer because of the roundings.
 pub scaled_fits : (width scale : ℕ) → Fits (width * scale) (9223372036854775808 / width / scale)
 scaled_fits width scale =
     let all : ℕ = 9223372036854775808 / width in

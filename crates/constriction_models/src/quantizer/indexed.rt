@@ -1,4 +1,4 @@
-//! Symbols by their places in a quantizer's range.
+//! `IndexedDistribution`: the symbols of a quantizer by their index in the range.
 
 ghost use Rattle.std.specs.Prelude.{◌≡◌};
 ghost use Rattle.constriction_models.specs.Quantized.{indexed};
@@ -11,11 +11,19 @@ use constriction_base::model::{DecoderModel, EncoderModel, EntropyModel};
 use constriction_words::{BitArray, WordOf};
 use std::marker::PhantomData;
 
-/// A distribution, cut at half symbols, as a model of places: 0 stands for the first symbol of the range, 1 for the
-/// next, and so on.
+/// A distribution cut halfway between symbols, as a model of indices: 0 is the first symbol of the range, 1 the next.
 ///
-/// So a range is coded where symbols have to be `usize`, as those of weight tables and of
+/// It serves where symbols have to be of type `usize`, like those of weight tables and of
 /// [`crate::lookup::ContiguousLookupDecoderModel`].
+///
+/// # Examples
+///
+/// ```
+/// let quantizer = LeakyQuantizer::<u32, 24>::new(-127, 128)?;
+/// if let Some(gaussian) = Gaussian::new(229376, 147456) {
+///     coder.encode_symbol(&134, quantizer.quantize_indexed(gaussian))?; // the symbol 7
+/// }
+/// ```
 #[derive(Drop)]
 pub struct IndexedDistribution<
     D: CumulativeDistribution,
@@ -28,7 +36,9 @@ pub struct IndexedDistribution<
 impl<Probability: WordOf<u32>, const PRECISION: usize> LeakyQuantizer<Probability, PRECISION> {
     ghost use Rattle.constriction_models.specs.Quantizers.{first_symbol, symbol_count};
 
-    /// The model of a distribution, cut at half symbols, whose symbols are places: that of `min` is 0.
+    /// Returns the model of a distribution, cut halfway between symbols, whose symbols are indices.
+    ///
+    /// The symbol `min` has the index 0.
     pub fn quantize_indexed<D: CumulativeDistribution>(
         &self,
         distribution: D,

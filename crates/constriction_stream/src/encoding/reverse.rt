@@ -1,4 +1,4 @@
-//! Lists of symbols that are encoded from the last to the first.
+//! `EncodeReverse`: lists of symbols that are encoded from the last to the first.
 
 ghost use Rattle.constriction_stream.specs.Symbols.{EncodesSymbol, EncodesPair};
 ghost use Rattle.constriction_stream.specs.Lists.{StepsUntilFault, GivesAtMost, LowersByItems, TriesItem};
@@ -9,19 +9,27 @@ use constriction_base::errors::CoderError;
 use constriction_base::model::{EncoderModel, EntropyModel};
 use constriction_words::WordOf;
 
-/// An encoder whose last symbol is decoded first, as a stack is one: lists that it takes from the last
-/// symbol to the first are decoded in order.
+/// An encoder that is a stack: the symbol encoded last is decoded first.
 ///
-/// It has no members of its own, and a coder that is a stack implements it in one line.
+/// Lists that it encodes from the last symbol to the first are decoded in order. The trait has no members to implement
+/// and no laws, so a coder that is a stack implements it in one line.
 pub trait EncodeReverse<const PRECISION: usize>: Encode<PRECISION> {
-    /// Encodes symbols from the last to the first, each by its own model, up to the first that is
-    /// refused. A decoder then gives them in the order of the list. To a coder that counts symbols as many
-    /// must be left as there are items.
+    /// Encodes symbols from the last to the first, each under its own model, and stops at the first error.
+    ///
+    /// A decoder of a stack then returns them in the order of the list. The caller of a coder that counts symbols
+    /// proves that as many symbols are left as there are items.
     ///
     /// # Errors
     ///
-    /// That of the first step that is refused. Exactly the symbols behind it are encoded, and the items
-    /// before it aren't asked for.
+    /// The error of the first step that is refused. Exactly the symbols behind it in the list are encoded, and the
+    /// items before it are not taken from the iterator.
+    ///
+    /// # Examples
+    ///
+    /// ```
+    /// coder.encode_symbols_reverse([(&3usize, &table), (&0, &other)])?;
+    /// coder.decode_symbol(&table)?; // 3
+    /// ```
     final fn encode_symbols_reverse<S, M, I>(
         &mut self,
         symbols_and_models: I,
@@ -48,15 +56,16 @@ pub trait EncodeReverse<const PRECISION: usize>: Encode<PRECISION> {
         Ok(())
     }
 
-    /// Encodes symbols from the last to the first, each by its own model, where an item may be an error in
-    /// place of both. To a coder that counts symbols as many must be left as there are items.
+    /// Encodes symbols from the last to the first, each under its own model, where an item may be an error instead.
+    ///
+    /// The caller of a coder that counts symbols proves that as many symbols are left as there are items.
     ///
     /// # Errors
     ///
-    /// After each of them exactly the symbols behind the item are encoded.
+    /// After either error, exactly the symbols behind the item in the list are encoded.
     ///
-    /// - `InvalidEntropyModel(error)`, where an item is an error. It leaves the coder.
-    /// - `CodingError(error)`, where a step is refused.
+    /// - `InvalidEntropyModel(error)`: the item is an error. It changes nothing of the coder.
+    /// - `CodingError(error)`: the step is refused.
     final fn try_encode_symbols_reverse<S, M, E, I>(
         &mut self,
         symbols_and_models: I,
@@ -88,14 +97,15 @@ pub trait EncodeReverse<const PRECISION: usize>: Encode<PRECISION> {
         Ok(())
     }
 
-    /// Encodes symbols from the last to the first, all by one model, up to the first that is refused. A
-    /// decoder then gives them in the order of the list. To a coder that counts symbols as many must be
-    /// left as there are items.
+    /// Encodes symbols from the last to the first, all under one model, and stops at the first error.
+    ///
+    /// A decoder of a stack then returns them in the order of the list. The caller of a coder that counts symbols
+    /// proves that as many symbols are left as there are items.
     ///
     /// # Errors
     ///
-    /// That of the first step that is refused. Exactly the symbols behind it are encoded, and those before it
-    /// aren't asked for.
+    /// The error of the first step that is refused. Exactly the symbols behind it in the list are encoded, and the
+    /// symbols before it are not taken from the iterator.
     ///
     /// # Examples
     ///

@@ -1,4 +1,4 @@
-//! A number of symbols by one model.
+//! `DecodeIidSymbols`: a given number of symbols under one model.
 
 ghost use Rattle.std.specs.Prelude.{◌≡◌, IfSome, Some};
 ghost use Rattle.std.specs.Iterator.{UpTo, at_most};
@@ -11,14 +11,24 @@ use constriction_base::errors::CoderError;
 use constriction_base::model::{DecoderModel, EntropyModel};
 use constriction_words::WordOf;
 
-/// Decodes a number of symbols, all by one model.
+/// An iterator that decodes a given number of symbols, all under one model.
+///
+/// It is returned by [`Decode::decode_iid_symbols`](crate::decoding::Decode::decode_iid_symbols).
+///
+/// # Examples
+///
+/// ```
+/// let mut symbols = decoder.decode_iid_symbols(3, &table);
+/// symbols.next(); // the first symbol, as `Some(Ok(symbol))`
+/// symbols.len() // 2
+/// ```
 #[derive(Debug, Drop)]
 pub struct DecodeIidSymbols<'a, Decoder, M, const PRECISION: usize> {
-    /// The decoder, which stands after the symbols that were taken.
+    /// The decoder, which stands behind the symbols that were taken.
     pub decoder: &'a mut Decoder,
-    /// The model of all the symbols.
+    /// The model of all symbols.
     pub model: M,
-    /// How many symbols are still to be taken.
+    /// The number of symbols that are left.
     pub amt: usize,
 }
 

@@ -1,4 +1,4 @@
-//! A symbol for each model.
+//! `DecodeSymbols`: one symbol for each model.
 
 ghost use Rattle.std.specs.Prelude.{◌≡◌};
 ghost use Rattle.constriction_stream.specs.Symbols.{DecodesByModel};
@@ -9,12 +9,23 @@ use constriction_base::errors::CoderError;
 use constriction_base::model::{DecoderModel, EntropyModel};
 use constriction_words::WordOf;
 
-/// Decodes a symbol for each of the models.
+/// An iterator that decodes one symbol for each of the models.
+///
+/// It is returned by [`Decode::decode_symbols`](crate::decoding::Decode::decode_symbols).
+///
+/// # Examples
+///
+/// ```
+/// let mut symbols = decoder.decode_symbols([&table, &other]);
+/// symbols.next(); // a symbol under `table`
+/// symbols.next(); // a symbol under `other`
+/// symbols.next() // None
+/// ```
 #[derive(Debug, Drop)]
 pub struct DecodeSymbols<'a, Decoder, Models, const PRECISION: usize> {
-    /// The decoder, which stands after the symbols that were taken.
+    /// The decoder, which stands behind the symbols that were taken.
     pub decoder: &'a mut Decoder,
-    /// The models of the symbols that come next.
+    /// The models that are left.
     pub models: Models,
 }
 

@@ -1,4 +1,4 @@
-//! A symbol for each model, where a model may be an error.
+//! `TryDecodeSymbols`: one symbol for each model, where an item may be an error instead.
 
 ghost use Rattle.std.specs.Prelude.{◌≡◌};
 ghost use Rattle.constriction_stream.specs.Symbols.{DecodesByModel};
@@ -10,12 +10,22 @@ use constriction_base::errors::CoderError;
 use constriction_base::model::{DecoderModel, EntropyModel};
 use constriction_words::WordOf;
 
-/// Decodes a symbol for each of the models, any of which may be an error.
+/// An iterator that decodes one symbol for each of the models, where an item may be an error instead.
+///
+/// It is returned by [`Decode::try_decode_symbols`](crate::decoding::Decode::try_decode_symbols).
+///
+/// # Examples
+///
+/// ```
+/// let mut symbols = decoder.try_decode_symbols([Ok(&table), Err("lost")]);
+/// symbols.next(); // a symbol under `table`
+/// symbols.next() // Some(Err(TryCodingError::InvalidEntropyModel("lost")))
+/// ```
 #[derive(Debug, Drop)]
 pub struct TryDecodeSymbols<'a, Decoder, Models, const PRECISION: usize> {
-    /// The decoder, which stands after the symbols that were taken.
+    /// The decoder, which stands behind the symbols that were taken.
     pub decoder: &'a mut Decoder,
-    /// The models of the symbols that come next.
+    /// The models that are left.
     pub models: Models,
 }
 
