@@ -220,8 +220,8 @@ pub trait DecoderCodebook: Codebook {
 
     /// Looks up the codeword that begins the `count` highest bits of a word, first bit highest.
     ///
-    /// Returns its symbol and its length if the length is below `count`. A coder then drops these bits with one shift. The
-    /// default returns `None`, which says nothing about the bits.
+    /// Returns its symbol and its length if the length is below `count`. A coder then drops these bits with one shift.
+    /// The default returns `None`, which says nothing about the bits.
     #[inline]
     fn symbol_at_once<Word: BitArray>(&self, bits: Word, count: u32) -> Option<(Self::Symbol, u32)>
         requires { count ≤ Word.BITS }

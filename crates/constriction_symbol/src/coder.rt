@@ -1,4 +1,6 @@
-//! Bit coders: a list of bits over words that grows at its end. A queue is read from its beginning, a stack from its end.
+//! Bit coders: lists of bits over words that grow at their end.
+//!
+//! A queue is read from its beginning, a stack from its end.
 //!
 //! - [`words`]: importing and exporting words.
 //! - [`decoders`]: the same bits for reading.

@@ -62,8 +62,8 @@ impl<Word: BitArray + fmt::Debug, S: Semantics, A: Allocator> fmt::Debug
 }
 
 impl<Word: BitArray, A: Allocator> StackCoder<Word, Vec<Word, A>> {
-    /// Writes the words that end the bits, keeps the bits outside the vector, and returns how many words it wrote: two if
-    /// the last word is full, else one.
+    /// Writes the words that end the bits, keeps the bits outside the vector, and returns how many words it wrote: two
+    /// if the last word is full, else one.
     fn put_end(&mut self) -> Result<usize, AllocError>
         ensures shows { OnOk result (IsStackWords Word.BITS self.old.bits (map Word.number self.new.backend.items)) }
         ensures back { IfOk result (λ count. bits_without Word.BITS Word.number count self.new ≡ self.old.bits) }
