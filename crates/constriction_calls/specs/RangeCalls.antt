@@ -110,6 +110,7 @@ pub record RangeSeals {Word State : Type 0} (number : Word → ℕ) (state : Sta
     (old new : RangeKept Word State) (answer : Result (Unit {0}) Refusal) : Type 0 where
   pub words : OnOk answer (ends (run_kept number state w s old.encoder (take old.len old.words)) (map number (take new.len new.words)))
   pub appended : OnOk answer ((added : List Word) × Appended old.words old.len added new.words new.len)
+  -- The words in use are within the buffer, and the numbers are those of an encoder.
   pub asked : Asks WrongLength (old.len ≤ length old.words) (Asks InvalidData (IsEncoderKept number state w s old.encoder)
       (Else (RoomFirst w (length old.words) (length (sealed w s (run_kept number state w s old.encoder (take old.len old.words))))))) answer
   pub kept : OnErr answer (new ≡ old)
