@@ -1,2 +1,2 @@
--- Why codewords weren't written or read, and why they have no cost.
+-- The errors of writing, reading and costing codewords.
 pub use Rattle.constriction_laws.specs.symbol.Refusals.{BeginsWithNone, HasNoCodeword, HaveNoTree, SymbolNotWritten, StopsAtCodebook, StopsReading}
