@@ -1,2 +1,2 @@
--- The errors of coding lists of symbols, and of symbols that don't come back.
+-- Why lists of symbols weren't coded, or didn't come back.
 pub use Rattle.constriction_laws.specs.Outcomes.{StopsAmong, HasImpossibleItem, Reasons, OnlyRefused, UnlessImpossible, UnlessInvalid}

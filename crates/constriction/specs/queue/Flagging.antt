@@ -1,2 +1,2 @@
--- Symbols that a switch returns, before its flag or behind it.
+-- Symbols that a switch gives, before its flag or behind it.
 pub use Rattle.constriction_laws.specs.queue.Flagging.{flagged_behind}

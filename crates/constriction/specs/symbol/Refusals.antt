@@ -1,2 +1,2 @@
--- The errors of writing, reading and costing codewords.
+-- Why codewords weren't written or read, and why they have no cost.
 pub use Rattle.constriction_laws.specs.symbol.Refusals.{BeginsWithNone, HasNoCodeword, HaveNoTree, SymbolNotWritten, StopsAtCodebook, StopsReading}
