@@ -4,7 +4,8 @@
 //! the prefix form of its codewords.
 //!
 //! The reversal goes through a [`SmallBitStack`]. It holds two words of bits without memory: the first word is inline
-//! in its small vector, the last one is outside the backend.
+//! in its small vector, the last one is outside the backend. [`NewSmallStack`] makes it, because a second
+//! `StackCoder::new` would be ambiguous.
 
 ghost use Rattle.constriction_symbol.specs.Bits.{PutsBit};
 ghost use Rattle.constriction_symbol.specs.Codewords.{Emits, EmitsCodeword, LacksMemory, formed};

@@ -2,6 +2,9 @@
 //!
 //! No union weighs less than an earlier union. So the least tree is the first one of the leaves, which are sorted, or
 //! of the unions, in the order of their making. On equal weights it is the leaf, because leaves have the lower indices.
+//!
+//! Weights are collected before the merge, so that their sum is known to fit. If the weights are lent, `Memory` may
+//! come wherever one more was to be collected.
 
 ghost use Rattle.constriction_symbol.specs.Huffman.{IsPairLe, keys_from};
 ghost use Rattle.constriction_symbol.specs.Merging.{ArePairs, FitTree, MakeNoTree, all_keys, key_of, keys_of};

@@ -1,4 +1,6 @@
 //! A tree in the merge, with its weight and its index.
+//!
+//! Both queues compare weights at their own width, as the Rust crate does.
 
 ghost use Rattle.std.specs.Prelude.{◌==◌};
 ghost use Rattle.std.proofs.Common.{rules};
