@@ -175,8 +175,8 @@ impl<N: BitArray> DecoderCodebook for ExpGolomb<N> {
     ///
     /// After each error, the bits read so far stay read. `B` is `N::BITS`.
     ///
-    /// - `Frontend(InvalidCodeword(..))` exactly if the bits begin with `B + 1` zeros, or with `B` zeros, a 1, and `B`
-    ///   bits that aren't all 0. All of these bits were read.
+    /// - `Frontend(InvalidCodeword(..))` exactly if `B + 1` zeros come first, or `B` zeros, a 1, and `B` bits that
+    ///   aren't all 0. All of these bits were read.
     /// - `Frontend(OutOfCompressedData)` exactly if the bits end first, within a codeword.
     /// - `Backend(error)` if the source returns this error in place of a bit.
     #[inline]
