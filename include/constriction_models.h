@@ -1,31 +1,32 @@
-/* Models in whole numbers: distributions over a range of whole numbers, with a location and a scale for each symbol,
-   and weights of counts. A part of constriction.h, which includes it; what that file says of sizes, buffers, pointers
-   and refusals holds here.
+/* Models with whole-number parameters: distributions over a range of whole numbers, with a location and a scale for
+   each symbol, and weights of counts. This file is a part of constriction.h, which includes it. What constriction.h
+   says of sizes, buffers, pointers and errors holds here too.
 
-   FAMILIES. `family` is one of enum constriction_family. Each is a standard distribution, moved to a location and
-   stretched by a scale:
+   FAMILIES. `family` is one of enum constriction_family. Each family is a standard distribution, moved by a location
+   and stretched by a scale:
 
-                              location    scale
-     CONSTRICTION_GAUSSIAN    mean        standard deviation
-     CONSTRICTION_LAPLACE     mean        how far from the mean the density is 1/e of what it is there
-     CONSTRICTION_LOGISTIC    mean        of the distribution function 1 / (1 + exp(-(x - mean) / scale))
+                                location    scale
+       CONSTRICTION_GAUSSIAN    mean        standard deviation
+       CONSTRICTION_LAPLACE     mean        distance from the mean at which the density has fallen by the factor 1/e
+       CONSTRICTION_LOGISTIC    mean        that of the distribution function 1 / (1 + exp(-(x - mean) / scale))
 
-   UNITS. Locations and scales are whole numbers of units of 2^-16: a mean of 3.5 is 229376, a deviation of 2.25 is
-   147456. A scale is above 0. Who has floats rounds them once, llrint(65536 * mean); from then on all is whole
-   numbers, and a table is the same on every machine.
+   UNITS. Locations and scales are whole numbers of units of 2^-16: a mean of 3.5 is 229376, and a deviation of 2.25
+   is 147456. A scale is above 0. If you have floats, round them once: llrint(65536 * mean). After that all numbers
+   are whole, and a table is the same on every machine.
 
-   RANGE. Symbols stand for the whole numbers from `min` to `max`, of which there are 2 at least and 2^24 (2^12) at
-   most. A symbol is its place in the range, as size_t: 0 stands for min, 1 for min + 1, max - min for max. So add min
-   to what a decode gives, and take it off what an encode is given.
+   RANGE. Symbols stand for the whole numbers from `min` to `max`, which are at least 2 and at most 2^24 (2^12)
+   numbers. A symbol is its place in the range, as size_t: 0 stands for min, 1 for min + 1, and max - min for max. So
+   add min to what a decode returns, and subtract it from what you encode.
 
-   TABLE. Each symbol has a weight of 1, and the rest of 2^24 (2^12) is shared out by the distribution: that of the
-   whole number x is what lies between x - 1/2 and x + 1/2, and what lies outside the range goes to its two ends. So
-   every symbol of the range can be coded. docs/MODELS.md has the definition, to the last unit.
+   TABLE. Each symbol has a weight of 1, and the distribution shares out the rest of 2^24 (2^12). The share of the
+   whole number x is the part of the distribution between x - 1/2 and x + 1/2. The parts outside the range go to its
+   two ends. So every symbol of the range can be coded. docs/MODELS.md has the exact definition.
 
-   There are as many locations and as many scales as symbols. Refusals come in this order: WRONG_LENGTH (there aren't,
-   and as of the coder); WRONG_INTERVAL (the range); WRONG_WEIGHTS (a scale is 0, or there is no such family);
-   INVALID_DATA of a state; IMPOSSIBLE_SYMBOL (a symbol is past the range); the others as of the coder. NO_MEMORY can
-   take the place of those behind IMPOSSIBLE_SYMBOL alone. */
+   There are as many locations and as many scales as symbols. If several errors apply, the result is the first of
+   these: WRONG_LENGTH (another number of them, or as in the coder's functions); WRONG_INTERVAL (the range);
+   WRONG_WEIGHTS (a scale is 0, or the family doesn't exist); INVALID_DATA for a state; IMPOSSIBLE_SYMBOL (a symbol
+   is past the range); the others as in the coder's functions. NO_MEMORY can replace only those behind
+   IMPOSSIBLE_SYMBOL. */
 #ifndef CONSTRICTION_MODELS_H
 #define CONSTRICTION_MODELS_H
 
@@ -42,13 +43,13 @@ enum constriction_family {
     CONSTRICTION_LOGISTIC = 2
 };
 
-/* How many units a location or a scale of 1 has. */
+/* The number of units in a location or a scale of 1. */
 #define CONSTRICTION_UNITS 65536
 
 /* ---- Words of 32 bits, states of 64, weights that add up to 2^24 ---- */
 
-/* The stack coder: encodes symbols, from the last one of the list to the first, each under its own location and scale.
-   Refusals: WRONG_LENGTH (*len > capacity, or location_count or scale_count isn't symbol_count), WRONG_INTERVAL,
+/* The stack coder: encodes symbols from the last to the first, each with its own location and scale.
+   Errors: WRONG_LENGTH (*len > capacity, or location_count or scale_count isn't symbol_count), WRONG_INTERVAL,
    WRONG_WEIGHTS, IMPOSSIBLE_SYMBOL, NO_SPACE, NO_MEMORY. */
 uint32_t constriction_ans_encode_quantized_reverse_u32(uint64_t *head, uint32_t *words, size_t capacity, size_t *len,
                                                        uint32_t family, int32_t min, int32_t max,
@@ -56,8 +57,9 @@ uint32_t constriction_ans_encode_quantized_reverse_u32(uint64_t *head, uint32_t 
                                                        const uint32_t *scales, size_t scale_count,
                                                        const size_t *symbols, size_t symbol_count, size_t *needed);
 
-/* Decodes symbol_count symbols and takes words off the top, past the end of data too, as constriction_ans_decode.
-   Refusals: WRONG_LENGTH (*len > word_count, or location_count or scale_count isn't symbol_count), WRONG_INTERVAL,
+/* Decodes symbol_count symbols and takes words off the top, also past the end of the data, as
+   constriction_ans_decode.
+   Errors: WRONG_LENGTH (*len > word_count, or location_count or scale_count isn't symbol_count), WRONG_INTERVAL,
    WRONG_WEIGHTS, NO_MEMORY. */
 uint32_t constriction_ans_decode_quantized_u32(uint64_t *head, const uint32_t *words, size_t word_count, size_t *len,
                                                uint32_t family, int32_t min, int32_t max,
@@ -65,8 +67,8 @@ uint32_t constriction_ans_decode_quantized_u32(uint64_t *head, const uint32_t *w
                                                const uint32_t *scales, size_t scale_count,
                                                size_t *symbols, size_t symbol_count);
 
-/* The range coder: encodes symbols, the first one of the list first.
-   Refusals: WRONG_LENGTH (*len > capacity, or location_count or scale_count isn't symbol_count), WRONG_INTERVAL,
+/* The range coder: encodes symbols, first to last.
+   Errors: WRONG_LENGTH (*len > capacity, or location_count or scale_count isn't symbol_count), WRONG_INTERVAL,
    WRONG_WEIGHTS, INVALID_DATA (no encoder has such numbers), IMPOSSIBLE_SYMBOL, NO_SPACE, NO_MEMORY. */
 uint32_t constriction_range_encode_quantized_u32(struct constriction_range_encoder_state_u32 *encoder,
                                                  uint32_t *words, size_t capacity, size_t *len,
@@ -75,8 +77,8 @@ uint32_t constriction_range_encode_quantized_u32(struct constriction_range_encod
                                                  const uint32_t *scales, size_t scale_count,
                                                  const size_t *symbols, size_t symbol_count, size_t *needed);
 
-/* Decodes symbol_count symbols of the words. Past their end it reads zero words.
-   Refusals: WRONG_LENGTH (pos > word_count, or location_count or scale_count isn't symbol_count), WRONG_INTERVAL,
+/* Decodes symbol_count symbols. Past the end of the words it reads zero words.
+   Errors: WRONG_LENGTH (pos > word_count, or location_count or scale_count isn't symbol_count), WRONG_INTERVAL,
    WRONG_WEIGHTS, INVALID_DATA (no decoder has such numbers, or no encoder wrote such words under these models),
    NO_MEMORY. */
 uint32_t constriction_range_decode_quantized_u32(struct constriction_range_decoder_state_u32 *decoder,
@@ -86,10 +88,10 @@ uint32_t constriction_range_decode_quantized_u32(struct constriction_range_decod
                                                  const uint32_t *scales, size_t scale_count,
                                                  size_t *symbols, size_t symbol_count);
 
-/* The chain coder: encodes symbols, from the last one of the list to the first: the converse of the decode.
-   Refusals: WRONG_LENGTH (*compressed_len > capacity, *remainders_len > remainders_count, or location_count or
+/* The chain coder: encodes symbols from the last to the first, the inverse of a decode.
+   Errors: WRONG_LENGTH (*compressed_len > capacity, *remainders_len > remainders_count, or location_count or
    scale_count isn't symbol_count), WRONG_INTERVAL, WRONG_WEIGHTS, INVALID_DATA (no coder has such heads),
-   IMPOSSIBLE_SYMBOL, OUT_OF_DATA (remainders are too short), NO_SPACE (of compressed), NO_MEMORY. */
+   IMPOSSIBLE_SYMBOL, OUT_OF_DATA (remainders is too short), NO_SPACE (in compressed), NO_MEMORY. */
 uint32_t constriction_chain_encode_quantized_reverse_u32(struct constriction_chain_heads_u32 *heads,
                                                          uint32_t *compressed, size_t capacity, size_t *compressed_len,
                                                          const uint32_t *remainders, size_t remainders_count,
@@ -100,9 +102,9 @@ uint32_t constriction_chain_encode_quantized_reverse_u32(struct constriction_cha
                                                          const size_t *symbols, size_t symbol_count, size_t *needed);
 
 /* Decodes symbol_count symbols, each from 24 bits of the words.
-   Refusals: WRONG_LENGTH (*compressed_len > compressed_count, *remainders_len > capacity, or location_count or
-   scale_count isn't symbol_count), WRONG_INTERVAL, WRONG_WEIGHTS, INVALID_DATA (no coder has such heads), OUT_OF_DATA
-   (compressed is too short), NO_SPACE (of remainders), NO_MEMORY. */
+   Errors: WRONG_LENGTH (*compressed_len > compressed_count, *remainders_len > capacity, or location_count or
+   scale_count isn't symbol_count), WRONG_INTERVAL, WRONG_WEIGHTS, INVALID_DATA (no coder has such heads),
+   OUT_OF_DATA (compressed is too short), NO_SPACE (in remainders), NO_MEMORY. */
 uint32_t constriction_chain_decode_quantized_u32(struct constriction_chain_heads_u32 *heads,
                                                  const uint32_t *compressed, size_t compressed_count,
                                                  size_t *compressed_len,
@@ -112,10 +114,10 @@ uint32_t constriction_chain_decode_quantized_u32(struct constriction_chain_heads
                                                  const uint32_t *scales, size_t scale_count,
                                                  size_t *symbols, size_t symbol_count, size_t *needed);
 
-/* The interval of each symbol under its location and scale, as the calls .._intervals take it: the sum of the weights
-   before the symbol in lefts[i], and its own weight in ps[i]. With equal parameters and the symbols 0 to max - min
-   the ps are a whole table, which can be handed in as `weights`.
-   Refusals: WRONG_LENGTH (location_count, scale_count, left_count or p_count isn't symbol_count), WRONG_INTERVAL,
+/* Writes the interval of each symbol, as the functions .._intervals take it: the sum of the weights before the
+   symbol to lefts[i], and its own weight to ps[i]. With equal parameters and the symbols 0 to max - min, ps is a
+   whole table, which can be passed as `weights`.
+   Errors: WRONG_LENGTH (location_count, scale_count, left_count or p_count isn't symbol_count), WRONG_INTERVAL,
    WRONG_WEIGHTS, IMPOSSIBLE_SYMBOL. */
 uint32_t constriction_quantized_intervals_u32(uint32_t family, int32_t min, int32_t max,
                                               const int64_t *locations, size_t location_count,
@@ -123,10 +125,10 @@ uint32_t constriction_quantized_intervals_u32(uint32_t family, int32_t min, int3
                                               const size_t *symbols, size_t symbol_count,
                                               uint32_t *lefts, size_t left_count, uint32_t *ps, size_t p_count);
 
-/* Weights in proportion to counts, which add up to 2^24: a count of 0 gets the weight 0, each other count 1 at least.
-   The others share what is left, rounded so that the largest remainders are served first, and of equal ones those
-   that stand first. Counts may be any; their sum may be past 2^64.
-   Refusals: WRONG_LENGTH (weight_count isn't count_count); WRONG_WEIGHTS (no count is above 0, or more than 2^24 of
+/* Writes weights in proportion to counts, which add up to 2^24. A count of 0 gets the weight 0, and each other count
+   gets at least 1. The others share what is left, rounded by the largest remainders. Of equal remainders the first
+   one comes first. Counts may be any, and their sum may exceed 2^64.
+   Errors: WRONG_LENGTH (weight_count isn't count_count); WRONG_WEIGHTS (no count is above 0, or more than 2^24 of
    them are); NO_MEMORY. */
 uint32_t constriction_weights_of_counts_u32(const uint64_t *counts, size_t count_count,
                                             uint32_t *weights, size_t weight_count);
@@ -180,18 +182,18 @@ uint32_t constriction_quantized_intervals_u16(uint32_t family, int32_t min, int3
 uint32_t constriction_weights_of_counts_u16(const uint64_t *counts, size_t count_count,
                                             uint16_t *weights, size_t weight_count);
 
-/* ==== The same by the families' names ====
+/* ==== The same by the names of the families ====
 
    For NAME in gaussian, laplace, logistic, and both sizes, as inline functions:
 
-     constriction_ans_encode_NAME_reverse_u32      constriction_ans_decode_NAME_u32
-     constriction_range_encode_NAME_u32            constriction_range_decode_NAME_u32
-     constriction_chain_encode_NAME_reverse_u32    constriction_chain_decode_NAME_u32
-     constriction_NAME_intervals_u32               constriction_NAME_interval_u32
+        constriction_ans_encode_NAME_reverse_u32      constriction_ans_decode_NAME_u32
+        constriction_range_encode_NAME_u32            constriction_range_decode_NAME_u32
+        constriction_chain_encode_NAME_reverse_u32    constriction_chain_decode_NAME_u32
+        constriction_NAME_intervals_u32               constriction_NAME_interval_u32
 
-   Each but the last is the function with `quantized` in the place of the name, without its argument `family`. The
-   last writes the interval of one symbol, under one location and scale, to *left and *p.
-   Refusals: WRONG_INTERVAL, WRONG_WEIGHTS (the scale is 0), IMPOSSIBLE_SYMBOL. */
+   Each but the last is the function with `quantized` in place of the name, without the argument `family`. The last
+   writes the interval of one symbol, with one location and scale, to *left and *p.
+   Errors: WRONG_INTERVAL, WRONG_WEIGHTS (the scale is 0), IMPOSSIBLE_SYMBOL. */
 #define CONSTRICTION_MODEL_ \
     int32_t min, int32_t max, const int64_t *locations, size_t location_count, const uint32_t *scales, size_t scale_count
 #define CONSTRICTION_OF_MODEL_ min, max, locations, location_count, scales, scale_count

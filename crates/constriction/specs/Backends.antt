@@ -1,2 +1,2 @@
--- What reads and writes do to the words that a backend holds, and a place in a buffer.
+-- Reads and writes of a backend's words, and a position in a buffer.
 pub use Rattle.constriction_base.specs.Backends.{Reads, Writes, IsWrite, Place}

@@ -1,2 +1,2 @@
--- What an iterator of words gives, as reads of a backend.
+-- An iterator of words as reads of a backend.
 pub use Rattle.constriction_base.specs.Iterators.{item_of_answer, FusedStep, FusedRead, answer_of, CanGive}

@@ -1,2 +1,2 @@
--- Words that calls owe to a backend, and what stands there where it is refused.
+-- The words that a call owes to a backend, and what a refused write leaves.
 pub use Rattle.constriction_base.specs.Writing.{IsBegun, WrittenInTurn, StopsAtWrite, IsPrepared, RefusesWrite, RefusedWrite, WritesAll, Appends, NotWritten, IsOneAbove}

@@ -1,18 +1,18 @@
-//! Entropy coders over lists of words: lossless compression of symbols under models of how likely
-//! each is, close to the least number of bits, and with a proof of what every call does.
+//! Entropy coders over lists of words: lossless compression under models of the symbols' probabilities.
 //!
-//! This crate has no code of its own. It names the items of the crates below it under one tree, so
-//! that a user lists one crate; the definitions that their contracts cite are passed on in the same
-//! way, by `specs/`.
+//! The coders come close to the least number of bits, and what each call does is proved.
+//!
+//! This crate has no code of its own. It re-exports the items of the crates below it in one tree, so that you depend on
+//! one crate. `specs/` re-exports the definitions that their contracts cite.
 //!
 //! ```
 //! use constriction::stream::model::WeightTable;
 //! use constriction::stream::stack::DefaultAnsCoder;
 //!
-//! // Symbols 0, 1 and 2, of which the third is by far the likeliest: the weights sum to 2 ^ 24.
+//! // The symbols 0, 1 and 2, of which 2 is by far the most probable. The weights sum to 2 ^ 24.
 //! let table = WeightTable::<u32, 24>::new(alloc, &[3, 2, 16777211])?;
 //!
-//! // What is encoded last is decoded first.
+//! // The last symbol encoded is the first decoded.
 //! let mut coder = DefaultAnsCoder::new(alloc);
 //! coder.encode_symbol(&1, &table)?;
 //! coder.encode_symbol(&2, &table)?;
@@ -23,143 +23,142 @@
 //!         coder.decode_symbol(&table)?; // 2
 //!         coder.decode_symbol(&table)?; // 1
 //!     }
-//!     Err(words) => {} // a list that ends with a zero word is that of no coder
+//!     Err(words) => {} // no coder exports a list that ends with a zero word
 //! }
 //! ```
 //!
 //! # At the root
 //!
-//! - [`BitArray`]: a type of whole numbers of a fixed number of bits, as words and heads are.
-//! - [`WordOf`]: a type of words that another type of numbers holds several of.
-//! - [`Reciprocal`]: what divides by one number, as by a symbol's weight, without a division.
-//! - [`Stack`], [`Queue`], [`Semantics`]: which end of a backend is read, the last word or the first.
-//! - [`Pos`], [`Seek`], [`PosSeek`]: positions of a backend or a coder, asked for and gone back to.
-//! - [`CoderError`]: what stops a step, the model's side or the backend's; [`DefaultEncoderError`]
-//!   and [`DefaultEncoderFrontendError`] are those of an encoder; [`ReadWriteError`] is that of a call
-//!   that reads and writes.
+//! - [`BitArray`]: a type of unsigned numbers with a fixed number of bits, for words and heads.
+//! - [`WordOf`]: a type of words, several of which fit a type of states.
+//! - [`Reciprocal`]: divides by one number, such as a symbol's weight, with a multiplication.
+//! - [`Stack`], [`Queue`], [`Semantics`]: which word of a backend is read next, the last or the first.
+//! - [`Pos`], [`Seek`], [`PosSeek`]: positions of a backend or a coder, and returning to them.
+//! - [`CoderError`]: the error of a step, from the model's side or the backend's. [`DefaultEncoderError`] and
+//!   [`DefaultEncoderFrontendError`] are errors of an encoder, and [`ReadWriteError`] is that of a call that reads and
+//!   writes.
 //!
 //! # [`base`]: words, backends and models
 //!
-//! What coders are written over, under one name: the numbers, the backends, the errors and the models that stand at the
-//! root, in [`backends`] and in [`stream::model`] too.
+//! The numbers, backends, errors and models that coders build on, under one name. They also stand at the root, in
+//! [`backends`] and in [`stream::model`].
 //!
-//! # [`backends`]: where words come from and go to
+//! # [`backends`]: sources and sinks of words
 //!
-//! - [`backends::ReadWords`], [`backends::WriteWords`]: reading and writing a word, over what a
-//!   backend holds ([`backends::Holds`]); [`backends::BoundedReadWords`] knows how many are left.
-//! - [`backends::IntoReadWords`], [`backends::AsReadWords`], and [`backends::IntoSeekReadWords`] and
-//!   [`backends::AsSeekReadWords`]: a reader made of a list of words, or over a lent one.
-//! - [`backends::IntoReversed`]: a cursor whose words are turned round, for the same stack.
+//! - [`backends::ReadWords`], [`backends::WriteWords`]: reading and writing a word of a backend ([`backends::Holds`]).
+//!   [`backends::BoundedReadWords`] knows how many words are left.
+//! - [`backends::IntoReadWords`], [`backends::AsReadWords`], [`backends::IntoSeekReadWords`] and
+//!   [`backends::AsSeekReadWords`]: readers made of a list of words, or over a borrowed list.
+//! - [`backends::IntoReversed`]: a cursor over reversed words, for the same stack.
 //! - [`backends::Words`], [`backends::WordsMut`]: a buffer that lends its words.
-//! - [`backends::BothWays`], [`backends::CountsWords`], [`backends::SeeksBack`]: what some calls ask of a backend. It holds
-//!   the same words as a stack and as a queue; its position is the number of its words; it can go to where it stands.
-//! - [`backends::written_to_queue`]: what was written, to be read from its first word on. [`backends::take_back`]: words
-//!   are taken off again.
-//! - [`backends::Cursor`]: a buffer and a position in it. [`backends::Reverse`]: the same, read the
-//!   other way. [`backends::FallibleIteratorReadWords`]: the items of an iterator. `Vec` is a backend
-//!   too.
-//! - [`backends::BoundedWriteError`]: why a buffer takes no more words. [`backends::ReadWriteError`]:
-//!   what stops a call that reads and writes.
+//! - [`backends::BothWays`], [`backends::CountsWords`], [`backends::SeeksBack`]: what some calls require of a backend.
+//!   It holds the same words as a stack and as a queue; its position is the number of its words; it can seek to where
+//!   it stands.
+//! - [`backends::written_to_queue`]: turns written words into a reader from the first one. [`backends::take_back`]:
+//!   removes written words again.
+//! - [`backends::Cursor`]: a buffer and a position in it. [`backends::Reverse`]: the same, read in the other direction.
+//!   [`backends::FallibleIteratorReadWords`]: the items of an iterator. `Vec` is a backend too.
+//! - [`backends::BoundedWriteError`]: the error of a full buffer. [`backends::ReadWriteError`]: the error of a call
+//!   that reads and writes.
 //!
-//! # [`stream`]: coders that share the bits of a word among symbols
+//! # [`stream`]: coders that use fractions of a bit
 //!
-//! - [`stream::Code`], [`stream::Encode`], [`stream::Decode`]: what every such coder does, symbol by
-//!   symbol or list by list; [`stream::Lent`] is a symbol that a list call is handed.
-//! - [`stream::EncodeReverse`]: lists from the last symbol to the first, for code that is generic over coders that are
-//!   stacks. The stack coder and the chain coder have these calls themselves.
-//! - [`stream::IntoDecoder`], [`stream::AsDecoder`]: a decoder made of an encoder, or over one.
-//! - [`stream::DecodeSymbols`], [`stream::TryDecodeSymbols`], [`stream::DecodeIidSymbols`]: decoded
-//!   symbols as iterators.
-//! - [`stream::TryCodingError`]: what stops a list call whose models may fail themselves.
+//! - [`stream::Code`], [`stream::Encode`], [`stream::Decode`]: the calls of every stream coder, for a symbol or a list.
+//!   [`stream::Lent`] is a symbol passed to a list call.
+//! - [`stream::EncodeReverse`]: encoding lists from the last symbol to the first, for code that is generic over stacks.
+//!   The stack coder and the chain coder have these calls themselves.
+//! - [`stream::IntoDecoder`], [`stream::AsDecoder`]: a decoder made of an encoder, or over a borrowed one.
+//! - [`stream::DecodeSymbols`], [`stream::TryDecodeSymbols`], [`stream::DecodeIidSymbols`]: iterators over decoded
+//!   symbols.
+//! - [`stream::TryCodingError`]: the error of a list call whose items may be errors.
 //!
-//! ## [`stream::model`]: how likely symbols are
+//! ## [`stream::model`]: probabilities of symbols
 //!
-//! - [`stream::model::EntropyModel`], [`stream::model::EncoderModel`], [`stream::model::DecoderModel`]:
-//!   a table of symbols, each with an interval of the numbers below two to the precision.
-//! - [`stream::model::WeightTable`]: the table of a list of weights;
-//!   [`stream::model::TableError`] says why weights make none.
-//! - [`stream::model::LeakyQuantizer`]: cuts a distribution at half symbols, in whole numbers, so that the table
+//! - [`stream::model::EntropyModel`], [`stream::model::EncoderModel`], [`stream::model::DecoderModel`]: a table that
+//!   gives each symbol an interval of the numbers below `2 ^ PRECISION`.
+//! - [`stream::model::WeightTable`]: the table of a list of weights. [`stream::model::TableError`] is the error of
+//!   weights that make none.
+//! - [`stream::model::LeakyQuantizer`]: quantizes a distribution in whole numbers, with cuts at half symbols. Its table
 //!   ([`stream::model::LeakilyQuantizedDistribution`]) is the same on every machine.
-//! - [`stream::model::Gaussian`], [`stream::model::Laplace`], [`stream::model::Logistic`]: distributions of a location
-//!   and a scale ([`stream::model::LocationScale`]); [`stream::model::CumulativeDistribution`] is what others have to
-//!   be.
-//! - [`stream::model::UniformModel`], [`stream::model::BernoulliModel`]: equal symbols, and two symbols;
-//!   [`stream::model::SupportError`] says why so many symbols make no model.
-//! - [`stream::model::weights_of_counts`]: the weights of a histogram; [`stream::model::CountsError`] says why counts
-//!   make none.
-//! - [`stream::model::ContiguousLookupDecoderModel`]: a model with the symbol of each quantile in a list;
-//!   [`stream::model::LookupError`] says why a model makes none.
+//! - [`stream::model::Gaussian`], [`stream::model::Laplace`], [`stream::model::Logistic`]: distributions with a
+//!   location and a scale ([`stream::model::LocationScale`]). You can define others with
+//!   [`stream::model::CumulativeDistribution`].
+//! - [`stream::model::UniformModel`], [`stream::model::BernoulliModel`]: equal symbols, and two symbols.
+//!   [`stream::model::SupportError`] is the error of a number of symbols that makes no model.
+//! - [`stream::model::weights_of_counts`]: the weights of a histogram. [`stream::model::CountsError`] is the error of
+//!   counts that make none.
+//! - [`stream::model::ContiguousLookupDecoderModel`]: a model with a list of the symbols of all quantiles.
+//!   [`stream::model::LookupError`] is the error of a model that makes none.
 //!
-//! ## [`stream::stack`]: asymmetric numeral systems, the last symbol first
+//! ## [`stream::stack`]: asymmetric numeral systems, where the last symbol comes first
 //!
-//! - [`stream::stack::AnsCoder`], with [`stream::stack::DefaultAnsCoder`] (32-bit words below 64-bit
-//!   heads) and [`stream::stack::SmallAnsCoder`] (16 and 32).
-//! - [`stream::stack::AnsCompressedIter`]: the words of a coder that stays as it is.
-//! - [`stream::stack::CoderGuard`]: these words on the coder's own backend, until it is dropped.
-//! - [`stream::stack::CompressedDataEndsWithZeroWord`]: the error of words that are those of no coder.
+//! - [`stream::stack::AnsCoder`], with [`stream::stack::DefaultAnsCoder`] (32-bit words, 64-bit heads) and
+//!   [`stream::stack::SmallAnsCoder`] (16 and 32 bits).
+//! - [`stream::stack::AnsCompressedIter`]: the words of a coder, which stays unchanged.
+//! - [`stream::stack::CoderGuard`]: these words on the coder's own backend, until the guard is dropped.
+//! - [`stream::stack::CompressedDataEndsWithZeroWord`]: the error of words that belong to no coder.
 //!
-//! ## [`stream::queue`]: range coding, the first symbol first
+//! ## [`stream::queue`]: range coding, where the first symbol comes first
 //!
-//! - [`stream::queue::RangeEncoder`], with [`stream::queue::DefaultRangeEncoder`] (32-bit words, 64-bit
-//!   states) and [`stream::queue::SmallRangeEncoder`] (16 and 32); [`stream::queue::RangeCoderState`] and
+//! - [`stream::queue::RangeEncoder`], with [`stream::queue::DefaultRangeEncoder`] (32-bit words, 64-bit states) and
+//!   [`stream::queue::SmallRangeEncoder`] (16 and 32 bits). [`stream::queue::RangeCoderState`] and
 //!   [`stream::queue::EncoderSituation`] are its parts.
 //! - [`stream::queue::RangeDecoder`], with [`stream::queue::DefaultRangeDecoder`] and
-//!   [`stream::queue::SmallRangeDecoder`]; [`stream::queue::DecoderFrontendError`] says that no symbol has
-//!   the quantile that was read.
-//! - [`stream::queue::RangeCompressedIter`], [`stream::queue::EncoderGuard`]: the sealed words of an encoder
-//!   that stays as it is; [`stream::queue::LendsAsWritten`]: backends that lend their words as they were written.
-//! - [`stream::queue::encode_flagged`], [`stream::queue::FlagSwitch`]: two models in one stream, the second from
-//!   behind a flag on.
+//!   [`stream::queue::SmallRangeDecoder`]. [`stream::queue::DecoderFrontendError`] is the error of a quantile that no
+//!   symbol has.
+//! - [`stream::queue::RangeCompressedIter`], [`stream::queue::EncoderGuard`]: the sealed words of an encoder, which
+//!   stays unchanged. [`stream::queue::LendsAsWritten`]: backends that lend their words in writing order.
+//! - [`stream::queue::encode_flagged`], [`stream::queue::FlagSwitch`]: two models in one stream, the second one behind
+//!   a flag.
 //!
-//! ## [`stream::chain`]: symbols that don't depend on one another's models
+//! ## [`stream::chain`]: symbols that don't depend on each other's models
 //!
-//! - [`stream::chain::ChainCoder`], with [`stream::chain::DefaultChainCoder`] and
-//!   [`stream::chain::SmallChainCoder`]; [`stream::chain::ChainCoderHeads`] and
-//!   [`stream::chain::BackendPosition`] are what it holds beside its words, and where these stand.
-//! - [`stream::chain::DecoderFrontendError`], [`stream::chain::EncoderFrontendError`],
-//!   [`stream::chain::BackendError`], [`stream::chain::ChangePrecisionError`]: why a call is refused.
+//! - [`stream::chain::ChainCoder`], with [`stream::chain::DefaultChainCoder`] and [`stream::chain::SmallChainCoder`].
+//!   [`stream::chain::ChainCoderHeads`] and [`stream::chain::BackendPosition`] are its heads, and the positions of its
+//!   backends.
+//! - [`stream::chain::DecoderFrontendError`], [`stream::chain::EncoderFrontendError`], [`stream::chain::BackendError`],
+//!   [`stream::chain::ChangePrecisionError`]: its errors.
 //!
-//! # [`store`]: many lists in one list of words, each found by itself
+//! # [`store`]: many lists in one list of words, each decoded alone
 //!
-//! - [`store::Store`]: chunks of symbols under one model, with an index of where each begins; at most
-//!   [`store::MOST_SYMBOLS`] of them. [`store::BuildError`], [`store::ChunkError`] and [`store::BadIndex`] say why
-//!   there is no store, or no chunk.
+//! - [`store::Store`]: chunks of symbols under one model, with an index of where each one begins. A store has at most
+//!   [`store::MOST_SYMBOLS`] symbols. [`store::BuildError`], [`store::ChunkError`] and [`store::BadIndex`] are its
+//!   errors.
 //!
 //! # [`symbol`]: symbols as lists of bits
 //!
-//! - [`symbol::QueueEncoder`], [`symbol::QueueDecoder`], [`symbol::StackCoder`]: bits in words, by the traits
+//! - [`symbol::QueueEncoder`], [`symbol::QueueDecoder`], [`symbol::StackCoder`]: bits in words, with the traits
 //!   [`symbol::WriteBitStream`] and [`symbol::ReadBitStream`].
-//! - [`symbol::EncoderCodebook`], [`symbol::DecoderCodebook`]: a list of bits for each symbol;
-//!   [`symbol::exp_golomb::ExpGolomb`] is one for all numbers.
-//! - [`symbol::huffman::EncoderHuffmanTree`], [`symbol::huffman::DecoderHuffmanTree`]: the codebook of some weights,
-//!   for either side; [`symbol::huffman::HuffmanError`] says why weights make none.
-//! - [`symbol::reversed_codeword`]: a codeword that is found from its last bit on ([`symbol::SuffixCodebook`]),
-//!   turned round in a [`symbol::SmallBitStack`].
+//! - [`symbol::EncoderCodebook`], [`symbol::DecoderCodebook`]: a list of bits for each symbol.
+//!   [`symbol::exp_golomb::ExpGolomb`] is a codebook for all numbers.
+//! - [`symbol::huffman::EncoderHuffmanTree`], [`symbol::huffman::DecoderHuffmanTree`]: the Huffman codebook of weights,
+//!   for encoding and for decoding. [`symbol::huffman::HuffmanError`] is the error of weights that make none.
+//! - [`symbol::reversed_codeword`]: reverses a codeword that is found from its last bit on
+//!   ([`symbol::SuffixCodebook`]), in a [`symbol::SmallBitStack`].
 //!
-//! # [`laws`]: what holds for a whole run
+//! # [`laws`]: theorems about whole runs
 //!
-//! Functions whose contracts are theorems, for proofs of one's own. Most are laws over definitions: a caller names one
-//! for its contract, and the call does nothing. The functions in modules `round_trips` make the coders' calls for lists
-//! of symbols, one half of the way at a time.
+//! Functions whose contracts are theorems, for use in your proofs. Most are laws over definitions: you call one for its
+//! contract, and the call does nothing. The functions in modules `round_trips` make the coders' calls for lists of
+//! symbols, one half of the way at a time.
 //!
-//! - [`laws::lists`]: where each step is undone, so is a list of them.
-//! - [`laws::bounds`]: the words of the stack coder and of the range coder are few, whatever the steps; and what may
-//!   follow those of a range coder.
-//! - [`laws::chain`]: the chain coder. [`laws::chain::isolation`] says that its symbols don't depend on one
-//!   another's models; [`laws::chain::steps`], [`laws::chain::lists`] and [`laws::chain::words`] are of one
-//!   step, of lists, and of words that come back by way of the remainders; [`laws::chain::round_trips`] takes symbols
-//!   out, and puts them back.
-//! - [`laws::queue`]: the range coder. [`laws::queue::words`], [`laws::queue::lists`] and [`laws::queue::positions`] are
-//!   the laws of sealed words, of lists of symbols, and of recorded positions; [`laws::queue::round_trips`] codes
-//!   lists, and takes them from words; the others are of flags, guards and room.
-//! - [`laws::store`]: chunks come back from a store in any order, and what is read of its words for one of them.
-//! - [`laws::symbol`]: bit coders and codebooks: lists of symbols come back from queues and from stacks,
-//!   under mixed codebooks too, and no codeword of Exp-Golomb or of a Huffman tree begins another.
-//!   [`laws::symbol::costs`] and [`laws::symbol::huffman`]: a Huffman tree costs at most what any other codebook does.
+//! - [`laws::lists`]: if each step can be undone, so can a list of steps.
+//! - [`laws::bounds`]: upper bounds on the words of the stack coder and of the range coder for any steps, and what may
+//!   follow the words of a range coder.
+//! - [`laws::chain`]: the chain coder. [`laws::chain::isolation`] says that its symbols don't depend on each other's
+//!   models. [`laws::chain::steps`], [`laws::chain::lists`] and [`laws::chain::words`] are about one step, lists, and
+//!   words that come back through the remainders. [`laws::chain::round_trips`] decodes symbols and encodes them again.
+//! - [`laws::queue`]: the range coder. [`laws::queue::words`], [`laws::queue::lists`] and [`laws::queue::positions`]
+//!   are about sealed words, lists of symbols, and recorded positions. [`laws::queue::round_trips`] encodes and decodes
+//!   lists. Other modules are about flags, guards and room.
+//! - [`laws::store`]: chunks come back from a store in any order, and which words a look-up reads.
+//! - [`laws::symbol`]: bit coders and codebooks. Lists of symbols come back from queues and stacks, also under mixed
+//!   codebooks. No codeword of Exp-Golomb or of a Huffman tree begins another. [`laws::symbol::costs`] and
+//!   [`laws::symbol::huffman`]: a Huffman tree costs at most what any prefix-free codebook does.
 //! - [`laws::stack`]: the stack coder. [`laws::stack::steps`], [`laws::stack::lists`] and [`laws::stack::words`] are
-//!   the laws of one symbol, of lists, and of words that are exported and imported; [`laws::stack::round_trips`] puts
-//!   lists on, and takes them from words; the others are of binary forms, guards, positions, readings and sizes.
-//! - [`laws::errors`]: why symbols weren't coded, or weren't taken.
+//!   about one symbol, lists, and words that are exported and imported. [`laws::stack::round_trips`] encodes and
+//!   decodes lists. Other modules are about binary forms, guards, positions, readings and sizes.
+//! - [`laws::errors`]: why symbols weren't encoded or decoded.
 #![tactic(auto)]
 
 pub use constriction_base::backends::{Pos, PosSeek, Queue, Seek, Semantics, Stack};

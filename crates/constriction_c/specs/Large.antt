@@ -1,4 +1,4 @@
--- The calls at words of 32 bits, states of 64 and a precision of 24, whose numbers these are.
+-- The calls with 32-bit words, 64-bit states and a precision of 24 bits.
 use Rattle.std.specs.Prelude.{ℕ, ◌%◌, ◌^◌, List, Result, map}
 use Rattle.constriction_calls.specs.AnsCalls.{AnsKept, AnsPuts, AnsTakes}
 use Rattle.constriction_calls.specs.ChainCalls.{ChainKept, ChainPuts, ChainTakes, keeps}
@@ -26,7 +26,7 @@ abbrev pub LargeAnsTakes : (List ℕ → Coded) → AnsKept ℕ ℕ → AnsKept 
 LargeAnsTakes coded old new old_symbols new_symbols answer = AnsTakes large_word large_state 32 64 24 coded old new old_symbols new_symbols answer
 
 -- ---- the range coder
--- an encoder, and a buffer of which so many words are in use
+-- An encoder, and a buffer with its number of words in use.
 abbrev pub large_kept : RangeEncoderU32 → List ℕ → ℕ → RangeKept ℕ ℕ
 large_kept encoder words len = kept_in (large_encoder encoder) words len
 
@@ -37,7 +37,7 @@ abbrev pub LargeRangeTakes : (List ℕ → Coded) → List ℕ → DecoderParts 
 LargeRangeTakes coded words old new old_symbols new_symbols answer = RangeTakes large_state 32 64 24 coded (map large_word words) old new old_symbols new_symbols answer
 
 -- ---- the chain coder
--- heads, and two buffers of which so many words are in use
+-- The heads, and two buffers with their numbers of words in use.
 abbrev pub large_chain : ChainHeadsU32 → List ℕ → ℕ → List ℕ → ℕ → ChainKept ℕ ℕ
 large_chain heads compressed count remainders rest = keeps (large_heads heads) compressed count remainders rest
 

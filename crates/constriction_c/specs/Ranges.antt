@@ -1,4 +1,4 @@
--- Range coders in a C caller's hands, as the calls take them.
+-- Range encoders and decoders, from the structs of C callers to the records of the calls.
 use Rattle.std.specs.Prelude.{ℕ}
 use Rattle.constriction_calls.specs.declared.range.parts.EncoderParts.{EncoderParts}
 use Rattle.constriction_calls.specs.declared.range.parts.DecoderParts.{DecoderParts}
@@ -7,14 +7,14 @@ use Rattle.constriction_c.specs.declared.range.large.RangeDecoderU32.{RangeDecod
 use Rattle.constriction_c.specs.declared.range.small.RangeEncoderU16.{RangeEncoderU16}
 use Rattle.constriction_c.specs.declared.range.small.RangeDecoderU16.{RangeDecoderU16}
 
--- at words of 32 bits
+-- The encoder and the decoder with 32-bit words.
 abbrev pub large_encoder : RangeEncoderU32 → EncoderParts ℕ ℕ
 large_encoder e = record { lower = e.lower; range = e.range; held = e.held; first = e.first }
 
 abbrev pub large_decoder : RangeDecoderU32 → DecoderParts ℕ
 large_decoder d = record { lower = d.lower; range = d.range; point = d.point; pos = d.pos }
 
--- at words of 16 bits
+-- The encoder and the decoder with 16-bit words.
 abbrev pub small_encoder : RangeEncoderU16 → EncoderParts ℕ ℕ
 small_encoder e = record { lower = e.lower; range = e.range; held = e.held; first = e.first }
 

@@ -1,4 +1,4 @@
--- The calls at words of 16 bits, states of 32 and a precision of 12, whose numbers these are.
+-- The calls with 16-bit words, 32-bit states and a precision of 12 bits.
 use Rattle.std.specs.Prelude.{ℕ, ◌%◌, ◌^◌, List, Result, map}
 use Rattle.constriction_calls.specs.AnsCalls.{AnsKept, AnsPuts, AnsTakes}
 use Rattle.constriction_calls.specs.ChainCalls.{ChainKept, ChainPuts, ChainTakes, keeps}
@@ -26,7 +26,7 @@ abbrev pub SmallAnsTakes : (List ℕ → Coded) → AnsKept ℕ ℕ → AnsKept 
 SmallAnsTakes coded old new old_symbols new_symbols answer = AnsTakes small_word small_state 16 32 12 coded old new old_symbols new_symbols answer
 
 -- ---- the range coder
--- an encoder, and a buffer of which so many words are in use
+-- An encoder, and a buffer with its number of words in use.
 abbrev pub small_kept : RangeEncoderU16 → List ℕ → ℕ → RangeKept ℕ ℕ
 small_kept encoder words len = kept_in (small_encoder encoder) words len
 
@@ -37,7 +37,7 @@ abbrev pub SmallRangeTakes : (List ℕ → Coded) → List ℕ → DecoderParts 
 SmallRangeTakes coded words old new old_symbols new_symbols answer = RangeTakes small_state 16 32 12 coded (map small_word words) old new old_symbols new_symbols answer
 
 -- ---- the chain coder
--- heads, and two buffers of which so many words are in use
+-- The heads, and two buffers with their numbers of words in use.
 abbrev pub small_chain : ChainHeadsU16 → List ℕ → ℕ → List ℕ → ℕ → ChainKept ℕ ℕ
 small_chain heads compressed count remainders rest = keeps (small_heads heads) compressed count remainders rest
 

@@ -1,4 +1,4 @@
-//! The stack coder: `constriction_ans_..`.
+//! The C functions of the stack coder, `constriction_ans_..`.
 
 mod large;
 mod small;

@@ -1,4 +1,6 @@
-//! The chain coder: a struct of two heads in the caller's hands, and the first words of two buffers.
+//! The C functions of the chain coder, `constriction_chain_..`.
+//!
+//! The caller keeps a struct of two heads, and two buffers whose first words are in use.
 
 ghost use Rattle.std.specs.Prelude.{◌≡◌};
 ghost use Rattle.constriction_c.specs.Chains.{large_heads, small_heads};
@@ -8,7 +10,7 @@ pub mod small;
 
 use constriction_calls::chain::ChainHeads;
 
-/// The heads of a chain coder at words of 32 bits: the remainders' number, and a 1 with the compressed bits left over.
+/// The heads of a chain coder with 32-bit words: the remainders' head, and a 1 above the compressed bits left over.
 #[repr(C)]
 #[derive(Drop, Clone, Copy)]
 pub struct ChainHeadsU32 {
@@ -17,7 +19,7 @@ pub struct ChainHeadsU32 {
 }
 
 impl ChainHeadsU32 {
-    /// The heads, as the calls take them.
+    /// Returns the heads that the calls take.
     #[inline]
     pub fn parts(&self) -> ChainHeads<u32, u64>
         ensures { result ≡ large_heads self.now }
@@ -28,7 +30,7 @@ impl ChainHeadsU32 {
         }
     }
 
-    /// The heads that a call gave.
+    /// Makes the struct of the heads that a call returns.
     #[inline]
     pub fn of(heads: ChainHeads<u32, u64>) -> Self
         ensures { result ≡ record { remainders = heads.remainders; compressed = heads.compressed } }
@@ -40,7 +42,7 @@ impl ChainHeadsU32 {
     }
 }
 
-/// The heads of a chain coder at words of 16 bits: the remainders' number, and a 1 with the compressed bits left over.
+/// The heads of a chain coder with 16-bit words: the remainders' head, and a 1 above the compressed bits left over.
 #[repr(C)]
 #[derive(Drop, Clone, Copy)]
 pub struct ChainHeadsU16 {
@@ -49,7 +51,7 @@ pub struct ChainHeadsU16 {
 }
 
 impl ChainHeadsU16 {
-    /// The heads, as the calls take them.
+    /// Returns the heads that the calls take.
     #[inline]
     pub fn parts(&self) -> ChainHeads<u16, u32>
         ensures { result ≡ small_heads self.now }
@@ -60,7 +62,7 @@ impl ChainHeadsU16 {
         }
     }
 
-    /// The heads that a call gave.
+    /// Makes the struct of the heads that a call returns.
     #[inline]
     pub fn of(heads: ChainHeads<u16, u32>) -> Self
         ensures { result ≡ record { remainders = heads.remainders; compressed = heads.compressed } }

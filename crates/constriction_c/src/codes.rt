@@ -1,6 +1,6 @@
-//! What a C function returns: a code for the answer of its call.
+//! The code that a C function returns for the answer of its call.
 //!
-//! A contract of an export has each clause of its call, of the answer that the code stands for, `answer_by_code`.
+//! The contract of an export has each clause of its call, for the answer that the code stands for (`answer_by_code`).
 
 ghost use Rattle.std.specs.Prelude.{◌≡◌, ℕ, Err};
 ghost use Rattle.constriction_inputs.specs.declared.refusal.Refusal.TheVariants.{NoSpace};
@@ -8,7 +8,7 @@ ghost use Rattle.constriction_c.specs.Codes.{answer_by_code, needed_by};
 
 use constriction_inputs::refusal::Refusal;
 
-/// The code of an answer, and in `needed` the number of words that are needed, where there is no space for them.
+/// Returns the code of an answer. If the buffer is too short, also sets `needed` to the number of words that it needs.
 #[inline]
 pub fn code_of(answer: Result<(), Refusal>, needed: &mut usize) -> u32
     ensures code { answer_by_code result needed.new ≡ answer }
@@ -30,7 +30,7 @@ pub fn code_of(answer: Result<(), Refusal>, needed: &mut usize) -> u32
     }
 }
 
-/// The code of the answer of a call that puts no words anywhere, so that it never lacks space.
+/// Returns the code of an answer that is never `NoSpace`, because the call writes no words.
 #[inline]
 pub fn code_without_space(answer: Result<(), Refusal>) -> u32
     requires { (needed : ℕ) → answer ≡ Err (NoSpace needed) → ⊥ }

@@ -1,6 +1,8 @@
-//! The calls of `constriction_calls` as C functions, at words of 32 bits (states of 64, a precision of 24) and of 16
-//! (32, 12). `include/constriction.h` describes them. Each export is its call and `codes::code_of` of the answer, and
-//! its contract is the call's record, of the answer that its code stands for and of how many words are needed (`Told`).
+//! The calls of `constriction_calls` as C functions, which `include/constriction.h` describes.
+//!
+//! Each call comes in two sizes: with 32-bit words (64-bit states, a precision of 24 bits), and with 16-bit words
+//! (32-bit states, 12 bits). An export makes its call and returns the code of the answer (`codes::code_of`). Its
+//! contract is that of the call, for the answer that the code stands for and the number of words needed (`Told`).
 #![tactic(auto)]
 
 pub mod ans;

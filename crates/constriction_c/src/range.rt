@@ -1,4 +1,6 @@
-//! The range coder: an encoder or a decoder is a struct in the caller's hands, and the first words of a buffer.
+//! The C functions of the range coder, `constriction_range_..`.
+//!
+//! The caller keeps an encoder or a decoder as a struct, and a buffer whose first words are in use.
 
 pub mod large;
 pub mod small;

@@ -1,4 +1,4 @@
-//! Stores of chunks: words and an index in the caller's buffers.
+//! The C functions of stores, `constriction_store_..`. The caller keeps words and an index.
 
 pub mod large;
 pub mod small;

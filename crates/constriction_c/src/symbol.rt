@@ -1,7 +1,7 @@
-//! Lists of symbols as words of bits, and back.
+//! The C functions of symbol codes: Huffman and Exp-Golomb codewords.
 //!
-//! - [`large`]: at words of 32 bits.
-//! - [`small`]: at words of 16 bits.
+//! - [`large`]: with 32-bit words.
+//! - [`small`]: with 16-bit words.
 
 pub mod large;
 pub mod small;

@@ -3,7 +3,9 @@
 ghost use Rattle.std.specs.Prelude.{◌≡◌};
 ghost use Rattle.constriction_c.specs.Codes.{version_number};
 
-/// The version as a number: ten thousand for each major one, a hundred for each minor one, and the patch.
+/// Returns the version as a number: 10000 times the major version, plus 100 times the minor version, plus the patch.
+///
+/// An export can return neither a reference nor a pointer. So the text of a result is a function of the header.
 #[unsafe(no_mangle)]
 pub extern "C" fn constriction_version() -> u32
     ensures { result ≡ version_number 0 5 0 }

@@ -1,5 +1,4 @@
--- A chain coder in a caller's hands: two heads, and two buffers with their numbers of words, the last word on top. What calls do with it, and which
--- refusal comes when.
+-- The calls of the chain coder: what each does with a coder that a caller keeps, and which error comes when.
 use Rattle.std.specs.Prelude.{◌≡◌, ℕ, ◌*◌, ◌<◌, ◌≤◌, List, ◌∷◌, ◌++◌, [], length, reverse, take, Result, OnErr, OnOk}
 use Rattle.constriction_base.specs.Models.{AreKnown, Item}
 use Rattle.constriction_base.specs.Tables.{AtEntry}
@@ -15,7 +14,7 @@ use Rattle.constriction_inputs.specs.declared.refusal.Refusal.{Refusal}
 use Rattle.constriction_inputs.specs.declared.refusal.Refusal.TheVariants.{ImpossibleSymbol, InvalidData, WrongLength}
 
 -- ---- states
--- the state of heads over the words in use of two buffers
+-- The state of two heads and the words in use of two buffers.
 abbrev pub chain_in : {W : Type 0} → (W → ℕ) → ℕ → ℕ → List W → ℕ → List W → ℕ → ChainState
 chain_in number h r compressed len remainders len' = record {
   h = h;
@@ -24,7 +23,7 @@ chain_in number h r compressed len remainders len' = record {
   remainders = stack_in number remainders len';
 }
 
--- what a caller keeps: the heads, and two buffers of which so many words are in use
+-- What a caller keeps: the heads, and two buffers with their numbers of words in use.
 pub record ChainKept (Word State : Type 0) : Type 0 where
   pub heads : ChainHeads Word State
   pub compressed : List Word
@@ -39,11 +38,11 @@ abbrev pub chain_kept : {Word State : Type 0} → (Word → ℕ) → (State → 
 chain_kept number state kept =
     chain_in number (number kept.heads.compressed) (state kept.heads.remainders) kept.compressed kept.compressed_len kept.remainders kept.remainders_len
 
--- the words in use are within the buffers
+-- The words in use are within the buffers.
 abbrev pub AreInUse : {Word State : Type 0} → ChainKept Word State → Type 0
 AreInUse kept = (kept.compressed_len ≤ length kept.compressed) × (kept.remainders_len ≤ length kept.remainders)
 
--- numbers that are the heads of a coder
+-- The numbers are the heads of a coder.
 pub record AreHeads (w s P h r : ℕ) : Type 0 where
   pub some : 0 < h
   pub window : IsInWindow w (least w s P) r
@@ -52,7 +51,7 @@ abbrev pub HeadsKept : {Word State : Type 0} → (Word → ℕ) → (State → �
 HeadsKept number state w s P heads = AreHeads w s P (number heads.compressed) (state heads.remainders)
 
 -- ---- ends
--- the compressed words end before so many symbols: behind fewer of them a word is needed, and none is left
+-- The compressed words end before `count` symbols: after fewer of them a word is needed, and none is left.
 pub record LacksCompressed (w s P : ℕ) (items : List ℕ → List (Item ℕ)) (count : ℕ) (old : ChainState) : Type 0 where
   pub symbols : List ℕ
   pub done : ℕ
@@ -63,7 +62,7 @@ pub record LacksCompressed (w s P : ℕ) (items : List ℕ → List (Item ℕ)) 
   pub needs : NeedsWord w P last.h
   pub ended : last.compressed ≡ []
 
--- the remainders end before all items are put back: behind the first of them a word is needed, and none is left
+-- The remainders end before all items are encoded: after the first of them a word is needed, and none is left.
 pub record LacksRemainders (w s : ℕ) (items : List (Item ℕ)) (old : ChainState) : Type 0 where
   pub first : List (Item ℕ)
   pub item : Item ℕ
@@ -74,7 +73,7 @@ pub record LacksRemainders (w s : ℕ) (items : List (Item ℕ)) (old : ChainSta
   pub needs : AtEntry item.model.precision item.model.table item.symbol (λ e. last.r < e.p * least w s e.precision)
   pub ended : last.remainders ≡ []
 
--- a buffer is too short for the remainders of the state that decodes of so many symbols lead to: it would need n words
+-- The remainders after decoding `count` symbols need n words, and the buffer is shorter.
 pub record RemaindersNeedRoom (w s : ℕ) (items : List ℕ → List (Item ℕ)) (count : ℕ) (old : ChainState) (size n : ℕ) : Type 0 where
   pub symbols : List ℕ
   pub new : ChainState
@@ -83,7 +82,7 @@ pub record RemaindersNeedRoom (w s : ℕ) (items : List ℕ → List (Item ℕ))
   pub is : n ≡ length new.remainders
   pub past : size < n
 
--- the same of the compressed words of the state that encodes lead to
+-- The compressed words after encoding the items need n words, and the buffer is shorter.
 pub record CompressedNeedRoom (w s : ℕ) (items : List (Item ℕ)) (old : ChainState) (size n : ℕ) : Type 0 where
   pub new : ChainState
   pub put : PutsBackAll w s items old new
@@ -91,30 +90,30 @@ pub record CompressedNeedRoom (w s : ℕ) (items : List (Item ℕ)) (old : Chain
   pub past : size < n
 
 -- ---- calls
--- what an encode asks for behind its lengths and its models, in this order
+-- The errors of an encode under given models, in this order.
 abbrev pub AsksToPut : {Word State : Type 0} → (Word → ℕ) → (State → ℕ) → ℕ → ℕ → ℕ → List (Item ℕ) → ChainKept Word State → Result (Unit {0}) Refusal → Type 0
 AsksToPut number state w s P items old = Asks InvalidData (HeadsKept number state w s P old.heads) (Asks ImpossibleSymbol (AreKnown items)
     (Else (DataOrRoom (LacksRemainders w s (reverse items) (chain_kept number state old)) (CompressedNeedRoom w s (reverse items) (chain_kept number state old) (length old.compressed)))))
 
--- an encode
+-- An encode call.
 pub record ChainPuts {Word State : Type 0} (number : Word → ℕ) (state : State → ℕ) (w s P : ℕ) (coded : Coded) (old new : ChainKept Word State)
     (answer : Result (Unit {0}) Refusal) : Type 0 where
-  -- the items are put back, the last one first
+  -- The items are encoded from the last to the first.
   pub put : OnOk answer (PutsBackAll w s (reverse (items P coded)) (chain_kept number state old) (chain_kept number state new))
   pub taken : OnOk answer ((new.remainders ≡ old.remainders) × (new.remainders_len ≤ old.remainders_len))
   pub appended : OnOk answer ((added : List Word) × Appended old.compressed old.compressed_len added new.compressed new.compressed_len)
   pub asked : Asks WrongLength (AreInUse old) (AsksFit P coded (AsksToPut number state w s P (items P coded) old)) answer
   pub kept : OnErr answer (new ≡ old)
 
--- what a decode asks for
+-- The errors of a decode under given models, in this order.
 abbrev pub AsksToTake : {Word State : Type 0} → (Word → ℕ) → (State → ℕ) → ℕ → ℕ → ℕ → (List ℕ → List (Item ℕ)) → ℕ → ChainKept Word State → Result (Unit {0}) Refusal → Type 0
 AsksToTake number state w s P items count old = Asks InvalidData (HeadsKept number state w s P old.heads)
     (Else (DataOrRoom (LacksCompressed w s P items count (chain_kept number state old)) (RemaindersNeedRoom w s items count (chain_kept number state old) (length old.remainders))))
 
--- a decode of as many symbols as there are places for them
+-- A decode call for as many symbols as there are places.
 pub record ChainTakes {Word State : Type 0} (number : Word → ℕ) (state : State → ℕ) (w s P : ℕ) (coded : List ℕ → Coded) (old new : ChainKept Word State)
     (old_symbols new_symbols : List ℕ) (answer : Result (Unit {0}) Refusal) : Type 0 where
-  -- the items are taken off, one after the other
+  -- The items are decoded, one after the other.
   pub taken : OnOk answer (TakesOffAll w s (items P (coded new_symbols)) (chain_kept number state old) (chain_kept number state new))
   pub count : OnOk answer (length new_symbols ≡ length old_symbols)
   pub fewer : OnOk answer ((new.compressed ≡ old.compressed) × (new.compressed_len ≤ old.compressed_len))

@@ -1,4 +1,4 @@
--- The words of a chain coder in a caller's hands: heads over the words of one buffer, the last word on top.
+-- Imports and exports of a chain coder that a caller keeps, in three forms.
 use Rattle.std.specs.Prelude.{◌≡◌, ℕ, ◌<◌, ◌≤◌, List, [], length, map, reverse, Result, OnErr, OnOk}
 use Rattle.constriction_chain.specs.Chain.{ChainState}
 use Rattle.constriction_chain.specs.Imports.{AreBinaryWords, FromBinary, FromCompressed, FromRemainders, compressed_words}
@@ -11,14 +11,14 @@ use Rattle.constriction_calls.specs.declared.chain.ChainHeads.{ChainHeads}
 use Rattle.constriction_inputs.specs.declared.refusal.Refusal.{Refusal}
 use Rattle.constriction_inputs.specs.declared.refusal.Refusal.TheVariants.{InvalidData, WrongLength}
 
--- what the words are: compressed ones, with the number of the remainders above them as its words or in binary form; or remainders, with both heads above
--- them
+-- The form of words: compressed words with the remainders' head above them, as its words or in binary form; or
+-- remainders with both heads above them.
 pub data Form : Type 0 where
   InCompressed : Form
   InBinary : Form
   InRemainders : Form
 
--- the state of heads over the words in use, with no others
+-- The state of the heads over the words in use, with no other words.
 abbrev pub heads_over : {Word State : Type 0} → (Word → ℕ) → (State → ℕ) → Form → ChainHeads Word State → List Word → ℕ → ChainState
 heads_over number state InRemainders heads words len =
     record { h = number heads.compressed; r = state heads.remainders; compressed = []; remainders = stack_in number words len }
@@ -26,18 +26,18 @@ heads_over number state form heads words len =
     record { h = number heads.compressed; r = state heads.remainders; compressed = stack_in number words len; remainders = [] }
 
 -- ---- coders from words
--- the coder that words stand for
+-- The words stand for this coder in this form.
 abbrev pub Begins : Form → ℕ → ℕ → ℕ → List ℕ → ChainState → Type 0
 Begins InCompressed w s P words x = FromCompressed w s P words x
 Begins InBinary w s P words x = FromBinary w s P words x
 Begins InRemainders w s P words x = FromRemainders w s P words x
 
--- where a caller keeps its heads, and how many of the words stay below them
+-- The heads that a caller keeps, and the number of words that stay below them.
 pub record HeadsOver (Word State : Type 0) : Type 0 where
   pub heads : ChainHeads Word State
   pub len : ℕ
 
--- a coder from words
+-- An import call.
 pub record ChainBegins {Word State : Type 0} (number : Word → ℕ) (state : State → ℕ) (w s P : ℕ) (form : Form) (words : List Word)
     (old new : HeadsOver Word State) (answer : Result (Unit {0}) Refusal) : Type 0 where
   pub begun : OnOk answer (Begins form w s P (map number (reverse words)) (heads_over number state form new.heads words new.len))
@@ -46,37 +46,37 @@ pub record ChainBegins {Word State : Type 0} (number : Word → ℕ) (state : St
   pub kept : OnErr answer (new ≡ old)
 
 -- ---- words of heads
--- heads of a coder that has no bits left over
+-- The heads belong to a coder without bits left over.
 pub record AreWholeHeads (w s P h r : ℕ) : Type 0 where
   pub heads : AreHeads w s P h r
   pub whole : h ≡ 1
 
--- of which the number of the remainders is, besides, a one above whole words
+-- The heads belong to a coder without bits left over, and the remainders' head is a 1 above whole words.
 pub record AreBinaryHeads (w s P h r : ℕ) : Type 0 where
   pub heads : AreHeads w s P h r
   pub whole : h ≡ 1
   pub above : (m : ℕ) × IsOneAbove w m r
 
--- heads that have words of a form
+-- The heads have words in this form.
 abbrev pub HaveWords : {Word State : Type 0} → (Word → ℕ) → (State → ℕ) → ℕ → ℕ → ℕ → Form → ChainHeads Word State → Type 0
 HaveWords number state w s P InCompressed heads = AreWholeHeads w s P (number heads.compressed) (state heads.remainders)
 HaveWords number state w s P InBinary heads = AreBinaryHeads w s P (number heads.compressed) (state heads.remainders)
 HaveWords number state w s P InRemainders heads = AreHeads w s P (number heads.compressed) (state heads.remainders)
 
--- the words of a coder
+-- The words are those of the coder in this form.
 abbrev pub AreWordsInForm : Form → ℕ → List ℕ → ChainState → Type 0
 AreWordsInForm InCompressed w words x = words ≡ compressed_words w x
 AreWordsInForm InBinary w words x = AreBinaryWords w words x
 AreWordsInForm InRemainders w words x = words ≡ remainder_words w x
 
--- a buffer is too short for the words of which this holds: it would need n
+-- The words with the property are n in number, and the buffer is shorter.
 pub record NoRoomFor (size : ℕ) (holds : List ℕ → Type 0) (n : ℕ) : Type 0 where
   pub past : size < n
   pub words : List ℕ
   pub are : holds words
   pub count : length words ≡ n
 
--- words of heads put behind a caller's
+-- An export call: the words of the heads are appended to the caller's.
 pub record ChainEnds {Word State : Type 0} (number : Word → ℕ) (state : State → ℕ) (w s P : ℕ) (form : Form) (heads : ChainHeads Word State)
     (old new : WordsKept Word) (answer : Result (Unit {0}) Refusal) : Type 0 where
   pub ended : OnOk answer (AreWordsInForm form w (stack_in number new.words new.len) (heads_over number state form heads old.words old.len))

@@ -1,4 +1,4 @@
--- Stores over a caller's buffers: words, and an index as lists of positions, of lower ends and of lengths of intervals.
+-- The calls of stores: what each does with the words and the index that a caller keeps, and which error comes when.
 use Rattle.std.specs.Prelude.{◌≡◌, ℕ, ◌-◌, ◌<◌, ◌≤◌, ◌^◌, List, [], ◌∷◌, Result, OnErr, OnOk, drop, length, map, sum, take}
 use Rattle.constriction_base.specs.Models.{AreKnown, items_of}
 use Rattle.constriction_store.specs.Stores.{Entry, HoldsChunk, HoldsChunks, IsBuilt, entry_of}
@@ -8,18 +8,18 @@ use Rattle.constriction_inputs.specs.declared.refusal.Refusal.{Refusal}
 use Rattle.constriction_inputs.specs.declared.refusal.Refusal.TheVariants.{ImpossibleSymbol, InvalidData, WrongLength, WrongWeights}
 
 -- ---- chunks, and where they begin
--- symbols that stand one chunk behind another, as chunks of these lengths
+-- The symbols, which stand one chunk behind another, as chunks of these lengths.
 abbrev pub chunks_by : List ℕ → List ℕ → List (List ℕ)
 chunks_by symbols [] = []
 chunks_by symbols (len ∷ lengths) = take len symbols ∷ chunks_by (drop len symbols) lengths
 
--- the entries of these positions, of intervals that begin here and are so long, and of so many symbols
+-- The entries with these positions, intervals and lengths.
 abbrev pub entries_by : List ℕ → List ℕ → List ℕ → List ℕ → List Entry
 entries_by (place ∷ places) (lower ∷ lowers) (range ∷ ranges) (len ∷ lengths) =
     entry_of place lower range len ∷ entries_by places lowers ranges lengths
 entries_by places lowers ranges lengths = []
 
--- the buffers of a store: an index, and words, of which so many from the first on are the store's
+-- The buffers of a store: an index, and words, of which the first `len` are the store's.
 pub record StoreKept (Word State : Type 0) : Type 0 where
   pub positions : List ℕ
   pub lowers : List State
@@ -27,16 +27,16 @@ pub record StoreKept (Word State : Type 0) : Type 0 where
   pub words : List Word
   pub len : ℕ
 
--- the index in them
+-- The index in the buffers.
 abbrev pub index_kept : {Word State : Type 0} → (State → ℕ) → List ℕ → StoreKept Word State → List Entry
 index_kept state lengths kept = entries_by kept.positions (map state kept.lowers) (map state kept.ranges) lengths
 
--- the words in them
+-- The words in the buffers.
 abbrev pub words_kept : {Word State : Type 0} → (Word → ℕ) → StoreKept Word State → List ℕ
 words_kept number kept = map number (take kept.len kept.words)
 
 -- ---- builds
--- the lengths are those of so many symbols, of no more than a store holds, and the lists of the index are as many
+-- The lengths add up to the number of symbols, a store holds these, and each list of the index has as many items.
 pub record FitStore (symbols : ℕ) (lengths : List ℕ) (positions lowers ranges : ℕ) : Type 0 where
   pub positions_are : positions ≡ length lengths
   pub lowers_are : lowers ≡ length lengths
@@ -44,11 +44,11 @@ pub record FitStore (symbols : ℕ) (lengths : List ℕ) (positions lowers range
   pub all : sum lengths ≡ symbols
   pub few : symbols ≤ 1048576
 
--- the same of buffers
+-- The lengths and lists of these buffers fit a store.
 abbrev pub FitKept : {Word State : Type 0} → List ℕ → List ℕ → StoreKept Word State → Type 0
 FitKept symbols lengths kept = FitStore (length symbols) lengths (length kept.positions) (length kept.lowers) (length kept.ranges)
 
--- so many words are the store's, and there is room for fewer
+-- The store has `needed` words, and there is room for fewer.
 pub record LacksStore (w s precision : ℕ) (weights : List ℕ) (chunks : List (List ℕ)) (size needed : ℕ) : Type 0 where
   pub less : size < needed
   pub index : List Entry
@@ -56,14 +56,14 @@ pub record LacksStore (w s precision : ℕ) (weights : List ℕ) (chunks : List 
   pub built : IsBuilt w s (weights_model precision weights) chunks index words
   pub count : needed ≡ length words
 
--- what a build does with the buffers, and which refusal comes when
+-- A build call.
 pub record StoreBuilds {Word State : Type 0} (number : Word → ℕ) (state : State → ℕ) (w s precision : ℕ) (weights symbols lengths : List ℕ)
     (old new : StoreKept Word State) (answer : Result (Unit {0}) Refusal) : Type 0 where
-  -- the store of the chunks
+  -- The buffers hold the store of the chunks.
   pub built : OnOk answer (IsBuilt w s (weights_model precision weights) (chunks_by symbols lengths) (index_kept state lengths new) (words_kept number new))
-  -- each chunk is looked up at its entry
+  -- Each chunk is decoded at its entry.
   pub chunks : OnOk answer (HoldsChunks w s (weights_model precision weights) (words_kept number new) (index_kept state lengths new) (chunks_by symbols lengths))
-  -- the words are within the buffer, which stays behind them
+  -- The words are within the buffer, and its items behind them are unchanged.
   pub within : OnOk answer (new.len ≤ length new.words)
   pub behind : OnOk answer (drop new.len new.words ≡ drop new.len old.words)
   pub asked : Asks WrongLength (FitKept symbols lengths old) (Asks WrongWeights (IsTotal precision weights)
@@ -72,12 +72,12 @@ pub record StoreBuilds {Word State : Type 0} (number : Word → ℕ) (state : St
   pub kept : OnErr answer (new ≡ old)
 
 -- ---- look-ups
--- what a look-up at an entry does with as many symbols as it has, and which refusal comes when
+-- A look-up call at an entry, for as many symbols as there are places.
 pub record StoreGives {State : Type 0} (state : State → ℕ) (w s precision : ℕ) (weights words : List ℕ) (place : ℕ) (lower range : State)
     (old new : List ℕ) (answer : Result (Unit {0}) Refusal) : Type 0 where
-  -- the chunk at the entry
+  -- The symbols are the chunk at the entry.
   pub ok : OnOk answer (HoldsChunk w s (weights_model precision weights) words (entry_of place (state lower) (state range) (length old)) new)
-  -- the interval is long enough, and the words hold a chunk there
+  -- The interval is long enough, and the words hold a chunk there.
   pub asked : Asks WrongLength (place ≤ length words) (Asks WrongWeights (IsTotal precision weights) (Asks InvalidData (2 ^ (s - w) ≤ state range)
       (Else (Words ((symbols : List ℕ) → HoldsChunk w s (weights_model precision weights) words (entry_of place (state lower) (state range) (length old)) symbols → ⊥))))) answer
   pub kept : OnErr answer (new ≡ old)

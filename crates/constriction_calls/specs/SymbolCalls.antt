@@ -1,4 +1,4 @@
--- Lists of symbols as words of bits, and back.
+-- The calls of symbol codes: what each does with a caller's buffer, and which error comes when.
 use Rattle.std.specs.Prelude.{◌≡◌, ℕ, ◌<◌, ◌⊎◌, ◌-◌, ◌^◌, Bool, List, [], ◌∷◌, ◌++◌, length, map, reverse, Option, Some, OnErr, OnOk, Result}
 use Rattle.constriction_base.specs.declared.errors.CoderError.{CoderError}
 use Rattle.constriction_base.specs.declared.errors.CoderError.TheVariants.{Frontend, Backend}
@@ -16,66 +16,67 @@ use Rattle.constriction_inputs.specs.declared.refusal.Refusal.{Refusal}
 use Rattle.constriction_inputs.specs.declared.refusal.Refusal.TheVariants.{ImpossibleSymbol, InvalidData, NoMemory, OutOfData, WrongWeights}
 
 -- ---- codewords
--- the Exp-Golomb codewords of numbers of so many bits; or those of the Huffman tree of weights, which are numbers of so many bits
+-- The caller's choice of codewords: Exp-Golomb for numbers of this many bits, or the Huffman tree of weights of this
+-- many bits.
 pub data SymbolCode : Type 0 where
   OfNumbers : ℕ → SymbolCode
   OfWeights : ℕ → List ℕ → SymbolCode
 
--- the codeword of a symbol, by its number
+-- The codeword of a symbol, by its number.
 abbrev pub codeword_in : {S : Type 0} → (S → ℕ) → SymbolCode → S → Option (List Bool)
 codeword_in number (OfNumbers width) = λ symbol. Some (golomb (number symbol))
 codeword_in number (OfWeights width weights) = λ symbol. huffman weights (number symbol)
 
--- the weights make a tree: there are some, at most so many, and their sum is a number of so many bits
+-- The weights make a tree: there are between 1 and `most`, and their sum fits the given number of bits.
 abbrev pub MakesCode : ℕ → SymbolCode → Type 0
 MakesCode most (OfNumbers width) = Unit {0}
 MakesCode most (OfWeights width weights) = FitTree (λ weight. weight) width most weights
 
--- bits behind which a codeword may still be completed
+-- The bits may be the beginning of a codeword.
 abbrev pub IsCutOff : SymbolCode → List Bool → Type 0
 IsCutOff (OfNumbers width) bits = WantsBit width bits
 IsCutOff (OfWeights width weights) bits = NoneBegins (huffman weights) bits
 
--- bits that are those of no codeword
+-- The bits begin with no codeword.
 abbrev pub IsWrong : SymbolCode → List Bool → Type 0
 IsWrong (OfNumbers width) bits = IsInvalid width bits
 IsWrong (OfWeights width weights) bits = ⊥
 
--- each symbol has a codeword
+-- Each symbol has a codeword.
 abbrev pub AllHaveCodewords : {S : Type 0} → (S → Option (List Bool)) → List S → Type 0
 AllHaveCodewords codeword symbols = (code : List Bool) × AreCodewords codeword symbols code
 
 -- ---- bits as words
--- bits are read in the order in which they were written, or the last one first
+-- The order of reading: that of writing, or its reverse.
 pub data Order : Type 0 where
   AsQueue : Order
   AsStack : Order
 
--- the words of just the bits that are read in this order
+-- The words hold exactly the bits, read in this order.
 abbrev pub AreWordsInOrder : Order → ℕ → List Bool → List ℕ → Type 0
 AreWordsInOrder AsQueue w bits words = IsQueueWords w bits words
 AreWordsInOrder AsStack w bits words = IsStackWords w (reverse bits) words
 
--- the bits that these words give in this order
+-- The words give these bits in this order.
 abbrev pub GiveBits : Order → ℕ → List ℕ → List Bool → Type 0
 GiveBits AsQueue w words bits = bits ≡ bits_of_words w words
 GiveBits AsStack w words bits = HasStackWords w (reverse bits) words
 
--- the words give no bits: they end in a zero, as those of no stack of bits
+-- The words give no bits: they end in a 0, which no stack of bits does.
 abbrev pub GiveNone : Order → List ℕ → Type 0
 GiveNone AsQueue words = ⊥
 GiveNone AsStack words = (front : List ℕ) × (words ≡ front ++ 0 ∷ [])
 
 -- ---- symbols as words
--- the words of the codewords of the symbols, one behind another, and of no more
+-- The words hold exactly the symbols' codewords, concatenated.
 abbrev pub AreSymbolWords : {S : Type 0} → Order → ℕ → (S → Option (List Bool)) → List S → List ℕ → Type 0
 AreSymbolWords order w codeword symbols words = (code : List Bool) × AreCodewords codeword symbols code × AreWordsInOrder order w code words
 
--- so many words are those of the symbols, and there is room for fewer
+-- The symbols have `needed` words, and there is room for fewer.
 abbrev pub LackRoom : {S : Type 0} → Order → ℕ → (S → Option (List Bool)) → List S → ℕ → ℕ → Type 0
 LackRoom order w codeword symbols room needed = (words : List ℕ) × AreSymbolWords order w codeword symbols words × (needed ≡ length words) × (room < needed)
 
--- what a call does that puts the words of symbols at the beginning of a buffer, by the numbers of symbols and of words of w bits
+-- An encode call: it writes the words of symbols at the beginning of a buffer.
 pub record PutsCodewords {S Word : Type 0} (symbol : S → ℕ) (number : Word → ℕ) (w : ℕ) (order : Order) (book : SymbolCode) (symbols : List S)
     (old new : WordsKept Word) (answer : Result (Unit {0}) Refusal) : Type 0 where
   pub put : OnOk answer ((all : List Word) × AreSymbolWords order w (codeword_in symbol book) symbols (map number all) × Appended old.words 0 all new.words new.len)
@@ -84,40 +85,40 @@ pub record PutsCodewords {S Word : Type 0} (symbol : S → ℕ) (number : Word �
   pub kept : OnErr answer (new ≡ old)
 
 -- ---- words as symbols
--- the codewords of the symbols begin the bits, one behind another
+-- The bits begin with the symbols' codewords, concatenated.
 abbrev pub BeginBits : {S : Type 0} → (S → Option (List Bool)) → List S → List Bool → Type 0
 BeginBits codeword symbols bits = (code : List Bool) × (rest : List Bool) × AreCodewords codeword symbols code × (bits ≡ code ++ rest)
 
--- behind the codewords of fewer symbols come bits of which this holds
+-- Bits with the property stand behind the codewords of fewer symbols.
 abbrev pub AfterFewer : {S : Type 0} → (S → Option (List Bool)) → ℕ → (List Bool → Type 0) → List Bool → Type 0
 AfterFewer {S} codeword amt holds bits =
     (symbols : List S) × (length symbols < amt) × (code : List Bool) × (rest : List Bool) × AreCodewords codeword symbols code × (bits ≡ code ++ rest) × holds rest
 
--- bits of which this holds begin these
+-- The bits begin with bits that have the property.
 abbrev pub BegunBy : (List Bool → Type 0) → List Bool → Type 0
 BegunBy holds bits = (first : List Bool) × (rest : List Bool) × (bits ≡ first ++ rest) × holds first
 
--- why bits don't give so many symbols: they end, after fewer, in these in which no codeword is complete; or after fewer come
--- some that are no codeword; or memory is missing
+-- The bits don't give `amt` symbols. After fewer symbols, they end within a codeword or begin with no codeword; or
+-- there is no memory.
 abbrev pub ReadsNone : {S : Type 0} → (S → Option (List Bool)) → (List Bool → Type 0) → (List Bool → Type 0) → ℕ → List Bool → Refusal → Type 0
 ReadsNone codeword is_cut is_wrong amt bits OutOfData = AfterFewer codeword amt is_cut bits
 ReadsNone codeword is_cut is_wrong amt bits InvalidData = AfterFewer codeword amt (BegunBy is_wrong) bits
 ReadsNone codeword is_cut is_wrong amt bits other = Memory other
 
--- what is answered where no symbol was read
+-- The answer of the call for a codebook's error.
 abbrev pub IsToldAs : {V E : Type 0} → CoderError (SymbolCodeError V) E → Refusal → Type 0
 IsToldAs (Frontend OutOfCompressedData) refusal = refusal ≡ OutOfData
 IsToldAs (Frontend (InvalidCodeword e)) refusal = refusal ≡ InvalidData
 IsToldAs (Backend e) refusal = refusal ≡ NoMemory
 
--- why words don't: memory is missing; or they give no bits; or their bits don't give them
+-- The words don't give `amt` symbols: there is no memory, they give no bits, or their bits don't give the symbols.
 abbrev pub TakesNone : {S : Type 0} → Order → ℕ → (S → ℕ) → SymbolCode → ℕ → List ℕ → Refusal → Type 0
 TakesNone order w symbol book amt words e =
     Memory e
     ⊎ ((e ≡ InvalidData) × GiveNone order words)
     ⊎ ((bits : List Bool) × GiveBits order w words bits × ReadsNone (codeword_in symbol book) (IsCutOff book) (IsWrong book) amt bits e)
 
--- what a call does that fills a buffer with symbols from the beginning of the bits of words
+-- A decode call: it fills a buffer with symbols from the beginning of the bits of words.
 pub record TakesCodewords {S : Type 0} (symbol : S → ℕ) (w : ℕ) (order : Order) (book : SymbolCode) (words : List ℕ) (old new : List S) (answer : Result (Unit {0}) Refusal) : Type 0 where
   pub count : length new ≡ length old
   pub taken : OnOk answer ((bits : List Bool) × GiveBits order w words bits × BeginBits (codeword_in symbol book) new bits)

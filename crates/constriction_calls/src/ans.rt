@@ -1,19 +1,24 @@
-//! The stack coder over a caller's buffer: a head, and the first `len` words of the buffer, the last one on top.
+//! The stack coder over a caller's buffer.
 //!
-//! - [`encoding`]: symbols put on.
-//! - [`decoding`]: symbols taken off.
-//! - [`words`]: the words of a state, and a state from words.
+//! Its state is a head and the first `len` words of the buffer, last word on top.
 //!
-//! A call that is refused changed nothing. It names the first reason of these:
+//! - [`encoding`]: encoding symbols.
+//! - [`decoding`]: decoding symbols.
+//! - [`words`]: exporting and importing the words of a state.
 //!
-//! - `WrongLength`: `len` is past the buffer's end, or there are not as many symbols as models, or `ps` as `lefts`.
-//! - `WrongInterval`: an interval is empty or ends past two to the precision; or a range has fewer than two symbols,
-//!   or more than two to the precision.
-//! - `WrongWeights`: weights don't add up, a family is none, or a scale is 0.
-//! - `InvalidData`: words, or a head, are those of no state.
+//! # Errors
+//!
+//! A call that fails changes nothing. It returns the first of these that applies:
+//!
+//! - `WrongLength`: `len` is past the buffer's end, the numbers of symbols and models differ, or those of `lefts` and
+//!   `ps`.
+//! - `WrongInterval`: an interval is empty or ends past `2 ^ PRECISION`, or a range has fewer than two symbols or more
+//!   than `2 ^ PRECISION`.
+//! - `WrongWeights`: weights don't add up to `2 ^ PRECISION`, a family doesn't exist, or a scale is 0.
+//! - `InvalidData`: the words or the head belong to no state.
 //! - `ImpossibleSymbol`: a model doesn't know its symbol.
-//! - `NoSpace`: the buffer is too short. It names how many words the state would have.
-//! - `NoMemory`: memory is missing, whether or not the buffer is too short.
+//! - `NoSpace`: the buffer is too short. The error has the number of words that the state would have.
+//! - `NoMemory`: there is no memory. This may also come if the buffer is too short.
 
 pub mod decoding;
 pub mod encoding;

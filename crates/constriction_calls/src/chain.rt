@@ -1,19 +1,22 @@
-//! The chain coder's calls. The caller keeps two heads, and two buffers with their numbers of words: the first so many
-//! words are in use, the last one on top. A decode takes compressed words and puts remainders on, an encode does the
-//! contrary.
+//! The chain coder over a caller's buffers. Its state is two heads and the words of two buffers.
+//!
+//! The first words of each buffer, up to its number of words, are in use, last word on top. A decode reads compressed
+//! words and writes remainders. An encode does the opposite.
 //!
 //! # Errors
 //!
-//! A refused call leaves all as it was. It looks for these in this order, and each but the last comes just in its case:
+//! A call that fails changes nothing. It checks for these in this order, and each but the last comes exactly in its
+//! case:
 //!
-//! - `WrongLength`: a number of words is past its buffer's end, or what makes the models doesn't have the number of the
-//!   symbols.
-//! - `WrongInterval`, `WrongWeights`: nothing makes the models, as each kind of [`constriction_inputs::models`] says.
-//! - `InvalidData`: the heads are no coder's.
+//! - `WrongLength`: a number of words is past its buffer's end, or the arguments of the models don't have as many items
+//!   as there are symbols.
+//! - `WrongInterval`, `WrongWeights`: the arguments make no models, as each kind of [`constriction_inputs::models`]
+//!   says.
+//! - `InvalidData`: the heads belong to no coder.
 //! - `ImpossibleSymbol`: a model doesn't know its symbol.
-//! - `OutOfData`: a word is needed, and none is left.
-//! - `NoSpace`: the buffer that is written is too short. It names the number of words that it would need.
-//! - `NoMemory`: memory is missing.
+//! - `OutOfData`: the coder needs a word, and none is left.
+//! - `NoSpace`: the buffer written to is too short. The error has the number of words that it needs.
+//! - `NoMemory`: there is no memory.
 
 mod decoding;
 mod encoding;
@@ -25,11 +28,11 @@ pub use words::{
     from_binary, from_compressed, from_remainders, into_binary, into_compressed, into_remainders,
 };
 
-/// The two heads of a chain coder.
+/// The two heads of a chain coder, which a caller keeps between calls.
 #[derive(Debug, Clone, Copy, PartialEq, Eq)]
 pub struct ChainHeads<Word, State> {
-    /// The number of the remainders.
+    /// The head of the remainders.
     pub remainders: State,
-    /// A 1, and the bits left over of the compressed words.
+    /// A 1 above the bits left over of the compressed words.
     pub compressed: Word,
 }

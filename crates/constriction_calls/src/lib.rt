@@ -1,8 +1,10 @@
-//! The coders as calls over a caller's buffers: no value of ours outlives a call, so a caller in another language keeps
-//! the state itself, as words in a buffer with their number, and heads. `constriction_c` gives each call a C function.
+//! The coders as calls over a caller's buffers, with no value that outlives a call.
+//!
+//! The caller keeps a coder's state between calls: words in a buffer with their number, and heads. So a caller in
+//! another language needs no handle. `constriction_c` gives each call a C function.
 //!
 //! - [`ans`]: the stack coder.
-//! - [`symbol`]: lists of symbols as words of bits, and back.
+//! - [`symbol`]: encoding lists of symbols with codebooks, and decoding them.
 //! - [`range`]: the range coder.
 //! - [`chain`]: the chain coder.
 //! - [`store`]: stores of chunks.

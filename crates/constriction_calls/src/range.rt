@@ -1,22 +1,24 @@
-//! The range coder over a caller's buffers. An encoder or a decoder is numbers in the caller's hands; the words that an
-//! encoder wrote are the first `len` of a buffer, in the order in which they were written.
+//! The range coder over a caller's buffers. An encoder or a decoder is a few numbers that the caller keeps.
 //!
-//! - [`encoding`]: encodes.
-//! - [`decoding`]: decodes.
-//! - [`words`]: the words of an encoder.
-//! - [`positions`]: decoders of words, and where these may end.
-//! - [`parts`]: an encoder and a decoder between two calls.
+//! The words that an encoder wrote are the first `len` words of a buffer, in the order of writing.
+//!
+//! - [`encoding`]: encoding symbols.
+//! - [`decoding`]: decoding symbols.
+//! - [`words`]: sealing an encoder's words.
+//! - [`positions`]: decoders at the beginning or at a position, and whether the words may have ended.
+//! - [`parts`]: the numbers of an encoder and of a decoder.
 //!
 //! # Errors
 //!
-//! Each call looks in this order, and where it answers one of these nothing changed:
-//! - `WrongLength` exactly where `len`, or a place or a position, is past the buffer's end.
-//! - `WrongLength`, `WrongInterval` and `WrongWeights` exactly where [`constriction_inputs::models::Models::check`]
-//!   answers them.
-//! - `InvalidData` exactly where the numbers are those of no encoder, of one that can't count so many symbols more, or
-//!   of no decoder.
+//! A call that fails changes nothing. Each call first checks for these, in this order:
 //!
-//! Behind these stand its own.
+//! - `WrongLength` exactly if `len`, a place or a position is past the buffer's end.
+//! - `WrongLength`, `WrongInterval` and `WrongWeights` exactly if [`constriction_inputs::models::Models::check`]
+//!   returns them.
+//! - `InvalidData` exactly if the numbers belong to no decoder, to no encoder, or to an encoder that can't count this
+//!   many further symbols.
+//!
+//! Its own errors follow.
 
 pub mod decoding;
 pub mod encoding;

@@ -1,5 +1,6 @@
-//! Stores of chunks over a caller's buffers: words, and an index as a list of positions, one of lower ends and one of
-//! lengths of intervals.
+//! Stores of chunks over a caller's buffers: words, and an index.
+//!
+//! The index is three lists: positions, and lower ends and lengths of intervals.
 
 mod building;
 mod cutting;

@@ -1,14 +1,19 @@
-//! Lists of symbols as words of bits, and back, by the codewords that a caller hands in ([`Codes`]): Exp-Golomb
-//! codewords of numbers (`ExpGolomb`), or those of a Huffman tree of weights ([`Tree`]).
+//! Encoding lists of symbols with codebooks, and decoding them, over a caller's buffers.
 //!
-//! A refusal leaves the buffers as they were. It is the first of these that holds:
-//! - `WrongWeights`: the weights make no tree. There are none, or their sum doesn't fit their type.
+//! A caller chooses the codewords by a value of [`Codes`]: `ExpGolomb` for numbers, or [`Tree`] for the Huffman tree of
+//! weights.
+//!
+//! # Errors
+//!
+//! A call that fails leaves the buffers unchanged. It returns the first of these that applies:
+//!
+//! - `WrongWeights`: the weights make no tree, because there are none, or their sum doesn't fit their type.
 //! - `ImpossibleSymbol`: a symbol has no codeword.
-//! - `NoSpace`: the buffer is shorter than the words, whose number it tells.
+//! - `NoSpace`: the buffer is too short. The error has the number of words.
 //! - `OutOfData`: the words end before all symbols are read.
-//! - `InvalidData`: some bits are no codeword, or the last word of a stack is zero.
+//! - `InvalidData`: some bits begin with no codeword, or the last word of a stack is 0.
 //!
-//! `NoMemory` comes behind `WrongWeights` and `ImpossibleSymbol`, for want of memory.
+//! `NoMemory` comes after `WrongWeights` and `ImpossibleSymbol`, if there is no memory.
 
 mod decoding;
 mod encoding;
@@ -28,14 +33,17 @@ pub use encoding::{encode_queue, encode_stack};
 use std::alloc::Global;
 pub use trees::Tree;
 
-/// What a caller hands in for the codewords of symbols.
+/// A caller's choice of codewords.
+///
+/// An implementor proves that its codebooks have the codewords of `book`. It also proves which error comes when: that
+/// the weights make no tree, that a symbol has no codeword, or that there is no memory.
 pub trait Codes {
     type Symbol: Copy + Drop;
 
     type Encoder: EncoderCodebook<Symbol = Self::Symbol>;
 
     type Decoder: DecoderCodebook<Symbol = Self::Symbol, InvalidCodeword = Self::Wrong>;
-    /// What the decoder's codebook says of bits that are no codeword.
+    /// The error of the decoder's codebook for bits that begin with no codeword.
     type Wrong: Drop;
 
     // The codewords, and the numbers of symbols.
@@ -43,18 +51,23 @@ pub trait Codes {
 
     ghost number: { Self.Symbol → ℕ };
 
-    /// The codebook for writing. `None` comes where the weights make no tree, or for want of memory.
+    /// Makes the codebook for encoding. Returns `None` if the weights make no tree, or if there is no memory.
     fn encoder(&self, alloc: Global) -> Option<Self::Encoder>
         ensures tree { OnSome result (MakesCode (2 ^ 62 - 1) (book self.now)) }
         ensures codewords { IfSome result (λ made. (s : Self.Symbol) → Self.Encoder.codeword made s
             ≡ codeword_in number (book self.now) s) };
 
-    /// Why these symbols weren't written. It takes no memory.
+    /// Returns the error of symbols that weren't encoded. It needs no memory.
     fn refused(&self, symbols: &[Self::Symbol]) -> Refusal
         ensures { Asks {T = Unit {0}} WrongWeights (MakesCode (2 ^ 62 - 1) (book self.now)) (Asks ImpossibleSymbol
             (AllHaveCodewords (codeword_in number (book self.now)) symbols.now) (Else Memory)) (Err result) };
 
-    /// The codebook for reading.
+    /// Makes the codebook for decoding.
+    ///
+    /// # Errors
+    ///
+    /// - `WrongWeights` exactly if the weights make no tree.
+    /// - `NoMemory` if there is no memory.
     fn decoder(&self, alloc: Global) -> Result<Self::Decoder, Refusal>
         ensures asks { Asks WrongWeights (MakesCode (2 ^ 63 - 1) (book self.now)) (Else Memory) result }
         ensures codewords { IfOk result (λ made. (s : Self.Symbol) → Self.Decoder.codeword made s

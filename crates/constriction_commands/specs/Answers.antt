@@ -1,4 +1,4 @@
--- What each command answers a text, and when it gives which fault: each in a file of specs/commands.
+-- What each command answers a text, and which fault it gives when.
 use Rattle.std.specs.Prelude.{Option, ◌≡◌, ℕ, List, [], ◌∷◌, codes, drop, map, string_bytes, ◌⊎◌, IfSome}
 use Rattle.std.specs.declared.string.String.{String}
 use Rattle.constriction_commands.specs.Coding.{EncodeFails}
@@ -15,7 +15,7 @@ use Rattle.constriction_commands.specs.declared.commands.Command.TheVariants.{An
 use Rattle.constriction_commands.specs.declared.fault.Fault.{Fault}
 use Rattle.constriction_commands.specs.declared.fault.Fault.TheVariants.{Unreadable, Unwritable, OutOfMemory}
 
--- the argument that names a command
+-- The argument that names a command.
 abbrev pub name_of : Command → List ℕ
 name_of AnsEncode = codes "ans-encode"
 name_of AnsDecode = codes "ans-decode"
@@ -26,19 +26,19 @@ name_of Golomb = codes "golomb"
 name_of Huffman = codes "huffman"
 name_of Store = codes "store"
 
--- the arguments are the command's name alone
+-- The arguments are the name of the command alone.
 abbrev pub Names : List (List ℕ) → Command → Type 0
 Names arguments command = arguments ≡ name_of command ∷ []
 
--- the arguments are those of no command
+-- The arguments name no command.
 abbrev pub NamesNone : List (List ℕ) → Type 0
 NamesNone arguments = (command : Command) → Names arguments command → ⊥
 
--- the arguments of a run: what stands behind the program's name, as bytes
+-- The arguments of a run: the words behind the program's name, as bytes.
 abbrev pub words_behind_name : {Z : Type 0} → List (String Z) → List (List ℕ)
 words_behind_name words = map string_bytes (drop 1 words)
 
--- why a command answers a text with a fault; where two could come, the first of the order of faults
+-- A command fails with this fault. If two faults apply, the first in the order of faults comes.
 abbrev pub Fails : Command → List ℕ → Fault → Type 0
 Fails AnsEncode text fault = EncodeFails text fault
 Fails AnsDecode text fault = AnsDecodeFails text fault
@@ -49,12 +49,12 @@ Fails Golomb text fault = GolombFails text fault
 Fails Huffman text fault = HuffmanFails text fault
 Fails Store text fault = StoreFails text fault
 
--- why a run stops: reading, writing or memory failed, or the command that the arguments name fails for the text
+-- A run stops with this fault: reading, writing or memory failed, or the named command fails for the text.
 abbrev pub Stops : List (List ℕ) → Option (List ℕ) → Fault → Type 0
 Stops arguments known fault = (fault ≡ Unreadable) ⊎ (fault ≡ Unwritable) ⊎ (fault ≡ OutOfMemory)
     ⊎ IfSome known (λ text. (command : Command) × Names arguments command × Fails command text fault)
 
--- what a command answers a text
+-- The command answers the text with this output.
 abbrev pub Answers : Command → List ℕ → List ℕ → Type 0
 Answers AnsEncode text answer = IsAnsEncoded text answer
 Answers AnsDecode text answer = IsAnsDecoded text answer
@@ -65,6 +65,6 @@ Answers Golomb text answer = IsGolomb text answer
 Answers Huffman text answer = IsHuffmanLine text answer
 Answers Store text answer = IsStored text answer
 
--- what the command that the arguments name answers a text
+-- The command that the arguments name answers the text with this output.
 abbrev pub IsAnswered : List (List ℕ) → List ℕ → List ℕ → Type 0
 IsAnswered arguments text answer = (command : Command) × Names arguments command × Answers command text answer

@@ -1,11 +1,11 @@
 -- Bits as digits.
 use Rattle.std.specs.Prelude.{ℕ, Bool, true, false, List, map}
 
--- a bit as a digit
+-- A bit as a digit.
 abbrev pub digit : Bool → ℕ
 digit true = 49
 digit false = 48
 
--- bits as digits, the first one first
+-- Bits as digits, in order.
 abbrev pub digits : List Bool → List ℕ
 digits bits = map digit bits

@@ -1,33 +1,33 @@
--- What the lines of a text give a command that codes symbols, and why they give nothing.
+-- The inputs that the lines of a text give a command that codes symbols, and the faults of bad lines.
 use Rattle.std.specs.Prelude.{Option, None, ◌≡◌, ℕ, ◌-◌, ◌≤◌, ◌^◌, Some, List, [], ◌∷◌, sum, ◌≢◌, ◌⊎◌, ◌<◌, ⊤}
 use Rattle.constriction_base.specs.Tables.{table_of}
 use Rattle.constriction_commands.specs.Lines.{first_line, second_line, after_line, numbers_of, number_lists_of}
 use Rattle.constriction_commands.specs.declared.fault.Fault.{Fault}
 use Rattle.constriction_commands.specs.declared.fault.Fault.TheVariants.{BadNumber, NoCount, NoWeights, WrongTotal, OutOfMemory}
 
--- the first line lists these weights of 32 bits
+-- The first line lists these 32-bit weights.
 abbrev pub WeightsAre : List ℕ → List ℕ → Type 0
 WeightsAre text weights = numbers_of (2 ^ 32 - 1) (first_line text) ≡ Some weights
 
--- the second line lists these symbols of 64 bits
+-- The second line lists these 64-bit symbols.
 abbrev pub SymbolsAre : List ℕ → List ℕ → Type 0
 SymbolsAre text symbols = numbers_of (2 ^ 64 - 1) (second_line text) ≡ Some symbols
 
--- the second line lists these numbers of 32 bits: a count, and words
+-- The second line lists these 32-bit numbers: a count, and words.
 abbrev pub CountedAre : List ℕ → List ℕ → Type 0
 CountedAre text numbers = numbers_of (2 ^ 32 - 1) (second_line text) ≡ Some numbers
 
--- weights that make a table
+-- The weights make a table.
 abbrev pub Total : List ℕ → Type 0
 Total weights = sum weights ≡ 2 ^ 24
 
--- a line that is no list of numbers
+-- The line is no list of numbers.
 abbrev pub IsBad : Option (List ℕ) → Type 0
 IsBad numbers = numbers ≡ None
 
 -- ---- weights and symbols
 
--- the weights of this table, and these symbols
+-- The text gives the weights of this table, and these symbols.
 pub record GivesSymbols (text : List ℕ) (table : List (ℕ × ℕ × ℕ)) (symbols : List ℕ) : Type 0 where
   pub weights : List ℕ
   pub weights_line : WeightsAre text weights
@@ -35,7 +35,7 @@ pub record GivesSymbols (text : List ℕ) (table : List (ℕ × ℕ × ℕ)) (sy
   pub total : Total weights
   pub table_is : table ≡ table_of weights
 
--- why there are none: a line is bad, or else the weights make no table
+-- The text gives no symbols: a line is bad, or the weights make no table.
 abbrev pub NoSymbols : List ℕ → Fault → Type 0
 NoSymbols text BadNumber = IsBad (numbers_of (2 ^ 32 - 1) (first_line text)) ⊎ IsBad (numbers_of (2 ^ 64 - 1) (second_line text))
 NoSymbols text NoWeights = (symbols : List ℕ) × WeightsAre text [] × SymbolsAre text symbols
@@ -45,11 +45,11 @@ NoSymbols text fault = ⊥
 
 -- ---- weights, a count and words
 
--- the greatest count of symbols
+-- The greatest count of symbols.
 abbrev pub most : ℕ
 most = 16777216
 
--- the weights of this table, a count of symbols, and these words
+-- The text gives the weights of this table, a count of symbols, and these words.
 pub record GivesWords (text : List ℕ) (table : List (ℕ × ℕ × ℕ)) (count : ℕ) (words : List ℕ) : Type 0 where
   pub weights : List ℕ
   pub weights_line : WeightsAre text weights
@@ -58,7 +58,7 @@ pub record GivesWords (text : List ℕ) (table : List (ℕ × ℕ × ℕ)) (coun
   pub total : Total weights
   pub table_is : table ≡ table_of weights
 
--- why there are none: a line is bad, or the count too great; or else there is no count, or else the weights make no table
+-- The text gives no words: a line is bad, the count is too great or missing, or the weights make no table.
 abbrev pub NoWords : List ℕ → Fault → Type 0
 NoWords text BadNumber =
     IsBad (numbers_of (2 ^ 32 - 1) (first_line text)) ⊎ IsBad (numbers_of (2 ^ 32 - 1) (second_line text))
@@ -72,16 +72,16 @@ NoWords text fault = ⊥
 
 -- ---- weights, look-ups and chunks
 
--- the lines behind the second list these chunks of symbols of 64 bits, one each
+-- The lines behind the second list these chunks of 64-bit symbols, one chunk each.
 abbrev pub ChunksAre : List ℕ → List (List ℕ) → Type 0
 ChunksAre text chunks = number_lists_of (2 ^ 64 - 1) (after_line (after_line text)) ≡ Some chunks
 
--- the weights of this table, the places of the chunks that are looked up, and these chunks
+-- The text gives the weights of this table, the places to look up, and these chunks.
 pub record GivesChunks (text : List ℕ) (table : List (ℕ × ℕ × ℕ)) (places : List ℕ) (chunks : List (List ℕ)) : Type 0 where
   pub first_two : GivesSymbols text table places
   pub chunk_lines : ChunksAre text chunks
 
--- why there are none: a line is bad, or else the weights make no table
+-- The text gives no chunks: a line is bad, or the weights make no table.
 abbrev pub NoChunks : List ℕ → Fault → Type 0
 NoChunks text BadNumber = NoSymbols text BadNumber ⊎ (number_lists_of (2 ^ 64 - 1) (after_line (after_line text)) ≡ None)
 NoChunks text OutOfMemory = ⊤

@@ -4,77 +4,77 @@ use Rattle.std.specs.List.{before_first, after_first, onto_first, slice_split, j
 use Rattle.std.specs.Char.{is_ascii_digit}
 use Rattle.std.specs.Str.{all_ascii_digits}
 
--- a line ends at a line feed
+-- A line ends at a line feed.
 abbrev pub is_line_feed : ℕ → Bool
 is_line_feed byte = byte == 10
 
--- the first line of a text, without its line feed; all of it where there is no line feed
+-- The first line of a text without its line feed, or the whole text if there is none.
 abbrev pub first_line : List ℕ → List ℕ
 first_line text = before_first is_line_feed text
 
--- what follows the first line feed; nothing where there is none
+-- The text behind the first line feed, or nothing if there is none.
 abbrev pub after_line : List ℕ → List ℕ
 after_line text = after_first is_line_feed text
 
--- the second line; empty where there is none
+-- The second line, or nothing if there is none.
 abbrev pub second_line : List ℕ → List ℕ
 second_line text = first_line (after_line text)
 
--- a space, a tab or a carriage return parts numbers
+-- A space, a tab or a carriage return separates numbers.
 abbrev pub is_blank : ℕ → Bool
 is_blank byte = byte == 32 || byte == 9 || byte == 13
 
--- a piece that is not empty
+-- The piece is not empty.
 abbrev pub has_bytes : List ℕ → Bool
 has_bytes [] = false
 has_bytes (byte ∷ bytes) = true
 
--- what stands between blanks
+-- The pieces of a line between blanks.
 abbrev pub pieces_of : List ℕ → List (List ℕ)
 pieces_of line = filter has_bytes (slice_split is_blank line)
 
--- the number that decimal digits spell, behind the digits of n
+-- The number whose decimal digits are those of n and then these.
 abbrev pub value_after : ℕ → List ℕ → ℕ
 value_after n [] = n
 value_after n (digit ∷ digits) = value_after (10 * n + (digit - 48)) digits
 
--- a digit behind those of n; none where the byte is no digit, or the number is past the greatest
+-- The number with the digits of n and this one, or none if the byte is no digit or the number is too great.
 abbrev pub with_digit : ℕ → ℕ → ℕ → Option ℕ
 with_digit greatest n byte = if is_ascii_digit byte && nat_le (10 * n + (byte - 48)) greatest then Some (10 * n + (byte - 48)) else None
 
--- the number that a piece of digits spells; none where a byte is no digit, or the number is past the greatest
+-- The number that a piece spells, or none if a byte is no digit or the number is too great.
 abbrev pub number_spelled : ℕ → List ℕ → Option ℕ
 number_spelled greatest piece = if all_ascii_digits piece && nat_le (value_after 0 piece) greatest then Some (value_after 0 piece) else None
 
--- one in front of others, where both are there
+-- A value in front of a list, if both exist.
 abbrev pub in_front : {X : Type 0} → Option X → Option (List X) → Option (List X)
 in_front None rest = None
 in_front (Some x) None = None
 in_front (Some x) (Some xs) = Some (x ∷ xs)
 
--- the numbers of pieces; none where one of them spells no number
+-- The numbers of all pieces, or none if a piece spells no number.
 abbrev pub all_numbers : ℕ → List (List ℕ) → Option (List ℕ)
 all_numbers greatest [] = Some []
 all_numbers greatest (piece ∷ pieces) = in_front (number_spelled greatest piece) (all_numbers greatest pieces)
 
--- the numbers up to the greatest that a line lists; none where it is no list of such numbers
+-- The numbers that a line lists, or none if it is no list of numbers up to the greatest.
 abbrev pub numbers_of : ℕ → List ℕ → Option (List ℕ)
 numbers_of greatest line = all_numbers greatest (pieces_of line)
 
--- the lines of a text; where it ends at a line feed, no line stands behind that
+-- The lines of a text. If it ends at a line feed, no line follows that.
 abbrev pub lines_of : List ℕ → List (List ℕ)
 lines_of [] = []
 lines_of (byte ∷ bytes) = if is_line_feed byte then [] ∷ lines_of bytes else onto_first byte (lines_of bytes)
 
--- the lists of numbers up to the greatest that lines are; none where one of them is no such list
+-- The lists of numbers of all lines, or none if a line is no list of numbers up to the greatest.
 abbrev pub all_number_lists : ℕ → List (List ℕ) → Option (List (List ℕ))
 all_number_lists greatest [] = Some []
 all_number_lists greatest (line ∷ lines) = in_front (numbers_of greatest line) (all_number_lists greatest lines)
 
--- those of a text, a list for each line
+-- The lists of numbers of a text, one for each line.
 abbrev pub number_lists_of : ℕ → List ℕ → Option (List (List ℕ))
 number_lists_of greatest text = all_number_lists greatest (lines_of text)
 
--- numbers in decimal with a space between each two, as a line
+-- The line of numbers in decimal, with a space between each two.
 abbrev pub line_of : List ℕ → List ℕ
 line_of numbers = join_with_byte 32 (map decimal numbers) ++ 10 ∷ []

@@ -1,4 +1,4 @@
--- Why symbols are not read from words of 32 bits by a range coder whose states have 64.
+-- The faults of decoding symbols with a range coder of 32-bit words and 64-bit states.
 use Rattle.std.specs.Prelude.{ℕ, ◌/◌, ◌≤◌, ◌<◌, ◌^◌, List, length, ⊤}
 use Rattle.constriction_base.specs.Models.{items_of}
 use Rattle.constriction_queue.specs.Range.{Run, initial, offset}
@@ -7,11 +7,11 @@ use Rattle.constriction_commands.specs.Coding.{of_24_bits}
 use Rattle.constriction_commands.specs.declared.fault.Fault.{Fault}
 use Rattle.constriction_commands.specs.declared.fault.Fault.TheVariants.{InvalidData, OutOfMemory}
 
--- the words hold no symbol at this moment: the quantile that is read is none of 24 bits
+-- The words hold no symbol at this run: the quantile read has more than 24 bits.
 abbrev pub HoldsNoQuantile : List ℕ → Run → Type 0
 HoldsNoQuantile words run = 2 ^ 24 ≤ offset 32 64 words run / (run.range / 2 ^ 24)
 
--- why not so many symbols are read from words: behind fewer symbols they hold none
+-- Decoding `count` symbols fails: after fewer symbols the words hold none.
 abbrev pub ReadingFails : List ℕ → List (ℕ × ℕ × ℕ) → ℕ → Fault → Type 0
 ReadingFails words table count (InvalidData error) =
     (symbols : List ℕ) × (run : Run) × FindsAll 32 64 words (items_of (of_24_bits table) symbols) (initial 64) run × (length symbols < count) × HoldsNoQuantile words run

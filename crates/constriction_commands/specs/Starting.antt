@@ -1,4 +1,4 @@
--- What the program writes, and why it stops, by the arguments that the system gave.
+-- What the program writes, and the faults that stop it, for the arguments that the system gives.
 use Rattle.std.specs.Prelude.{Option, ◌≡◌, ℕ, List, Result, IfSome, MatchResult}
 use Rattle.std.specs.Vec.Iter.{into_iter_items}
 use Rattle.std.specs.declared.string.String.{String}
@@ -8,12 +8,12 @@ use Rattle.constriction_commands.specs.Written.{GrowsByBeginning}
 use Rattle.constriction_commands.specs.declared.fault.Fault.{Fault}
 use Rattle.constriction_commands.specs.declared.fault.Fault.TheVariants.{OutOfMemory}
 
--- a writer's contents grew by a beginning of what the named command answers the text, if the text is known
+-- The writer's contents grew by a beginning of the named command's answer, if the text is known.
 abbrev pub BeginsAnswer : List (List ℕ) → Option (List ℕ) → Option (List ℕ) → Option (List ℕ) → Type 0
 BeginsAnswer arguments known old new = IfSome known (λ text. (answer : List ℕ)
     × IsAnswered arguments text answer × GrowsByBeginning old new answer)
 
--- why the program stops: its run with the given arguments does, or memory was missing where none were given
+-- The program stops with this fault: its run does, or there was no memory for the arguments.
 abbrev pub ProgramStops : {Z X : Type 0} → Result (IntoIter (String Z) Z) X → Option (List ℕ) → Fault → Type 0
 ProgramStops given known fault =
     MatchResult given (λ words. Stops (words_behind_name (into_iter_items words)) known fault) (λ _. fault ≡ OutOfMemory)

@@ -1,22 +1,22 @@
--- What a run writes: beginnings, and the lines on standard error.
+-- What a run writes: beginnings of an answer, and the lines on standard error.
 use Rattle.std.specs.Prelude.{Option, ℕ, List, [], ◌∷◌, ◌++◌, take, codes}
 use Rattle.std.specs.Io.KnownBytes.{Appends}
 use Rattle.constriction_commands.specs.declared.fault.Fault.{Fault}
 use Rattle.constriction_commands.specs.declared.fault.Fault.TheVariants.{Unreadable, Unwritable, BadNumber, NoCount, NoWeights, WrongTotal, TooManySymbols, WeightOverflow, Encoder, ZeroWord, NoChain, OutOfData, InvalidData, NoSuchChunk, OutOfMemory}
 
--- what a writer holds grew by a beginning of these bytes
+-- The writer's contents grew by a beginning of these bytes.
 abbrev pub GrowsByBeginning : Option (List ℕ) → Option (List ℕ) → List ℕ → Type 0
 GrowsByBeginning old new bytes = (count : ℕ) × Appends old new (take count bytes)
 
--- a text, and a line feed behind it
+-- A text and a line feed.
 abbrev pub as_line : List ℕ → List ℕ
 as_line text = text ++ 10 ∷ []
 
--- the line where the arguments are not one known command
+-- The usage line, for arguments that aren't one known command.
 abbrev pub usage_line : List ℕ
 usage_line = as_line (codes "usage: constriction <ans-encode|ans-decode|range-encode|range-decode|chain-split|golomb|huffman|store>")
 
--- the line of a fault
+-- The line of a fault.
 abbrev pub fault_line : Fault → List ℕ
 fault_line Unreadable = as_line (codes "cannot read input")
 fault_line Unwritable = as_line (codes "cannot write output")

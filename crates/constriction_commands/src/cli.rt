@@ -1,4 +1,4 @@
-//! A whole run: the command's name, the bytes that it reads, what it writes, and the exit status.
+//! Whole runs of the program: the command's name and the input bytes, to the output bytes and the exit status.
 
 ghost use Rattle.std.specs.Prelude.{◌≡◌, ◌↔◌, ◌⊎◌, ◌≤◌, ◌≢◌, ℕ, List, [], drop, map, string_bytes, IfErr, IfOk, IfSome};
 ghost use Rattle.std.specs.Prelude.{IsErr, IsOk, IsOkAnd, OnOk};
@@ -25,16 +25,17 @@ use std::io;
 use std::io::{ErrorKind, Read, Write};
 use std::process::ExitCode;
 
-/// The line on standard error where the arguments are not one known command.
+/// The usage line, for arguments that aren't one known command.
 const USAGE: &[u8] =
     b"usage: constriction <ans-encode|ans-decode|range-encode|range-decode|chain-split|golomb|huffman|store>\n";
 
-/// The arguments behind the program's name, of those that the system gave. There are none where one of them is
-/// not UTF-8, so that they name no command.
+/// Returns the arguments behind the program's name.
+///
+/// Returns none if one of them isn't UTF-8, so that they name no command.
 ///
 /// # Errors
 ///
-/// `OutOfMemory`.
+/// `OutOfMemory` if there is no memory for them.
 fn arguments(alloc: Global, given: io::Result<Args>) -> Result<Vec<String>, Fault>
     ensures behind_name { IfOk given (λ words. IfOk result (λ args. args.items ≡ drop 1 (into_iter_items words))) }
     ensures no_memory { IfErr given (λ error. error_kind error ≡ kind.OutOfMemory → IsErr result) }
@@ -49,7 +50,7 @@ fn arguments(alloc: Global, given: io::Result<Args>) -> Result<Vec<String>, Faul
     }
 }
 
-/// Says how the program is called. Answers the status of wrong arguments, 2, also where the line can't be written.
+/// Writes the usage line. Returns exit status 2, even if the line can't be written.
 fn refuse<E: Write>(faults: &mut E) -> u8
     ensures status { result ≡ 2 }
     ensures line { GrowsByBeginning (E.contents faults.old) (E.contents faults.new) usage_line }
@@ -58,7 +59,7 @@ fn refuse<E: Write>(faults: &mut E) -> u8
     2
 }
 
-/// Writes the line of a fault. Answers the status of a fault, 1, also where the line can't be written.
+/// Writes the line of a fault. Returns exit status 1, even if the line can't be written.
 fn report<E: Write>(fault: &Fault, faults: &mut E) -> u8
     ensures status { result ≡ 1 }
     ensures line { GrowsByBeginning (E.contents faults.old) (E.contents faults.new) (fault_line fault.now) }
@@ -67,7 +68,7 @@ fn report<E: Write>(fault: &Fault, faults: &mut E) -> u8
     1
 }
 
-/// Reads the input, and writes the answer of the command once all of it is known.
+/// Reads the input, and then writes the whole answer of the command.
 fn answer_to<R: Read, O: Write>(
     alloc: Global,
     command: Command,
@@ -86,12 +87,13 @@ fn answer_to<R: Read, O: Write>(
     write_out(output, answer.as_slice())
 }
 
-/// Runs the command that the arguments, without the program's name, name. Returns the exit status:
-/// 0 where the answer was written, 1 where one line on `faults` says what stopped it, and 2 where the
-/// arguments are not one known command.
+/// Runs the command that the arguments (without the program's name) name, and returns the exit status.
 ///
-/// Whether a reader or a writer fails is known to it alone. So no clause says when `cannot read input` and
-/// `cannot write output` come, nor when memory is missing.
+/// The status is 0 if the answer was written, 1 if one line on `faults` says what stopped the run, and 2 if the
+/// arguments aren't one known command.
+///
+/// Only a reader or a writer knows whether it fails. So no clause says when `cannot read input`, `cannot write output`
+/// or `out of memory` comes.
 pub fn run<R: Read, O: Write, E: Write>(
     alloc: Global,
     args: &[String],
@@ -105,7 +107,7 @@ pub fn run<R: Read, O: Write, E: Write>(
     ensures quiet { result ≡ 0 → faults.new ≡ faults.old }
     ensures usage { (result ≡ 2) ↔ ((command : Command) → Names (map string_bytes args.now) command → ⊥) }
     ensures kept { result ≡ 2 → (output.new ≡ output.old) × (input.new ≡ input.old) }
-    // Whatever the status, what was written is a beginning of the answer.
+    // Whatever the status, the bytes written are a beginning of the answer.
     ensures whole { (output.new ≡ output.old) ⊎ IfSome (R.remaining input.old) (λ text. (answer : List ℕ)
         × IsAnswered (map string_bytes args.now) text answer
         × GrowsByBeginning (O.contents output.old) (O.contents output.new) answer) }
@@ -123,9 +125,10 @@ pub fn run<R: Read, O: Write, E: Write>(
     }
 }
 
-/// Runs the whole program with the arguments that the system gave, the program's name first. Returns the status of that
-/// run. Without memory for the arguments it is 1, with the line of that fault. Where an argument is not UTF-8 it is
-/// that of wrong arguments, 2.
+/// Runs the program with the arguments that the system gives, the program's name first, and returns the exit status.
+///
+/// The status is that of [`run`], with two additions: without memory for the arguments it is 1, with the line of that
+/// fault. If an argument isn't UTF-8, it is 2.
 pub fn start<R: Read, O: Write, E: Write>(
     alloc: Global,
     given: io::Result<Args>,
@@ -140,13 +143,13 @@ pub fn start<R: Read, O: Write, E: Write>(
     ensures quiet { exit_status result ≡ 0 → faults.new ≡ faults.old }
     ensures usage { exit_status result ≡ 2
         → IfOk given (λ words. NamesNone (words_behind_name (into_iter_items words))) }
-    // In place of the usage line comes the one that memory is missing for the arguments.
+    // Without memory for the arguments, the line of that fault replaces the usage line.
     ensures unknown { IfOk given (λ words. NamesNone (words_behind_name (into_iter_items words))
         → exit_status result ≢ 2 → (exit_status result ≡ 1)
         × GrowsByBeginning (E.contents faults.old) (E.contents faults.new) (fault_line OutOfMemory)) }
     ensures kept { exit_status result ≡ 2 → (output.new ≡ output.old) × (input.new ≡ input.old) }
     ensures unread { IfErr given (λ _. output.new ≡ output.old) }
-    // Whatever the status, what was written is a beginning of the answer.
+    // Whatever the status, the bytes written are a beginning of the answer.
     ensures whole { (output.new ≡ output.old) ⊎ IsOkAnd given (λ words. BeginsAnswer (words_behind_name
         (into_iter_items words)) (R.remaining input.old) (O.contents output.old) (O.contents output.new)) }
     ensures err { exit_status result ≡ 1 → (fault : Fault) × ProgramStops given (R.remaining input.old) fault

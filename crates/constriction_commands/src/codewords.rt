@@ -1,4 +1,4 @@
-//! Codewords of symbols as lists of bits, and bits as digits.
+//! Codewords as lists of bits, and bits as digits.
 
 ghost use Rattle.std.specs.Prelude.{◌≡◌, ◌++◌, Some, IfOk, OnOk};
 ghost use Rattle.constriction_symbol.specs.Bits.{PutsBit};
@@ -28,7 +28,7 @@ impl WriteBitStream<Queue> for Bits {
     }
 }
 
-/// The bits of the codeword of a symbol that has one.
+/// Returns the bits of a symbol's codeword.
 pub fn codeword<C: EncoderCodebook>(
     alloc: Global,
     symbol: &C::Symbol,
@@ -45,7 +45,7 @@ pub fn codeword<C: EncoderCodebook>(
     }
 }
 
-/// Adds bits as digits.
+/// Appends bits as digits.
 pub fn push_digits(line: &mut Vec<u8>, bits: &[bool]) -> Result<(), AllocError>
     ensures { OnOk result (line.new.items ≡ line.old.items ++ digits bits.now) }
 {

@@ -1,4 +1,4 @@
-//! The commands, each in a file of its own. A new one has a variant, a name and an answer here.
+//! The commands, each in its own file. A new command has a variant, a name and an answer here.
 
 mod ans_decode;
 mod ans_encode;
@@ -30,7 +30,7 @@ pub enum Command {
 }
 
 impl Command {
-    /// The command that the only argument names.
+    /// Returns the command that the single argument names.
     pub fn parse(args: &[String]) -> Option<Command>
         ensures some { IfSome result (Names (map string_bytes args.now)) }
         ensures none { IfNone result ((command : Command) → Names (map string_bytes args.now) command → ⊥) }
@@ -51,7 +51,11 @@ impl Command {
         }
     }
 
-    /// What the command writes for an input.
+    /// Returns the output of the command for an input.
+    ///
+    /// # Errors
+    ///
+    /// The fault that stops the command. `specs/commands/` says which fault comes when.
     pub fn answer(self, alloc: Global, text: &[u8]) -> Result<Vec<u8>, Fault>
         ensures ok { IfOk result (λ answer. Answers self text.now answer.items) }
         ensures err { IfErr result (Fails self text.now) }

@@ -1,4 +1,7 @@
-//! What stops a run.
+//! The faults that stop a run.
+//!
+//! The text of a fault is a line of bytes and not a `Display`, so that a contract can say which line it is. A test
+//! compares the lines of coders' errors with their texts.
 
 ghost use Rattle.std.specs.Prelude.{◌≡◌};
 ghost use Rattle.constriction_commands.specs.Written.{fault_line};
@@ -10,37 +13,37 @@ use constriction_queue::DecoderFrontendError;
 use constriction_stack::coder::words::CompressedDataEndsWithZeroWord;
 use std::alloc::{AllocError, AllocFailed};
 
-/// What stops a run of the program.
+/// A fault that stops a run of the program.
 #[derive(Debug, Drop, Clone, PartialEq, Eq)]
 pub enum Fault {
     Unreadable,
     Unwritable,
-    /// A byte that is neither a digit nor a blank, or a number past its type.
+    /// A byte is neither a digit nor a blank, or a number is too large for its type.
     BadNumber,
-    /// The second line of a command that decodes is blank.
+    /// The second line is blank, in a command that decodes.
     NoCount,
     NoWeights,
     WrongTotal,
-    /// The weights are more than a Huffman tree can have, or the symbols more than a store holds.
+    /// There are more weights than a Huffman tree can have, or more symbols than a store holds.
     TooManySymbols,
-    /// The weights of a Huffman tree add up to more than 64 bits.
+    /// The sum of the weights of a Huffman tree has more than 64 bits.
     WeightOverflow,
     Encoder(DefaultEncoderFrontendError),
-    /// The last of the compressed words is zero.
+    /// The last compressed word is 0.
     ZeroWord(CompressedDataEndsWithZeroWord),
-    /// The words are those of no chain coder: they are too few, or the last of them is zero.
+    /// The words belong to no chain coder: there are too few, or the last one is 0.
     NoChain,
     /// The words of a chain coder ended.
     OutOfData(chain::DecoderFrontendError),
     /// The compressed words hold no symbol of the table.
     InvalidData(DecoderFrontendError),
-    /// There are fewer chunks than a look-up asks for.
+    /// A look-up asks for a chunk past the last one.
     NoSuchChunk,
     OutOfMemory,
 }
 
 impl Fault {
-    /// The line on standard error, with its line feed.
+    /// Returns the line for standard error, with its line feed.
     pub fn line(&self) -> &'static [u8]
         ensures { result.now ≡ fault_line self.now }
     {

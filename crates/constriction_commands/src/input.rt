@@ -1,4 +1,4 @@
-//! Reading: the whole input, its lines, and the numbers of a line.
+//! Reading the whole input, its lines, and the numbers of a line.
 
 ghost use Rattle.std.specs.Prelude.{◌≡◌, ◌⊎◌, ℕ, ◌-◌, ◌^◌, ◌≤◌, Some, None, IfOk, IfErr, IfSome, IsErrOf, map};
 ghost use Rattle.constriction_commands.specs.Lines.{first_line, after_line, is_blank, with_digit, numbers_of};
@@ -9,7 +9,7 @@ use crate::fault::Fault;
 use std::alloc::Global;
 use std::io::{ErrorKind, Read};
 
-/// Reads all that is left.
+/// Reads all bytes left.
 pub fn read_all<R: Read>(alloc: Global, input: &mut R) -> Result<Vec<u8>, Fault>
     ensures ok { IfOk result (λ text. IfSome (R.remaining input.old) (λ left. text.items ≡ left)) }
     ensures err { IfErr result (λ fault. (fault ≡ Unreadable) ⊎ (fault ≡ OutOfMemory)) }
@@ -22,7 +22,7 @@ pub fn read_all<R: Read>(alloc: Global, input: &mut R) -> Result<Vec<u8>, Fault>
     }
 }
 
-/// The first line, without its line feed, and what follows that.
+/// Returns the first line without its line feed, and the text behind it.
 pub fn split_line(text: &[u8]) -> (&[u8], &[u8])
     ensures first { result.0.now ≡ first_line text.now }
     ensures rest { result.1.now ≡ after_line text.now }
@@ -33,7 +33,7 @@ pub fn split_line(text: &[u8]) -> (&[u8], &[u8])
     }
 }
 
-/// A type of the numbers of a line.
+/// A type for the numbers of a line.
 pub trait Number: Copy {
     /// The greatest number of the type.
     const GREATEST: u64;
@@ -71,14 +71,14 @@ impl Number for usize {
     }
 }
 
-/// Whether the byte parts numbers: a space, a tab or a carriage return.
+/// Returns whether a byte separates numbers: a space, a tab or a carriage return.
 fn is_blank(byte: u8) -> bool
     ensures { result ≡ is_blank byte }
 {
     byte == b' ' || byte == b'\t' || byte == b'\r'
 }
 
-/// The number whose last digit is this byte, behind the digits so far.
+/// Returns the number with the digits so far and this one, or `None` if it is no digit or the number is too large.
 fn with_digit(so_far: u64, byte: u8, greatest: u64) -> Option<u64>
     ensures { result ≡ with_digit greatest so_far byte }
 {
@@ -89,7 +89,11 @@ fn with_digit(so_far: u64, byte: u8, greatest: u64) -> Option<u64>
     if value <= greatest { Some(value) } else { None }
 }
 
-/// The numbers that a line lists. `BadNumber` where it is no list of numbers up to the greatest of the type.
+/// Parses the numbers of a line.
+///
+/// # Errors
+///
+/// `BadNumber` if the line is no list of numbers that fit their type. `OutOfMemory` if there is no memory.
 pub fn parse_numbers<N: Number>(alloc: Global, line: &[u8]) -> Result<Vec<N>, Fault>
     ensures ok { IfOk result (λ numbers. numbers_of N.GREATEST line.now ≡ Some (map N.number numbers.items)) }
     ensures bad { IsErrOf result BadNumber → numbers_of N.GREATEST line.now ≡ None }
@@ -116,8 +120,11 @@ pub fn parse_numbers<N: Number>(alloc: Global, line: &[u8]) -> Result<Vec<N>, Fa
     Ok(numbers)
 }
 
-/// The lists of numbers that the lines of a text are, a list for each. `BadNumber` where one of them is no list of
-/// numbers up to the greatest of the type.
+/// Parses a list of numbers for each line of a text.
+///
+/// # Errors
+///
+/// `BadNumber` if a line is no list of numbers that fit their type. `OutOfMemory` if there is no memory.
 pub fn parse_lines<N: Number>(alloc: Global, text: &[u8]) -> Result<Vec<Vec<N>>, Fault>
     ensures ok { IfOk result (λ lists. number_lists_of N.GREATEST text.now
         ≡ Some (map (λ list. map N.number list.items) lists.items)) }

@@ -1,7 +1,7 @@
-//! The commands of the program `constriction`, and whole runs of it: bytes in, bytes out.
+//! The commands of the program `constriction`, and whole runs of it, from bytes to bytes.
 //!
-//! [`cli::run`] is a run with given arguments over any reader and writers, and [`cli::start`] one with the arguments
-//! that the system gave. What each command answers stands in `specs/commands/`, and when it fails beside it.
+//! [`cli::run`] is a run with given arguments over any reader and writers. [`cli::start`] is a run with the arguments
+//! that the system gives. The files of `specs/commands/` say what each command answers, and when it fails.
 #![tactic(auto)]
 
 pub mod cli;

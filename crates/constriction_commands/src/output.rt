@@ -1,4 +1,4 @@
-//! Writing: lines of numbers, and the whole output.
+//! Writing lines of numbers, and the whole output.
 
 ghost use Rattle.std.specs.Prelude.{◌≡◌, ◌%◌, ◌^◌, ◌++◌, ◌∷◌, [], map, IfOk, OnOk, IfErr};
 ghost use Rattle.std.specs.List.{join_with_byte};
@@ -12,7 +12,7 @@ use itoa::{Buffer, Integer};
 use std::alloc::{AllocError, Global};
 use std::io::{ErrorKind, Write};
 
-/// Adds the numbers as a line.
+/// Appends a line of numbers.
 pub fn push_numbers<I: Integer>(out: &mut Vec<u8>, numbers: &[I]) -> Result<(), AllocError>
     ensures { OnOk result (out.new.items ≡ out.old.items ++ join_with_byte 32 (map I.text numbers.now) ++ 10 ∷ []) }
 {
@@ -27,7 +27,7 @@ pub fn push_numbers<I: Integer>(out: &mut Vec<u8>, numbers: &[I]) -> Result<(), 
     Ok(())
 }
 
-/// The numbers as a line.
+/// Returns a line of numbers.
 pub fn line_of_numbers<I: Integer>(alloc: Global, numbers: &[I]) -> Result<Vec<u8>, AllocError>
     ensures { IfOk result (λ line. line.items ≡ join_with_byte 32 (map I.text numbers.now) ++ 10 ∷ []) }
 {
@@ -36,21 +36,23 @@ pub fn line_of_numbers<I: Integer>(alloc: Global, numbers: &[I]) -> Result<Vec<u
     Ok(out)
 }
 
-/// The words of a coder as a line.
+/// Returns a line of a coder's words.
 pub fn line_of_words(alloc: Global, words: &[u32]) -> Result<Vec<u8>, AllocError>
     ensures { IfOk result (λ line. line.items ≡ line_of (map (λ word. word % 2 ^ 32) words.now)) }
 {
     line_of_numbers(alloc, words)
 }
 
-/// Adds the words of a coder as a line.
+/// Appends a line of a coder's words.
 pub fn push_words(out: &mut Vec<u8>, words: &[u32]) -> Result<(), AllocError>
     ensures { OnOk result (out.new.items ≡ out.old.items ++ line_of (map (λ word. word % 2 ^ 32) words.now)) }
 {
     push_numbers(out, words)
 }
 
-/// Writes bytes until the writer has taken all of them, or fails.
+/// Writes all bytes.
+///
+/// It retries an interrupted write. A write of no bytes is an error, as in `write_all`.
 fn write_bytes<O: Write>(output: &mut O, bytes: &[u8]) -> Result<(), Fault>
     ensures ok { OnOk result (Appends (O.contents output.old) (O.contents output.new) bytes.now) }
     ensures begun { GrowsByBeginning (O.contents output.old) (O.contents output.new) bytes.now }
@@ -71,7 +73,7 @@ fn write_bytes<O: Write>(output: &mut O, bytes: &[u8]) -> Result<(), Fault>
     Err(Fault::Unwritable)
 }
 
-/// Writes all of the bytes, and hands on what the writer holds back.
+/// Writes all bytes, and flushes the writer.
 pub fn write_out<O: Write>(output: &mut O, bytes: &[u8]) -> Result<(), Fault>
     ensures ok { OnOk result (Appends (O.contents output.old) (O.contents output.new) bytes.now) }
     ensures begun { GrowsByBeginning (O.contents output.old) (O.contents output.new) bytes.now }

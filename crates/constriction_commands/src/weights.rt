@@ -10,13 +10,13 @@ use constriction_base::model::EntropyModel;
 use constriction_base::weights::{TableError, WeightTable};
 use std::alloc::Global;
 
-/// The precision of the weights.
+/// The precision of the weights, in bits.
 pub const PRECISION: usize = 24;
 
 /// The table of the weights of symbols 0, 1, ..
 pub type Table = WeightTable<u32, PRECISION>;
 
-/// The table of these weights.
+/// Makes the table of these weights.
 pub fn make_table(alloc: Global, weights: &[u32]) -> Result<Table, Fault>
     ensures ok { IfOk result (λ table. ⟦<Table as EntropyModel<PRECISION>>⟧.table table ≡ table_of weights.now) }
     ensures total { OnOk result (Total weights.now) }

@@ -1,21 +1,21 @@
--- Words of a backend that a function tells, as those of an iterator.
+-- A function that tells the words of a backend or of an iterator.
 use Rattle.std.specs.Prelude.{◌≡◌, List, [], ◌∷◌, Bool, Option, None, Some, Result, Ok, Err, cond}
 use Rattle.constriction_base.specs.Backends.{Reads}
 
--- the function tells the words of each state of a backend: each read takes the first of them
+-- The function tells the words of each state of a backend: each read takes the first of them.
 abbrev pub TellsWords : {W E B : Type 0} → (B → Result (Option W) E → B → Type 0) → (B → List W) → Type 0
 TellsWords {W} {E} {B} reads words = (old new : B) (answer : Result (Option W) E) → reads old answer new → Reads (words old) answer (words new)
 
--- what an iterator gives of a list: its first word, that there is none, or an error, which leaves the list
+-- The next item of an iterator over a list: its first word, the end, or an error, which leaves the list.
 abbrev pub GivesWord : {W E : Type 0} → List W → Option (Result W E) → List W → Type 0
 GivesWord old None new = old ≡ []
 GivesWord old (Some (Ok word)) new = old ≡ word ∷ new
 GivesWord old (Some (Err e)) new = new ≡ old
 
--- the function tells the words that each state of an iterator gives
+-- The function tells the words that each state of an iterator gives.
 abbrev pub TellsItems : {I W E : Type 0} → (I → Option (Result W E) → I → Type 0) → (I → List W) → Type 0
 TellsItems {I} {W} {E} steps words = (old new : I) (item : Option (Result W E)) → steps old item new → GivesWord (words old) item (words new)
 
--- the words of an iterator and whether it has ended: none are left then
+-- The words left of an iterator, or none if it has ended.
 abbrev pub words_left : {I W : Type 0} → (I → List W) → I × Bool → List W
 words_left words state = cond state.1 [] (words state.0)

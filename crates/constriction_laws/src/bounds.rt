@@ -1,8 +1,8 @@
-//! How short the output is: products of whole numbers that bound the words of every list of steps, of whatever
-//! precisions. They are stated with `k = s - w - P`, the bits of a state beyond a word and a table of `P` bits.
+//! Upper bounds on the number of words, for any list of steps with any precisions.
 //!
-//! Read with logarithms, a step of probability `p / 2^P` costs at most `log2(2^P / p)`, its information content, and
-//! `log2(1 + 2^-k)` more, the rounding.
+//! The bounds are inequalities of products of whole numbers. They use `k = s - w - P`, the bits of a state beyond a
+//! word and a table of `P` bits. In logarithms, a step of probability `p / 2^P` costs at most its information content
+//! `log2(2^P / p)`, and `log2(1 + 2^-k)` for rounding.
 
 pub mod following;
 pub mod words;
@@ -16,7 +16,7 @@ ghost use Rattle.constriction_queue.specs.SelfDelimiting.{SelfDelimits};
 ghost use Rattle.constriction_laws.specs.Bounds.{Act, Acts, AreAllowed, IsNetBounded, product, rounded_whole};
 ghost use Rattle.constriction_laws.specs.Bounds.{share};
 
-/// The words of a stack coder after encodes alone, from the empty one.
+/// Bounds the words of a stack coder after encodes onto an empty one.
 pub fn stack_bound()
     ensures { (w s : ℕ) (steps : List Step) (state : AnsState) → IsSizes w s → AreSteps w steps →
         InTurn (IsPush w s) steps empty state →
@@ -24,8 +24,10 @@ pub fn stack_bound()
         ≤ 2 ^ (s - w) * product (rounded_whole w s) steps }
 {}
 
-/// The same where all steps have one precision, so that the spare bits are the same for all: of `n` symbols, the words
-/// but one have at most `s - w` bits more than the information content and `n * log2(1 + 2^-k)`.
+/// Bounds the words of a stack coder after encodes that all have one precision.
+///
+/// With one precision the spare bits `k` are the same in all steps. After `n` symbols, all words but one have at most
+/// `s - w` bits more than the information content and `n * log2(1 + 2^-k)`.
 pub fn stack_bound_at_one_precision()
     ensures { (w s precision : ℕ) (steps : List Step) (state : AnsState) → IsSizes w s → AreSteps w steps →
         AllByRecursion (λ e. e.precision ≡ precision) steps → InTurn (IsPush w s) steps empty state →
@@ -34,15 +36,16 @@ pub fn stack_bound_at_one_precision()
         ≤ 2 ^ (s - w) * ((2 ^ precision) ^ length steps * (2 ^ (s - w - precision) + 1) ^ length steps) }
 {}
 
-/// The words of a stack coder after encodes and decodes in any order, from a valid state whose head isn't low: what
-/// bits-back coding costs, net.
+/// Bounds the words of a stack coder after encodes and decodes in any order: the net cost of bits-back coding.
+///
+/// The coder begins in a valid state whose head isn't low.
 pub fn stack_net_bound()
     ensures { (w s : ℕ) (acts : List Act) (old new : AnsState) → IsSizes w s → AreAllowed w acts → IsValid w s old →
         2 ^ (s - w) ≤ old.head → InTurn (Acts w s) acts old new →
         IsNetBounded w s acts old new }
 {}
 
-/// The sealed words of a new range encoder, of which there are two at least.
+/// Bounds the sealed words of a new range encoder, if there are at least two.
 pub fn range_bound()
     ensures { (w s : ℕ) (steps : List Step) → IsSizes w s → AreSteps w steps →
         2 ≤ length (sealed w s (run w s steps (initial s))) →
@@ -50,7 +53,9 @@ pub fn range_bound()
         < 2 ^ s * product (rounded_whole w s) steps }
 {}
 
-/// The words of a new range encoder that hold whatever follows, of which there are as many as a state has at least.
+/// Bounds the words of a new range encoder whose seal any words may follow.
+///
+/// There have to be at least as many words as a state has.
 pub fn self_delimiting_bound()
     ensures { (w s : ℕ) (steps : List Step) (words : List ℕ) → IsSizes w s → AreSteps w steps →
         SelfDelimits w s (run w s steps (initial s)) words → s / w ≤ length words →

@@ -1,11 +1,11 @@
 //! Laws of the chain coder.
 //!
-//! - [`steps`]: one step undoes the other, and so do changes of the precision.
-//! - [`errors`]: why symbols are not put back.
-//! - [`isolation`]: a symbol depends on the compressed words, the precisions and its own table alone.
-//! - [`lists`]: lists of symbols are undone, the last one first.
-//! - [`words`]: words come back by way of the remainders.
-//! - [`round_trips`]: callers, each one half of the way of words through the remainders.
+//! - [`steps`]: one step undoes the other, and one change of the precision the other.
+//! - [`errors`]: the errors of symbols that aren't encoded.
+//! - [`isolation`]: a symbol depends only on the compressed words, the precisions and its own table.
+//! - [`lists`]: lists of symbols are undone from the last to the first.
+//! - [`words`]: words come back through the remainders.
+//! - [`round_trips`]: functions that make the coder's calls, each for one half of the way through the remainders.
 
 pub mod errors;
 pub mod isolation;

@@ -1,19 +1,20 @@
 //! Laws of the coders: what holds for a whole run, over the definitions that the coders' contracts cite.
 //!
-//! A law is a public function whose body is empty, or calls the law from which it follows. Its `ensures` is the law,
-//! and speaks of definitions alone: of numbers, lists and tables, and of no coder's code. Whoever calls the coders
-//! learns from their contracts which definition each call meets, and from a law here what follows for a whole run.
-//! Words are listed in the order in which they are read, the next one first.
+//! A law is a public function whose body is empty, or calls the law from which it follows. Its `ensures` is the
+//! theorem. It is about definitions alone (numbers, lists and tables), and not about the code of a coder. The coders'
+//! contracts say which definition each call meets. A law says what follows for a whole run. Words are listed in reading
+//! order, the next one first.
 //!
-//! A caller is a public function in a module `round_trips`, `costs`, `flagged` or `bounds::words` that makes the
-//! coders' calls and says what they do together. No caller is handed what it returns.
+//! The public functions of the modules `round_trips`, `costs`, `flagged` and `bounds::words` make the coders' calls,
+//! and say what these do together.
 //!
-//! - [`bounds`]: the output is short, and what may follow it.
+//! - [`bounds`]: upper bounds on the number of words, and what may follow them.
 //! - [`chain`]: the chain coder, whose symbols are isolated.
-//! - [`errors`]: why symbols weren't coded, or weren't taken.
-//! - [`lists`]: where each step is undone, so is a list of them, the last step first. One law for every coder.
+//! - [`errors`]: why symbols weren't encoded or decoded.
+//! - [`lists`]: if each step can be undone, so can a list, from the last step to the first. It is one law for all
+//!   coders.
 //! - [`queue`]: the range coder.
-//! - [`stack`]: the stack coder, by asymmetric numeral systems.
+//! - [`stack`]: the stack coder, with asymmetric numeral systems.
 //! - [`symbol`]: bit coders and codebooks.
 #![tactic(auto)]
 

@@ -1,14 +1,14 @@
 //! Laws of the range coder.
 //!
-//! - [`words`]: what sealed words are read as, and which words are read as a list of steps.
-//! - [`lists`]: lists of symbols come back from the sealed words, the first one first.
-//! - [`positions`]: a recorded position leads to the symbols that were encoded after it.
-//! - [`following`]: words that hold whatever follows them.
-//! - [`concatenated`]: why no list was read from a place in words.
-//! - [`flagged`]: symbols under two models in one stream, which change behind a flag.
-//! - [`guards`]: the words that a guard shows are those of the export, and go again.
+//! - [`words`]: the steps as which words are read.
+//! - [`lists`]: lists of symbols come back from the sealed words, first symbol first.
+//! - [`positions`]: a recorded position leads to the symbols encoded after it.
+//! - [`following`]: words that any words may follow.
+//! - [`concatenated`]: the error of a list that wasn't decoded from a place in words.
+//! - [`flagged`]: symbols under two models in one stream, the second one behind a flag.
+//! - [`guards`]: a guard's words are those of the export, and its drop removes them.
 //! - [`refusals`]: when a step isn't refused.
-//! - [`round_trips`]: callers, each one half of the way of a list through words.
+//! - [`round_trips`]: functions that make the coder's calls, each for one half of the way through the words.
 
 pub mod concatenated;
 pub mod flagged;

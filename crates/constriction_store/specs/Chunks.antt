@@ -1,34 +1,34 @@
--- Lists of symbols that are put into a store.
+-- Chunks of symbols, and the first symbol that a model doesn't know.
 use Rattle.std.specs.Prelude.{ℕ, ◌+◌, ◌<◌, List, [], ◌∷◌, length, map, slice_index, slice_index_or, take}
 use Rattle.std.specs.declared.vec.Vec.{Vec}
 use Rattle.std.specs.List.{AllByRecursion}
 use Rattle.constriction_base.specs.Models.{Model, Knows}
 use Rattle.constriction_base.specs.Tables.{Impossible}
 
--- chunks as lists
+-- The chunks as lists.
 abbrev pub lists_of : {A : Type 0} → List (Vec ℕ A) → List (List ℕ)
 lists_of chunks = map (λ chunk. chunk.items) chunks
 
--- the chunk at a place; past the last one the empty chunk
+-- The chunk at a place, or the empty chunk past the last one.
 abbrev pub chunk_in : List (List ℕ) → ℕ → List ℕ
 chunk_in chunks i = slice_index_or chunks i []
 
--- how many symbols the chunks have together
+-- The number of symbols of all chunks.
 abbrev pub count_of : List (List ℕ) → ℕ
 count_of [] = 0
 count_of (chunk ∷ chunks) = length chunk + count_of chunks
 
--- the model knows each of them
+-- The model knows each of the symbols.
 abbrev pub AllKnown : Model ℕ → List ℕ → Type 0
 AllKnown model symbols = AllByRecursion (λ symbol. Knows model symbol) symbols
 
--- the symbol at this place is the first that the model doesn't know
+-- The symbol at this place is the first that the model doesn't know.
 pub record IsFirstUnknown (model : Model ℕ) (symbols : List ℕ) (place : ℕ) : Type 0 where
   pub inside : place < length symbols
   pub unknown : Impossible model.table (slice_index symbols place)
   pub known : AllKnown model (take place symbols)
 
--- the symbol at this place of this chunk is the first of all chunks
+-- The symbol at this place of this chunk is the first of all chunks that the model doesn't know.
 pub record IsFirstUnknownOf (model : Model ℕ) (chunks : List (List ℕ)) (chunk place : ℕ) : Type 0 where
   pub inside : chunk < length chunks
   pub first : IsFirstUnknown model (chunk_in chunks chunk) place

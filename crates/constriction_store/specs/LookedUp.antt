@@ -1,4 +1,4 @@
--- What a look-up answers.
+-- The answers of look-ups.
 use Rattle.std.specs.Prelude.{◌≡◌, ◌⊎◌, ℕ, ◌<◌, ◌≤◌, ⊤, List, [], ◌∷◌, Result, MatchResult, length, slice_index, take}
 use Rattle.std.specs.declared.vec.Vec.{Vec}
 use Rattle.constriction_base.specs.Models.{Model, items_of}
@@ -11,8 +11,8 @@ use Rattle.constriction_store.specs.declared.laws.ThroughStore.TheVariants.{Buil
 use Rattle.constriction_store.specs.declared.looking_up.ChunkError.{ChunkError}
 use Rattle.constriction_store.specs.declared.looking_up.ChunkError.TheVariants.{NoSuchChunk, Invalid, Memory}
 
--- why so many symbols are not read from this run: behind fewer of them there is none; or memory was missing, and at least
--- one was read
+-- Decoding `len` symbols from this run fails. `Invalid` comes after fewer symbols, where the words hold none. `Memory`
+-- comes after at least one symbol.
 abbrev pub ChunkFails : ℕ → ℕ → Model ℕ → List ℕ → Run → ℕ → ChunkError → Type 0
 ChunkFails w s model words there len NoSuchChunk = ⊥
 ChunkFails w s model words there len Invalid =
@@ -20,18 +20,18 @@ ChunkFails w s model words there len Invalid =
 ChunkFails w s model words there len Memory =
     (symbols : List ℕ) × (run : Run) × FindsAll w s words (items_of model symbols) there run × (0 < length symbols) × (length symbols ≤ len)
 
--- the words hold a symbol at the entry, of those that it counts
+-- The words hold between 1 and `len` symbols at the entry.
 abbrev pub HoldsSome : ℕ → ℕ → Model ℕ → List ℕ → Entry → Type 0
 HoldsSome w s model words entry =
     (symbols : List ℕ) × (run : Run) × FindsAll w s words (items_of model symbols) (run_at entry) run × (0 < length symbols) × (length symbols ≤ entry.len)
 
--- why a look-up gives no chunk; want of memory is met behind a symbol
+-- A look-up fails with this error. `Memory` comes after at least one symbol.
 abbrev pub LookUpFails : ℕ → ℕ → Model ℕ → List ℕ → List Entry → ℕ → ChunkError → Type 0
 LookUpFails w s model words index i NoSuchChunk = length index ≤ i
 LookUpFails w s model words index i Invalid = (i < length index) × HoldsNoChunk w s model words (entry_in index i)
 LookUpFails w s model words index i Memory = (i < length index) × HoldsSome w s model words (entry_in index i)
 
--- at each of these places there is an entry, and the words hold the chunk there
+-- There is an entry at each of these places, and the words hold the chunk there.
 abbrev pub HoldsEach : ℕ → ℕ → Model ℕ → List ℕ → List Entry → List ℕ → List (List ℕ) → Type 0
 HoldsEach w s model words index [] [] = ⊤
 HoldsEach w s model words index [] (chunk ∷ chunks) = ⊥
@@ -39,30 +39,30 @@ HoldsEach w s model words index (place ∷ places) [] = ⊥
 HoldsEach w s model words index (place ∷ places) (chunk ∷ chunks) =
     (place < length index) × HoldsChunk w s model words (entry_in index place) chunk × HoldsEach w s model words index places chunks
 
--- the chunk at a place is there, and has no room in a list
+-- The store has a chunk at this place, and a list has no room for it.
 abbrev pub HasNoRoom : ℕ → ℕ → Model ℕ → List ℕ → List Entry → ℕ → ChunkError → Type 0
 HasNoRoom w s model words index i refusal =
     (refusal ≡ Memory) × (i < length index) × ((chunk : List ℕ) × HoldsChunk w s model words (entry_in index i) chunk)
 
--- the look-ups at the first places give chunks, and the next one fails, or its chunk has no room
+-- The look-ups at the first places return chunks. The next one fails, or a list has no room for its chunk.
 abbrev pub FailsFirst : ℕ → ℕ → Model ℕ → List ℕ → List Entry → List ℕ → ChunkError → Type 0
 FailsFirst w s model words index places refusal =
     (k : ℕ) × (chunks : List (List ℕ)) × (k < length places) × HoldsEach w s model words index (take k places) chunks
     × (LookUpFails w s model words index (slice_index places k) refusal ⊎ HasNoRoom w s model words index (slice_index places k) refusal)
 
--- these symbols, or want of memory
+-- The answer is these symbols, or `Memory`.
 abbrev pub IsChunk : {A : Type 0} → List ℕ → Result (Vec ℕ A) ChunkError → Type 0
 IsChunk symbols answer = MatchResult answer (λ again. again.items ≡ symbols) (λ e. e ≡ Memory)
 
 -- ---- chunks through a store
 
--- why look-ups at these places are refused, in a store that holds chunks: it has fewer, or memory was missing
+-- Look-ups at these places fail in a store that holds chunks: it has fewer chunks, or there is no memory.
 abbrev pub CannotLookUp : List (List ℕ) → List ℕ → ChunkError → Type 0
 CannotLookUp chunks places NoSuchChunk = (k : ℕ) × (k < length places) × (length chunks ≤ slice_index places k)
 CannotLookUp chunks places Invalid = ⊥
 CannotLookUp chunks places Memory = 0 < length places
 
--- why chunks don't come back from a store of them
+-- Chunks don't come back from a store of them, with this error.
 abbrev pub HasNoChunks : Model ℕ → List (List ℕ) → List ℕ → ThroughStore → Type 0
 HasNoChunks model chunks places (Build refusal) = BuildFails model chunks refusal
 HasNoChunks model chunks places (LookUp refusal) = CannotLookUp chunks places refusal

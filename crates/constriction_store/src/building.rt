@@ -1,4 +1,4 @@
-//! Chunks to words and an index.
+//! Encoding chunks to words and an index.
 
 ghost use Rattle.std.specs.Prelude.{◌≡◌, ◌↔◌, ◌+◌, ◌-◌, ◌^◌, ◌≤◌, ◌<◌, length, map, IfOk, IfErr, OnOk, Err, IsTrue};
 ghost use Rattle.constriction_base.specs.Models.{items_of};
@@ -20,26 +20,26 @@ use constriction_words::{BitArray, WordOf};
 use std::alloc::Global;
 use thiserror::Error;
 
-/// Why chunks make no store.
+/// The error of chunks that make no store.
 #[derive(Debug, Clone, Copy, PartialEq, Eq, Error)]
 pub enum BuildError {
-    /// The chunks hold more than [`MOST_SYMBOLS`] symbols together.
+    /// The chunks have more than [`MOST_SYMBOLS`] symbols together.
     #[error("too many symbols")]
     TooLong,
-    /// The model doesn't know this symbol of this chunk.
+    /// The model doesn't know a symbol.
     #[error("Impossible symbol.")]
     ImpossibleSymbol {
-        /// Which chunk.
+        /// The number of the chunk, from 0.
         chunk: usize,
-        /// Which of its symbols.
+        /// The place of the symbol in the chunk, from 0.
         index: usize,
     },
-    /// The words or the index found no memory.
+    /// There is no memory for the words or the index.
     #[error("out of memory")]
     Memory,
 }
 
-/// Whether the chunks hold no more symbols together than a store does.
+/// Returns whether all chunks together have at most [`MOST_SYMBOLS`] symbols.
 fn are_few(chunks: &[Vec<usize>]) -> bool
     ensures { IsTrue result ↔ (count_of (lists_of chunks.now) ≤ 1048576) }
 {
@@ -53,14 +53,14 @@ fn are_few(chunks: &[Vec<usize>]) -> bool
     true
 }
 
-/// Why a chunk isn't encoded: the model doesn't know the symbol at this place, or memory was missing.
+/// The error of a chunk that wasn't encoded: the place of the first unknown symbol, or no memory.
 #[derive(Clone, Copy)]
 enum Refusal {
     Impossible(usize),
     Memory,
 }
 
-/// Puts the symbols of a chunk behind the others.
+/// Encodes the symbols of a chunk.
 fn encode_chunk<
     Word: WordOf<State>,
     State: BitArray,
@@ -90,7 +90,7 @@ where
     Ok(())
 }
 
-/// Puts chunks on a new encoder, and keeps where each of them begins.
+/// Encodes chunks on a new encoder, and returns the index.
 fn encode_chunks<
     Word: WordOf<State>,
     State: BitArray,
@@ -144,16 +144,20 @@ impl<
 where
     M::Probability: WordOf<Word>,
 {
-    /// Makes the store of these chunks. One new encoder takes them in order, and is sealed so that any words may follow.
+    /// Makes a store of chunks.
+    ///
+    /// A new range encoder encodes them in order. Its words are then sealed so that any words may follow.
     ///
     /// # Errors
     ///
-    /// - `TooLong` exactly where the chunks hold more than [`MOST_SYMBOLS`] symbols together. The call tests this before
-    ///   it encodes.
+    /// - `TooLong` exactly if the chunks have more than [`MOST_SYMBOLS`] symbols together. This is checked before any
+    ///   encoding.
     /// - `ImpossibleSymbol` with the place of the first symbol that the model doesn't know.
-    /// - `Memory` where the words or the index can't grow.
+    /// - `Memory` if there is no memory for the words or the index.
     ///
-    /// The last two stop the encoding, so the one that it reaches first is returned. A list of no chunks has neither.
+    /// The last two stop the encoding, so the first that it reaches is returned. An empty list of chunks gives neither.
+    ///
+    /// # Examples
     ///
     /// ```
     /// let table = WeightTable::<u32, 24>::new(alloc, &[8388608, 8388608])?;

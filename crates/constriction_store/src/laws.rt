@@ -1,4 +1,4 @@
-//! Laws of stores: what is read at an entry, and chunks that come back through a store's own calls, in any order.
+//! Laws of stores: what stands at an entry, and chunks that come back through a store's own calls, in any order.
 
 ghost use Rattle.std.specs.Prelude.{◌≡◌, ◌+◌, ◌/◌, ◌<◌, ◌≤◌, ℕ, List, map, slice_index, IfOk, IfErr, MatchResult};
 ghost use Rattle.constriction_base.specs.Models.{Model, IsModel, items_of};
@@ -14,7 +14,7 @@ use constriction_base::model::{DecoderModel, EncoderModel, EntropyModel};
 use constriction_words::{BitArray, WordOf};
 use std::alloc::Global;
 
-/// Words hold one list of symbols at an entry, and where they hold one, no symbol of it is missing.
+/// At an entry, words hold at most one list of symbols, and a list that they hold is complete.
 pub fn one_chunk_at_entry()
     ensures one { (w s : ℕ) (model : Model ℕ) (words : List ℕ) (entry : Entry) (symbols others : List ℕ) →
         IsModel w model → HoldsChunk w s model words entry symbols → HoldsChunk w s model words entry others →
@@ -23,8 +23,9 @@ pub fn one_chunk_at_entry()
         IsModel w model → HoldsChunk w s model words entry symbols → HoldsNoChunk w s model words entry → ⊥ }
 {}
 
-/// What is read at an entry stands in the words from its place on, up to as many words as a state has behind the place
-/// that reading has come to. Other words may be others.
+/// A look-up depends only on the words from its entry up to a state's number of words behind its last position.
+///
+/// All other words may differ.
 pub fn other_words_are_not_read()
     ensures { (w s : ℕ) (model : Model ℕ) (words others : List ℕ) (entry : Entry) (symbols : List ℕ) (last : Run) →
         IsSizes w s → AreWords w words → AreWords w others →
@@ -33,12 +34,14 @@ pub fn other_words_are_not_read()
         FindsAll w s others (items_of model symbols) (run_at entry) last }
 {}
 
-/// Looks up the chunks at these places of a store, in this order. In a store that holds chunks, as one that was built
-/// does, they are those chunks. In any store each of them is what the words hold at its entry.
+/// Looks up the chunks at these places, in order.
+///
+/// A store that holds chunks, such as a built one, returns these chunks. Any store returns what its words hold at each
+/// entry.
 ///
 /// # Errors
 ///
-/// That of the first look-up that is refused, or `Memory` where the list finds no room for a chunk.
+/// The error of the first look-up that fails, or `Memory` if the list has no memory for a chunk.
 pub fn look_up<
     Word: WordOf<State>,
     State: BitArray,
@@ -74,21 +77,22 @@ where
     Ok(found)
 }
 
-/// Why chunks don't come back.
+/// The error of chunks that don't come back.
 #[derive(Debug, Clone, Copy, PartialEq, Eq)]
 pub enum ThroughStore {
-    /// They made no store.
+    /// The chunks made no store.
     Build(BuildError),
-    /// A look-up was refused.
+    /// A look-up failed.
     LookUp(ChunkError),
 }
 
-/// Chunks come back from a store of them, in any order: `build`, and `chunk` at each of these places. Returns the store
-/// and the chunks.
+/// Builds a store of chunks and looks up the chunks at these places. They come back, in any order.
+///
+/// Returns the store and the chunks.
 ///
 /// # Errors
 ///
-/// Those of [`Store::build`], and of [`Store::chunk`] but for `Invalid`, which doesn't come.
+/// The errors of [`Store::build`], and those of [`Store::chunk`] but `Invalid`, which doesn't come.
 pub fn chunks_in_any_order<
     Word: WordOf<State>,
     State: BitArray,
@@ -120,12 +124,14 @@ where
     }
 }
 
-/// Chunks come back through the parts of a store: `build`, `into_parts`, `from_parts`, and `chunk` at each of these
-/// places. Returns the store that was made of the parts, and the chunks.
+/// Builds a store, takes it apart, and looks up chunks in a store made of the parts. They come back.
+///
+/// Calls `build`, `into_parts`, `from_parts`, and `chunk` at each of these places. Returns the store made of the parts,
+/// and the chunks.
 ///
 /// # Errors
 ///
-/// Those of [`Store::build`], and of [`Store::chunk`] but for `Invalid`, which doesn't come.
+/// The errors of [`Store::build`], and those of [`Store::chunk`] but `Invalid`, which doesn't come.
 pub fn chunks_through_parts<
     Word: WordOf<State>,
     State: BitArray,

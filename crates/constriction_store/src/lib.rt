@@ -1,15 +1,15 @@
-//! An indexed store: chunks of symbols in the words of one range encoder, each of which is looked up by its place.
+//! An indexed store: chunks of symbols in the words of one range encoder. You look up a chunk by its number.
 //!
 //! ```
 //! let table = WeightTable::<u32, 24>::new(alloc, &[8388608, 8388608])?;
 //! let store: Store<u32, u64, _, 24> = Store::build(alloc, chunks.as_slice(), table)?;
-//! store.chunk(alloc, 2)?; // the third of the chunks
+//! store.chunk(alloc, 2)?; // the third chunk
 //! ```
 //!
-//! - [`building`]: chunks to words and an index.
-//! - [`looking_up`]: one chunk.
-//! - [`parts`]: words and an index from elsewhere.
-//! - [`laws`]: what is read at an entry, and chunks that come back in any order.
+//! - [`building`]: encoding chunks.
+//! - [`looking_up`]: decoding one chunk.
+//! - [`parts`]: taking a store apart, and making one of its parts.
+//! - [`laws`]: what stands at an entry, and chunks that come back in any order.
 #![tactic(auto)]
 
 pub mod building;
@@ -25,12 +25,13 @@ use constriction_queue::RangeCoderState;
 use constriction_words::{BitArray, WordOf};
 use std::marker::Model;
 
-/// The most symbols that a store holds.
+/// The largest number of symbols in a store.
 pub const MOST_SYMBOLS: usize = 1048576;
 
-/// Chunks of symbols under one model, in the words of a range coder, and where each of them begins.
+/// Chunks of symbols under one model: the words of a range encoder, and an index of where each chunk begins.
 ///
-/// Contracts see a `Stored`: the numbers of the words, the entries of the index, and the model.
+/// Contracts see a `Stored`: the numbers of the words, the entries of the index, and the model. [`Store::build`] and
+/// [`Store::chunk`] have examples.
 #[derive(Drop)]
 pub struct Store<
     Word: WordOf<State>,
@@ -74,21 +75,22 @@ impl<
     ghost use Rattle.std.specs.Prelude.{map, length, ◌≡◌};
     ghost use Rattle.constriction_store.specs.Stores.{entry_at};
 
-    /// Where each chunk begins, and how many symbols it has.
+    /// Returns the index: for each chunk its position (words before it, and range coder state) and its number of
+    /// symbols.
     pub fn index(&self) -> &[(usize, RangeCoderState<Word, State>, usize)]
         ensures { map entry_at result.now ≡ self.now.index }
     {
         self.index.as_slice()
     }
 
-    /// How many chunks there are.
+    /// Returns the number of chunks.
     pub fn num_chunks(&self) -> usize
         ensures { result ≡ length self.now.index }
     {
         self.index.len()
     }
 
-    /// The words of all chunks.
+    /// Returns the words of all chunks.
     pub fn words(&self) -> &[Word]
         ensures { map Word.number result.now ≡ self.now.words }
     {

@@ -1,4 +1,4 @@
-//! One chunk of a store.
+//! Decoding one chunk of a store.
 
 ghost use Rattle.std.specs.Prelude.{◌≡◌, ◌↔◌, ◌≤◌, ◌<◌, ℕ, List, length, map, IfOk, IfErr, Err};
 ghost use Rattle.constriction_base.specs.Steps.{IsSizes};
@@ -21,21 +21,21 @@ use constriction_words::{BitArray, WordOf};
 use std::alloc::Global;
 use thiserror::Error;
 
-/// Why a store gives no chunk.
+/// The error of a look-up.
 #[derive(Debug, Clone, Copy, PartialEq, Eq, Error)]
 pub enum ChunkError {
-    /// There are fewer chunks.
+    /// The store has no chunk with this number.
     #[error("no such chunk")]
     NoSuchChunk,
-    /// The words hold no symbol of the model there.
+    /// The words hold no symbol of the model at this place.
     #[error("invalid chunk")]
     Invalid,
-    /// The chunk found no memory.
+    /// There is no memory for the symbols.
     #[error("out of memory")]
     Memory,
 }
 
-/// A decoder of borrowed words that stands at a position in them.
+/// Makes a decoder of borrowed words at a position.
 fn decoder_at<'a, Word: WordOf<State>, State: BitArray>(
     words: &'a [Word],
     place: usize,
@@ -58,7 +58,7 @@ fn decoder_at<'a, Word: WordOf<State>, State: BitArray>(
     }
 }
 
-/// So many symbols that a decoder gives.
+/// Decodes `len` symbols.
 fn decode_chunk<
     Word: WordOf<State>,
     State: BitArray,
@@ -103,14 +103,21 @@ impl<
 where
     M::Probability: WordOf<Word>,
 {
-    /// The symbols of a chunk: a new decoder of the words goes to its position and takes as many as it has. No other
-    /// words are read than those of the chunk, and as many more as a state has.
+    /// Decodes the symbols of chunk `i`.
+    ///
+    /// A new decoder seeks to the chunk's position and decodes as many symbols as the index says. It reads only the
+    /// words of the chunk, and as many words behind them as a state has.
     ///
     /// # Errors
     ///
-    /// - `NoSuchChunk` exactly where there are fewer chunks.
-    /// - `Invalid` exactly where the words hold no symbol of the model for one of them, or `Memory` where that is met
-    ///   before it. In a store that was built it can't come.
+    /// - `NoSuchChunk` exactly if `i` is at least the number of chunks.
+    /// - `Invalid` if the words hold no symbol of the model at some place of the chunk. It doesn't come in a built
+    ///   store.
+    /// - `Memory` if there is no memory for the symbols.
+    ///
+    /// Decoding stops at the first `Invalid` or `Memory`.
+    ///
+    /// # Examples
     ///
     /// ```
     /// let chunks = [&[1, 0], &[], &[1]]; // as a list of `Vec<usize>`

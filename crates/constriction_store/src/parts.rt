@@ -1,4 +1,4 @@
-//! Words and an index from elsewhere.
+//! Taking a store apart, and making one from words and an index.
 
 ghost use Rattle.std.specs.Prelude.{◌≡◌, ◌↔◌, IsTrue, IfOk, IsOk, length, map};
 ghost use Rattle.constriction_base.specs.Steps.{IsSizes};
@@ -10,12 +10,12 @@ use constriction_queue::RangeCoderState;
 use constriction_words::{BitArray, WordOf};
 use thiserror::Error;
 
-/// Why words and an index make no store.
+/// The error of an index that doesn't fit its words or is too long.
 #[derive(Debug, Clone, Copy, PartialEq, Eq, Error)]
 #[error("bad index")]
 pub struct BadIndex;
 
-/// Whether no entry begins past so many words, and the lengths together are no more than a store holds.
+/// Returns whether no entry begins past `count` words, and the chunks have at most [`MOST_SYMBOLS`] symbols together.
 fn index_fits<Word: WordOf<State>, State: BitArray>(
     count: usize,
     index: &[(usize, RangeCoderState<Word, State>, usize)],
@@ -38,12 +38,21 @@ impl<
     M: EncoderModel<PRECISION, Symbol = usize> + DecoderModel<PRECISION, Symbol = usize>,
     const PRECISION: usize,
 > Store<Word, State, M, PRECISION> {
-    /// The store of these words and this index, as [`Store::into_parts`] or a stranger gave them. It takes no memory.
+    /// Makes a store of words, an index and a model. It needs no memory.
+    ///
+    /// The parts may come from [`Store::into_parts`], or from anywhere else.
     ///
     /// # Errors
     ///
-    /// `BadIndex` exactly where an entry begins past the words, or the lengths together are more than
-    /// [`MOST_SYMBOLS`].
+    /// `BadIndex` exactly if an entry begins past the words, or the chunks have more than [`MOST_SYMBOLS`] symbols
+    /// together.
+    ///
+    /// # Examples
+    ///
+    /// ```
+    /// let (words, index, model) = store.into_parts();
+    /// let store: Store<u32, u64, _, 24> = Store::from_parts(words, index, model)?;
+    /// ```
     pub fn from_parts(
         words: Vec<Word>,
         index: Vec<(usize, RangeCoderState<Word, State>, usize)>,
@@ -67,7 +76,7 @@ impl<
         })
     }
 
-    /// The words, the index and the model. [`Store::from_parts`] makes the same store of them.
+    /// Returns the words, the index and the model, of which [`Store::from_parts`] makes the same store.
     pub fn into_parts(
         self,
     ) -> (

@@ -1,60 +1,60 @@
--- Bits of words, and what a coder of bits holds.
+-- The bits of words, and what a bit coder holds, writes and reads.
 use Rattle.std.specs.Prelude.{◌≡◌, ℕ, zero, suc, ◌/◌, ◌%◌, ◌^◌, ◌<◌, ◌≤◌, ◌+◌, ◌-◌, Bool, true, false, List, [], ◌∷◌, ◌++◌, ◌==◌, ◌⊎◌, flat_map, map, replicate, reverse, length, Result, Ok, Err, Option, Some, None}
 
--- the n lowest bits of a number, the lowest first
+-- The n lowest bits of a number, lowest first.
 abbrev pub bits_of : ℕ → ℕ → List Bool
 bits_of zero x = []
 bits_of (suc n) x = (x % 2 == 1) ∷ bits_of n (x / 2)
 
--- the bits of words of w bits, one word after the other
+-- The bits of words of w bits, word by word.
 abbrev pub bits_of_words : ℕ → List ℕ → List Bool
 bits_of_words w words = flat_map (bits_of w) words
 
--- the words of a queue of bits: the bits, and then zeros to a whole word
+-- The words hold the bits of a queue: the bits, and zeros up to a whole word.
 pub record IsQueueWords (w : ℕ) (bits : List Bool) (words : List ℕ) : Type 0 where
   pub zeros : ℕ
   pub fewest : zeros < w
   pub is : bits_of_words w words ≡ bits ++ replicate zeros false
 
--- the words of a stack of bits: the bits, one more that is set, and then zeros to a whole word
+-- The words hold the bits of a stack: the bits, a 1, and zeros up to a whole word.
 pub record IsStackWords (w : ℕ) (bits : List Bool) (words : List ℕ) : Type 0 where
   pub zeros : ℕ
   pub fewest : zeros < w
   pub is : bits_of_words w words ≡ bits ++ true ∷ replicate zeros false
 
--- a word that ends a stack of bits: the bits that end in it, one more that is set, and zeros above
+-- The word ends a stack with these bits: it has the bits, a 1, and zeros above it.
 pub record TopWord (w : ℕ) (bits : List Bool) (word : ℕ) : Type 0 where
   pub zeros : ℕ
   pub fewest : zeros < w
   pub is : bits_of w word ≡ bits ++ true ∷ replicate zeros false
 
--- what words mean as those of a stack of bits: no words are no bits
+-- The words hold the bits of a stack, where no words hold no bits.
 abbrev pub HasStackWords : ℕ → List Bool → List ℕ → Type 0
 HasStackWords w bits [] = bits ≡ []
 HasStackWords w bits (v ∷ vs) = IsStackWords w bits (v ∷ vs)
 
--- what a coder holds: its bits, those that are no whole word of the backend (yet, or any more), and the backend
+-- The value of a bit coder: all its bits, the bits outside the words of the backend, and the backend.
 pub record BitsValue (B : Type 0) : Type 0 where
   pub bits : List Bool
   pub last : List Bool
   pub backend : B
 
--- the bits of a backend's words, of which the first to be read was written last, and then others
+-- The bits of a backend's words, from the word to be read last to the word to be read first, and then other bits.
 abbrev pub bits_above : {W : Type 0} → ℕ → (W → ℕ) → List W → List Bool → List Bool
 bits_above w number words last = bits_of_words w (map number (reverse words)) ++ last
 
--- the bits of a backend's words behind others
+-- The bits given, and behind them those of a backend's words in reading order.
 abbrev pub bits_behind : {W : Type 0} → ℕ → (W → ℕ) → List Bool → List W → List Bool
 bits_behind w number last words = last ++ bits_of_words w (map number words)
 
--- a word of just these bits is written: `write` is what a write of the backend answers and leaves
+-- A word with exactly these bits is written. `write` relates a backend, a word, the answer and the backend afterwards.
 abbrev pub WritesBits : {W B E : Type 0} → ℕ → (W → ℕ) → (B → W → Result (Unit {0}) E → B → Type 0) → List Bool → B
     → Result (Unit {0}) E → B → Type 0
 WritesBits {W} w number write bits backend r backend' =
     (word : W) × (bits_of w (number word) ≡ bits) × write backend word r backend'
 
--- a bit is put behind those of the last word; where that is full, it is written first and the bit begins the
--- next; or that write is refused, and the last word stays
+-- A bit is appended to the last word. A full last word is written first, and the bit begins the next one. If that write
+-- is refused, the last word stays.
 abbrev pub PutsLast : {W B E : Type 0} → ℕ → (W → ℕ) → (B → W → Result (Unit {0}) E → B → Type 0) → List Bool → B → Bool
     → Result (Unit {0}) E → List Bool → B → Type 0
 PutsLast w number write last backend bit (Ok _) last' backend' =
@@ -63,18 +63,18 @@ PutsLast w number write last backend bit (Ok _) last' backend' =
 PutsLast w number write last backend bit (Err e) last' backend' =
     (length last ≡ w) × (last' ≡ last) × WritesBits w number write last backend (Err e) backend'
 
--- a bit is put onto all that a coder holds: its last word and its backend
+-- A bit is appended to a coder's value: its last word and its backend.
 abbrev pub PutsOnto : {W B E : Type 0} → ℕ → (W → ℕ) → (B → W → Result (Unit {0}) E → B → Type 0) → BitsValue B → Bool
     → Result (Unit {0}) E → BitsValue B → Type 0
 PutsOnto w number write old bit r new = PutsLast w number write old.last old.backend bit r new.last new.backend
 
--- a bit is put behind the others, or all are as before
+-- A bit is appended to the bits; an error leaves them unchanged.
 abbrev pub PutsBit : {E : Type 0} → List Bool → Bool → Result (Unit {0}) E → List Bool → Type 0
 PutsBit old bit (Ok _) new = new ≡ old ++ bit ∷ []
 PutsBit old bit (Err _) new = new ≡ old
 
--- the last bit of the unfinished word is taken; where it has none, a word is read, of which the last bit is
--- taken; where no word is left, or the read is refused, nothing changes but what the read changed
+-- The last bit of the last word is removed. If the last word is empty, a word is read, and its last bit is removed. If
+-- no word is left, or the read is refused, only the read's own change happens.
 abbrev pub TakesLast : {W B E : Type 0} → ℕ → (W → ℕ) → (B → Result (Option W) E → B → Type 0) → List Bool → B
     → Option (Result Bool E) → List Bool → B → Type 0
 TakesLast {W} w number reads last backend (Some (Ok bit)) last' backend' =
@@ -85,7 +85,7 @@ TakesLast w number reads last backend None last' backend' =
 TakesLast w number reads last backend (Some (Err e)) last' backend' =
     (last ≡ []) × (last' ≡ []) × reads backend (Err e) backend'
 
--- the first bit of the word that is read now is taken; where none is left of it, the next word is read
+-- The first bit of the current word is removed. If the current word is empty, the next word is read.
 abbrev pub TakesFirst : {W B E : Type 0} → ℕ → (W → ℕ) → (B → Result (Option W) E → B → Type 0) → List Bool → B
     → Option (Result Bool E) → List Bool → B → Type 0
 TakesFirst {W} w number reads last backend (Some (Ok bit)) last' backend' =
@@ -96,8 +96,8 @@ TakesFirst w number reads last backend None last' backend' =
 TakesFirst w number reads last backend (Some (Err e)) last' backend' =
     (last ≡ []) × (last' ≡ []) × reads backend (Err e) backend'
 
--- bits are put behind those of the last word, which has room for all; or the first of them fill it, it is written, and
--- the others, one at least, begin the next; or that write is refused, and the first of them stay
+-- Bits are appended to the last word. If they don't all fit, the first of them fill it, it is written, and the others
+-- (at least one) begin the next. If that write is refused, the first of them stay.
 abbrev pub PutsBits : {W B E : Type 0} → ℕ → (W → ℕ) → (B → W → Result (Unit {0}) E → B → Type 0) → List Bool → B
     → List Bool → Result (Unit {0}) E → List Bool → B → Type 0
 PutsBits w number write last backend bits (Ok _) last' backend' =
@@ -109,42 +109,41 @@ PutsBits w number write last backend bits (Err e) last' backend' =
     × (length (last ++ front) ≡ w)
     × (last' ≡ last ++ front) × WritesBits w number write (last ++ front) backend (Err e) backend'
 
--- the next of the bits is given, or there is none; an error leaves them
+-- The next bit is given, or no bit is left; an error leaves the bits unchanged.
 abbrev pub GivesBit : {E : Type 0} → List Bool → Option (Result Bool E) → List Bool → Type 0
 GivesBit old (Some (Ok bit)) new = old ≡ bit ∷ new
 GivesBit old None new = (old ≡ []) × (new ≡ [])
 GivesBit old (Some (Err _)) new = new ≡ old
 
--- a bit comes off a stack of bits
+-- A bit is popped off a stack.
 abbrev pub PopsBit : {W B E : Type 0} → ℕ → (W → ℕ) → Type 0 → (B → Result (Option W) E → B → Type 0) → BitsValue B
     → Option (Result Bool E) → BitsValue B → Type 0
 PopsBit w number is_list reads old item new =
     TakesLast w number reads old.last old.backend item new.last new.backend
     × (is_list → GivesBit (reverse old.bits) item (reverse new.bits))
 
--- a bit comes from a queue of bits
+-- A bit is taken from a queue.
 abbrev pub TakesBit : {W B E : Type 0} → ℕ → (W → ℕ) → Type 0 → (B → Result (Option W) E → B → Type 0) → BitsValue B
     → Option (Result Bool E) → BitsValue B → Type 0
 TakesBit w number is_list reads old item new =
     TakesFirst w number reads old.last old.backend item new.last new.backend
     × (is_list → GivesBit old.bits item new.bits)
 
--- no bit of the list is set
+-- All bits of the list are 0.
 abbrev pub AreZeros : List Bool → Type 0
 AreZeros bits = bits ≡ replicate (length bits) false
 
--- bits, and then fewer zeros than a word has
+-- The padded bits are the bits, and fewer zeros than a word has bits.
 abbrev pub PadsTo : ℕ → List Bool → List Bool → Type 0
 PadsTo w bits padded = (zeros : ℕ) × (zeros < w) × (padded ≡ bits ++ replicate zeros false)
 
--- a word is written that begins with these bits, and then has zeros
+-- A word is written that begins with these bits and has zeros behind them.
 abbrev pub WritesPadded : {W B E : Type 0} → ℕ → (W → ℕ) → (B → W → Result (Unit {0}) E → B → Type 0) → List Bool → B
     → Result (Unit {0}) E → B → Type 0
 WritesPadded {W} w number write bits backend r backend' =
     (word : W) × PadsTo w bits (bits_of w (number word)) × write backend word r backend'
 
--- a stack of bits is ended: a bit that is set is put behind the others, and what is then the last word is written; the
--- first refused write answers its error
+-- A stack is ended: a 1 is appended, and the last word is written. The answer of a refused write is its error.
 abbrev pub ClosesStack : {W B E : Type 0} → ℕ → (W → ℕ) → (B → W → Result (Unit {0}) E → B → Type 0) → List Bool → B
     → Result B E → Type 0
 ClosesStack {B = B} w number write last backend (Ok all) =
@@ -154,7 +153,7 @@ ClosesStack {B = B} w number write last backend (Err e) =
     ((left : B) × PutsLast w number write last backend true (Err e) last left)
     ⊎ ((top : List Bool) × (between left : B) × PutsLast w number write last backend true (Ok tt) top between × WritesPadded w number write top between (Err e) left)
 
--- a queue of bits is ended: its last word is written, if it has bits; a refused write answers its error
+-- A queue is ended: its last word is written if it has bits. The answer of a refused write is its error.
 abbrev pub ClosesQueue : {W B E : Type 0} → ℕ → (W → ℕ) → (B → W → Result (Unit {0}) E → B → Type 0) → List Bool → B
     → Result B E → Type 0
 ClosesQueue w number write last backend (Ok all) =
@@ -162,8 +161,8 @@ ClosesQueue w number write last backend (Ok all) =
 ClosesQueue {B = B} w number write last backend (Err e) =
     (last ≡ [] → ⊥) × (left : B) × WritesPadded w number write last backend (Err e) left
 
--- a decoder's backend comes from the words that end a queue of bits; where no bit lies outside the coder's backend, it
--- comes from that one
+-- The decoder's backend is made from the words that end a queue of bits. If the coder has no bits outside its backend,
+-- these words are in that backend.
 abbrev pub ReadsClosed : {W B E D : Type 0} → ℕ → (W → ℕ) → (B → List W) → (B → W → Result (Unit {0}) E → B → Type 0)
     → (B → D → Type 0) → BitsValue B → D → Type 0
 ReadsClosed {B = B} w number words write becomes coder decoder =
@@ -171,6 +170,6 @@ ReadsClosed {B = B} w number words write becomes coder decoder =
     × ClosesQueue w number write coder.last coder.backend (Ok all)
     × (coder.last ≡ [] → all ≡ coder.backend) × becomes all decoder
 
--- so many of the w bits of a number, from the highest down
+-- The `count` highest of the w bits of a number, highest first.
 abbrev pub top_bits : ℕ → ℕ → ℕ → List Bool
 top_bits w count x = reverse (bits_of count (x / 2 ^ (w - count)))

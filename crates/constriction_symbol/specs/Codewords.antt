@@ -1,4 +1,4 @@
--- Codewords: what a codebook emits, what a stream of bits then holds, and what a codebook reads.
+-- What codebooks emit and read, and what streams of bits write.
 use Rattle.std.specs.Prelude.{◌≡◌, ℕ, ◌<◌, ◌^◌, reverse, Bool, List, [], ◌∷◌, ◌++◌, ◌⊎◌, Option, Some, None, Result, Ok, Err, map, ⊤}
 use Rattle.std.specs.Iterator.{Yields}
 use Rattle.constriction_symbol.specs.Bits.{bits_of, top_bits}
@@ -11,11 +11,11 @@ use Rattle.constriction_stream.specs.Lists.{StepsAll}
 use Rattle.constriction_symbol.specs.declared.codebooks.SymbolCodeError.{SymbolCodeError}
 use Rattle.constriction_symbol.specs.declared.codebooks.SymbolCodeError.TheVariants.{OutOfCompressedData, InvalidCodeword}
 
--- what encoding a symbol answers where calls of the emitter answer E
+-- The answer of an encode, where the emitter's error is E.
 abbrev pub Answer : Type 0 → Type 0
 Answer E = Result (Unit {0}) (CoderError DefaultEncoderFrontendError E)
 
--- f is called at each bit in order, up to and with the first call that is refused; f is then `last`
+-- The emitter f is called at each bit in order, up to and including the first call that fails. It is then `last`.
 abbrev pub Emits : {F E : Type 0} → Mut F (Bool × Unit {0}) (Result (Unit {0}) E)
     → F → List Bool → Answer E → F → Type 0
 Emits g f [] r last = (r ≡ Ok tt) × (f ≡ last)
@@ -23,41 +23,41 @@ Emits {F} {E} g f (b ∷ bs) r last =
     ((next : F) × Called g f (b, tt) (Ok tt) next × Emits g next bs r last)
     ⊎ ((e : E) × Called g f (b, tt) (Err e) last × (r ≡ Err (Backend e)))
 
--- there is want of memory, of which the error is made
+-- Memory is needed, and the error is made from the allocator's error.
 abbrev pub LacksMemory : {A E : Type 0} → Type 0 → (A → E → Type 0) → E → Type 0
 LacksMemory {A} wants gives e = wants × ((a : A) × gives a e)
 
--- there is want of memory for the codeword of a symbol: in the form that is chosen of prefix and suffix form
+-- Memory is needed for the codeword of a symbol, in the chosen one of prefix and suffix form.
 abbrev pub LacksMemoryFor : {A K S E : Type 0} → (Type 0 → Type 0 → Type 0) → (K → S → Type 0) → (K → S → Type 0)
     → (A → E → Type 0) → K → S → E → Type 0
 LacksMemoryFor chosen prefix suffix gives codebook symbol =
     LacksMemory (chosen (prefix codebook symbol) (suffix codebook symbol)) gives
 
--- the bits of a codeword are emitted; or none is, where the symbol has no codeword, or memory was wanted
+-- The bits of a codeword are emitted. None is if the symbol has no codeword, or if memory was needed and not available.
 abbrev pub EmitsCodeword : {F E : Type 0} → Mut F (Bool × Unit {0}) (Result (Unit {0}) E) → (E → Type 0) → F
     → Option (List Bool) → Answer E → F → Type 0
 EmitsCodeword g wants f None r last = (r ≡ Err (Frontend ImpossibleSymbol)) × (f ≡ last)
 EmitsCodeword {F} {E} g wants f (Some bits) r last =
     Emits g f bits r last ⊎ ((e : E) × wants e × (r ≡ Err (Backend e)) × (f ≡ last))
 
--- a codeword of which one bit was refused: those before it were put one by one, and it and those behind it weren't
+-- The write of one bit of a codeword was refused: exactly the bits before it were written, one by one.
 pub record RefusedAt {C E : Type 0} (bits : C → List Bool) (puts : C → Bool → Result (Unit {0}) E → C → Type 0)
     (old : C) (code : List Bool) (e : E) (new : C) : Type 0 where
-  -- the bits before the refused one, that one, and those behind it
+  -- The bits before the refused bit, that bit, and those behind it.
   pub front : List Bool
   pub bit : Bool
   pub back : List Bool
   pub whole : code ≡ front ++ bit ∷ back
-  -- the stream at which it was refused, to which the bits before it lead one by one
+  -- The stream that refused the bit. The bits before it lead there one by one.
   pub mid : C
   pub before : StepsAll puts old front mid
-  -- the write of that bit answers the error, and leaves the new stream
+  -- The write of that bit answers the error, and leaves the new stream.
   pub refused : puts mid bit (Err e) new
-  -- the new stream has just the bits before it more
+  -- The new stream has exactly the bits before it in addition.
   pub begun : bits new ≡ bits old ++ front
 
--- a stream of bits has a codeword more, as if its bits were put one by one; or it has those before a bit that was
--- refused; or it is as before, where memory was wanted
+-- The stream appends a codeword as if bit by bit. If a bit is refused, the stream has the bits before it. If memory was
+-- needed and not available, the stream is unchanged.
 abbrev pub WritesEachBit : {C E : Type 0} → (C → List Bool) → (C → Bool → Result (Unit {0}) E → C → Type 0)
     → (E → Type 0) → C → List Bool → Answer E → C → Type 0
 WritesEachBit bits puts wants old code (Ok _) new = (bits new ≡ bits old ++ code) × StepsAll puts old code new
@@ -65,18 +65,18 @@ WritesEachBit bits puts wants old code (Err (Frontend _)) new = ⊥
 WritesEachBit bits puts wants old code (Err (Backend e)) new =
     RefusedAt bits puts old code e new ⊎ (wants e × (new ≡ old))
 
--- the same of a symbol, which may have no codeword: then nothing changes
+-- The stream appends the codeword of a symbol. If the symbol has none, nothing changes.
 abbrev pub WritesCodeword : {C E : Type 0} → (C → List Bool) → (C → Bool → Result (Unit {0}) E → C → Type 0)
     → (E → Type 0) → C → Option (List Bool) → Answer E → C → Type 0
 WritesCodeword bits puts wants old None r new = (r ≡ Err (Frontend ImpossibleSymbol)) × (new ≡ old)
 WritesCodeword bits puts wants old (Some code) r new = WritesEachBit bits puts wants old code r new
 
--- the form of a codeword, where there is one
+-- The form of a codeword, if there is one.
 abbrev pub formed : (List Bool → List Bool) → Option (List Bool) → Option (List Bool)
 formed form None = None
 formed form (Some bits) = Some (form bits)
 
--- the same of a symbol that is lent and its codebook; and of a symbol that is lent
+-- The stream appends the codeword of a lent symbol by the codebook beside it, or (below) by one codebook.
 abbrev pub WritesPair : {C L K S E : Type 0} → (C → List Bool) → (C → Bool → Result (Unit {0}) E → C → Type 0)
     → (K → S → E → Type 0) → (K → S → Option (List Bool)) → (List Bool → List Bool) → (L → S)
     → C → L × K → Answer E → C → Type 0
@@ -88,44 +88,44 @@ abbrev pub WritesSymbol : {C L S E : Type 0} → (C → List Bool) → (C → Bo
 WritesSymbol bits puts wants codeword form lent old item r new =
     WritesCodeword bits puts (wants (lent item)) old (formed form (codeword (lent item))) r new
 
--- the codeword is the lowest bits of a number, the first one highest; they are fewer than w, and above them are zeros
+-- The codeword is the lowest bits of a number, first bit highest. They are fewer than w, with zeros above them.
 pub record IsLowBits (w : ℕ) (codeword : Option (List Bool)) (number count : ℕ) : Type 0 where
   pub some : 0 < count
   pub part : count < w
   pub small : number < 2 ^ count
   pub is : codeword ≡ Some (reverse (bits_of count number))
 
--- the codeword is so many of the w bits of a number, from the highest down, and fewer than `all`
+-- The codeword is the `count` highest of the w bits of a number, and has fewer than `all` bits.
 pub record BeginsTopBits (w all number : ℕ) (codeword : Option (List Bool)) (count : ℕ) : Type 0 where
   pub some : 0 < count
   pub part : count < all
   pub is : codeword ≡ Some (top_bits w count number)
 
--- none of the codewords begins the bits
+-- No codeword begins the bits.
 abbrev pub NoneBegins : {S : Type 0} → (S → Option (List Bool)) → List Bool → Type 0
 NoneBegins {S} codeword bits =
     (symbol : S) (code tail : List Bool) → codeword symbol ≡ Some code → bits ≡ code ++ tail → ⊥
 
--- none of the codewords begins the bits, whatever follows them
+-- No codeword begins the bits, whatever follows them.
 abbrev pub NoneFits : {S : Type 0} → (S → Option (List Bool)) → List Bool → Type 0
 NoneFits codeword bits = (rest : List Bool) → NoneBegins codeword (bits ++ rest)
 
 abbrev pub as_item : {E : Type 0} → Bool → Result Bool E
 as_item b = Ok b
 
--- so many bits come from an iterator of Results of bits, in order
+-- An iterator of `Result`s of bits gives these bits, in order.
 abbrev pub GivesBits : {I E : Type 0} → (I → Option (Result Bool E) → I → Type 0) → I → List Bool → I → Type 0
 GivesBits {E = E} next old bits new = Yields next old (map (as_item {E = E}) bits) new
 
--- the bits come, and then the iterator ends
+-- The iterator gives these bits, and then ends.
 abbrev pub EndsAfter : {I E : Type 0} → (I → Option (Result Bool E) → I → Type 0) → I → List Bool → I → Type 0
 EndsAfter {I} next old bits new = (last : I) × GivesBits next old bits last × next last None new
 
--- the bits come, and then an error of the iterator
+-- The iterator gives these bits, and then an error.
 abbrev pub FailsAfter : {I E : Type 0} → (I → Option (Result Bool E) → I → Type 0) → I → List Bool → E → I → Type 0
 FailsAfter {I} next old bits e new = (last : I) × GivesBits next old bits last × next last (Some (Err e)) new
 
--- the bits end, or their source answers an error, after bits of which this holds
+-- The bits end, or their source returns an error, after bits that have the property.
 abbrev pub StopsWithin : {I V E : Type 0} → (I → Option (Result Bool E) → I → Type 0) → (List Bool → Type 0) → I
     → CoderError (SymbolCodeError V) E → I → Type 0
 StopsWithin next reads_on old (Frontend OutOfCompressedData) new =
@@ -133,8 +133,8 @@ StopsWithin next reads_on old (Frontend OutOfCompressedData) new =
 StopsWithin next reads_on old (Frontend (InvalidCodeword e)) new = ⊥
 StopsWithin next reads_on old (Backend e) new = (bits : List Bool) × reads_on bits × FailsAfter next old bits e new
 
--- the bits of a codeword are read, and its symbol is the answer; or the bits end, or their source answers an error,
--- where reading would go on; or the bits that were read are those of no codeword
+-- A decode reads the bits of a codeword and returns its symbol. An error is the end or an error of the source after
+-- bits after which the codebook reads on, or follows bits that are invalid.
 abbrev pub ReadsSymbol : {I S V E : Type 0} → (I → Option (Result Bool E) → I → Type 0) → (S → Option (List Bool))
     → (List Bool → Type 0) → (List Bool → V → Type 0)
     → I → Result S (CoderError (SymbolCodeError V) E) → I → Type 0
@@ -147,8 +147,8 @@ ReadsSymbol next codeword reads_on is_invalid old (Err (Frontend (InvalidCodewor
 ReadsSymbol next codeword reads_on is_invalid old (Err (Backend e)) new =
     (bits : List Bool) × reads_on bits × FailsAfter next old bits e new
 
--- after bits that begin with the codeword of a symbol: that symbol, or one of the same meaning, and just its codeword
--- was read; or their source answered an error. No refusal of the codebook comes
+-- A decode of bits that begin with the codeword of a symbol returns it, or a symbol of the same meaning, and reads
+-- exactly its codeword. Otherwise the source returned an error. The codebook itself refuses nothing.
 abbrev pub ComesBack : {S V E : Type 0} → (S → S → Type 0) → S → List Bool → Result S (CoderError (SymbolCodeError V) E)
     → List Bool → Type 0
 ComesBack same symbol rest (Ok t) unread = same t symbol × (unread ≡ rest)

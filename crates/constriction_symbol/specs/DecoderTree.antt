@@ -1,35 +1,35 @@
--- A list of pairs of indices as a tree.
+-- Decoding trees: a list of pairs of children as a tree, and its decoding table.
 use Rattle.std.specs.Prelude.{◌≡◌, ◌+◌, ◌*◌, ◌<◌, ◌≤◌, ◌^◌, ◌⊎◌, Bool, List, Some, ℕ, get_or, length, map, take}
 use Rattle.constriction_symbol.specs.EncoderTree.{HasBelowOne}
 use Rattle.constriction_symbol.specs.Huffman.{IsTreeAt, IsWithoutRepeats, Tree, leaves, subtree, tree_at}
 use Rattle.constriction_symbol.specs.Merging.{as_pair}
 use Rattle.constriction_symbol.specs.declared.huffman.first_bits.Place.{Place}
 
--- the tree whose nodes have these children, the root last
+-- The tree whose inner nodes have these children, the root last.
 abbrev pub tree_of_pairs : List (List ℕ) → Tree
 tree_of_pairs nodes =
     tree_at (length nodes + length nodes) (length nodes + 1) (map as_pair nodes) (length nodes + length nodes)
 
--- the nodes are those of this tree, which has each symbol once
+-- The nodes are those of this tree, which has each symbol once.
 pub record HoldsTree (nodes : List (List ℕ)) (tree : Tree) : Type 0 where
   pub fits : 2 * length nodes + 1 < 2 ^ 64
   pub at : IsTreeAt (length nodes + 1) (map as_pair nodes) (length nodes + length nodes) tree
   pub once : IsWithoutRepeats (leaves tree)
   pub count : length (leaves tree) ≡ length nodes + 1
 
--- the bits lead from the root to the tree at an index
+-- The bits lead from the root to the tree at an index.
 pub record LeadsTo (nodes : List (List ℕ)) (bits : List Bool) (index : ℕ) : Type 0 where
   pub tree : Tree
   pub leads : subtree (tree_of_pairs nodes) bits ≡ Some tree
   pub at : IsTreeAt (length nodes + 1) (map as_pair nodes) index tree
 
--- the first of the bits lead to a symbol, or all of them to a node
+-- The first `taken` bits lead to a symbol, or all bits lead to a node.
 pub record IsPlace (nodes : List (List ℕ)) (bits : List Bool) (place : Place) : Type 0 where
   pub within : place.taken ≤ length bits
   pub leads : LeadsTo nodes (take place.taken bits) place.index
   pub whole : (place.index < length nodes + 1) ⊎ (place.taken ≡ length bits)
 
--- at each number is the place of its bits below the highest one that is set, the first one highest
+-- The entry at each number says where the bits below its highest 1 lead, highest first.
 abbrev pub HasPlaces : List (List ℕ) → List Place → Type 0
 HasPlaces nodes places = (number : ℕ) (bits : List Bool) → number < length places → HasBelowOne bits number
     → IsPlace nodes bits (get_or places number (record { index = 0; taken = 0 }))

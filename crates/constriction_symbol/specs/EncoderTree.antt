@@ -1,13 +1,13 @@
--- An array of parents as a tree, and its codewords as numbers.
+-- Encoding trees: a list of parents as a tree, and its codewords as numbers.
 use Rattle.std.specs.Prelude.{◌≡◌, ◌+◌, ◌-◌, ◌*◌, ◌/◌, ◌^◌, ◌<◌, ◌≤◌, ◌⊎◌, Bool, List, Some, None, ℕ, get_or, length, reverse}
 use Rattle.constriction_symbol.specs.Bits.{bits_of}
 use Rattle.constriction_symbol.specs.Huffman.{GoesUp, Tree, climbed, leaves, path, tree_in}
 
--- the tree whose nodes have these parents, the root last
+-- The tree whose nodes have these parents, the root last.
 abbrev pub tree_of_parents : List ℕ → Tree
 tree_of_parents nodes = tree_in (length nodes) nodes (length nodes - 1)
 
--- climbing in the array gives the codewords of this tree
+-- Climbing in the list of parents gives the codewords of this tree.
 pub record ClimbsTree (nodes : List ℕ) (tree : Tree) : Type 0 where
   pub up : GoesUp (length nodes) nodes
   pub some : 0 < length nodes
@@ -15,7 +15,7 @@ pub record ClimbsTree (nodes : List ℕ) (tree : Tree) : Type 0 where
   pub known : (symbol : ℕ) → symbol ≤ length nodes / 2 → path tree symbol ≡ Some (climbed (length nodes) nodes symbol)
   pub none : (symbol : ℕ) → length nodes / 2 < symbol → path tree symbol ≡ None
 
--- the bits are the lowest of the number, the first one highest, below one that is set
+-- The bits are those below the highest 1 of the number, highest first.
 pub record HasBelowOne (bits : List Bool) (number : ℕ) : Type 0 where
   pub count : ℕ
   pub low : ℕ
@@ -23,11 +23,11 @@ pub record HasBelowOne (bits : List Bool) (number : ℕ) : Type 0 where
   pub is : number ≡ low + 2 ^ count
   pub reads : bits ≡ reverse (bits_of count low)
 
--- one bit more below the others, or 0, which stands for no bits
+-- The number has one bit more than `above`, below the others; or it is 0, which stands for no codeword.
 abbrev pub OneBitMore : ℕ → ℕ → ℕ → Type 0
 OneBitMore above bit number = (number ≡ 0) ⊎ ((0 < above) × (number ≡ 2 * above + bit))
 
--- for each node the climb from it as a number, or 0
+-- Each number holds the bits of the climb from its node to the root, or is 0.
 pub record HasCodewords (nodes numbers : List ℕ) : Type 0 where
   pub len : length numbers ≡ length nodes
   pub each : (index : ℕ) → index < length nodes

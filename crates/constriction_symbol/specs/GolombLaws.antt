@@ -1,5 +1,4 @@
--- Exp-Golomb codewords are prefix-free, and no codeword begins the bits at which a reader stops: the laws of the
--- codebook, as it cites them.
+-- Laws of the Exp-Golomb codebook: no codeword begins another one, or bits at which a reader stops.
 use Rattle.std.proofs.Common.{◌≡◌, ◌+◌, ◌-◌, ◌*◌, ◌/◌, ◌%◌, ◌<◌, ◌≤◌, ◌^◌, ◌==◌, ℕ, zero, suc, Bool, true, false, List, [], ◌∷◌, ◌++◌, Some, ap, sym, inl, inr, refl, ◌∙◌, arith, replicate, length, map, length-append, append_assoc, append-nil, if◌then◌else◌}
 use Rattle.std.specs.Int.Digits.{digits_of}
 use Rattle.std.proofs.lemmas.Int.Digits.{digits_of_step}
@@ -21,7 +20,7 @@ binary_digit n d b some digit is =
     let step : digits_of 2 (2 * n + d) ≡ digits_of 2 n ++ d ∷ [] = rw (half, low) at (digits_of_step 2 (2 * n + d) (omega arith) (omega (arith, some))) in
     ap (map (λ e. e == 1)) step ∙ (map_push (λ e. e == 1) (digits_of 2 n) d ∙ ap (λ x. map (λ e. e == 1) (digits_of 2 n) ++ x ∷ []) is)
 
--- one digit more
+-- The number after one more digit.
 binary_more : (n : ℕ) (b : Bool) → 0 < n → binary (2 * n + (if b then 1 else 0)) ≡ binary n ++ b ∷ []
 binary_more n true some = binary_digit n 1 true some (omega arith) refl
 binary_more n false some = binary_digit n 0 false some (omega arith) refl
@@ -34,7 +33,7 @@ binary_after n (b ∷ bs) some = binary_after (2 * n + (if b then 1 else 0)) bs 
     above true = omega arith
     above false = omega (arith, some)
 
--- a number whose bits are all zeros
+-- Zeros leave the number 0.
 pub no_bits : (n : ℕ) (bs : List Bool) → number_after n bs ≡ 0 → (n ≡ 0) × (bs ≡ replicate (length bs) false)
 no_bits n [] is = (is, refl)
 no_bits n (true ∷ bs) is = let rest = no_bits (2 * n + 1) bs is in absurd (omega (arith, rest.0))
@@ -50,12 +49,12 @@ halved m (suc k) is some rest =
     let found = rest (omega (arith, is)) in
     low_bit m k (m % 2) is refl found.0 (found.1 ∙ is)
 
--- a number above 0 is a one and other bits, the highest first
+-- The bits of a number above 0 are a 1 and other bits, highest first.
 pub after_one : (fuel m : ℕ) → m ≤ fuel → 0 < m → (tail : List Bool) × (number_after 1 tail ≡ m)
 after_one zero m within some = absurd (omega (arith, within, some))
 after_one (suc fuel) m within some = halved m (m / 2) refl some (λ half. after_one fuel (m / 2) (omega (arith, within, some)) half)
 
--- the number of a one and other bits, by these alone
+-- The number after more bits is n, shifted by their count, plus their own number.
 pub number_above : (n : ℕ) (bits : List Bool) → number_after n bits ≡ n * 2 ^ length bits + number_after 0 bits
 number_above n [] = omega (arith, pow-zero 2)
 number_above n (b ∷ bs) =
@@ -64,7 +63,7 @@ number_above n (b ∷ bs) =
     let alone = number_above (2 * 0 + (if b then 1 else 0)) bs in
     rw two (omega (arith, here, alone))
 
--- a codeword: as many zeros, a one, and as many bits again
+-- A codeword is zeros, a 1, and as many bits as zeros.
 pub golomb_shape : (n : ℕ) → (tail : List Bool) × (golomb n ≡ zeros_one (length tail) tail) × (number_after 1 tail ≡ n + 1)
 golomb_shape n =
     let found = after_one (n + 1) (n + 1) (omega arith) (omega arith) in
@@ -72,7 +71,7 @@ golomb_shape n =
     let one : suc (length found.0) - 1 ≡ length found.0 = omega arith in
     (found.0, rw (bits, one) refl, found.1)
 
--- zeros and a one are told from the bits that they begin
+-- The zeros and the 1 are known from the bits that they begin.
 pub same_zeros : (j k : ℕ) (xs ys : List Bool) → zeros_one j xs ≡ zeros_one k ys → (j ≡ k) × (xs ≡ ys)
 same_zeros zero zero xs ys is = (refl, cc)
 same_zeros zero (suc k) xs ys is = absurd cc
@@ -82,14 +81,14 @@ same_zeros (suc j) (suc k) xs ys is =
     let same = same_zeros j k xs ys rest in
     (ap suc same.0, same.1)
 
--- zeros alone have no one
+-- Zeros alone have no 1.
 pub only_zeros : (j k : ℕ) (ys : List Bool) → replicate j false ≡ zeros_one k ys → ⊥
 only_zeros zero zero ys is = cc
 only_zeros zero (suc k) ys is = cc
 only_zeros (suc j) zero ys is = cc
 only_zeros (suc j) (suc k) ys is = let rest : replicate j false ≡ zeros_one k ys = cc in only_zeros j k ys rest
 
--- they are no more than those before the one
+-- Zeros that begin the bits are at most those before the 1.
 pub fewer_zeros : (j k : ℕ) (xs ys : List Bool) → replicate j false ++ xs ≡ zeros_one k ys → j ≤ k
 fewer_zeros zero k xs ys is = omega arith
 fewer_zeros (suc j) zero xs ys is = absurd cc
@@ -100,7 +99,7 @@ fewer_zeros (suc j) (suc k) xs ys is =
 pub zeros_one_then : (k : ℕ) (tail rest : List Bool) → zeros_one k tail ++ rest ≡ zeros_one k (tail ++ rest)
 zeros_one_then k tail rest = append_assoc (replicate k false) (true ∷ tail) rest
 
--- beginnings of one length are one
+-- Two beginnings of equal length are equal.
 pub same_front : (xs ys ms ns : List Bool) → length xs ≡ length ys → xs ++ ms ≡ ys ++ ns → xs ≡ ys
 same_front [] [] ms ns len is = refl
 same_front [] (y ∷ ys) ms ns len is = absurd (omega (arith, len))
@@ -111,7 +110,7 @@ same_front (x ∷ xs) (y ∷ ys) ms ns len is =
     let same = same_front xs ys ms ns (omega (arith, len)) rest in
     cc
 
--- what a codeword begins has its zeros and its bits
+-- Bits that begin with a codeword have its zeros and its bits.
 begun : (n : ℕ) (bits more tail : List Bool) (k : ℕ) → zeros_one k more ≡ golomb n ++ tail → (front : List Bool) × (length front ≡ k) × (number_after 1 front ≡ n + 1) × (more ≡ front ++ tail)
 begun n bits more tail k is =
     let shape = golomb_shape n in
@@ -119,7 +118,7 @@ begun n bits more tail k is =
     let same = same_zeros k (length shape.0) more (shape.0 ++ tail) whole in
     (shape.0, sym same.0, shape.2, same.1)
 
--- no codeword begins another
+-- No codeword begins another.
 pub golomb_prefix_free : (m n : ℕ) (tail : List Bool) → golomb n ≡ golomb m ++ tail → m ≡ n
 golomb_prefix_free m n tail is =
     let shape = golomb_shape n in
@@ -129,7 +128,7 @@ golomb_prefix_free m n tail is =
     let same : shape.0 ≡ front.0 = front.3 ∙ (ap (λ bs. front.0 ++ bs) empty ∙ append-nil front.0) in
     omega (arith, front.2, shape.2, ap (λ bs. number_after 1 bs) same)
 
--- where one more bit is wanted no codeword is complete
+-- No codeword is complete where a reader reads on.
 pub wanted_more : (b n : ℕ) (bits tail : List Bool) → WantsBit b bits → bits ≡ golomb n ++ tail → ⊥
 wanted_more b n bits tail (inl (count, within, zeros)) is =
     let shape = golomb_shape n in
@@ -138,7 +137,7 @@ wanted_more b n bits tail (inr (count, more, within, fewer, zeros)) is =
     let front = begun n [] more tail count (sym zeros ∙ is) in
     omega (arith, front.1, fewer, ap length front.3, length-append front.0 tail)
 
--- the codeword of a number of b bits has no more zeros than b
+-- The codeword of a number of b bits has at most b zeros.
 pub zeros_within : (b n : ℕ) (front : List Bool) → n + 1 ≤ 2 ^ b → number_after 1 front ≡ n + 1 → length front ≤ b
 zeros_within b n front fits is =
     let above = number_above 1 front in
@@ -150,7 +149,7 @@ zeros_within b n front fits is =
         let no : b < k → ⊥ = λ more. let up : 2 ^ b < 2 ^ k = pow-lt more in omega (arith, up, low) in
         omega (arith, no)
 
--- no codeword fits invalid bits, whatever follows them
+-- No codeword begins invalid bits, whatever follows them.
 pub invalid_bits : (b n : ℕ) (bits rest tail : List Bool) → n < 2 ^ b → IsInvalid b bits → bits ++ rest ≡ golomb n ++ tail → ⊥
 invalid_bits b n bits rest tail fits (inl zeros) is =
     let shape = golomb_shape n in

@@ -1,18 +1,18 @@
--- What a guard holds, for those who read its contracts.
+-- The coder that a guard borrows, and the number of words it wrote, for readers of its contracts.
 use Rattle.std.specs.Prelude.{ℕ, Vec}
 use Rattle.std.specs.Borrow.{MutBor}
 use Rattle.constriction_symbol.specs.declared.coder.SymbolCoder.{SymbolCoder}
 use Rattle.constriction_symbol.specs.declared.coder.guard.CoderGuard.{CoderGuard}
 
--- the coder that it borrows
+-- The coder that the guard borrows.
 abbrev pub lender : {Word S A WordNonZero : Type 0}
     → CoderGuard Word S A WordNonZero → MutBor (SymbolCoder Word S (Vec Word A) WordNonZero)
 lender g = g.inner
 
--- how many words it wrote onto the coder's backend
+-- The number of words that the guard wrote onto the coder's backend.
 abbrev pub written : {Word S A WordNonZero : Type 0} → CoderGuard Word S A WordNonZero → ℕ
 written g = g.count
 
--- what a drop of a guard leaves behind its reference: the first of the fields that it gives back
+-- What a guard's drop leaves behind its reference: the first of the fields that it returns.
 abbrev pub lent_back : {A B : Type 0} → A × B → A
 lent_back exit = exit.0

@@ -1,5 +1,4 @@
--- Huffman codewords are prefix-free, and no codeword begins bits that lead to a node: the laws of the codebooks, as
--- they cite them.
+-- Laws of Huffman codebooks: no codeword begins another one, or bits that lead to an inner node.
 use Rattle.std.proofs.Common.{◌≡◌, ◌==◌, ℕ, Bool, true, false, List, [], ◌∷◌, ◌++◌, Option, Some, None, ap, sym, inl, inr, refl, ◌∙◌, ◌⊎◌}
 use Rattle.std.proofs.lemmas.Bool.{eqb-true}
 use Rattle.std.proofs.lemmas.Option.{cond_some, same_Some}
@@ -7,18 +6,18 @@ use Rattle.constriction_symbol.specs.Huffman.{Tree, path, prefixed, or_else, sub
 use Rattle.constriction_symbol.specs.Huffman.Tree.{Leaf, Node}
 use Rattle.constriction_symbol.specs.Codewords.{NoneBegins}
 
--- the codeword in a leaf
+-- The codeword of a leaf is empty.
 pub leaf_path : (u s : ℕ) (bits : List Bool) → path (Leaf u) s ≡ Some bits → (u ≡ s) × (bits ≡ [])
 leaf_path u s bits is = let known = cond_some (u == s) [] bits is in (eqb-true u s known.0, sym known.1)
 
--- the codeword in a node is that of a child, behind the bit that leads there
+-- The codeword in a node is that in a child, behind the bit that leads there.
 pub node_path : (x y : Option (List Bool)) (bits : List Bool) → or_else (prefixed false x) (prefixed true y) ≡ Some bits
     → ((rest : List Bool) × (x ≡ Some rest) × (bits ≡ false ∷ rest)) ⊎ ((rest : List Bool) × (x ≡ None) × (y ≡ Some rest) × (bits ≡ true ∷ rest))
 node_path (Some rest) y bits is = inl (rest, refl, cc)
 node_path None (Some rest) bits is = inr (rest, refl, refl, cc)
 node_path None None bits is = absurd cc
 
--- a codeword leads to its symbol
+-- A codeword leads to its symbol.
 pub path_is_subtree : (t : Tree) (s : ℕ) (bits : List Bool) → path t s ≡ Some bits → subtree t bits ≡ Some (Leaf s)
 path_is_subtree (Leaf u) s bits is = let known = leaf_path u s bits is in rw known.1 (ap (λ n. Some (Leaf n)) known.0)
 path_is_subtree (Node lesser other) s bits is =
@@ -27,34 +26,34 @@ path_is_subtree (Node lesser other) s bits is =
       | inr found ↦ rw found.3 (path_is_subtree other s found.0 found.2)
     ]
 
--- the tree behind more bits
+-- More bits lead on from the tree reached.
 pub subtree_append : (t u : Tree) (bits tail : List Bool) → subtree t bits ≡ Some u → subtree t (bits ++ tail) ≡ subtree u tail
 subtree_append t u [] tail is = ap (λ v. subtree v tail) (same_Some _ _ is)
 subtree_append (Leaf s) u (bit ∷ bits) tail is = absurd cc
 subtree_append (Node lesser other) u (false ∷ bits) tail is = subtree_append lesser u bits tail is
 subtree_append (Node lesser other) u (true ∷ bits) tail is = subtree_append other u bits tail is
 
--- nothing is below a leaf
+-- No bits lead below a leaf.
 pub below_leaf : (s : ℕ) (tail : List Bool) (u : Tree) → subtree (Leaf s) tail ≡ Some u → (tail ≡ []) × (u ≡ Leaf s)
 below_leaf s [] u is = (refl, sym (same_Some _ _ is))
 below_leaf s (bit ∷ tail) u is = absurd cc
 
--- where a codeword begins bits that lead to a tree, the tree is its leaf
+-- If a codeword begins bits that lead to a tree, the tree is its leaf.
 pub begun_by : (t u : Tree) (s : ℕ) (code tail : List Bool) → path t s ≡ Some code → subtree t (code ++ tail) ≡ Some u → (tail ≡ []) × (u ≡ Leaf s)
 begun_by t u s code tail known is = below_leaf s tail u (sym (subtree_append t (Leaf s) code tail (path_is_subtree t s code known)) ∙ is)
 
--- no codeword begins another
+-- No codeword begins another.
 pub path_prefix_free : (t : Tree) (s u : ℕ) (bits tail : List Bool) → path t s ≡ Some bits → path t u ≡ Some (bits ++ tail) → s ≡ u
 path_prefix_free t s u bits tail first second =
     let same = (begun_by t (Leaf u) s bits tail first (path_is_subtree t u (bits ++ tail) second)).1 in
     cc
 
--- no codeword begins bits that lead to a node
+-- No codeword begins bits that lead to an inner node.
 pub inner_begins_none : (t : Tree) (bits : List Bool) → ReadsOnIn t bits → NoneBegins (path t) bits
 inner_begins_none t bits (lesser, other, at) s code tail known is =
     let same = (begun_by t (Node lesser other) s code tail known (ap (subtree t) (sym is) ∙ at)).1 in
     cc
 
--- a symbol's path by another name
+-- Equal symbols have one path.
 pub same_path : (t : Tree) (s u : ℕ) → s ≡ u → path t s ≡ path t u
 same_path t s u is = ap (path t) is

@@ -1,4 +1,4 @@
--- Merging a set of weights: which weights are taken, and which pairs are merged.
+-- Which weights make a Huffman tree, which errors the others give, and which pairs a merge joins.
 use Rattle.std.specs.Prelude.{◌≡◌, ℕ, ◌<◌, ◌≤◌, ◌^◌, ◌⊎◌, List, [], ◌++◌, get_or, length, map, sum_by, Option, Some, Result, Ok, Err}
 use Rattle.std.specs.Iterator.{Drains, YieldsThen}
 use Rattle.constriction_symbol.specs.Huffman.{IsHuffman, IsMerged, Tree, book_of}
@@ -9,18 +9,18 @@ use Rattle.constriction_symbol.specs.declared.huffman.error.HuffmanError.TheVari
 abbrev pub as_weight : {P E : Type 0} → P → Result P E
 as_weight weight = Ok weight
 
--- an iterator of Results of weights gives these, and ends
+-- The iterator of `Result`s gives these weights, and ends.
 abbrev pub GivesWeights : {I P E : Type 0} → (I → Type 0) → (I → Option (Result P E) → I → Type 0) → List P → Type 0
 GivesWeights {I} {E = E} gives next weights =
     (iterator : I) × gives iterator × Drains next iterator (map (as_weight {E = E}) weights)
 
--- it gives some weights, and then this item
+-- The iterator gives some weights, and then this item.
 abbrev pub GivesThen : {I P E : Type 0} → (I → Type 0) → (I → Option (Result P E) → I → Type 0) → Result P E → Type 0
 GivesThen {I} {P} {E} gives next item =
     (iterator : I) × gives iterator × (weights : List P) × (rest : I)
     × YieldsThen next iterator (map (as_weight {E = E}) weights) (Some item) rest
 
--- why not all its items are taken: one is an error; or there is no memory for one more weight
+-- The weights aren't all collected: an item is an error, or there is no memory for one more weight.
 abbrev pub StopsGiving : {I P E : Type 0} → (I → Type 0) → (I → Option (Result P E) → I → Type 0)
     → HuffmanError E → Type 0
 StopsGiving gives next (Iterator e) = GivesThen gives next (Err e)
@@ -29,24 +29,24 @@ StopsGiving gives next Empty = ⊥
 StopsGiving gives next TooManySymbols = ⊥
 StopsGiving gives next WeightOverflow = ⊥
 
--- an iterator of what lends weights gives what lends these, and ends
+-- The iterator lends these weights, and ends.
 abbrev pub LendsWeights : {I P L : Type 0} → (I → Type 0) → (I → Option L → I → Type 0) → (L → P) → List P → Type 0
 LendsWeights {I} {L = L} gives next lent weights =
     (iterator : I) × gives iterator × (items : List L) × Drains next iterator items × (weights ≡ map lent items)
 
--- it gives some, and then one more
+-- The iterator gives some items, and then one more.
 abbrev pub StopsLending : {I L : Type 0} → (I → Type 0) → (I → Option L → I → Type 0) → Type 0
 StopsLending {I} {L} gives next =
     (iterator : I) × gives iterator × (items : List L) × (item : L) × (rest : I)
     × YieldsThen next iterator items (Some item) rest
 
--- weights of so many bits of which a tree can be made: there are some, at most so many, and their sum has so many bits
+-- A tree can be made of the weights: there are between 1 and `most`, and their sum fits the given number of bits.
 pub record FitTree {P : Type 0} (number : P → ℕ) (bits most : ℕ) (weights : List P) : Type 0 where
   pub some : 0 < length weights
   pub few : length weights ≤ most
   pub fits : sum_by number weights < 2 ^ bits
 
--- why these weights make no tree: each refusal where those before it don't hold
+-- The weights give this error. Each error excludes the conditions of those before it.
 abbrev pub MakeNoTree : {P E : Type 0} → (P → ℕ) → ℕ → ℕ → List P → HuffmanError E → Type 0
 MakeNoTree number bits most weights Empty = weights ≡ []
 MakeNoTree number bits most weights TooManySymbols = (0 < length weights) × (most < length weights)
@@ -55,53 +55,52 @@ MakeNoTree number bits most weights WeightOverflow =
 MakeNoTree number bits most weights (Iterator e) = ⊥
 MakeNoTree number bits most weights Memory = FitTree number bits most weights
 
--- why the weights that come from an iterator of Results make no tree
+-- The weights of an iterator of `Result`s give this error.
 abbrev pub RefusesGiven : {I P E : Type 0} → (I → Type 0) → (I → Option (Result P E) → I → Type 0) → (P → ℕ) → ℕ → ℕ
     → HuffmanError E → Type 0
 RefusesGiven {P = P} gives next number bits most e =
     StopsGiving gives next e
     ⊎ ((weights : List P) × GivesWeights gives next weights × MakeNoTree number bits most weights e)
 
--- what these weights make, where they make a tree: the Huffman tree of their numbers
+-- The weights make this tree: the Huffman tree of their numbers.
 abbrev pub MakesTree : {P : Type 0} → (P → ℕ) → ℕ → ℕ → List P → Tree → Type 0
 MakesTree number bits most weights tree =
     FitTree number bits most weights × IsHuffman (map number weights) (book_of tree)
 
--- what the weights make that come from an iterator of Results
+-- The weights of an iterator of `Result`s make this tree.
 abbrev pub MakesGiven : {I P E : Type 0} → (I → Type 0) → (I → Option (Result P E) → I → Type 0)
     → (P → ℕ) → ℕ → ℕ → Tree → Type 0
 MakesGiven {P = P} gives next number bits most tree =
     (weights : List P) × GivesWeights gives next weights × MakesTree number bits most weights tree
 
--- and those that come from an iterator of what lends them
+-- The weights that an iterator lends make this tree.
 abbrev pub MakesLent : {I P L : Type 0} → (I → Type 0) → (I → Option L → I → Type 0) → (L → P)
     → (P → ℕ) → ℕ → ℕ → Tree → Type 0
 MakesLent {P = P} gives next lent number bits most tree =
     (weights : List P) × LendsWeights gives next lent weights × MakesTree number bits most weights tree
 
--- why the weights that come from an iterator of what lends them make no tree; there may be no memory for one more
--- weight
+-- The weights that an iterator lends give this error, or there is no memory for one more of them.
 abbrev pub RefusesLent : {I P L E : Type 0} → (I → Type 0) → (I → Option L → I → Type 0) → (L → P) → (P → ℕ) → ℕ → ℕ
     → HuffmanError E → Type 0
 RefusesLent {P = P} gives next lent number bits most e =
     ((e ≡ Memory) × StopsLending gives next)
     ⊎ ((weights : List P) × LendsWeights gives next lent weights × MakeNoTree number bits most weights e)
 
--- the two indices of a pair
+-- The two indices of a pair.
 abbrev pub as_pair : List ℕ → ℕ × ℕ
 as_pair indices = (get_or indices 0 0, get_or indices 1 0)
 
--- these are the pairs of indices that merging these weights merges, in order
+-- Merging these weights joins these pairs of indices, in order.
 abbrev pub ArePairs : List ℕ → List (List ℕ) → Type 0
 ArePairs weights pairs = (tree : Tree) × IsMerged weights (map as_pair pairs) tree
 
--- the weights and indices of some trees
+-- The weight and the index of a tree, and (below) those of a list of trees.
 abbrev pub key_of : {P Z : Type 0} → (P → ℕ) → Weighed P Z → ℕ × ℕ
 key_of number item = (number item.weight, item.index)
 
 abbrev pub keys_of : {P Z : Type 0} → (P → ℕ) → List (Weighed P Z) → List (ℕ × ℕ)
 keys_of number items = map (key_of number) items
 
--- those of two queues
+-- The weights and indices of the trees of two queues.
 abbrev pub all_keys : {P Z : Type 0} → (P → ℕ) → List (Weighed P Z) → List (Weighed P Z) → List (ℕ × ℕ)
 all_keys number leaves unions = keys_of number leaves ++ keys_of number unions

@@ -1,14 +1,13 @@
--- Two queues of trees that are merged, as weights and indices: leaves in order, and unions in the order in which they
--- were made.
+-- The two queues of a merge, leaves and unions, as weights and indices.
 use Rattle.std.specs.Prelude.{ℕ, ◌<◌, ◌≤◌, List, [], ◌∷◌, All, ⊤}
 use Rattle.constriction_symbol.specs.Huffman.{IsPairLe}
 
--- each is at most those that follow, by weight and then by index
+-- Each pair is at most all that follow it, by weight and then by index.
 abbrev pub AreRising : List (ℕ × ℕ) → Type 0
 AreRising [] = ⊤
 AreRising (p ∷ ps) = All (IsPairLe p) ps × AreRising ps
 
--- both rise; leaves have the indices below n, and unions have others
+-- Both queues are sorted. Leaves have the indices below n, unions the others.
 pub record AreQueues (n : ℕ) (leaves unions : List (ℕ × ℕ)) : Type 0 where
   pub leaves_rise : AreRising leaves
   pub unions_rise : AreRising unions

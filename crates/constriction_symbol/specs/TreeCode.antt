@@ -1,27 +1,27 @@
--- A tree as a list of numbers, which gives it back: a code by which a struct is seen as a tree.
+-- A code of trees as lists of numbers, by which contracts see a struct as a tree.
 use Rattle.std.proofs.Common.{◌≡◌, ℕ, zero, suc, List, [], ◌∷◌, ◌++◌, ap, sym, refl, ◌∙◌, append_assoc, append-nil}
 use Rattle.std.specs.Coded.{Coded, code_by, coded_list, coded_ℕ}
 use Rattle.constriction_symbol.specs.Huffman.{Tree}
 use Rattle.constriction_symbol.specs.Huffman.Tree.{Leaf, Node}
 
--- both children and then a 0, and a symbol as the number after it
+-- An inner node is listed as both children and a 0, a leaf as its symbol plus 1.
 abbrev pub listed : Tree → List ℕ
 listed (Leaf s) = suc s ∷ []
 listed (Node lesser other) = listed lesser ++ (listed other ++ 0 ∷ [])
 
--- what a number makes of a stack of trees
+-- The stack of trees after one number.
 abbrev pub stacked : ℕ → List Tree → List Tree
 stacked (suc s) stack = Leaf s ∷ stack
 stacked zero [] = []
 stacked zero (t ∷ []) = t ∷ []
 stacked zero (other ∷ lesser ∷ stack) = Node lesser other ∷ stack
 
--- what some numbers make of it
+-- The stack of trees after a list of numbers.
 abbrev pub unlisted : List ℕ → List Tree → List Tree
 unlisted [] stack = stack
 unlisted (n ∷ ns) stack = unlisted ns (stacked n stack)
 
--- the top of a stack of trees
+-- The top of a stack of trees.
 abbrev pub top : List Tree → Tree
 top [] = Leaf 0
 top (t ∷ stack) = t

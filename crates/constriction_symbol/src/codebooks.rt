@@ -1,4 +1,4 @@
-//! Codebooks: a list of bits for each symbol.
+//! The traits of codebooks, which assign a list of bits to each symbol.
 
 ghost use Rattle.constriction_base.specs.declared.errors.CoderError.TheVariants as coder;
 ghost use Rattle.constriction_symbol.specs.Bits.{bits_of};
@@ -15,18 +15,17 @@ use std::alloc::AllocError;
 use std::fmt::Display;
 use thiserror::Error;
 
-/// Symbols, and a list of bits for each that is known: its codeword.
+/// A codebook: a list of bits, the codeword, for each symbol that it knows.
 ///
-/// No codeword begins another one: the laws say so, and each implementation proves them. An implementation
-/// chooses freely which symbols have the same meaning, as equal numbers have: they have one codeword, and two
-/// symbols of which one's codeword begins the other's are such.
+/// An implementor proves that the code is prefix-free: if one codeword begins another, their symbols mean the same.
+/// It chooses which symbols mean the same (as equal numbers do), and proves that these have the same codeword.
 pub trait Codebook: Drop {
     type Symbol;
 
-    /// The bits of a symbol in the order of reading, its prefix form, if it is known.
+    /// The codeword of a symbol in reading order (its prefix form), if the codebook knows the symbol.
     ghost codeword: { Self → Self.Symbol → Option (List Bool) };
 
-    /// The two symbols mean the same.
+    /// Relates two symbols that mean the same.
     ghost is_same: { Self → Self.Symbol → Self.Symbol → Type 0 };
 
     // Symbols of one meaning have one codeword.
@@ -37,22 +36,23 @@ pub trait Codebook: Drop {
         codeword c s ≡ Some bits → codeword c t ≡ Some (bits ++ tail) → is_same c s t };
 }
 
-/// The codewords of symbols can be emitted, bit by bit, to a function that takes bits.
+/// A codebook for encoding: it passes codewords to a function, bit by bit.
 ///
-/// An implementation chooses freely which symbols want memory for their codeword.
+/// An implementor proves that the emitted bits are those of the codeword. It chooses which symbols may need memory.
 pub trait EncoderCodebook: Codebook {
-    /// Emitting the prefix form of the symbol may want memory.
+    /// Emitting the prefix form of the symbol may need memory.
     ghost prefix_wants: { Self → Self.Symbol → Type 0 };
 
-    /// Emitting the suffix form of the symbol may want memory.
+    /// Emitting the suffix form of the symbol may need memory.
     ghost suffix_wants: { Self → Self.Symbol → Type 0 };
 
-    /// Emits the codeword of the symbol in the order of reading.
+    /// Emits the codeword of the symbol in reading order.
     ///
     /// # Errors
-    /// - `Frontend(ImpossibleSymbol)` exactly where the symbol has no codeword. Nothing was emitted.
-    /// - `Backend(error)` where `emit` returns this error: a beginning of the codeword was emitted. Or where
-    ///   memory is wanted and not found: nothing was emitted.
+    ///
+    /// - `Frontend(ImpossibleSymbol)` exactly if the symbol has no codeword. Nothing was emitted.
+    /// - `Backend(error)` if `emit` returns this error after the first few bits of the codeword. Or if memory is needed
+    ///   and not available: nothing was emitted.
     fn encode_symbol_prefix<E: From<AllocError>, F: FnMut(bool) -> Result<(), E>>(
         &self,
         symbol: &Self::Symbol,
@@ -62,10 +62,11 @@ pub trait EncoderCodebook: Codebook {
         ensures { EmitsCodeword F.FnMut (LacksMemory (prefix_wants self.now symbol.now) E.From.from_gives)
             emit.old (Self.codeword self.now symbol.now) result emit.new };
 
-    /// Emits the codeword of the symbol from the last bit to the first, its suffix form.
+    /// Emits the codeword of the symbol from the last bit to the first (its suffix form).
     ///
     /// # Errors
-    /// Those of [`EncoderCodebook::encode_symbol_prefix`].
+    ///
+    /// The errors of [`EncoderCodebook::encode_symbol_prefix`].
     fn encode_symbol_suffix<E: From<AllocError>, F: FnMut(bool) -> Result<(), E>>(
         &self,
         symbol: &Self::Symbol,
@@ -75,9 +76,9 @@ pub trait EncoderCodebook: Codebook {
         ensures { EmitsCodeword F.FnMut (LacksMemory (suffix_wants self.now symbol.now) E.From.from_gives)
             emit.old (formed reverse (Self.codeword self.now symbol.now)) result emit.new };
 
-    /// The codeword of the symbol as the lowest bits of a word, the first one highest, and how many they are, where the
-    /// codebook has it as such: then a coder writes it by a shift. `None`, as an implementation answers unless it says
-    /// otherwise, says nothing of the symbol.
+    /// Returns the codeword of the symbol as the lowest bits of a word, first bit highest, and its length in bits.
+    ///
+    /// A coder writes such a codeword with one shift. The default returns `None`, which says nothing about the symbol.
     #[inline]
     fn codeword_at_once<Word: BitArray>(&self, symbol: &Self::Symbol) -> Option<(Word, u32)>
         ensures { IfSome result (λ found.
@@ -87,26 +88,26 @@ pub trait EncoderCodebook: Codebook {
     }
 }
 
-/// The order in which the bits of a codeword are written, for bits that are read in this order.
+/// The order in which a stream with these semantics writes the bits of a codeword.
 pub trait BitOrder: Semantics {
-    /// The bits of a codeword in the order of writing.
+    /// The bits of a codeword in writing order.
     ghost form: { List Bool → List Bool };
 
-    /// Of the codeword that is the lowest bits of a word, the first one highest: the word whose lowest bits come in the
-    /// order of writing, the lowest first.
+    /// Converts a codeword in the lowest bits of a word, first bit highest, to writing order, lowest bit first.
     fn in_order<Word: BitArray>(bits: Word, count: u32) -> Word
         requires within { count ≤ Word.BITS }
         requires small { Word.number bits < 2 ^ count }
         ensures bits { bits_of count (Word.number result) ≡ form (reverse (bits_of count (Word.number bits))) }
         ensures small { Word.number result < 2 ^ count };
 
-    /// Which is said of this order, of what is said of the prefix form and of the suffix form.
+    /// Chooses between a statement on the prefix form and one on the suffix form.
     ghost chosen: { Type 0 → Type 0 → Type 0 };
 
-    /// Emits the codeword of the symbol in the order of writing.
+    /// Emits the codeword of the symbol in writing order.
     ///
     /// # Errors
-    /// Those of [`EncoderCodebook::encode_symbol_prefix`].
+    ///
+    /// The errors of [`EncoderCodebook::encode_symbol_prefix`].
     fn emit_symbol<C: EncoderCodebook, E: From<AllocError>, F: FnMut(bool) -> Result<(), E>>(
         codebook: &C,
         symbol: &C::Symbol,
@@ -123,7 +124,7 @@ impl BitOrder for Queue {
 
     ghost chosen = { λ prefix suffix. prefix };
 
-    /// The first bit lowest.
+    /// Returns the bits with the first bit lowest.
     #[inline]
     fn in_order<Word: BitArray>(bits: Word, count: u32) -> Word {
         first_lowest(bits, count)
@@ -145,7 +146,7 @@ impl BitOrder for Stack {
 
     ghost chosen = { λ prefix suffix. suffix };
 
-    /// The last bit lowest.
+    /// Returns the bits with the last bit lowest.
     #[inline]
     fn in_order<Word: BitArray>(bits: Word, count: u32) -> Word {
         bits
@@ -162,20 +163,20 @@ impl BitOrder for Stack {
     }
 }
 
-/// Why no symbol was read.
+/// The error of a codebook that didn't read a symbol.
 #[derive(Debug, Drop, Error)]
 #[error_bound(InvalidCodeword: Display)]
 pub enum SymbolCodeError<InvalidCodeword> {
-    /// The bits ended before the codeword did.
+    /// The bits ended before the codeword.
     #[error("The compressed data ended before the current codeword was complete.")]
     OutOfCompressedData,
-    /// No codeword begins with the bits that were read.
+    /// No codeword begins with the bits read.
     #[error("Invalid codeword for this codebook: {0}")]
     InvalidCodeword(InvalidCodeword),
 }
 
 impl<InvalidCodeword> SymbolCodeError<InvalidCodeword> {
-    /// The error as that of a coder's frontend.
+    /// Wraps the error as a coder's frontend error.
     pub fn into_coder_error<BackendError>(self) -> CoderError<Self, BackendError>
         ensures { result ≡ coder.Frontend self }
     {
@@ -183,28 +184,30 @@ impl<InvalidCodeword> SymbolCodeError<InvalidCodeword> {
     }
 }
 
-/// Symbols can be read from bits.
+/// A codebook for decoding: it reads symbols from bits.
 ///
-/// An implementation chooses freely after which bits it reads on, and which bits are invalid. The laws ask that
-/// it reads on only where no codeword was complete, and calls invalid only bits that no codeword begins, whatever
-/// follows them. So where a codeword begins the bits, its symbol is returned and just its bits are read.
+/// An implementor chooses after which bits it reads on and which bits are invalid. It proves that it reads on only
+/// while no codeword is complete, and that no codeword begins bits that it calls invalid, whatever follows them. So if
+/// a codeword begins the bits, a decode returns its symbol and reads exactly its bits.
 pub trait DecoderCodebook: Codebook {
-    /// What is said of bits that no codeword begins.
+    /// The error for bits that begin with no codeword.
     type InvalidCodeword;
 
-    /// After these bits another one is read.
+    /// The codebook reads another bit after these.
     ghost reads_on: { Self → List Bool → Type 0 };
 
-    /// After these bits reading stops with this error.
+    /// The codebook stops after these bits, with this error.
     ghost is_invalid: { Self → List Bool → Self.InvalidCodeword → Type 0 };
 
-    /// Takes the bits of the next codeword, and returns its symbol.
+    /// Reads the bits of the next codeword, and returns its symbol.
     ///
     /// # Errors
-    /// After each of them the bits that were read stay read.
-    /// - `Frontend(OutOfCompressedData)` where the bits end and no codeword begins them.
-    /// - `Frontend(InvalidCodeword(error))` where no codeword begins with the bits that were read.
-    /// - `Backend(error)` where the source returns this error in place of a bit.
+    ///
+    /// After each error, the bits read so far stay read.
+    ///
+    /// - `Frontend(OutOfCompressedData)` if the bits end and no codeword begins them.
+    /// - `Frontend(InvalidCodeword(error))` if no codeword begins with the bits read.
+    /// - `Backend(error)` if the source returns this error in place of a bit.
     fn decode_symbol<E, I: Iterator<Item = Result<bool, E>>>(
         &self,
         source: &mut I,
@@ -215,9 +218,10 @@ pub trait DecoderCodebook: Codebook {
         ensures can { OnOk result (I.can_next source.new) }
         ensures finite { IsFinite (I.remaining source.old) → OnOk result (IsFinite (I.remaining source.new)) };
 
-    /// The symbol whose codeword the bits begin with, and how many bits it has, where the codebook sees it at once and
-    /// it has fewer: then a coder drops them by a shift. The bits are the `count` highest of a word, the first one
-    /// highest. `None`, as an implementation answers unless it says otherwise, says nothing of the bits.
+    /// Looks up the codeword that begins the `count` highest bits of a word, first bit highest.
+    ///
+    /// Returns its symbol and its length if the length is below `count`. A coder then drops these bits with one shift.
+    /// The default returns `None`, which says nothing about the bits.
     #[inline]
     fn symbol_at_once<Word: BitArray>(&self, bits: Word, count: u32) -> Option<(Self::Symbol, u32)>
         requires { count ≤ Word.BITS }

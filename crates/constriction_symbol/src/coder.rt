@@ -1,10 +1,11 @@
-//! A list of bits over words, which grows at its end: as a queue it is read from its beginning, as a stack from
-//! its end.
+//! Bit coders: lists of bits over words that grow at their end.
 //!
-//! - [`words`]: words from a coder, and a coder from words.
+//! A queue is read from its beginning, a stack from its end.
+//!
+//! - [`words`]: importing and exporting words.
 //! - [`decoders`]: the same bits for reading.
-//! - [`equality`]: whether two coders are equal.
-//! - [`guard`]: the words of a coder that is used again.
+//! - [`equality`]: equality of coders.
+//! - [`guard`]: the compressed words while a guard lends them.
 
 pub mod decoders;
 mod equality;
@@ -26,10 +27,20 @@ use smallvec::SmallVec;
 use std::alloc::{AllocError, Global};
 use std::marker::{Model, PhantomData};
 
-/// A list of bits over words of the type `Word`. Bits fill a word from its lowest place upwards. A word that is full
-/// goes to the backend with the next bit, and not before.
+/// A list of bits over words of type `Word`.
 ///
-/// Contracts see a `BitsValue`: all bits, those of the word outside the backend, and the backend.
+/// Bits fill a word from its lowest place upwards. A full word goes to the backend with the next bit, and not before.
+///
+/// Contracts see a `BitsValue`: all bits, the bits of the word outside the backend, and the backend.
+///
+/// # Examples
+///
+/// ```
+/// let mut stack = DefaultStackCoder::new(alloc);
+/// stack.write_bit(true)?;
+/// stack.write_bit(false)?;
+/// stack.read_bit()?; // Some(false), the last bit written
+/// ```
 #[derive(Debug, Drop)]
 pub struct SymbolCoder<Word: BitArray, S: Semantics, B: Holds<Word, Stack> = Vec<Word>> {
     pub(crate) backend: B,
@@ -37,20 +48,21 @@ pub struct SymbolCoder<Word: BitArray, S: Semantics, B: Holds<Word, Stack> = Vec
     semantics: PhantomData<S>,
 }
 
-/// A stack of bits: the last one comes off first.
+/// A stack of bits: the last bit written is read first.
 pub type StackCoder<Word, B = Vec<Word>> = SymbolCoder<Word, Stack, B>;
 
-/// A queue of bits, for writing: a [`QueueDecoder`](crate::queue::QueueDecoder) of its words gives the first one first.
+/// A queue of bits, for writing. A [`QueueDecoder`](crate::queue::QueueDecoder) of its words reads the first bit first.
 pub type QueueEncoder<Word, B = Vec<Word>> = SymbolCoder<Word, Queue, B>;
 
-/// A stack of bits over words of 32 bits.
+/// A stack of bits over 32-bit words.
 pub type DefaultStackCoder<B = Vec<u32>> = StackCoder<u32, B>;
 
-/// A queue of bits over words of 32 bits, for writing.
+/// A queue of bits over 32-bit words, for writing.
 pub type DefaultQueueEncoder<B = Vec<u32>> = QueueEncoder<u32, B>;
 
-/// A stack of bits for one codeword. Its first two words of bits take no memory: one lies in the backend's value,
-/// and the other stays outside the backend.
+/// A stack of bits for one codeword.
+///
+/// Its first two words of bits take no memory: one lies inside the backend, the other outside.
 pub type SmallBitStack = StackCoder<usize, SmallVec<usize, 1>>;
 
 impl<Word: BitArray, S: Semantics, B: Holds<Word, Stack>> Model for SymbolCoder<Word, S, B> {
@@ -66,7 +78,9 @@ impl<Word: BitArray, S: Semantics, B: Holds<Word, Stack>> Model for SymbolCoder<
 }
 
 impl<Word: BitArray, S: Semantics> SymbolCoder<Word, S, Vec<Word>> {
-    /// A coder without bits. It takes no memory yet; `alloc` is where its words will be.
+    /// Makes a coder without bits.
+    ///
+    /// This allocates nothing. The coder takes memory for its words from `alloc` later.
     #[inline]
     pub fn new(alloc: Global) -> Self
         ensures { result.bits ≡ [] }
@@ -81,10 +95,11 @@ impl<Word: BitArray, S: Semantics> SymbolCoder<Word, S, Vec<Word>> {
 }
 
 impl<Word: BitArray> StackCoder<Word, Vec<Word>> {
-    /// A coder without bits, and memory for the words of so many, the bit that ends them among them.
+    /// Makes a stack without bits, with memory for `bit_capacity` bits and the bit that ends them.
     ///
     /// # Errors
-    /// Where the memory isn't found.
+    ///
+    /// `AllocError` if there isn't enough memory.
     pub fn with_bit_capacity(alloc: Global, bit_capacity: usize) -> Result<Self, AllocError>
         ensures ok { IfOk result (λ new. new.bits ≡ []) }
         ensures room { IfOk result (λ new. bit_capacity < vec_capacity new.backend * Word.BITS) }
@@ -99,10 +114,11 @@ impl<Word: BitArray> StackCoder<Word, Vec<Word>> {
 }
 
 impl<Word: BitArray> QueueEncoder<Word, Vec<Word>> {
-    /// A coder without bits, and memory for the words of so many. For none it takes no memory.
+    /// Makes a queue without bits, with memory for `bit_capacity` bits. A capacity of 0 takes no memory.
     ///
     /// # Errors
-    /// Where the memory isn't found.
+    ///
+    /// `AllocError` if there isn't enough memory.
     pub fn with_bit_capacity(alloc: Global, bit_capacity: usize) -> Result<Self, AllocError>
         ensures ok { IfOk result (λ new. new.bits ≡ []) }
         ensures room { IfOk result (λ new. bit_capacity ≤ vec_capacity new.backend * Word.BITS) }
@@ -117,10 +133,11 @@ impl<Word: BitArray> QueueEncoder<Word, Vec<Word>> {
     }
 }
 
-/// How a [`SmallBitStack`] is made. As a method of its type beside that of the coders over vectors, it would leave open
-/// which of the two `StackCoder::new` is.
+/// The constructor of a [`SmallBitStack`].
+///
+/// It is a trait because an inherent `StackCoder::new` would be ambiguous beside the one of coders over vectors.
 pub trait NewSmallStack {
-    /// A stack without bits. It takes no memory for the first `2 * usize::BITS`; `alloc` is where further words go.
+    /// Makes a stack without bits. Its first `2 * usize::BITS` bits take no memory; further words come from `alloc`.
     fn new(alloc: Global) -> Self;
 }
 
@@ -138,7 +155,7 @@ impl NewSmallStack for SmallBitStack {
 }
 
 impl<Word: BitArray, S: Semantics, B: BoundedReadWords<Word, Stack>> SymbolCoder<Word, S, B> {
-    /// Whether the number of bits is a `usize`. Then [`SymbolCoder::len`] can be asked for.
+    /// Returns whether the number of bits fits a `usize`, as [`SymbolCoder::len`] requires.
     pub fn len_fits(&self) -> bool
         ensures { IsTrue result ↔ (length self.now.bits < 0x1_0000_0000_0000_0000) }
     {
@@ -146,7 +163,7 @@ impl<Word: BitArray, S: Semantics, B: BoundedReadWords<Word, Stack>> SymbolCoder
         self.backend.remaining() <= (usize::MAX - last) / Word::BITS as usize
     }
 
-    /// The number of bits.
+    /// Returns the number of bits.
     pub fn len(&self) -> usize
         requires { length self.now.bits < 0x1_0000_0000_0000_0000 }
         ensures { result ≡ length self.now.bits }
@@ -154,7 +171,7 @@ impl<Word: BitArray, S: Semantics, B: BoundedReadWords<Word, Stack>> SymbolCoder
         self.backend.remaining() * Word::BITS as usize + self.last.count() as usize
     }
 
-    /// Whether there is no bit.
+    /// Returns whether there are no bits.
     pub fn is_empty(&self) -> bool
         ensures { IsTrue result ↔ (self.now.bits ≡ []) }
     {
@@ -163,10 +180,11 @@ impl<Word: BitArray, S: Semantics, B: BoundedReadWords<Word, Stack>> SymbolCoder
 }
 
 impl<Word: BitArray, S: Semantics, B: WriteWords<Word>> SymbolCoder<Word, S, B> {
-    /// Puts a bit behind the others. Only where the last word is full it writes a word to the backend.
+    /// Writes a bit behind the others. It writes a word to the backend only if the last word is full.
     ///
     /// # Errors
-    /// Where the backend refuses that write. The bits are as before.
+    ///
+    /// The backend's error if it refuses that word. The bits are unchanged.
     #[inline]
     pub fn write_bit(&mut self, bit: bool) -> Result<(), B::WriteError>
         ensures puts { PutsLast Word.BITS Word.number (IsWrite B.words B.room B.writes B.write_fails)
@@ -178,11 +196,13 @@ impl<Word: BitArray, S: Semantics, B: WriteWords<Word>> SymbolCoder<Word, S, B> 
 }
 
 impl<Word: BitArray, B: ReadWords<Word, Stack>> StackCoder<Word, B> {
-    /// Takes the last bit off, or returns `None` where there is none, which changes nothing. Only where no bit of the
-    /// last word is left it reads a word from the backend.
+    /// Removes and returns the last bit, or returns `None` if there are no bits, which changes nothing.
+    ///
+    /// It reads a word from the backend only if no bit of the last word is left.
     ///
     /// # Errors
-    /// Where the backend refuses that read. The bits of a backend that knows its words are as before.
+    ///
+    /// The backend's error if that read fails. The bits are unchanged if the backend knows its words.
     #[inline]
     pub fn read_bit(&mut self) -> Result<Option<bool>, B::ReadError>
         ensures { PopsBit Word.BITS Word.number B.is_list B.reads self.old (item_of_answer result) self.new }
@@ -191,7 +211,7 @@ impl<Word: BitArray, B: ReadWords<Word, Stack>> StackCoder<Word, B> {
     }
 }
 
-/// The bits from the last to the first. It goes on after an error of the backend.
+/// Iterates over the bits from last to first, and continues after an error of the backend.
 impl<Word: BitArray, B: ReadWords<Word, Stack> + Drop> Iterator for StackCoder<Word, B> {
     type Item = Result<bool, B::ReadError>;
 
@@ -218,7 +238,11 @@ impl<Word: BitArray, S: Semantics, B: Holds<Word, Stack> + Clone> Clone
 
     ghost is_infallible = { λ coder. B.is_infallible coder.backend };
 
-    /// The same last bits over a clone of the backend. It is refused only where the backend's clone is.
+    /// Clones the coder: the same last bits over a clone of the backend.
+    ///
+    /// # Errors
+    ///
+    /// `AllocError` only where cloning the backend fails.
     fn clone(&self) -> Result<Self, AllocError> {
         let backend = self.backend.clone()?;
         Ok(SymbolCoder {

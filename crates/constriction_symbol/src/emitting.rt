@@ -1,4 +1,4 @@
-//! Bits of words, and zeros, handed to an emitter.
+//! Passing the bits of words, and zeros, to an emitter.
 
 ghost use Rattle.std.specs.Prelude.{◌≤◌, ◌∷◌, ◌++◌, true, false, [], replicate, reverse};
 ghost use Rattle.constriction_symbol.specs.Bits.{bits_of};
@@ -7,7 +7,7 @@ ghost use Rattle.constriction_symbol.specs.Codewords.{Emits};
 use constriction_base::errors::{CoderError, DefaultEncoderError};
 use constriction_words::BitArray;
 
-/// Emits so many zeros.
+/// Emits `count` zeros.
 pub fn emit_zeros<E, F: FnMut(bool) -> Result<(), E>>(
     count: u32,
     emit: &mut F,
@@ -25,7 +25,7 @@ pub fn emit_zeros<E, F: FnMut(bool) -> Result<(), E>>(
     Ok(())
 }
 
-/// Emits the lowest bits of a word, the highest of them first.
+/// Emits the lowest bits of a word, highest first.
 pub fn emit_down<Word: BitArray, E, F: FnMut(bool) -> Result<(), E>>(
     word: Word,
     count: u32,
@@ -47,7 +47,7 @@ pub fn emit_down<Word: BitArray, E, F: FnMut(bool) -> Result<(), E>>(
     Ok(())
 }
 
-/// Emits the lowest bits of a word, the lowest of them first.
+/// Emits the lowest bits of a word, lowest first.
 pub fn emit_up<Word: BitArray, E, F: FnMut(bool) -> Result<(), E>>(
     word: Word,
     count: u32,
@@ -68,7 +68,7 @@ pub fn emit_up<Word: BitArray, E, F: FnMut(bool) -> Result<(), E>>(
     Ok(())
 }
 
-/// Emits so many zeros, a bit that is set, and as many zeros again.
+/// Emits `count` zeros, a 1, and `count` zeros again.
 pub fn emit_lone<E, F: FnMut(bool) -> Result<(), E>>(
     count: u32,
     emit: &mut F,

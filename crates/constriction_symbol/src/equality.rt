@@ -1,4 +1,4 @@
-//! Equality: that of all parts.
+//! Equality of all parts.
 
 ghost use Rattle.std.specs.Prelude.{IsTrue, ◌↔◌, ◌≡◌};
 
@@ -6,7 +6,7 @@ use crate::top_bits::TopBits;
 use crate::word_bits::WordBits;
 use constriction_words::BitArray;
 
-/// Whether two words are the same number.
+/// Returns whether two words are the same number.
 fn is_same_word<Word: BitArray>(first: Word, second: Word) -> bool
     ensures { IsTrue result ↔ (Word.number first ≡ Word.number second) }
 {
@@ -22,7 +22,7 @@ impl<Word: BitArray> PartialEq for WordBits<Word> {
 
     ghost laws = { lists_per (partial_equiv_from_equiv bool_eq_equiv) };
 
-    /// Whether the bits are the same, and as many.
+    /// Returns whether both have the same bits.
     fn eq(&self, other: &Self) -> bool {
         self.count() == other.count() && is_same_word(self.turned_word(), other.turned_word())
     }
@@ -44,7 +44,7 @@ impl<Word: BitArray> PartialEq for TopBits<Word> {
 
     ghost laws = { lists_per (partial_equiv_from_equiv bool_eq_equiv) };
 
-    /// Whether the bits are the same, and as many.
+    /// Returns whether both have the same bits.
     fn eq(&self, other: &Self) -> bool {
         self.count() == other.count() && is_same_word(self.word(), other.word())
     }

@@ -1,4 +1,4 @@
-//! Exp-Golomb codewords of numbers.
+//! The Exp-Golomb codebook, which has a codeword for every number.
 
 ghost use Rattle.constriction_symbol.specs.Codewords.{Emits};
 ghost use Rattle.constriction_symbol.specs.Golomb.{IsInvalid, WantsBit, golomb};
@@ -15,18 +15,26 @@ use std::alloc::AllocError;
 use std::marker::PhantomData;
 use thiserror::Error;
 
-/// The Exp-Golomb codewords of the numbers of `N`, all of which have one.
+/// The Exp-Golomb codebook for the numbers of type `N`, all of which have a codeword.
 ///
-/// The codeword of a number is the number after it, in binary without leading zeros and the highest bit first, behind
-/// as many zeros as it has bits, less one. So 0 is `1`, 1 is `010`, 5 is `00110`; and the greatest number of so many
-/// bits is as many zeros, a one, and as many zeros again.
+/// The codeword of `n` is `n + 1` in binary, highest bit first and without leading zeros, behind zeros, one fewer than
+/// these bits. The codeword of the greatest `N` is `N::BITS` zeros, a 1, and `N::BITS` zeros again.
+///
+/// # Examples
+///
+/// ```
+/// let golomb = ExpGolomb::<u32>::new();
+/// encoder.encode_symbol(&0, &golomb)?; // 1
+/// encoder.encode_symbol(&1, &golomb)?; // 010
+/// encoder.encode_symbol(&5, &golomb)?; // 00110
+/// ```
 #[derive(Debug, Clone, Drop)]
 pub struct ExpGolomb<N: BitArray> {
     number: PhantomData<N>,
 }
 
 impl<N: BitArray> ExpGolomb<N> {
-    /// The codebook, which has no parts.
+    /// Makes the codebook. It has no parameters and stores nothing.
     pub fn new() -> Self {
         ExpGolomb {
             number: PhantomData,
@@ -53,7 +61,7 @@ impl<N: BitArray> Codebook for ExpGolomb<N> {
         known_prefix_free (N.number m) (N.number n) bits tail first second };
 }
 
-/// Emits the codeword of a number below the greatest, of which this is the one after it.
+/// Emits the codeword of `after - 1`.
 #[inline]
 fn emit_number<N: BitArray, E, F: FnMut(bool) -> Result<(), E>>(
     after: N,
@@ -74,7 +82,7 @@ fn emit_number<N: BitArray, E, F: FnMut(bool) -> Result<(), E>>(
     emit_down(after, length, emit)
 }
 
-/// The same, from the last bit to the first.
+/// Emits the codeword of `after - 1`, last bit first.
 #[inline]
 fn emit_number_turned<N: BitArray, E, F: FnMut(bool) -> Result<(), E>>(
     after: N,
@@ -100,7 +108,7 @@ impl<N: BitArray> EncoderCodebook for ExpGolomb<N> {
 
     ghost suffix_wants = { λ _ _. ⊥ };
 
-    /// Emits the codeword from the first bit to the last. It takes no memory.
+    /// Emits the codeword, first bit first. It never needs memory.
     #[inline]
     fn encode_symbol_prefix<E: From<AllocError>, F: FnMut(bool) -> Result<(), E>>(
         &self,
@@ -114,7 +122,7 @@ impl<N: BitArray> EncoderCodebook for ExpGolomb<N> {
         }
     }
 
-    /// Emits the codeword from the last bit to the first. It takes no memory.
+    /// Emits the codeword, last bit first. It never needs memory.
     #[inline]
     fn encode_symbol_suffix<E: From<AllocError>, F: FnMut(bool) -> Result<(), E>>(
         &self,
@@ -128,7 +136,7 @@ impl<N: BitArray> EncoderCodebook for ExpGolomb<N> {
         }
     }
 
-    /// The codeword of a number below the greatest, where it has fewer bits than the word.
+    /// Returns the codeword if it has fewer bits than `Word`, and the symbol isn't the greatest `N`.
     #[inline]
     fn codeword_at_once<Word: BitArray>(&self, symbol: &N) -> Option<(Word, u32)> {
         if !symbol.is_below(N::greatest()) {
@@ -144,7 +152,7 @@ impl<N: BitArray> EncoderCodebook for ExpGolomb<N> {
     }
 }
 
-/// No number has a codeword that begins with the bits that were read.
+/// The error for bits that begin with no codeword of the number type.
 #[derive(Debug, Clone, PartialEq, Eq, Drop, Error)]
 #[error("Invalid Exp-Golomb codeword.")]
 pub struct InvalidCodeword;
@@ -161,14 +169,16 @@ impl<N: BitArray> DecoderCodebook for ExpGolomb<N> {
     ghost invalid_law = { λ c bits e invalid rest n code tail.
         known_invalid N.BITS (N.number n) bits rest code tail (N.number_law n) invalid };
 
-    /// Takes the bits of a codeword, and returns its number. With `B` for the bits of `N`:
+    /// Reads the bits of a codeword, and returns its number.
     ///
     /// # Errors
-    /// After each of them the bits that were read stay read.
-    /// - `Frontend(InvalidCodeword(..))` exactly where the bits begin with `B + 1` zeros, which are read; or with `B`
-    ///   zeros, a one and `B` bits of which one is set, which are read.
-    /// - `Frontend(OutOfCompressedData)` exactly where the bits end before, and within a codeword.
-    /// - `Backend(error)` where the source returns this error in place of a bit that is asked for.
+    ///
+    /// After each error, the bits read so far stay read. `B` is `N::BITS`.
+    ///
+    /// - `Frontend(InvalidCodeword(..))` exactly if `B + 1` zeros come first, or `B` zeros, a 1, and `B` bits that
+    ///   aren't all 0. All of these bits were read.
+    /// - `Frontend(OutOfCompressedData)` exactly if the bits end first, within a codeword.
+    /// - `Backend(error)` if the source returns this error in place of a bit.
     #[inline]
     fn decode_symbol<E, I: Iterator<Item = Result<bool, E>>>(
         &self,
@@ -199,7 +209,9 @@ impl<N: BitArray> DecoderCodebook for ExpGolomb<N> {
         }
     }
 
-    /// The number below the greatest whose codeword the bits begin with, where they don't end with it.
+    /// Looks up the codeword that begins the bits.
+    ///
+    /// Returns `None` for the greatest `N`, and for codewords of `count` bits or more.
     #[inline]
     fn symbol_at_once<Word: BitArray>(&self, bits: Word, count: u32) -> Option<(N, u32)> {
         let zeros = Word::BITS - bits.bit_length();

@@ -1,5 +1,7 @@
-//! Huffman trees: codebooks that cost as little as any prefix-free one for given weights, where a codeword costs its
-//! length times its symbol's weight. `constriction_laws` proves that (`symbol::huffman::least_cost`).
+//! Huffman trees: codebooks as cheap as any prefix-free codebook for the given weights.
+//!
+//! The cost of a codebook is the sum of each codeword's length times its symbol's weight. `constriction_laws` proves
+//! that no prefix-free codebook costs less (`symbol::huffman::least_cost`).
 
 mod codewords;
 mod collecting;

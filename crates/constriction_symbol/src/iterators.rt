@@ -1,4 +1,7 @@
-//! Iterators over the symbols that a stream of bits gives, and over a codebook that is used again and again.
+//! Iterators over decoded symbols, and over a repeated codebook.
+//!
+//! There is no iterator of bits with a number of bits left: over an iterator backend this number is unknown, and one
+//! implementation serves all backends. A loop over `0..coder.len()` visits each bit of a coder that knows its length.
 
 ghost use Rattle.constriction_stream.specs.Lists.{AnswersNext};
 ghost use Rattle.constriction_symbol.specs.Codewords.{ReadsSymbol};
@@ -12,13 +15,24 @@ use constriction_base::backends::Semantics;
 use constriction_base::errors::CoderError;
 use std::marker::PhantomData;
 
-/// Reads a symbol by each of the codebooks, as it is asked for it. It gives one answer for each, and goes on after an
-/// error. Where it is dropped, the stream stands after the symbols that were taken.
+/// An iterator that decodes one symbol for each codebook.
+///
+/// It decodes a symbol when it is asked for it, and continues after an error. A dropped iterator leaves the stream
+/// behind the symbols that it returned. [`ReadBitStream::decode_symbols`] and [`ReadBitStream::decode_iid_symbols`]
+/// make it.
+///
+/// # Examples
+///
+/// ```
+/// for symbol in decoder.decode_iid_symbols(3, &golomb) {
+///     show(symbol?);
+/// }
+/// ```
 #[derive(Debug, Drop)]
 pub struct DecodeSymbols<'a, Stream, I, S: Semantics> {
-    /// The stream, which stands after the symbols that were taken.
+    /// The stream, positioned behind the symbols returned so far.
     pub bit_stream: &'a mut Stream,
-    /// The codebooks of the symbols that come next.
+    /// The codebooks of the symbols still to come.
     pub codebooks: I,
     /// The order in which the stream is read.
     pub semantics: PhantomData<S>,
@@ -71,12 +85,12 @@ where
     }
 }
 
-/// The same codebook, a number of times.
+/// An iterator that repeats one codebook. [`ReadBitStream::decode_iid_symbols`] makes it.
 #[derive(Debug, Drop)]
 pub struct RepeatCodebook<'a, C> {
     /// The codebook.
     pub codebook: &'a C,
-    /// How many times it still comes.
+    /// The number of repetitions left.
     pub amt: usize,
 }
 

@@ -1,9 +1,9 @@
-//! Bits in words, and codebooks: symbols as lists of bits.
+//! Symbol codes: bits packed in words, and codebooks, which assign a list of bits to each symbol.
 //!
-//! A bit coder is a list of bits over words. A codebook has a list of bits for each symbol that it knows, its
-//! codeword, and no codeword begins another. So symbols are written by putting their codewords behind one another,
-//! and are read without any marks between them: from a queue in the order in which they were written, from a stack
-//! the last one first. Codebooks can be mixed in one stream.
+//! A bit coder holds a list of bits over words. A codebook has a codeword (a list of bits) for each symbol that it
+//! knows, and no codeword begins another. Encoding a symbol appends its codeword. No marks are needed between
+//! codewords: a queue reads the symbols in the order of writing, a stack reads the last symbol first. One stream can
+//! mix codebooks.
 //!
 //! ```
 //! let mut encoder = DefaultQueueEncoder::new(alloc);
@@ -11,23 +11,25 @@
 //! encoder.encode_iid_symbols([0u32, 5, 7].iter(), &golomb)?; // the bits 1, 00110, 0001000
 //!
 //! let mut decoder = encoder.into_decoder()?;
-//! decoder.decode_symbol(&golomb)?; // 0, and 5 and 7 after it
+//! decoder.decode_symbol(&golomb)?; // 0; the next two calls return 5 and 7
 //! ```
 //!
-//! The modules:
-//! - [`codebooks`]: the traits of codebooks, and why no symbol was read.
-//! - [`coder`]: `SymbolCoder`, bits that grow: a queue for writing, or a stack. Its words, and its guards.
-//! - [`queue`]: `QueueDecoder`, the bits of words.
-//! - [`writing`], [`reading`]: streams of bits, to which symbols are written and from which they are read, with lists.
-//! - [`reversed`]: codewords that are given from the last bit to the first, turned round.
-//! - [`iterators`]: the iterators of symbols.
-//! - [`exp_golomb`]: the Exp-Golomb codebook of numbers.
-//! - [`huffman`]: Huffman trees, which cost as little as any prefix-free codebook for given weights, for encoding and
-//!   for decoding.
+//! # Modules
 //!
-//! Contracts cite the definitions of `specs/Bits.antt` (bits of words), `specs/Codewords.antt` (what is emitted,
-//! written and read), `specs/Golomb.antt` (the grammar), `specs/Huffman.antt` (the tree that merging weights gives, and
-//! its codewords) and `specs/Merging.antt` (which weights make a tree, and which refusal comes when).
+//! - [`codebooks`]: the traits of codebooks, and the error of a decode.
+//! - [`coder`]: `SymbolCoder`, a queue for writing or a stack; its words and its guards.
+//! - [`queue`]: `QueueDecoder`, which reads the bits of words.
+//! - [`writing`], [`reading`]: streams of bits that encode and decode symbols, with list calls.
+//! - [`reversed`]: reversal of codewords that are found from the last bit to the first.
+//! - [`iterators`]: iterators over decoded symbols.
+//! - [`exp_golomb`]: the Exp-Golomb codebook for numbers.
+//! - [`huffman`]: Huffman trees for encoding and decoding, as cheap as any prefix-free codebook for the given weights.
+//!
+//! # Definitions
+//!
+//! Contracts cite `specs/Bits.antt` (bits of words), `specs/Codewords.antt` (emitting, writing and reading codewords),
+//! `specs/Golomb.antt` (the grammar), `specs/Huffman.antt` (the tree that merging the weights gives, and its codewords)
+//! and `specs/Merging.antt` (which weights make a tree, and the error of those that don't).
 #![tactic(auto)]
 
 pub mod codebooks;

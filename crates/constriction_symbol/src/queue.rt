@@ -1,4 +1,4 @@
-//! The bits of words, the first one first.
+//! Decoders of bit queues, which read the bits of words from the first to the last.
 
 ghost use Rattle.constriction_base.specs.Iterators.{item_of_answer};
 ghost use Rattle.constriction_symbol.specs.Bits.{AreZeros, BitsValue, TakesBit, bits_behind, bits_of_words};
@@ -12,16 +12,26 @@ use constriction_words::BitArray;
 use std::alloc::AllocError;
 use std::marker::Model;
 
-/// The bits of a backend's words, those of a word from the lowest up.
+/// A decoder for the bits of a backend's words, those of a word from the lowest to the highest.
 ///
-/// Contracts see a `BitsValue`: all bits that are left, those of them whose word was read, and the backend.
+/// Contracts see a `BitsValue`: the bits left, those of them that belong to the word read last, and the backend.
+///
+/// # Examples
+///
+/// ```
+/// let mut encoder = DefaultQueueEncoder::new(alloc);
+/// encoder.write_bit(true)?;
+/// encoder.write_bit(false)?;
+/// let mut decoder = encoder.into_decoder()?;
+/// decoder.read_bit()?; // Some(true), the first bit written
+/// ```
 #[derive(Debug, Drop)]
 pub struct QueueDecoder<Word: BitArray, B: Holds<Word, Queue>> {
     backend: B,
     pub(crate) last: WordBits<Word>,
 }
 
-/// The bits of words of 32 bits.
+/// A decoder for the bits of 32-bit words.
 pub type DefaultQueueDecoder<B = Cursor<u32, Vec<u32>>> = QueueDecoder<u32, B>;
 
 impl<Word: BitArray, B: Holds<Word, Queue>> Model for QueueDecoder<Word, B> {
@@ -37,7 +47,9 @@ impl<Word: BitArray, B: Holds<Word, Queue>> Model for QueueDecoder<Word, B> {
 }
 
 impl<Word: BitArray, B: ReadWords<Word, Queue>> QueueDecoder<Word, B> {
-    /// All bits of a backend's words.
+    /// Makes a decoder for all bits of a backend's words.
+    ///
+    /// The zeros that complete the last word of an export are bits like any others.
     pub fn from_compressed(compressed: B) -> Self
         ensures bits { result.bits ≡ bits_of_words Word.BITS (map Word.number (B.words compressed)) }
         ensures last { result.last ≡ [] }
@@ -49,11 +61,13 @@ impl<Word: BitArray, B: ReadWords<Word, Queue>> QueueDecoder<Word, B> {
         }
     }
 
-    /// Takes the first bit, or returns `None` where there is none, which changes nothing. Only where no bit of a word
-    /// that was read is left it reads the next word.
+    /// Reads the first bit. Returns `None`, and changes nothing, if no bit is left.
+    ///
+    /// It reads a word from the backend only when it has read all bits of the last one.
     ///
     /// # Errors
-    /// Where the backend refuses that read. The bits of a backend that knows its words are as before.
+    ///
+    /// The backend's error if it refuses that read. A backend that knows its words keeps its bits.
     #[inline]
     pub fn read_bit(&mut self) -> Result<Option<bool>, B::ReadError>
         ensures { TakesBit Word.BITS Word.number B.is_list B.reads self.old (item_of_answer result) self.new }
@@ -61,8 +75,7 @@ impl<Word: BitArray, B: ReadWords<Word, Queue>> QueueDecoder<Word, B> {
         take_first(&mut self.backend, &mut self.last)
     }
 
-    /// Whether the bits that are left of the word that was read last are zeros, as those behind the last codeword, and
-    /// the backend may be exhausted.
+    /// Returns whether the unread bits of the last word are all 0, as padding is, and the backend may be exhausted.
     pub fn maybe_exhausted(&self) -> bool
         ensures { IsTrue result ↔ (AreZeros self.now.last × IsTrue (B.seems_exhausted self.now.backend)) }
     {
@@ -70,7 +83,7 @@ impl<Word: BitArray, B: ReadWords<Word, Queue>> QueueDecoder<Word, B> {
     }
 }
 
-/// The bits from the first to the last. It goes on after an error of the backend.
+/// Iterates over the bits, first to last. It continues after an error of the backend.
 impl<Word: BitArray, B: ReadWords<Word, Queue> + Drop> Iterator for QueueDecoder<Word, B> {
     type Item = Result<bool, B::ReadError>;
 
@@ -96,8 +109,9 @@ impl<Word: BitArray, B: Holds<Word, Queue> + Clone> Clone for QueueDecoder<Word,
 
     ghost is_infallible = { λ decoder. B.is_infallible decoder.backend };
 
-    /// The same bits of the word that was read last over a clone of the backend. It is refused only where the backend's
-    /// clone is.
+    /// Clones the decoder: the same unread bits over a clone of the backend.
+    ///
+    /// It fails only if the backend's clone fails.
     fn clone(&self) -> Result<Self, AllocError> {
         let backend = self.backend.clone()?;
         Ok(QueueDecoder {
@@ -118,7 +132,7 @@ impl<Word: BitArray, B: Holds<Word, Queue> + PartialEq> PartialEq for QueueDecod
     ghost laws = { and_per (on_per (λ c. c.last) (lists_per (partial_equiv_from_equiv bool_eq_equiv)))
         (on_per (λ c. c.backend) B.laws) };
 
-    /// Whether all parts are equal.
+    /// Returns whether all parts are equal.
     fn eq(&self, other: &Self) -> bool {
         self.last == other.last && self.backend == other.backend
     }

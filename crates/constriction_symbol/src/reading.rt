@@ -1,4 +1,4 @@
-//! Streams of bits, from which symbols are read by their codewords.
+//! Streams of bits for decoding symbols.
 
 ghost use Rattle.constriction_symbol.specs.Bits.{GivesBit, PopsBit, TakesBit};
 ghost use Rattle.constriction_symbol.specs.Codewords.{ReadsSymbol};
@@ -14,36 +14,40 @@ use constriction_base::errors::CoderError;
 use constriction_words::BitArray;
 use std::marker::PhantomData;
 
-/// A stream of bits that are read one after another, and symbols by their codewords.
+/// A stream of bits that decodes symbols.
 ///
-/// An implementation chooses freely which bits it lists, what a read may return and leave, and whether it knows its
-/// bits; the clauses and the law tie these to the calls.
+/// An implementor chooses which bits `unread` lists, what a read may return and leave (`gives`), and whether the stream
+/// knows its bits (`is_list`). It proves that each call answers by these, and that a read of known bits gives the next
+/// one.
 pub trait ReadBitStream<S: Semantics> {
     type ReadError;
 
-    /// The bits that the next reads give, in their order. It means nothing where `is_list` fails.
+    /// The bits that the next reads return, in order. Meaningless if `is_list` doesn't hold.
     ghost unread: { Self → List Bool };
 
-    /// The stream knows the bits that it holds.
+    /// The stream knows its bits.
     ghost is_list: { Type 0 };
 
-    /// What the next read of a bit may give, and what it leaves.
+    /// What the next read of a bit may return, and what it leaves.
     ghost gives: { Self → Option (Result Bool Self.ReadError) → Self → Type 0 };
 
-    /// Takes the next bit, or returns `None` where there is none.
+    /// Reads the next bit. Returns `None` if no bit is left.
     ///
     /// # Errors
-    /// Where what holds the bits refuses to give them. A stream that knows its bits keeps them.
+    ///
+    /// The stream's error if the source of the bits refuses the read. A stream that knows its bits keeps them.
     fn read_bit(&mut self) -> Result<Option<bool>, Self::ReadError>
         ensures { gives self.old (item_of_answer result) self.new };
 
-    /// Takes the bits of a codeword, and returns its symbol.
+    /// Reads the bits of a codeword, and returns its symbol.
     ///
     /// # Errors
-    /// After each of them the bits that were read stay read.
-    /// - `Frontend(OutOfCompressedData)` where the bits end and no codeword begins them.
-    /// - `Frontend(InvalidCodeword(error))` where no codeword begins with the bits that were read.
-    /// - `Backend(error)` where the read of a bit is refused.
+    ///
+    /// After each error, the bits read so far stay read.
+    ///
+    /// - `Frontend(OutOfCompressedData)` if the bits end and no codeword begins them.
+    /// - `Frontend(InvalidCodeword(error))` if no codeword begins with the bits read.
+    /// - `Backend(error)` if the read of a bit fails with this error.
     fn decode_symbol<C: DecoderCodebook>(
         &mut self,
         codebook: C,
@@ -51,7 +55,7 @@ pub trait ReadBitStream<S: Semantics> {
         ensures { ReadsSymbol gives (C.codeword codebook) (C.reads_on codebook) (C.is_invalid codebook)
             self.old result self.new };
 
-    /// Reads a symbol by each of the codebooks, as the iterator is asked for it. It doesn't end at an error.
+    /// Returns an iterator that decodes one symbol for each codebook. It continues after an error.
     final fn decode_symbols<I>(&mut self, codebooks: I) -> DecodeSymbols<'_, Self, I::IntoIter, S>
     where
         Self: Sized,
@@ -67,7 +71,7 @@ pub trait ReadBitStream<S: Semantics> {
         }
     }
 
-    /// Reads `amt` symbols, all by one codebook, as the iterator is asked for them. It doesn't end at an error.
+    /// Returns an iterator that decodes `amt` symbols with one codebook. It continues after an error.
     final fn decode_iid_symbols<'a, C>(
         &'a mut self,
         amt: usize,
@@ -88,7 +92,7 @@ pub trait ReadBitStream<S: Semantics> {
         }
     }
 
-    // What a read gives is the next of the bits.
+    // A read of known bits gives the next one.
     ghost list_law: { is_list → (old : Self) (item : Option (Result Bool Self.ReadError)) (new : Self) →
         gives old item new → GivesBit (unread old) item (unread new) };
 }
@@ -103,7 +107,7 @@ impl<Word: BitArray, B: ReadWords<Word, Stack> + Drop> ReadBitStream<Stack>
 
     ghost gives = { PopsBit Word.BITS Word.number B.is_list B.reads };
 
-    /// Takes the last bit off. Only where no bit of the last word is left it reads a word from the backend.
+    /// Reads the last bit. It reads a word from the backend only if no bit of the last word is left.
     #[inline]
     fn read_bit(&mut self) -> Result<Option<bool>, B::ReadError> {
         SymbolCoder::<Word, Stack, B>::read_bit(self)
@@ -135,7 +139,7 @@ impl<Word: BitArray, B: ReadWords<Word, Queue> + Drop> ReadBitStream<Queue>
 
     ghost gives = { TakesBit Word.BITS Word.number B.is_list B.reads };
 
-    /// Takes the first bit. Only where no bit of a word that was read is left it reads the next word.
+    /// Reads the first bit. It reads a word from the backend only if it has read all bits of the last one.
     #[inline]
     fn read_bit(&mut self) -> Result<Option<bool>, B::ReadError> {
         QueueDecoder::<Word, B>::read_bit(self)

@@ -1,7 +1,11 @@
-//! Codewords that are given from the last bit to the first, turned round.
+//! Reversal of codewords that a codebook finds from the last bit to the first.
 //!
-//! A codebook that finds the bits of a codeword from the last to the first, as one that goes from the leaf of a tree to
-//! its root, emits the prefix form by [`reversed_codeword`].
+//! A codebook that climbs from the leaf of a tree to its root finds the bits in this order. [`reversed_codeword`] emits
+//! the prefix form of its codewords.
+//!
+//! The reversal goes through a [`SmallBitStack`]. It holds two words of bits without memory: the first word is inline
+//! in its small vector, the last one is outside the backend. [`NewSmallStack`] makes it, because a second
+//! `StackCoder::new` would be ambiguous.
 
 ghost use Rattle.constriction_symbol.specs.Bits.{PutsBit};
 ghost use Rattle.constriction_symbol.specs.Codewords.{Emits, EmitsCodeword, LacksMemory, formed};
@@ -16,15 +20,16 @@ use constriction_base::errors::{CoderError, DefaultEncoderError};
 use constriction_words::BitArray;
 use std::alloc::{AllocError, Global};
 
-/// The codewords of symbols can be emitted from the last bit to the first, and it takes no memory.
+/// A codebook that emits codewords from the last bit to the first, without memory.
 ///
-/// An implementation chooses nothing here: the codewords are those of [`Codebook`].
+/// An implementor proves that the emitted bits are the codeword of [`Codebook`], reversed.
 pub trait SuffixCodebook: Codebook {
-    /// Emits the codeword of the symbol from the last bit to the first, its suffix form.
+    /// Emits the codeword of the symbol from the last bit to the first (its suffix form).
     ///
     /// # Errors
-    /// - `Frontend(ImpossibleSymbol)` exactly where the symbol has no codeword. Nothing was emitted.
-    /// - `Backend(error)` where `emit` returns this error: a beginning of the suffix form was emitted.
+    ///
+    /// - `Frontend(ImpossibleSymbol)` exactly if the symbol has no codeword. Nothing was emitted.
+    /// - `Backend(error)` if `emit` returns this error after the first few bits of the suffix form.
     fn emit_suffix<E, F: FnMut(bool) -> Result<(), E>>(
         &self,
         symbol: &Self::Symbol,
@@ -35,10 +40,11 @@ pub trait SuffixCodebook: Codebook {
             emit.old (formed reverse (Self.codeword self.now symbol.now)) result emit.new };
 }
 
-/// Puts a bit onto a stack.
+/// Pushes a bit.
 ///
 /// # Errors
-/// Where the last word is full, and the backend refuses to write it.
+///
+/// The backend's error if the last word is full and the backend refuses it.
 #[inline]
 fn put<Word: BitArray, B: WriteWords<Word>>(
     stack: &mut StackCoder<Word, B>,
@@ -51,10 +57,11 @@ fn put<Word: BitArray, B: WriteWords<Word>>(
     put_last(&mut stack.backend, &mut stack.last, bit)
 }
 
-/// Puts a bit onto a small stack.
+/// Pushes a bit onto a small stack.
 ///
 /// # Errors
-/// Where the stack has two words of bits, and no memory is found for a third.
+///
+/// `AllocError` if the stack has two words of bits, and there is no memory for a third.
 #[inline]
 fn put_small(stack: &mut SmallBitStack, bit: bool) -> Result<(), AllocError>
     ensures bits { PutsBit stack.old.bits bit result stack.new.bits }
@@ -63,7 +70,7 @@ fn put_small(stack: &mut SmallBitStack, bit: bool) -> Result<(), AllocError>
     put(stack, bit)
 }
 
-/// Takes the last bit off a small stack.
+/// Pops the last bit of a small stack.
 #[inline]
 fn take_small(stack: &mut SmallBitStack) -> Option<bool>
     ensures { MatchOption result (stack.old.bits ≡ []) (λ bit. stack.old.bits ≡ stack.new.bits ++ bit ∷ []) }
@@ -74,7 +81,7 @@ fn take_small(stack: &mut SmallBitStack) -> Option<bool>
     }
 }
 
-/// Puts the suffix form of a codeword onto a stack without bits.
+/// Pushes the suffix form of a codeword onto an empty stack.
 fn put_suffix<C: SuffixCodebook>(
     codebook: &C,
     symbol: &C::Symbol,
@@ -87,7 +94,7 @@ fn put_suffix<C: SuffixCodebook>(
     codebook.emit_suffix(symbol, &mut push)
 }
 
-/// Emits the bits of a stack from the last to the first.
+/// Emits the bits of a stack, last bit first.
 fn emit_taken<E, F: FnMut(bool) -> Result<(), E>>(
     stack: &mut SmallBitStack,
     emit: &mut F,
@@ -104,13 +111,16 @@ fn emit_taken<E, F: FnMut(bool) -> Result<(), E>>(
     Ok(())
 }
 
-/// Emits the codeword of a symbol in the order of reading, by its suffix form, which goes through a [`SmallBitStack`].
+/// Emits the codeword of a symbol in reading order, from a codebook that emits its suffix form.
 ///
 /// # Errors
-/// - `Frontend(ImpossibleSymbol)` exactly where the symbol has no codeword. Nothing was emitted.
-/// - `Backend(error)` where `emit` returns this error: a beginning of the codeword was emitted. Or where the codeword
-///   has more than `2 * usize::BITS` bits, and memory for them is not found: nothing was emitted. A codeword of up to
-///   so many takes no memory.
+///
+/// - `Frontend(ImpossibleSymbol)` exactly if the symbol has no codeword. Nothing was emitted.
+/// - `Backend(error)` if `emit` returns this error after the first few bits of the codeword. Or if the codeword has
+///   more than `2 * usize::BITS` bits, and there is no memory for them: nothing was emitted. Shorter codewords need no
+///   memory.
+///
+/// # Examples
 ///
 /// ```
 /// impl EncoderCodebook for Tree {

@@ -1,4 +1,4 @@
-//! A bit more and a bit less in words, of which those of one lie outside the backend.
+//! Adding and removing bits of a coder: its backend's words, and the last word outside the backend.
 
 ghost use Rattle.constriction_base.specs.Backends.{IsWrite};
 ghost use Rattle.constriction_base.specs.Iterators.{item_of_answer};
@@ -11,7 +11,7 @@ use crate::word_bits::WordBits;
 use constriction_base::backends::{Queue, ReadWords, Stack, WriteWords};
 use constriction_words::BitArray;
 
-/// Puts a bit behind those of the last word. Where that is full, it is written first, and the bit begins the next.
+/// Appends a bit to the last word. A full last word is first written to the backend, and the bit begins the next word.
 #[inline]
 pub fn put_last<Word: BitArray, B: WriteWords<Word>>(
     backend: &mut B,
@@ -34,8 +34,9 @@ pub fn put_last<Word: BitArray, B: WriteWords<Word>>(
     Ok(())
 }
 
-/// Puts the lowest bits of a word behind those of the last word, the lowest first. Where there is no room for all, the
-/// last word is filled and written, and the others begin the next.
+/// Appends the lowest bits of a word to the last word, lowest first.
+///
+/// If they don't all fit, the first of them fill the last word, it is written, and the others begin the next word.
 #[inline]
 pub fn put_bits<Word: BitArray, B: WriteWords<Word>>(
     backend: &mut B,
@@ -56,7 +57,7 @@ pub fn put_bits<Word: BitArray, B: WriteWords<Word>>(
     put_across(backend, last, bits, count)
 }
 
-/// The same where there is no room for all.
+/// Appends bits that don't all fit into the last word.
 #[inline]
 fn put_across<Word: BitArray, B: WriteWords<Word>>(
     backend: &mut B,
@@ -81,7 +82,7 @@ fn put_across<Word: BitArray, B: WriteWords<Word>>(
     Ok(())
 }
 
-/// Takes the last bit off those of the last word. Where there are none, the next word is read first.
+/// Removes the last bit of the last word. If the last word is empty, the next word is read first.
 #[inline]
 pub fn take_last<Word: BitArray, B: ReadWords<Word, Stack>>(
     backend: &mut B,
@@ -105,7 +106,7 @@ pub fn take_last<Word: BitArray, B: ReadWords<Word, Stack>>(
     Ok(Some(last.pop()))
 }
 
-/// Takes the first bit off those of the word that is read now. Where there are none, the next word is read first.
+/// Removes the first bit of the current word. If the current word is empty, the next word is read first.
 #[inline]
 pub fn take_first<Word: BitArray, B: ReadWords<Word, Queue>>(
     backend: &mut B,

@@ -1,4 +1,4 @@
-//! Bits from an iterator of Results of bits.
+//! Reading bits from an iterator of `Result`s of bits.
 
 ghost use Rattle.constriction_symbol.specs.Codewords.{GivesBits, StopsWithin};
 ghost use Rattle.constriction_symbol.specs.Golomb.{number_after};
@@ -11,10 +11,10 @@ use crate::turning::doubled;
 use constriction_base::errors::CoderError;
 use constriction_words::BitArray;
 
-/// Why a codebook reads no symbol.
+/// The error of a codebook that reads no symbol.
 pub type Refusal<V, E> = CoderError<SymbolCodeError<V>, E>;
 
-/// The next bit.
+/// Reads the next bit.
 #[inline]
 pub fn next_bit<V, E, I: Iterator<Item = Result<bool, E>>>(
     source: &mut I,
@@ -32,8 +32,9 @@ pub fn next_bit<V, E, I: Iterator<Item = Result<bool, E>>>(
     }
 }
 
-/// Takes zeros up to the first bit that is set, which is taken too, and returns how many they are. `None` where there
-/// are more than `most`, of which one more was taken.
+/// Reads zeros and the first 1, and returns the number of zeros.
+///
+/// Returns `None` if there are more than `most` zeros, after reading `most + 1` of them.
 #[inline]
 pub fn count_zeros<V, E, I: Iterator<Item = Result<bool, E>>>(
     source: &mut I,
@@ -60,7 +61,7 @@ pub fn count_zeros<V, E, I: Iterator<Item = Result<bool, E>>>(
     Ok(None)
 }
 
-/// Takes so many bits, the highest first, below those of a number.
+/// Reads `count` bits, highest first, and appends them to the binary digits of `start`.
 #[inline]
 pub fn read_bits<V, N: BitArray, E, I: Iterator<Item = Result<bool, E>>>(
     source: &mut I,

@@ -1,4 +1,4 @@
-//! Bits of which the last one is the highest of a word: one more and one less are shifts by one.
+//! Bits held at the top of a word, last bit highest, so that adding and removing one bit are shifts by one.
 
 ghost use Rattle.constriction_symbol.specs.Bits.{TopWord, bits_of};
 ghost use Rattle.std.specs.Prelude.{IsTrue, List, MatchOption, [], if◌then◌else◌, length, take};
@@ -7,10 +7,10 @@ ghost use Rattle.std.specs.Prelude.{◌+◌, ◌++◌, ◌-◌, ◌/◌, ◌<◌
 use constriction_words::BitArray;
 use std::marker::Model;
 
-/// A list of bits, as many as a word has at most. They stand at the top of the word, the last one highest, above the
-/// bits of `room`, which mean nothing.
+/// A list of at most `Word::BITS` bits.
 ///
-/// Contracts see the list.
+/// The bits stand at the top of the word, last bit highest. The lowest `room` bits of the word mean nothing. Contracts
+/// see the list.
 #[derive(Debug, Drop)]
 pub struct TopBits<Word: BitArray> {
     word: Word,
@@ -29,7 +29,7 @@ impl<Word: BitArray> Model for TopBits<Word> {
 }
 
 impl<Word: BitArray> TopBits<Word> {
-    /// No bits.
+    /// Makes an empty list.
     #[inline]
     pub fn none() -> Self
         ensures { result ≡ [] }
@@ -40,7 +40,7 @@ impl<Word: BitArray> TopBits<Word> {
         }
     }
 
-    /// All bits of a word.
+    /// Makes the list of all bits of a word.
     #[inline]
     pub fn all(word: Word) -> Self
         ensures { result ≡ bits_of Word.BITS (Word.number word) }
@@ -48,7 +48,7 @@ impl<Word: BitArray> TopBits<Word> {
         TopBits { word, room: 0 }
     }
 
-    /// The bits below the highest one that is set. `None` for 0, and only for 0.
+    /// Makes the list of the bits below the highest 1. Returns `None` exactly for 0.
     pub fn below_highest(word: Word) -> Option<Self>
         ensures { MatchOption result (Word.number word ≡ 0) (λ bits. TopWord Word.BITS bits (Word.number word)) }
     {
@@ -62,7 +62,7 @@ impl<Word: BitArray> TopBits<Word> {
         })
     }
 
-    /// The same bits.
+    /// Returns the same bits.
     #[inline]
     pub fn copied(&self) -> Self
         ensures { result ≡ self.now }
@@ -73,7 +73,7 @@ impl<Word: BitArray> TopBits<Word> {
         }
     }
 
-    /// How many bits there are.
+    /// Returns the number of bits.
     #[inline]
     pub fn count(&self) -> u32
         ensures value { result ≡ length self.now }
@@ -82,7 +82,7 @@ impl<Word: BitArray> TopBits<Word> {
         Word::BITS - self.room as u32
     }
 
-    /// Whether there is no bit.
+    /// Returns whether there are no bits.
     #[inline]
     pub fn is_empty(&self) -> bool
         ensures { IsTrue result ↔ (self.now ≡ []) }
@@ -90,7 +90,7 @@ impl<Word: BitArray> TopBits<Word> {
         self.room == Word::BITS as usize
     }
 
-    /// Whether there is no room for a bit.
+    /// Returns whether there is no room for another bit.
     #[inline]
     pub fn is_full(&self) -> bool
         ensures full { IsTrue result ↔ (length self.now ≡ Word.BITS) }
@@ -99,7 +99,7 @@ impl<Word: BitArray> TopBits<Word> {
         self.room == 0
     }
 
-    /// The word whose lowest bits these are, with zeros above them.
+    /// Returns the word with these bits lowest, and zeros above them.
     #[inline]
     pub fn word(&self) -> Word
         ensures bits { bits_of (length self.now) (Word.number result) ≡ self.now }
@@ -114,7 +114,7 @@ impl<Word: BitArray> TopBits<Word> {
         }
     }
 
-    /// The word at whose top the bits stand. What is below them means nothing.
+    /// Returns the word with these bits at its top. The bits below them mean nothing.
     #[inline]
     pub fn top_word(&self) -> Word
         ensures bits { bits_of (length self.now) (Word.number result / 2 ^ (Word.BITS - length self.now)) ≡ self.now }
@@ -123,7 +123,7 @@ impl<Word: BitArray> TopBits<Word> {
         self.word
     }
 
-    /// Puts a bit behind the others.
+    /// Appends a bit.
     #[inline]
     pub fn push(&mut self, bit: bool)
         requires { length self.old < Word.BITS }
@@ -133,7 +133,7 @@ impl<Word: BitArray> TopBits<Word> {
         self.room -= 1;
     }
 
-    /// Takes the last bit off.
+    /// Removes the last bit and returns it.
     #[inline]
     pub fn pop(&mut self) -> bool
         requires { 0 < length self.old }
@@ -146,7 +146,7 @@ impl<Word: BitArray> TopBits<Word> {
         bit
     }
 
-    /// How many bits there is room for.
+    /// Returns the number of bits for which there is room.
     #[inline]
     pub fn room(&self) -> u32
         ensures { result + length self.now ≡ Word.BITS }
@@ -154,7 +154,7 @@ impl<Word: BitArray> TopBits<Word> {
         self.room as u32
     }
 
-    /// Puts the lowest bits of a word behind the others, the lowest first.
+    /// Appends the lowest bits of a word, lowest first.
     #[inline]
     pub fn push_all(&mut self, bits: Word, count: u32)
         requires some { 0 < count }
@@ -168,7 +168,7 @@ impl<Word: BitArray> TopBits<Word> {
         self.room -= count as usize;
     }
 
-    /// Puts as many of the lowest bits of a word behind the others as there is room for.
+    /// Appends as many of the lowest bits of a word as there is room for.
     #[inline]
     pub fn fill(&mut self, bits: Word)
         requires { 0 < length self.old }
@@ -180,7 +180,7 @@ impl<Word: BitArray> TopBits<Word> {
         }
     }
 
-    /// Takes so many of the last bits off, and leaves at least one.
+    /// Removes the last `count` bits, and leaves at least one.
     #[inline]
     pub fn drop_last(&mut self, count: u32)
         requires some { 0 < count }
@@ -192,7 +192,7 @@ impl<Word: BitArray> TopBits<Word> {
     }
 }
 
-/// The lowest `count` bits of a word as its highest ones.
+/// Returns the lowest `count` bits of a word as its highest.
 fn at_top<Word: BitArray>(word: Word, count: u32) -> Word
     requires within { count < Word.BITS }
     requires small { Word.number word < 2 ^ count }
@@ -204,7 +204,7 @@ fn at_top<Word: BitArray>(word: Word, count: u32) -> Word
     word.shifted_left(Word::BITS - count)
 }
 
-/// The word whose highest bit is this one, above zeros.
+/// Returns the word with this bit as its highest, above zeros.
 #[inline]
 fn highest<Word: BitArray>(bit: bool) -> Word
     ensures { Word.number result ≡ (if bit then 2 ^ (Word.BITS - 1) else 0) }

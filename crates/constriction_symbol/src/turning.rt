@@ -1,8 +1,7 @@
-//! Words with their bits in the other order, and the same numbers as words of other types.
+//! Reversing the bits of a word, and converting a number to another word type.
 //!
-//! A generic word has no operation for either, so both go bit by bit. Compiled code has neither a loop nor a branch:
-//! the steps of a word become a few masks and shifts, or a move, where no loop is longer than some twenty steps. So a
-//! word is gone through in quarters.
+//! Generic words have no operation for either, so both go bit by bit. The compiler turns loops of up to about twenty
+//! steps into a few masks and shifts, or a move. So each function goes over a word in four quarters.
 
 ghost use Rattle.constriction_symbol.specs.Bits.{bits_of};
 ghost use Rattle.constriction_symbol.specs.Golomb.{number_after};
@@ -10,7 +9,7 @@ ghost use Rattle.std.specs.Prelude.{[], reverse, ◌*◌, ◌+◌, ◌/◌, ◌<
 
 use constriction_words::BitArray;
 
-/// The word of which the highest bit is the lowest of this one, and so on.
+/// Reverses the bits of a word.
 #[inline]
 pub fn turned<Word: BitArray>(word: Word) -> Word
     ensures { Word.number result ≡ number_after 0 (bits_of Word.BITS (Word.number word)) }
@@ -22,7 +21,7 @@ pub fn turned<Word: BitArray>(word: Word) -> Word
     turned_to(word, most, 3 * quarter, Word::BITS)
 }
 
-/// Of the lowest bits of a word, with zeros above them, the word whose lowest bits are these in the other order.
+/// Reverses the lowest `count` bits of a word, above which there are zeros.
 #[inline]
 pub fn first_lowest<Word: BitArray>(bits: Word, count: u32) -> Word
     requires within { count ≤ Word.BITS }
@@ -36,7 +35,7 @@ pub fn first_lowest<Word: BitArray>(bits: Word, count: u32) -> Word
     turned(bits).shifted_right(Word::BITS - count)
 }
 
-/// The bits of a word up to a place, the lowest of them highest, where those up to an earlier place are given so.
+/// Reverses the bits of a word up to a place, given the reversed bits up to an earlier place.
 #[inline]
 fn turned_to<Word: BitArray>(word: Word, done: Word, from: u32, to: u32) -> Word
     requires order { from ≤ to }
@@ -53,7 +52,7 @@ fn turned_to<Word: BitArray>(word: Word, done: Word, from: u32, to: u32) -> Word
     turned
 }
 
-/// The same number as a word of another type, which has it.
+/// Converts a number to another word type that has it.
 #[inline]
 pub fn same_number<From: BitArray, To: BitArray>(number: From) -> To
     requires { From.number number < 2 ^ To.BITS }
@@ -71,7 +70,7 @@ pub fn same_number<From: BitArray, To: BitArray>(number: From) -> To
     same_down_to(number, most, quarter, 0)
 }
 
-/// The number without so many of its lowest bits, where it is given without more of them.
+/// Returns the number without its lowest `to` bits, given the number without its lowest `from` bits.
 #[inline]
 fn same_down_to<From: BitArray, To: BitArray>(number: From, done: To, from: u32, to: u32) -> To
     requires order { to ≤ from }
@@ -89,7 +88,7 @@ fn same_down_to<From: BitArray, To: BitArray>(number: From, done: To, from: u32,
     same
 }
 
-/// Twice the number, and one more where the bit is set.
+/// Returns twice the number, plus 1 if the bit is set.
 #[inline]
 pub fn doubled<N: BitArray>(number: N, bit: bool) -> N
     requires { 2 * N.number number + 1 < 2 ^ N.BITS }

@@ -1,4 +1,4 @@
-//! Bits of a word that are taken off from the lowest up.
+//! Bits of a word, removed from the lowest to the highest.
 
 ghost use Rattle.constriction_symbol.specs.Bits.{AreZeros, bits_of, top_bits};
 ghost use Rattle.std.specs.Prelude.{IsTrue, List, [], drop, length, reverse, ◌<◌, ◌≤◌, ◌∷◌, ◌^◌, ◌↔◌, ◌≡◌};
@@ -8,10 +8,9 @@ use crate::turning::turned;
 use constriction_words::BitArray;
 use std::marker::Model;
 
-/// A list of bits, as many as a word has at most, which are taken off from the first on. The word is held turned round,
-/// so the first one is the highest.
+/// A list of at most `Word::BITS` bits, removed from the first on.
 ///
-/// Contracts see the list.
+/// The word is held reversed, so that the first bit is its highest. Contracts see the list.
 #[derive(Debug, Drop)]
 pub struct WordBits<Word: BitArray> {
     turned: TopBits<Word>,
@@ -26,7 +25,7 @@ impl<Word: BitArray> Model for WordBits<Word> {
 }
 
 impl<Word: BitArray> WordBits<Word> {
-    /// No bits.
+    /// Makes an empty list.
     #[inline]
     pub fn none() -> Self
         ensures { result ≡ [] }
@@ -36,7 +35,7 @@ impl<Word: BitArray> WordBits<Word> {
         }
     }
 
-    /// All bits of a word.
+    /// Makes the list of all bits of a word.
     #[inline]
     pub fn all(word: Word) -> Self
         ensures { result ≡ bits_of Word.BITS (Word.number word) }
@@ -46,7 +45,7 @@ impl<Word: BitArray> WordBits<Word> {
         }
     }
 
-    /// The same bits.
+    /// Returns the same bits.
     #[inline]
     pub fn copied(&self) -> Self
         ensures { result ≡ self.now }
@@ -56,7 +55,7 @@ impl<Word: BitArray> WordBits<Word> {
         }
     }
 
-    /// How many bits there are.
+    /// Returns the number of bits.
     #[inline]
     pub fn count(&self) -> u32
         ensures value { result ≡ length self.now }
@@ -65,7 +64,7 @@ impl<Word: BitArray> WordBits<Word> {
         self.turned.count()
     }
 
-    /// Whether there is no bit.
+    /// Returns whether there are no bits.
     #[inline]
     pub fn is_empty(&self) -> bool
         ensures { IsTrue result ↔ (self.now ≡ []) }
@@ -73,7 +72,7 @@ impl<Word: BitArray> WordBits<Word> {
         self.turned.is_empty()
     }
 
-    /// The bits as the lowest of a word, the first one highest.
+    /// Returns the word with these bits lowest, first bit highest.
     #[inline]
     pub fn turned_word(&self) -> Word
         ensures bits { reverse (bits_of (length self.now) (Word.number result)) ≡ self.now }
@@ -83,7 +82,7 @@ impl<Word: BitArray> WordBits<Word> {
         TopBits::word(&self.turned)
     }
 
-    /// The word at whose top the bits stand, the first one highest. What is below them means nothing.
+    /// Returns the word with these bits at its top, first bit highest. The bits below them mean nothing.
     #[inline]
     pub fn turned_top(&self) -> Word
         ensures bits { top_bits Word.BITS (length self.now) (Word.number result) ≡ self.now }
@@ -92,7 +91,7 @@ impl<Word: BitArray> WordBits<Word> {
         self.turned.top_word()
     }
 
-    /// Takes the first bit off.
+    /// Removes the first bit and returns it.
     #[inline]
     pub fn take_first(&mut self) -> bool
         requires { 0 < length self.old }
@@ -101,7 +100,7 @@ impl<Word: BitArray> WordBits<Word> {
         self.turned.pop()
     }
 
-    /// Takes so many of the first bits off, and leaves at least one.
+    /// Removes the first `count` bits, and leaves at least one.
     #[inline]
     pub fn drop_first(&mut self, count: u32)
         requires some { 0 < count }
@@ -111,7 +110,7 @@ impl<Word: BitArray> WordBits<Word> {
         self.turned.drop_last(count);
     }
 
-    /// Whether all bits are zeros.
+    /// Returns whether all bits are 0.
     #[inline]
     pub fn is_zeros(&self) -> bool
         ensures { IsTrue result ↔ AreZeros self.now }

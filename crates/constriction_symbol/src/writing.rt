@@ -1,4 +1,7 @@
-//! Streams of bits, to which the codewords of symbols are written.
+//! Streams of bits for encoding symbols.
+//!
+//! `PutsLast`, `PutsBits`, `ClosesStack` and `ClosesQueue` of `specs/Bits.antt` name the word of each write. Their
+//! `write` is `IsWrite`: a write of this word to this backend answered so.
 
 ghost use Rattle.constriction_base.specs.Backends.{IsWrite};
 ghost use Rattle.constriction_symbol.specs.Bits.{PutsBit, PutsOnto};
@@ -17,24 +20,26 @@ use constriction_stream::encoding::Lent;
 use constriction_words::BitArray;
 use std::alloc::AllocError;
 
-/// A stream of bits that grows: bits can be put behind the others, and so the codewords of symbols, in prefix form
-/// where it is read as a queue and in suffix form where it is read as a stack.
+/// A stream of bits that encodes symbols: it grows by codewords.
 ///
-/// An implementation chooses freely which bits it holds, and what a write of a bit may answer and leave; the clauses
-/// tie both to the calls. A codeword is written as if each of its bits was.
+/// A queue gets codewords in prefix form, a stack in suffix form. A codeword is written as if bit by bit.
+///
+/// An implementor chooses which bits the stream holds and what a write of a bit may answer and leave (`puts`). It
+/// proves that each call answers by these.
 pub trait WriteBitStream<S: BitOrder> {
     type WriteError: From<AllocError>;
 
-    /// The bits, in the order of writing.
+    /// The bits, in writing order.
     ghost bits: { Self → List Bool };
 
     /// What a write of a bit answers, and what it leaves.
     ghost puts: { Self → Bool → Result (Unit {0}) Self.WriteError → Self → Type 0 };
 
-    /// Puts a bit behind the others.
+    /// Appends a bit.
     ///
     /// # Errors
-    /// Where there is no room for it. The bits are as before.
+    ///
+    /// The stream's error if there is no room for the bit. The bits are unchanged.
     fn write_bit(&mut self, bit: bool) -> Result<(), Self::WriteError>
         ensures bits { PutsBit (bits self.old) bit result (bits self.new) }
         ensures puts { puts self.old bit result self.new };
@@ -42,10 +47,10 @@ pub trait WriteBitStream<S: BitOrder> {
     /// Writes the codeword of a symbol.
     ///
     /// # Errors
-    /// - `Frontend(ImpossibleSymbol)` exactly where the symbol has no codeword. Nothing changed.
-    /// - `Backend(error)` where the write of a bit is refused: the bits of the codeword before it were written, and
-    ///   it and those behind it weren't. Or where the codebook wants memory for the codeword and finds none: nothing
-    ///   changed.
+    ///
+    /// - `Frontend(ImpossibleSymbol)` exactly if the symbol has no codeword. Nothing changed.
+    /// - `Backend(error)` if the write of a bit fails with this error: exactly the codeword's bits before it were
+    ///   written. Or if the codebook needs memory for the codeword and there is none: nothing changed.
     fn encode_symbol<C: EncoderCodebook>(
         &mut self,
         symbol: &C::Symbol,
@@ -61,11 +66,14 @@ pub trait WriteBitStream<S: BitOrder> {
         S::emit_symbol(&codebook, symbol, &mut push)
     }
 
-    /// Writes the codewords of symbols in order, each by its own codebook, up to the first that is refused.
+    /// Writes the codewords of symbols in order, each with its own codebook.
     ///
     /// # Errors
-    /// That of the first symbol that is refused. Before what it says stand exactly the codewords of the symbols before
-    /// it, and the items behind it aren't asked for.
+    ///
+    /// The error of the first symbol that fails. The codewords of the symbols before it were written, and what that
+    /// error says. The iterator isn't asked for further items.
+    ///
+    /// # Examples
     ///
     /// ```
     /// encoder.encode_symbols([(&3u32, &golomb), (&0, &golomb)])?;
@@ -94,10 +102,11 @@ pub trait WriteBitStream<S: BitOrder> {
         Ok(())
     }
 
-    /// Writes the codewords of symbols in order, all by one codebook, up to the first that is refused.
+    /// Writes the codewords of symbols in order, all with one codebook.
     ///
     /// # Errors
-    /// Those of [`WriteBitStream::encode_symbols`].
+    ///
+    /// The errors of [`WriteBitStream::encode_symbols`].
     final fn encode_iid_symbols<L, C, I>(
         &mut self,
         symbols: I,
@@ -125,20 +134,21 @@ pub trait WriteBitStream<S: BitOrder> {
     }
 }
 
-/// What takes bits one after another, as a `WriteBitStream` does, and no more.
+/// What takes bits one after another, and no more.
 trait BitSink {
     type Refusal: From<AllocError>;
 
-    /// The bits, in the order of writing.
+    /// The bits, in writing order.
     ghost bits: { Self → List Bool };
 
-    /// What is answered at a bit, and what is left.
+    /// What a write of a bit answers, and what it leaves.
     ghost puts: { Self → Bool → Result (Unit {0}) Self.Refusal → Self → Type 0 };
 
-    /// Puts a bit behind the others.
+    /// Appends a bit.
     ///
     /// # Errors
-    /// Where there is no room for it. The bits are as before.
+    ///
+    /// The sink's error if there is no room for the bit. The bits are unchanged.
     fn put_bit(&mut self, bit: bool) -> Result<(), Self::Refusal>
         ensures bits { PutsBit (bits self.old) bit result (bits self.new) }
         ensures puts { puts self.old bit result self.new };
@@ -185,13 +195,13 @@ where
 
     ghost puts = { PutsOnto Word.BITS Word.number (IsWrite B.words B.room B.writes B.write_fails) };
 
-    /// Puts a bit behind the others. Only where the last word is full it writes a word to the backend.
+    /// Appends a bit. It writes a word to the backend only if the last word is full.
     #[inline]
     fn write_bit(&mut self, bit: bool) -> Result<(), B::WriteError> {
         SymbolCoder::<Word, S, B>::write_bit(self, bit)
     }
 
-    /// Writes the codeword of a symbol, by a shift where the codebook has it at once.
+    /// Writes the codeword of a symbol, with one shift if the codebook has the codeword at once.
     #[inline]
     fn encode_symbol<C: EncoderCodebook>(
         &mut self,
@@ -213,12 +223,14 @@ impl<Word: BitArray, B: WriteWords<Word>> StackCoder<Word, B>
 where
     B::WriteError: From<AllocError>,
 {
-    /// Writes the codewords of symbols from the last to the first, each by its own codebook, up to the first that is
-    /// refused. The coder then gives the symbols in the order of the list.
+    /// Writes the codewords of symbols from the last to the first, each with its own codebook.
+    ///
+    /// The coder then returns the symbols in the order of the list.
     ///
     /// # Errors
-    /// That of the first symbol that is refused. Before what it says stand exactly the codewords of the symbols behind
-    /// it, and the items before it aren't asked for.
+    ///
+    /// The error of the first symbol that fails. The codewords of the symbols behind it in the list were written, and
+    /// what that error says. The iterator isn't asked for further items.
     pub fn encode_symbols_reverse<L, C, I>(
         &mut self,
         symbols_and_codebooks: I,
@@ -243,11 +255,13 @@ where
         Ok(())
     }
 
-    /// Writes the codewords of symbols from the last to the first, all by one codebook, up to the first that is
-    /// refused. The coder then gives the symbols in the order of the list.
+    /// Writes the codewords of symbols from the last to the first, all with one codebook.
+    ///
+    /// The coder then returns the symbols in the order of the list.
     ///
     /// # Errors
-    /// Those of [`StackCoder::encode_symbols_reverse`].
+    ///
+    /// The errors of [`StackCoder::encode_symbols_reverse`].
     pub fn encode_iid_symbols_reverse<L, C, I>(
         &mut self,
         symbols: I,

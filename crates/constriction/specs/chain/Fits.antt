@@ -1,2 +1,2 @@
--- That a chain coder fits in memory, which a generic caller asks who holds one.
+-- The condition that a chain coder fits in memory, which generic code that holds one requires.
 pub use Rattle.constriction_chain.specs.Fits.{CoderFits}

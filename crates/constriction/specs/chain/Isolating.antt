@@ -1,2 +1,2 @@
--- Symbols under models of their own, as decodings.
+-- Symbols, each under its own model, as decodes.
 pub use Rattle.constriction_laws.specs.chain.Isolating.{decoding_of, decodings_by}

@@ -1,2 +1,2 @@
--- Runs of decodes and changes of the precision, and when they are alike.
+-- Runs of decodes and changes of the precision, and when two runs are alike.
 pub use Rattle.constriction_chain.specs.Runs.{Decoding, Event, Decode, Change, IsRun, decodings, AreIsolated}

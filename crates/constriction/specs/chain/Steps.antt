@@ -1,2 +1,2 @@
--- What calls of a chain coder may answer and leave.
+-- The answers of a chain coder's calls, and what they leave.
 pub use Rattle.constriction_chain.specs.Steps.{RegainedBy, Lacks, Regained, Kept, NotKept, Prepared, Given, Stays, Taken, Halts, Took, Halted, Decoded, FoundNoPlace, DecodeAnswers, DecodeCall, Encoded, FoundNoRoom, FoundNoWord, EncodeAnswers, EncodeCall, never_encoded, IsEndOfData, IsLackOfRoom, never_lack, RaisedTo, RaiseRefused, IsLowered, LoweredTo, LowerRefused, ChangeRefused}

@@ -1,4 +1,4 @@
--- What imports and exports of a chain coder may answer and leave.
+-- The answers of a chain coder's imports and exports, and what they leave.
 pub use Rattle.constriction_chain.specs.Words.{remainder_words, IsInBinary, BinaryNotWritten, IfFound, OnNone, BeginsNonzero, BeginsAndStops, TooFew, ReadsZero, NoStart, NoHeads, ReadsHeads, NotExported}
 pub use Rattle.constriction_base.specs.Writing.{IsOneAbove, NotWritten}
 pub use Rattle.constriction_base.specs.Readings.{ReadsAs, MovesIn, StopsAt}

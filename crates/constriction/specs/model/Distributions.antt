@@ -1,4 +1,4 @@
--- Distribution functions by a table of values, and the values of the standard ones.
+-- Distribution functions given by a table of values, and the values of the standard ones.
 pub use Rattle.constriction_models.specs.Interpolation.{AreValues, located, scaled}
 pub use Rattle.constriction_models.specs.Normal.{normal_values}
 pub use Rattle.constriction_models.specs.Laplace.{laplace_values}

@@ -1,2 +1,2 @@
--- Which symbols a lookup table can list.
+-- The symbols that a lookup table can list.
 pub use Rattle.constriction_models.specs.Lookup.{HasHighSymbol, HasLowSymbols}

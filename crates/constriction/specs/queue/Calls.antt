@@ -1,2 +1,2 @@
--- What calls of a range coder may answer and leave.
+-- The answers of a range coder's calls, and what they leave.
 pub use Rattle.constriction_queue.specs.Calls.{IsWritten, IsRefused, EncodeCall, ExportRefused, SealRefused, SelfDelimitingRefused, queue_reads, BeginsSealed, DecodesSealed, NotBegun, NoDecoder, DecodeCall}

@@ -1,2 +1,2 @@
--- Lists of symbols in words that stand one behind the other, and why a list has no words or is in none.
+-- Lists of symbols in concatenated words, and the errors of encoding and decoding them.
 pub use Rattle.constriction_laws.specs.queue.Concatenated.{DelimitsItems, ReadsItems}

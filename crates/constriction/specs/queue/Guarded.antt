@@ -1,2 +1,2 @@
--- What a guard of a range encoder borrows and wrote.
+-- The encoder that a guard borrows, and the number of words it wrote.
 pub use Rattle.constriction_queue.specs.Guarded.{lender, written, lent_by, lent_back, SealLacksRoom}

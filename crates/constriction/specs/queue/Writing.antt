@@ -1,2 +1,2 @@
--- Words that were begun to be written.
+-- Words of which only a beginning was written.
 pub use Rattle.constriction_base.specs.Writing.{IsBegun, NotWritten}

@@ -1,2 +1,2 @@
--- What imports of a stack coder may answer and leave.
+-- The answers of a stack coder's imports, and what they leave.
 pub use Rattle.constriction_stack.specs.Imports.{FilledBy, ImportRefused, ListRefused}

@@ -1,3 +1,3 @@
--- Lists of symbols that are put into a store, and why they make none.
+-- Chunks of symbols, and the errors of chunks that make no store.
 pub use Rattle.constriction_store.specs.Chunks.{lists_of, chunk_in, count_of, AllKnown, IsFirstUnknown, IsFirstUnknownOf}
 pub use Rattle.constriction_store.specs.Built.{BuildFails}

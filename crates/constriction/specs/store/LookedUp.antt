@@ -1,2 +1,2 @@
--- What a look-up answers, and look-ups at several places.
+-- The answers of look-ups, also at several places.
 pub use Rattle.constriction_store.specs.LookedUp.{HoldsSome, LookUpFails, IsChunk, CannotLookUp, HasNoChunks}

@@ -1,2 +1,2 @@
--- What a guard of a bit coder borrows and wrote.
+-- The bit coder that a guard borrows, and the number of words it wrote.
 pub use Rattle.constriction_symbol.specs.Guarded.{lender, lent_back, written}

@@ -1,2 +1,2 @@
--- Codewords that are turned round.
+-- Encoding reversed codewords.
 pub use Rattle.constriction_symbol.specs.Reversed.{IsLongerThan, StacksCodeword, StacksPair, StacksSymbol}

@@ -1,4 +1,4 @@
-//! The stack coder at words of 16 bits, heads of 32 and a precision of 12.
+//! The stack coder with 16-bit words, 32-bit heads and a precision of 12 bits.
 
 ghost use Rattle.std.specs.Prelude.{map};
 ghost use Rattle.constriction_base.specs.Readings.{BeginsHigh};
@@ -17,7 +17,7 @@ use constriction_calls::ans::words::{from_binary, from_compressed, into_binary, 
 use constriction_inputs::models::{Families, Rows, Weights};
 use std::alloc::Global;
 
-/// `encode_reverse` by the weights of one table.
+/// Calls `encode_reverse` with one table of weights for all symbols.
 #[unsafe(no_mangle)]
 pub extern "C" fn constriction_ans_encode_reverse_u16(
     alloc: Global,
@@ -36,7 +36,7 @@ pub extern "C" fn constriction_ans_encode_reverse_u16(
     code_of(answer, needed)
 }
 
-/// `encode_reverse` by the next row of `width` weights for each symbol.
+/// Calls `encode_reverse` with a row of `width` weights for each symbol.
 #[unsafe(no_mangle)]
 pub extern "C" fn constriction_ans_encode_each_reverse_u16(
     alloc: Global,
@@ -56,7 +56,7 @@ pub extern "C" fn constriction_ans_encode_each_reverse_u16(
     code_of(answer, needed)
 }
 
-/// `encode_intervals_reverse`.
+/// Calls `encode_intervals_reverse`.
 #[unsafe(no_mangle)]
 pub extern "C" fn constriction_ans_encode_intervals_reverse_u16(
     alloc: Global,
@@ -74,7 +74,7 @@ pub extern "C" fn constriction_ans_encode_intervals_reverse_u16(
     code_of(answer, needed)
 }
 
-/// `encode_reverse` by models of a family.
+/// Calls `encode_reverse` with models of a family.
 #[unsafe(no_mangle)]
 pub extern "C" fn constriction_ans_encode_quantized_reverse_u16(
     alloc: Global,
@@ -97,7 +97,7 @@ pub extern "C" fn constriction_ans_encode_quantized_reverse_u16(
     code_of(answer, needed)
 }
 
-/// `decode` by the weights of one table.
+/// Calls `decode` with one table of weights for all symbols.
 #[unsafe(no_mangle)]
 pub extern "C" fn constriction_ans_decode_u16(
     alloc: Global,
@@ -114,7 +114,7 @@ pub extern "C" fn constriction_ans_decode_u16(
     code_without_space(decode::<_, _, u16, _, 12>(alloc, head, words, len, &table, symbols))
 }
 
-/// `decode` by the next row of `width` weights for each symbol.
+/// Calls `decode` with a row of `width` weights for each symbol.
 #[unsafe(no_mangle)]
 pub extern "C" fn constriction_ans_decode_each_u16(
     alloc: Global,
@@ -132,7 +132,7 @@ pub extern "C" fn constriction_ans_decode_each_u16(
     code_without_space(decode::<_, _, u16, _, 12>(alloc, head, words, len, &rows, symbols))
 }
 
-/// `decode` by models of a family.
+/// Calls `decode` with models of a family.
 #[unsafe(no_mangle)]
 pub extern "C" fn constriction_ans_decode_quantized_u16(
     alloc: Global,
@@ -153,7 +153,7 @@ pub extern "C" fn constriction_ans_decode_quantized_u16(
     code_without_space(decode::<_, _, u16, _, 12>(alloc, head, words, len, &models, symbols))
 }
 
-/// `from_compressed`.
+/// Calls `from_compressed`.
 #[unsafe(no_mangle)]
 pub extern "C" fn constriction_ans_from_compressed_u16(
     words: &[u16],
@@ -166,7 +166,7 @@ pub extern "C" fn constriction_ans_from_compressed_u16(
     code_without_space(from_compressed(words, len, head))
 }
 
-/// `from_binary`.
+/// Calls `from_binary`.
 #[unsafe(no_mangle)]
 pub extern "C" fn constriction_ans_from_binary_u16(
     words: &[u16],
@@ -180,7 +180,7 @@ pub extern "C" fn constriction_ans_from_binary_u16(
     code_without_space(Ok(()))
 }
 
-/// `into_compressed`.
+/// Calls `into_compressed`.
 #[unsafe(no_mangle)]
 pub extern "C" fn constriction_ans_into_compressed_u16(
     alloc: Global,
@@ -195,7 +195,7 @@ pub extern "C" fn constriction_ans_into_compressed_u16(
     code_of(into_compressed(alloc, head, words, len), needed)
 }
 
-/// `into_binary`.
+/// Calls `into_binary`.
 #[unsafe(no_mangle)]
 pub extern "C" fn constriction_ans_into_binary_u16(
     alloc: Global,

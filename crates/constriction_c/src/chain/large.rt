@@ -1,4 +1,4 @@
-//! The chain coder at words of 32 bits, heads of 64 and 32, and a precision of 24.
+//! The chain coder with 32-bit words, 64-bit and 32-bit heads and a precision of 24 bits.
 
 ghost use Rattle.std.specs.Prelude.{map};
 ghost use Rattle.constriction_c.specs.Large.{LargeChainBegins, LargeChainEnds, LargeChainPuts, LargeChainTakes};
@@ -16,7 +16,7 @@ use constriction_calls::chain::{
 use constriction_inputs::models::{Families, Rows, Weights};
 use std::alloc::Global;
 
-/// Symbols decoded, by the weights of one table, one after the other.
+/// Decodes symbols with one table of weights for all symbols.
 #[unsafe(no_mangle)]
 pub extern "C" fn constriction_chain_decode_u32(
     alloc: Global,
@@ -42,7 +42,7 @@ pub extern "C" fn constriction_chain_decode_u32(
     code_of(answer, needed)
 }
 
-/// Symbols decoded, each by the next row of `width` weights, one after the other.
+/// Decodes symbols with a row of `width` weights for each symbol.
 #[unsafe(no_mangle)]
 pub extern "C" fn constriction_chain_decode_each_u32(
     alloc: Global,
@@ -69,7 +69,7 @@ pub extern "C" fn constriction_chain_decode_each_u32(
     code_of(answer, needed)
 }
 
-/// Symbols decoded, each by the model of its own location and scale, one after the other.
+/// Decodes symbols with models of a family, each with its own location and scale.
 #[unsafe(no_mangle)]
 pub extern "C" fn constriction_chain_decode_quantized_u32(
     alloc: Global,
@@ -99,7 +99,7 @@ pub extern "C" fn constriction_chain_decode_quantized_u32(
     code_of(answer, needed)
 }
 
-/// Symbols encoded, by the weights of one table, the last one first.
+/// Encodes symbols from the last to the first, with one table of weights for all symbols.
 #[unsafe(no_mangle)]
 pub extern "C" fn constriction_chain_encode_reverse_u32(
     alloc: Global,
@@ -125,7 +125,7 @@ pub extern "C" fn constriction_chain_encode_reverse_u32(
     code_of(answer, needed)
 }
 
-/// Symbols encoded, each by the next row of `width` weights, the last one first.
+/// Encodes symbols from the last to the first, with a row of `width` weights for each symbol.
 #[unsafe(no_mangle)]
 pub extern "C" fn constriction_chain_encode_each_reverse_u32(
     alloc: Global,
@@ -152,7 +152,7 @@ pub extern "C" fn constriction_chain_encode_each_reverse_u32(
     code_of(answer, needed)
 }
 
-/// Symbols encoded, each by the model of its own location and scale, the last one first.
+/// Encodes symbols from the last to the first, with models of a family, each with its own location and scale.
 #[unsafe(no_mangle)]
 pub extern "C" fn constriction_chain_encode_quantized_reverse_u32(
     alloc: Global,
@@ -182,7 +182,7 @@ pub extern "C" fn constriction_chain_encode_quantized_reverse_u32(
     code_of(answer, needed)
 }
 
-/// Intervals encoded, the last one first.
+/// Encodes intervals from the last to the first.
 #[unsafe(no_mangle)]
 pub extern "C" fn constriction_chain_encode_intervals_reverse_u32(
     alloc: Global,
@@ -207,7 +207,7 @@ pub extern "C" fn constriction_chain_encode_intervals_reverse_u32(
     code_of(answer, needed)
 }
 
-/// The coder that compressed words stand for, with no remainders.
+/// Imports a coder from compressed words, with no remainders.
 #[unsafe(no_mangle)]
 pub extern "C" fn constriction_chain_from_compressed_u32(
     alloc: Global,
@@ -224,7 +224,7 @@ pub extern "C" fn constriction_chain_from_compressed_u32(
     code_without_space(answer)
 }
 
-/// The coder that words stand for in binary form, with no remainders.
+/// Imports a coder from words in binary form, with no remainders.
 #[unsafe(no_mangle)]
 pub extern "C" fn constriction_chain_from_binary_u32(
     alloc: Global,
@@ -240,7 +240,7 @@ pub extern "C" fn constriction_chain_from_binary_u32(
     code_without_space(answer)
 }
 
-/// The coder that remainders stand for, with no compressed words.
+/// Imports a coder from remainders, with no compressed words.
 #[unsafe(no_mangle)]
 pub extern "C" fn constriction_chain_from_remainders_u32(
     alloc: Global,
@@ -256,7 +256,7 @@ pub extern "C" fn constriction_chain_from_remainders_u32(
     code_without_space(answer)
 }
 
-/// The words of the number of the remainders put behind the compressed words.
+/// Appends the words of the remainders' head to the compressed words.
 #[unsafe(no_mangle)]
 pub extern "C" fn constriction_chain_into_compressed_u32(
     alloc: Global,
@@ -272,7 +272,7 @@ pub extern "C" fn constriction_chain_into_compressed_u32(
     code_of(answer, needed)
 }
 
-/// Those of them that are below the number's leading 1.
+/// Appends the words of the remainders' head below its leading 1 to the compressed words.
 #[unsafe(no_mangle)]
 pub extern "C" fn constriction_chain_into_binary_u32(
     alloc: Global,
@@ -288,7 +288,7 @@ pub extern "C" fn constriction_chain_into_binary_u32(
     code_of(answer, needed)
 }
 
-/// Both heads put behind the remainders.
+/// Appends both heads to the remainders.
 #[unsafe(no_mangle)]
 pub extern "C" fn constriction_chain_into_remainders_u32(
     alloc: Global,

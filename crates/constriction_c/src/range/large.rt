@@ -1,4 +1,4 @@
-//! The range coder at words of 32 bits, states of 64 and a precision of 24.
+//! The range coder with 32-bit words, 64-bit states and a precision of 24 bits.
 
 ghost use Rattle.std.specs.Prelude.{◌≡◌, map};
 ghost use Rattle.constriction_c.specs.Large.{large_word, large_state, large_kept, LargeRangeTakes, LargeRangePuts};
@@ -17,7 +17,7 @@ use constriction_calls::range::words::{into_compressed, into_self_delimited};
 use constriction_inputs::models::{Families, Rows, Weights};
 use std::alloc::Global;
 
-/// A range encoder between two calls, as [`EncoderParts`] is one.
+/// A range encoder between two calls, with the fields of [`EncoderParts`].
 #[repr(C)]
 #[derive(Drop, Clone, Copy)]
 pub struct RangeEncoderU32 {
@@ -27,7 +27,7 @@ pub struct RangeEncoderU32 {
     pub first: u32,
 }
 
-/// A range decoder between two calls, as [`DecoderParts`] is one.
+/// A range decoder between two calls, with the fields of [`DecoderParts`].
 #[repr(C)]
 #[derive(Drop, Clone, Copy)]
 pub struct RangeDecoderU32 {
@@ -38,7 +38,7 @@ pub struct RangeDecoderU32 {
 }
 
 impl RangeEncoderU32 {
-    /// Its numbers, as the calls take them.
+    /// Returns the numbers that the calls take.
     #[inline]
     fn parts(&self) -> EncoderParts<u32, u64>
         ensures { result ≡ large_encoder self.now }
@@ -51,7 +51,7 @@ impl RangeEncoderU32 {
         }
     }
 
-    /// The encoder of these numbers.
+    /// Makes the encoder of these numbers.
     #[inline]
     fn of(parts: EncoderParts<u32, u64>) -> Self
         ensures { large_encoder result ≡ parts }
@@ -66,7 +66,7 @@ impl RangeEncoderU32 {
 }
 
 impl RangeDecoderU32 {
-    /// Its numbers, as the calls take them.
+    /// Returns the numbers that the calls take.
     #[inline]
     fn parts(&self) -> DecoderParts<u64>
         ensures { result ≡ large_decoder self.now }
@@ -79,7 +79,7 @@ impl RangeDecoderU32 {
         }
     }
 
-    /// The decoder of these numbers.
+    /// Makes the decoder of these numbers.
     #[inline]
     fn of(parts: DecoderParts<u64>) -> Self
         ensures { large_decoder result ≡ parts }
@@ -93,7 +93,7 @@ impl RangeDecoderU32 {
     }
 }
 
-/// An encoder without symbols.
+/// Makes an encoder without symbols.
 #[unsafe(no_mangle)]
 pub extern "C" fn constriction_range_encoder_u32(encoder: &mut RangeEncoderU32) -> u32
     ensures done { result ≡ 0 }
@@ -108,7 +108,7 @@ pub extern "C" fn constriction_range_encoder_u32(encoder: &mut RangeEncoderU32) 
     0
 }
 
-/// `encode`: symbols put behind the others by the weights of one table, the first symbol first.
+/// Calls `encode` with one table of weights for all symbols.
 #[unsafe(no_mangle)]
 pub extern "C" fn constriction_range_encode_u32(
     alloc: Global,
@@ -129,7 +129,7 @@ pub extern "C" fn constriction_range_encode_u32(
     code_of(answer, needed)
 }
 
-/// `encode`, each symbol by the next row of `width` weights.
+/// Calls `encode` with a row of `width` weights for each symbol.
 #[unsafe(no_mangle)]
 pub extern "C" fn constriction_range_encode_each_u32(
     alloc: Global,
@@ -151,7 +151,7 @@ pub extern "C" fn constriction_range_encode_each_u32(
     code_of(answer, needed)
 }
 
-/// `encode_intervals`: intervals put behind the others, by where they begin and how long they are.
+/// Calls `encode_intervals`.
 #[unsafe(no_mangle)]
 pub extern "C" fn constriction_range_encode_intervals_u32(
     alloc: Global,
@@ -171,7 +171,7 @@ pub extern "C" fn constriction_range_encode_intervals_u32(
     code_of(answer, needed)
 }
 
-/// `encode`, each symbol by the model of its own location and scale.
+/// Calls `encode` with models of a family, each with its own location and scale.
 #[unsafe(no_mangle)]
 pub extern "C" fn constriction_range_encode_quantized_u32(
     alloc: Global,
@@ -196,7 +196,7 @@ pub extern "C" fn constriction_range_encode_quantized_u32(
     code_of(answer, needed)
 }
 
-/// `into_compressed`: the words that an encoder holds back, and a seal, put behind the others.
+/// Calls `into_compressed`, which appends the words held back and a seal.
 #[unsafe(no_mangle)]
 pub extern "C" fn constriction_range_into_compressed_u32(
     alloc: Global,
@@ -211,7 +211,9 @@ pub extern "C" fn constriction_range_into_compressed_u32(
     code_of(into_compressed(alloc, &encoder.parts(), words, len), needed)
 }
 
-/// `into_self_delimited`: the same with a seal that holds whatever follows, the same one where a state is two words.
+/// Calls `into_self_delimited`, whose seal any words may follow.
+///
+/// With states of two words this is the seal of `into_compressed`.
 #[unsafe(no_mangle)]
 pub extern "C" fn constriction_range_into_self_delimited_u32(
     alloc: Global,
@@ -227,7 +229,7 @@ pub extern "C" fn constriction_range_into_self_delimited_u32(
     code_of(answer, needed)
 }
 
-/// `from_compressed`: a decoder of words, before its first symbol.
+/// Calls `from_compressed`, which makes a decoder before its first symbol.
 #[unsafe(no_mangle)]
 pub extern "C" fn constriction_range_from_compressed_u32(
     words: &[u32],
@@ -240,7 +242,7 @@ pub extern "C" fn constriction_range_from_compressed_u32(
     0
 }
 
-/// `decode`: as many symbols as the list has places, by the weights of one table.
+/// Calls `decode` with one table of weights for all symbols.
 #[unsafe(no_mangle)]
 pub extern "C" fn constriction_range_decode_u32(
     alloc: Global,
@@ -259,7 +261,7 @@ pub extern "C" fn constriction_range_decode_u32(
     code_without_space(answer)
 }
 
-/// `decode`, each symbol by the next row of `width` weights.
+/// Calls `decode` with a row of `width` weights for each symbol.
 #[unsafe(no_mangle)]
 pub extern "C" fn constriction_range_decode_each_u32(
     alloc: Global,
@@ -279,7 +281,7 @@ pub extern "C" fn constriction_range_decode_each_u32(
     code_without_space(answer)
 }
 
-/// `decode`, each symbol by the model of its own location and scale.
+/// Calls `decode` with models of a family, each with its own location and scale.
 #[unsafe(no_mangle)]
 pub extern "C" fn constriction_range_decode_quantized_u32(
     alloc: Global,
@@ -302,7 +304,7 @@ pub extern "C" fn constriction_range_decode_quantized_u32(
     code_without_space(answer)
 }
 
-/// `seek`: a decoder at the position that an encoder had.
+/// Calls `seek`, which moves a decoder to an encoder's position.
 #[unsafe(no_mangle)]
 pub extern "C" fn constriction_range_seek_u32(
     decoder: &mut RangeDecoderU32,
@@ -320,7 +322,7 @@ pub extern "C" fn constriction_range_seek_u32(
     code_without_space(answer)
 }
 
-/// `maybe_exhausted`: whether the words may have ended where the decoder stands, as 1 or 0.
+/// Calls `maybe_exhausted`, which writes 1 if the words may have ended where the decoder stands, and 0 if not.
 #[unsafe(no_mangle)]
 pub extern "C" fn constriction_range_maybe_exhausted_u32(
     decoder: &RangeDecoderU32,

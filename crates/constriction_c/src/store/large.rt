@@ -1,4 +1,4 @@
-//! Stores at words of 32 bits, states of 64 and a precision of 24.
+//! Stores with 32-bit words, 64-bit states and a precision of 24 bits.
 
 ghost use Rattle.std.specs.Prelude.{map};
 ghost use Rattle.constriction_c.specs.Large.{large_word, large_state};
@@ -9,7 +9,7 @@ use crate::codes::{code_of, code_without_space};
 use constriction_calls::store::{build, chunk};
 use std::alloc::Global;
 
-/// `build`: the words and the index of the store of chunks, by the weights of one table.
+/// Calls `build`, which writes the words and the index of a store of chunks.
 #[unsafe(no_mangle)]
 pub extern "C" fn constriction_store_build_u32(
     alloc: Global,
@@ -36,7 +36,7 @@ pub extern "C" fn constriction_store_build_u32(
     )
 }
 
-/// `chunk`: the symbols of a chunk, as many as the buffer has places, by its entry of the index.
+/// Calls `chunk`, which decodes a chunk by its entry of the index.
 #[unsafe(no_mangle)]
 pub extern "C" fn constriction_store_chunk_u32(
     alloc: Global,

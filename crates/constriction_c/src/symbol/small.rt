@@ -1,4 +1,4 @@
-//! Lists of symbols as words of 16 bits, and back. `needed` is written only where there is no space.
+//! Symbol codes with 16-bit words. `needed` is written only if the answer is that the buffer is too short.
 
 ghost use Rattle.std.specs.Prelude.{map};
 ghost use Rattle.constriction_c.specs.Small.{small_word, small_state};
@@ -11,7 +11,7 @@ use constriction_calls::symbol::{Tree, decode_queue, decode_stack, encode_queue,
 use constriction_symbol::exp_golomb::ExpGolomb;
 use std::alloc::Global;
 
-/// Puts the words of a queue of bits with the numbers' Exp-Golomb codewords into a buffer.
+/// Encodes numbers as a queue of bits, with Exp-Golomb codewords.
 #[unsafe(no_mangle)]
 pub extern "C" fn constriction_exp_golomb_encode_queue_u16(
     alloc: Global,
@@ -27,7 +27,7 @@ pub extern "C" fn constriction_exp_golomb_encode_queue_u16(
     code_of(answer, needed)
 }
 
-/// Puts the words of a stack of bits, off which come the numbers' Exp-Golomb codewords, into a buffer.
+/// Encodes numbers as a stack of bits, with Exp-Golomb codewords.
 #[unsafe(no_mangle)]
 pub extern "C" fn constriction_exp_golomb_encode_stack_u16(
     alloc: Global,
@@ -43,7 +43,7 @@ pub extern "C" fn constriction_exp_golomb_encode_stack_u16(
     code_of(answer, needed)
 }
 
-/// Puts the words of a queue of bits with the symbols' codewords by the tree of the weights into a buffer.
+/// Encodes symbols as a queue of bits, with the Huffman tree of the weights.
 #[unsafe(no_mangle)]
 pub extern "C" fn constriction_huffman_encode_queue_u16(
     alloc: Global,
@@ -61,7 +61,7 @@ pub extern "C" fn constriction_huffman_encode_queue_u16(
     code_of(answer, needed)
 }
 
-/// Puts the words of a stack of bits, off which come the symbols' codewords by the tree of the weights, into a buffer.
+/// Encodes symbols as a stack of bits, with the Huffman tree of the weights.
 #[unsafe(no_mangle)]
 pub extern "C" fn constriction_huffman_encode_stack_u16(
     alloc: Global,
@@ -79,7 +79,7 @@ pub extern "C" fn constriction_huffman_encode_stack_u16(
     code_of(answer, needed)
 }
 
-/// Fills `symbols` with numbers from the Exp-Golomb codewords in the words of a queue of bits.
+/// Decodes numbers from a queue of bits, with Exp-Golomb codewords.
 #[unsafe(no_mangle)]
 pub extern "C" fn constriction_exp_golomb_decode_queue_u16(
     alloc: Global,
@@ -92,7 +92,7 @@ pub extern "C" fn constriction_exp_golomb_decode_queue_u16(
     code_without_space(decode_queue(alloc, &ExpGolomb::<u16>::new(), words, symbols))
 }
 
-/// Fills `symbols` with numbers from the Exp-Golomb codewords in the words of a stack of bits.
+/// Decodes numbers from a stack of bits, with Exp-Golomb codewords.
 #[unsafe(no_mangle)]
 pub extern "C" fn constriction_exp_golomb_decode_stack_u16(
     alloc: Global,
@@ -105,7 +105,7 @@ pub extern "C" fn constriction_exp_golomb_decode_stack_u16(
     code_without_space(decode_stack(alloc, &ExpGolomb::<u16>::new(), words, symbols))
 }
 
-/// Fills `symbols` from the words of a queue of bits, by the tree of the weights.
+/// Decodes symbols from a queue of bits, with the Huffman tree of the weights.
 #[unsafe(no_mangle)]
 pub extern "C" fn constriction_huffman_decode_queue_u16(
     alloc: Global,
@@ -119,7 +119,7 @@ pub extern "C" fn constriction_huffman_decode_queue_u16(
     code_without_space(decode_queue(alloc, &Tree { weights }, words, symbols))
 }
 
-/// Fills `symbols` from the words of a stack of bits, by the tree of the weights.
+/// Decodes symbols from a stack of bits, with the Huffman tree of the weights.
 #[unsafe(no_mangle)]
 pub extern "C" fn constriction_huffman_decode_stack_u16(
     alloc: Global,

@@ -1,4 +1,4 @@
-//! Symbols taken off a caller's state, whose words are only read.
+//! Decoding symbols from a caller's state. The words are only read.
 
 ghost use Rattle.std.specs.Prelude.{◌≡◌, ◌≤◌, length};
 ghost use Rattle.constriction_base.specs.Models.{pairs_of};
@@ -16,8 +16,13 @@ use constriction_stream::decoding::Decode;
 use constriction_words::{BitArray, WordOf};
 use std::alloc::Global;
 
-/// Takes a symbol off for each place of `symbols`, by its model. A state that holds nothing gives symbols without end.
-/// Refusals are `WrongLength`, `WrongInterval`, `WrongWeights` and `NoMemory`.
+/// Decodes a symbol for each place of `symbols`, each under its model.
+///
+/// An empty state decodes without end.
+///
+/// # Errors
+///
+/// `WrongLength`, `WrongInterval`, `WrongWeights` and `NoMemory`, as [`crate::ans`] lists them.
 pub fn decode<
     Word: WordOf<State>,
     State: BitArray,
@@ -50,7 +55,7 @@ pub fn decode<
     Ok(())
 }
 
-/// The same by a list of the models: the head, and how many words are left.
+/// Decodes under a list of models. Returns the head and the number of words left.
 #[inline(never)]
 fn decode_by<
     Word: WordOf<State>,
@@ -81,7 +86,7 @@ fn decode_by<
     (new_head, left)
 }
 
-/// Takes a symbol off.
+/// Decodes a symbol.
 #[inline]
 fn decode_next<
     'a,

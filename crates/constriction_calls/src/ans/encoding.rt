@@ -1,4 +1,4 @@
-//! Symbols put on a caller's state, from the last to the first: a decode gives them in order.
+//! Encoding symbols onto a caller's state, from the last to the first. Decodes return them in order.
 
 ghost use Rattle.std.specs.Prelude.{◌≡◌, ◌≤◌, [], length, map, reverse, IfSome};
 ghost use Rattle.constriction_base.specs.Models.{AreModels, pairs_of};
@@ -17,7 +17,11 @@ use constriction_stream::encoding::Encode;
 use constriction_words::{BitArray, WordOf};
 use std::alloc::Global;
 
-/// Puts symbols on by their models. All refusals but `InvalidData` can come.
+/// Encodes symbols from the last to the first, each under its model.
+///
+/// # Errors
+///
+/// All errors of [`crate::ans`] but `InvalidData`.
 pub fn encode_reverse<
     Word: WordOf<State>,
     State: BitArray,
@@ -59,8 +63,11 @@ pub fn encode_reverse<
     }
 }
 
-/// Puts intervals on: each begins at the next of `lefts`, and is as long as the next of `ps`. Refusals are
-/// `WrongLength`, `WrongInterval`, `NoSpace` and `NoMemory`.
+/// Encodes intervals from the last to the first. Each begins at its number in `lefts`, and has its length in `ps`.
+///
+/// # Errors
+///
+/// `WrongLength`, `WrongInterval`, `NoSpace` and `NoMemory`, as [`crate::ans`] lists them.
 pub fn encode_intervals_reverse<
     Word: WordOf<State>,
     State: BitArray,
@@ -95,8 +102,9 @@ pub fn encode_intervals_reverse<
     }
 }
 
-/// Puts symbols on a head without words: what this writes, and the head. `None` comes where a model doesn't know its
-/// symbol, or for want of memory.
+/// Encodes symbols onto a head without words. Returns the words written, and the head.
+///
+/// Returns `None` if a model doesn't know its symbol, or if there is no memory.
 #[inline(never)]
 fn coded<
     Word: WordOf<State>,

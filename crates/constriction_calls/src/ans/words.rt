@@ -1,4 +1,4 @@
-//! The words of a caller's state, and a state from words.
+//! Exporting the words of a caller's state, and importing a state from words.
 
 ghost use Rattle.std.specs.Prelude.{Ok};
 ghost use Rattle.constriction_base.specs.Readings.{BeginsHigh};
@@ -15,8 +15,13 @@ use constriction_stack::coder::AnsCoder;
 use constriction_words::{BitArray, WordOf};
 use std::alloc::Global;
 
-/// Makes the state whose words these are, as [`into_compressed`] leaves them: the head, and how many words stay below.
-/// `InvalidData` says that the last word is zero.
+/// Imports the state that these words are the export of.
+///
+/// Sets the head, and the number of words that stay below it. [`into_compressed`] exports such words.
+///
+/// # Errors
+///
+/// `InvalidData` if the last word is 0.
 pub fn from_compressed<Word: WordOf<State>, State: BitArray>(
     words: &[Word],
     len: &mut usize,
@@ -36,7 +41,9 @@ pub fn from_compressed<Word: WordOf<State>, State: BitArray>(
     Ok(())
 }
 
-/// Makes the state that any words stand for, as [`into_binary`] leaves them: the head, and how many words stay below.
+/// Imports the state of any words in binary form.
+///
+/// Sets the head, and the number of words that stay below it. [`into_binary`] exports such words.
 pub fn from_binary<Word: WordOf<State>, State: BitArray>(
     words: &[Word],
     len: &mut usize,
@@ -52,8 +59,11 @@ pub fn from_binary<Word: WordOf<State>, State: BitArray>(
     *len = cursor.into_buf_and_pos().1;
 }
 
-/// Puts the words of a head behind those below it, without leading zero words: the words of the state. Refusals are
-/// `WrongLength`, `NoSpace` and `NoMemory`.
+/// Exports the state: appends the words of its head, without leading zero words.
+///
+/// # Errors
+///
+/// `WrongLength`, `NoSpace` and `NoMemory`, as [`crate::ans`] lists them.
 pub fn into_compressed<Word: WordOf<State>, State: BitArray>(
     alloc: Global,
     head: State,
@@ -74,8 +84,11 @@ pub fn into_compressed<Word: WordOf<State>, State: BitArray>(
     }
 }
 
-/// Puts the words of a head below its leading 1 behind those below it: the words of which the state was made, where it
-/// was made of whole words. Refusals are those of [`into_compressed`], and `InvalidData` where it was not.
+/// Exports the state in binary form: appends the words of its head below the leading 1.
+///
+/// # Errors
+///
+/// The errors of [`into_compressed`], and `InvalidData` if the head isn't a 1 above whole words.
 pub fn into_binary<Word: WordOf<State>, State: BitArray>(
     alloc: Global,
     head: State,

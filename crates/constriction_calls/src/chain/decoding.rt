@@ -1,4 +1,4 @@
-//! Decodes: symbols that are taken out of the compressed words.
+//! Decoding symbols from compressed words.
 
 ghost use Rattle.std.specs.Prelude.{◌≡◌, ◌⊎◌, ◌+◌, ◌<◌, ◌≤◌, List, length, map, reverse, IfErr, IfOk, OnErr, OnOk};
 ghost use Rattle.constriction_base.specs.Models.{pairs_of};
@@ -23,7 +23,7 @@ use constriction_stream::decoding::Decode;
 use constriction_words::{BitArray, WordOf};
 use std::alloc::Global;
 
-/// A coder over compressed words that a caller lends, with the remainders that it writes.
+/// A coder over borrowed compressed words, which collects the remainders that it writes.
 pub(crate) type Taking<'a, Word, State, const PRECISION: usize> = ChainCoder<
     Word,
     State,
@@ -32,11 +32,11 @@ pub(crate) type Taking<'a, Word, State, const PRECISION: usize> = ChainCoder<
     PRECISION,
 >;
 
-/// Decodes symbols, each by its model, one after the other, as many as `symbols` has places.
+/// Decodes a symbol for each place of `symbols`, each under its model.
 ///
 /// # Errors
 ///
-/// Those of the [coder](crate::chain), but for `ImpossibleSymbol`.
+/// The errors of [`crate::chain`] but `ImpossibleSymbol`.
 pub fn decode<
     Word: WordOf<State>,
     State: BitArray,
@@ -85,7 +85,7 @@ pub fn decode<
     Ok(())
 }
 
-/// Takes as many symbols out as there are places, each by its model, one after the other.
+/// Decodes as many symbols as there are places, each under its model.
 ///
 /// # Errors
 ///
@@ -118,11 +118,11 @@ fn take_by<
     }
 }
 
-/// Takes so many symbols out, each by the model at its place, one after the other.
+/// Decodes `count` symbols, each under the model at its place.
 ///
 /// # Errors
 ///
-/// As [`take_by`].
+/// The errors of [`take_by`].
 #[inline(never)]
 fn take_symbols<
     'a,
@@ -158,11 +158,11 @@ fn take_symbols<
     Ok(symbols)
 }
 
-/// Puts a coder's remainders behind those of a caller, and sets the heads and the number of compressed words.
+/// Appends a coder's remainders to a caller's, and sets the heads and the number of compressed words.
 ///
 /// # Errors
 ///
-/// As [`append`]. Nothing changed then.
+/// The errors of [`append`]. Nothing changed then.
 fn end_taking<'a, Word: WordOf<State>, State: BitArray, const PRECISION: usize>(
     coder: Taking<'a, Word, State, PRECISION>,
     heads: &mut ChainHeads<Word, State>,

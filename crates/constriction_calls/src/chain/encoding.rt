@@ -1,4 +1,4 @@
-//! Encodes: symbols that are put back into the compressed words.
+//! Encoding symbols into compressed words.
 
 ghost use Rattle.std.specs.Prelude.{◌≡◌, ◌⊎◌, ◌+◌, ◌<◌, ◌≤◌, List, length, map, reverse, IfErr, OnErr, OnOk};
 ghost use Rattle.constriction_base.specs.Models.{AreKnown, pairs_of};
@@ -24,7 +24,7 @@ use constriction_stream::encoding::Encode;
 use constriction_words::{BitArray, WordOf};
 use std::alloc::Global;
 
-/// A coder over remainders that a caller lends, with the compressed words that it writes.
+/// A coder over borrowed remainders, which collects the compressed words that it writes.
 pub(crate) type Putting<'a, Word, State, const PRECISION: usize> = ChainCoder<
     Word,
     State,
@@ -33,11 +33,11 @@ pub(crate) type Putting<'a, Word, State, const PRECISION: usize> = ChainCoder<
     PRECISION,
 >;
 
-/// Encodes symbols, each by its model, the last one first.
+/// Encodes symbols from the last to the first, each under its model.
 ///
 /// # Errors
 ///
-/// Those of the [coder](crate::chain).
+/// The errors of [`crate::chain`].
 pub fn encode_reverse<
     Word: WordOf<State>,
     State: BitArray,
@@ -83,12 +83,12 @@ pub fn encode_reverse<
     }
 }
 
-/// Encodes intervals, the last one first: each is where it begins, and how long it is.
+/// Encodes intervals from the last to the first. Each begins at its number in `lefts`, and has its length in `ps`.
 ///
 /// # Errors
 ///
-/// Those of the [coder](crate::chain), but for `WrongWeights` and `ImpossibleSymbol`. `WrongInterval` comes where an
-/// interval is empty, or ends past two to the precision.
+/// The errors of [`crate::chain`] but `WrongWeights` and `ImpossibleSymbol`. `WrongInterval` comes if an interval is
+/// empty, or ends past `2 ^ PRECISION`.
 pub fn encode_intervals_reverse<
     Word: WordOf<State>,
     State: BitArray,
@@ -146,11 +146,11 @@ pub fn encode_intervals_reverse<
     )
 }
 
-/// Puts symbols back, each by its model, the last one first.
+/// Encodes symbols from the last to the first, each under its model.
 ///
 /// # Errors
 ///
-/// `ImpossibleSymbol` just where a model doesn't know its symbol; else `OutOfData` and `NoMemory`.
+/// `ImpossibleSymbol` exactly if a model doesn't know its symbol. Otherwise `OutOfData` or `NoMemory`.
 fn put_by<
     'a,
     Word: WordOf<State>,
@@ -186,11 +186,11 @@ fn put_by<
     }
 }
 
-/// Puts symbols back, each by the model at its place, the last one first.
+/// Encodes symbols from the last to the first, each under the model at its place.
 ///
 /// # Errors
 ///
-/// As [`put_by`].
+/// The errors of [`put_by`].
 #[inline(never)]
 fn put_symbols<
     'a,
@@ -230,11 +230,11 @@ fn put_symbols<
     Ok(())
 }
 
-/// Puts a coder's compressed words behind those of a caller, and sets the heads and the number of remainders.
+/// Appends a coder's compressed words to a caller's, and sets the heads and the number of remainders.
 ///
 /// # Errors
 ///
-/// As [`append`]. Nothing changed then.
+/// The errors of [`append`]. Nothing changed then.
 fn end_putting<'a, Word: WordOf<State>, State: BitArray, const PRECISION: usize>(
     coder: Putting<'a, Word, State, PRECISION>,
     heads: &mut ChainHeads<Word, State>,

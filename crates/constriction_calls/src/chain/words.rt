@@ -1,4 +1,4 @@
-//! Coders from a caller's words, and the words of a caller's coder.
+//! Importing chain coders from a caller's words, and exporting their words.
 ghost use Rattle.constriction_chain.specs.Chain.{IsSized};
 ghost use Rattle.constriction_calls.specs.ChainFits.{CoderFits};
 ghost use Rattle.constriction_calls.specs.ChainWords.{ChainBegins, ChainEnds, InBinary, InCompressed, InRemainders};
@@ -14,7 +14,7 @@ use constriction_inputs::refusal::Refusal;
 use constriction_words::{BitArray, WordOf};
 use std::alloc::Global;
 
-/// A coder that writes the words of its heads over no others.
+/// A coder without words, which collects the words of its heads.
 type Bare<Word, State, const PRECISION: usize> = ChainCoder<
     Word,
     State,
@@ -23,11 +23,13 @@ type Bare<Word, State, const PRECISION: usize> = ChainCoder<
     PRECISION,
 >;
 
-/// The coder that compressed words stand for, over no remainders: its heads, and how many words stay below them.
+/// Imports a coder from compressed words, with no remainders.
+///
+/// Sets the heads, and the number of words that stay below them.
 ///
 /// # Errors
 ///
-/// `InvalidData` just where the words stand for no coder: the last one is 0, or they are too few.
+/// `InvalidData` exactly if the words belong to no coder: the last one is 0, or there are too few.
 pub fn from_compressed<Word: WordOf<State>, State: BitArray, const PRECISION: usize>(
     alloc: Global,
     words: &[Word],
@@ -56,11 +58,13 @@ pub fn from_compressed<Word: WordOf<State>, State: BitArray, const PRECISION: us
     }
 }
 
-/// The coder that words stand for in binary form, over no remainders: its heads, and how many words stay below them.
+/// Imports a coder from words in binary form, with no remainders.
+///
+/// Sets the heads, and the number of words that stay below them.
 ///
 /// # Errors
 ///
-/// `InvalidData` just where the words stand for no coder: they are too few.
+/// `InvalidData` exactly if there are too few words for a coder.
 pub fn from_binary<Word: WordOf<State>, State: BitArray, const PRECISION: usize>(
     alloc: Global,
     words: &[Word],
@@ -89,11 +93,13 @@ pub fn from_binary<Word: WordOf<State>, State: BitArray, const PRECISION: usize>
     }
 }
 
-/// The coder that remainders stand for, over no compressed words: its heads, and how many words stay below them.
+/// Imports a coder from remainders, with no compressed words.
+///
+/// Sets the heads, and the number of words that stay below them.
 ///
 /// # Errors
 ///
-/// `InvalidData` just where the words stand for no coder: one of the last two is 0, or they are too few.
+/// `InvalidData` exactly if the words belong to no coder: one of the last two is 0, or there are too few.
 pub fn from_remainders<Word: WordOf<State>, State: BitArray, const PRECISION: usize>(
     alloc: Global,
     words: &[Word],
@@ -122,14 +128,18 @@ pub fn from_remainders<Word: WordOf<State>, State: BitArray, const PRECISION: us
     }
 }
 
-/// Puts the words of the number of the remainders behind the compressed words, without leading zeros: what
-/// [`from_compressed`] takes. The remainders below the head, which this doesn't need, stay the caller's.
+/// Appends the words of the remainders' head to the compressed words, without leading zeros.
+///
+/// [`from_compressed`] imports the result. The remainders below the head aren't needed, and stay with the caller.
 ///
 /// # Errors
 ///
-/// Looked for in this order: `WrongLength` just where `compressed_len` is past the buffer's end; `InvalidData` just
-/// where the heads are no coder's, or bits are left over; `NoSpace`, where the buffer is too short: it names how many
-/// words the coder has; `NoMemory`.
+/// Checked in this order:
+///
+/// - `WrongLength` exactly if `compressed_len` is past the buffer's end.
+/// - `InvalidData` exactly if the heads belong to no coder, or bits are left over.
+/// - `NoSpace` if the buffer is too short. The error has the number of the coder's words.
+/// - `NoMemory` if there is no memory.
 pub fn into_compressed<Word: WordOf<State>, State: BitArray, const PRECISION: usize>(
     alloc: Global,
     heads: &ChainHeads<Word, State>,
@@ -160,12 +170,13 @@ pub fn into_compressed<Word: WordOf<State>, State: BitArray, const PRECISION: us
     }
 }
 
-/// Puts the words of the number of the remainders that are below its leading 1 behind the compressed words: what
-/// [`from_binary`] takes. The remainders below the head, which this doesn't need, stay the caller's.
+/// Appends the words of the remainders' head below its leading 1 to the compressed words.
+///
+/// [`from_binary`] imports the result. The remainders below the head aren't needed, and stay with the caller.
 ///
 /// # Errors
 ///
-/// As [`into_compressed`], and `InvalidData` also where the number of the remainders is no 1 above whole words.
+/// The errors of [`into_compressed`]. `InvalidData` comes also if the remainders' head isn't a 1 above whole words.
 pub fn into_binary<Word: WordOf<State>, State: BitArray, const PRECISION: usize>(
     alloc: Global,
     heads: &ChainHeads<Word, State>,
@@ -196,12 +207,13 @@ pub fn into_binary<Word: WordOf<State>, State: BitArray, const PRECISION: usize>
     }
 }
 
-/// Puts both heads behind the remainders, the words of their number first: what [`from_remainders`] takes. The
-/// compressed words, which this doesn't need, stay the caller's.
+/// Appends both heads to the remainders, the words of the remainders' head first.
+///
+/// [`from_remainders`] imports the result. The compressed words aren't needed, and stay with the caller.
 ///
 /// # Errors
 ///
-/// As [`into_compressed`], of the remainders' buffer; but bits may be left over.
+/// The errors of [`into_compressed`] for the remainders' buffer, except that bits may be left over.
 pub fn into_remainders<Word: WordOf<State>, State: BitArray, const PRECISION: usize>(
     alloc: Global,
     heads: &ChainHeads<Word, State>,

@@ -1,4 +1,4 @@
-//! Decodes of the words of a caller's buffer.
+//! Decoding symbols from the words of a caller's buffer.
 
 ghost use Rattle.std.specs.Prelude.{◌≡◌, ◌≤◌, ℕ, List, length, map, IfErr, IfOk};
 ghost use Rattle.constriction_base.specs.Models.{pairs_of};
@@ -16,12 +16,12 @@ use constriction_stream::decoding::Decode;
 use constriction_words::{BitArray, WordOf};
 use std::alloc::Global;
 
-/// Takes so many symbols by a list of models. The decoder comes back as it is then.
+/// Decodes `count` symbols under a list of models. Also returns the decoder.
 ///
 /// # Errors
 ///
-/// - `InvalidData`, where the words, from where the decoder stands, aren't those of so many symbols.
-/// - `NoMemory`, for want of memory.
+/// - `InvalidData` if the words from the decoder's place on are not those of `count` symbols.
+/// - `NoMemory` if there is no memory.
 #[inline(never)]
 pub(crate) fn take_list<
     'a,
@@ -59,12 +59,14 @@ pub(crate) fn take_list<
     Ok((again, decoder))
 }
 
-/// Takes as many symbols as the list has places, the first one first.
+/// Decodes a symbol for each place of `symbols`, in order, each under its model.
 ///
 /// # Errors
 ///
-/// - `InvalidData` also where the words, from where the decoder stands, aren't those of so many symbols.
-/// - `NoMemory` where memory is missing.
+/// Those of [`crate::range`], and then:
+///
+/// - `InvalidData` if the words from the decoder's place on are not those of this many symbols.
+/// - `NoMemory` if there is no memory.
 pub fn decode<
     Word: WordOf<State>,
     State: BitArray,

@@ -1,4 +1,4 @@
-//! Encodes behind the words of a caller's buffer.
+//! Encoding symbols behind the words of a caller's buffer.
 
 ghost use Rattle.std.specs.Prelude.{◌≡◌, ◌≤◌, List, length, map, IfSome};
 ghost use Rattle.constriction_base.specs.Models.{pairs_of};
@@ -18,7 +18,7 @@ use constriction_stream::encoding::Encode;
 use constriction_words::{BitArray, WordOf};
 use std::alloc::Global;
 
-/// Encodes symbols by a list of models. `None` says that a model doesn't know its symbol, or that memory is missing.
+/// Encodes symbols under a list of models. Returns `None` if a model doesn't know its symbol, or there is no memory.
 #[inline(never)]
 fn put_list<
     Word: WordOf<State>,
@@ -49,7 +49,9 @@ fn put_list<
     Some(parts_of(encoder))
 }
 
-/// The words that encodes write behind any others, and the encoder then; `None` for an unknown symbol, or no memory.
+/// Encodes symbols, and returns the words written and the encoder.
+///
+/// Returns `None` if a model doesn't know its symbol, or if there is no memory.
 fn put_by<
     Word: WordOf<State>,
     State: BitArray,
@@ -76,13 +78,15 @@ fn put_by<
     put_list::<Word, State, P, G::List, PRECISION>(encoder, &list, symbols)
 }
 
-/// Puts symbols behind the others, the first one first. The words that this writes go behind the buffer's first `len`.
+/// Encodes symbols in order, each under its model. New words are written behind the buffer's first `len` words.
 ///
 /// # Errors
 ///
-/// - `ImpossibleSymbol` exactly where a model doesn't know its symbol.
-/// - `NoSpace` only where the buffer ends before all words, and tells how many there would be.
-/// - `NoMemory` where memory is missing.
+/// Those of [`crate::range`], and then:
+///
+/// - `ImpossibleSymbol` exactly if a model doesn't know its symbol.
+/// - `NoSpace` if the buffer is too short. The error has the number of words that it needs.
+/// - `NoMemory` if there is no memory.
 pub fn encode<
     Word: WordOf<State>,
     State: BitArray,
@@ -128,12 +132,12 @@ pub fn encode<
     }
 }
 
-/// Puts intervals behind the others, given by where they begin and how long they are, without a table.
+/// Encodes intervals in order. Each begins at its number in `lefts`, and has its length in `ps`.
 ///
 /// # Errors
 ///
-/// As [`encode`]; `WrongLength` where the lists don't have one length, and `WrongInterval` where an interval is empty,
-/// or ends past two to the precision. No symbol is impossible.
+/// Those of [`encode`] but `ImpossibleSymbol`. `WrongLength` comes if the lists have different lengths, and
+/// `WrongInterval` if an interval is empty or ends past `2 ^ PRECISION`.
 pub fn encode_intervals<
     Word: WordOf<State>,
     State: BitArray,

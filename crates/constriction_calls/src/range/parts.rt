@@ -1,4 +1,4 @@
-//! A range coder between two calls, as its caller keeps it.
+//! The numbers of a range coder between two calls, which its caller keeps.
 
 ghost use Rattle.std.specs.Prelude.{◌≡◌, ◌↔◌, ◌≤◌, ◌-◌, [], length, map, IfSome, IsSome};
 ghost use Rattle.constriction_base.specs.Steps.{IsSizes};
@@ -12,8 +12,10 @@ use constriction_words::{BitArray, WordOf};
 use std::alloc::Global;
 use std::num::NonZeroUsize;
 
-/// A range encoder between two calls: its interval, and how many words it holds back, of which the first is `first`
-/// and all others are all ones. Where it holds none, `first` is 0. The words that it wrote are in its caller's buffer.
+/// A range encoder between two calls: its interval, and the words that it holds back.
+///
+/// It holds `held` words: the first is `first`, and all others have only ones. If it holds none, `first` is 0. The
+/// words that it wrote are in the caller's buffer.
 #[derive(Debug, Drop, Clone, Copy)]
 #[repr(C)]
 pub struct EncoderParts<Word, State> {
@@ -23,8 +25,9 @@ pub struct EncoderParts<Word, State> {
     pub first: Word,
 }
 
-/// A range decoder between two calls: its interval, the number of the words that it read last, as many as a state has,
-/// and how many words of its caller's buffer it read in all.
+/// A range decoder between two calls: its interval, its point, and how many words of the caller's buffer it read.
+///
+/// The point is the number of the words read last, as many as a state has.
 #[derive(Debug, Drop, Clone, Copy)]
 #[repr(C)]
 pub struct DecoderParts<State> {
@@ -34,7 +37,9 @@ pub struct DecoderParts<State> {
     pub pos: usize,
 }
 
-/// The encoder over no words, if these numbers are those of one that can count so many symbols more. Takes no memory.
+/// Makes an encoder without words of these numbers. It needs no memory.
+///
+/// Returns `None` exactly if the numbers belong to no encoder, or to one that can't count `count` further symbols.
 pub fn encoder_for<Word: WordOf<State>, State: BitArray>(
     alloc: Global,
     parts: EncoderParts<Word, State>,
@@ -63,7 +68,7 @@ pub fn encoder_for<Word: WordOf<State>, State: BitArray>(
     Some(RangeEncoder::from_raw_parts(Vec::new(alloc), state, situation))
 }
 
-/// The words that an encoder wrote, and its numbers.
+/// Returns the words that an encoder wrote, and its numbers.
 pub fn parts_of<Word: WordOf<State>, State: BitArray>(
     encoder: RangeEncoder<Word, State, Vec<Word>>,
 ) -> (Vec<Word>, EncoderParts<Word, State>)
@@ -85,10 +90,12 @@ pub fn parts_of<Word: WordOf<State>, State: BitArray>(
     (words, parts)
 }
 
-/// A decoder over words that a caller lends.
+/// A decoder over borrowed words.
 pub type Reading<'a, Word, State> = RangeDecoder<Word, State, Cursor<Word, &'a [Word]>>;
 
-/// The decoder of these numbers over the words from its place on, if they are those of a decoder.
+/// Makes a decoder of these numbers over the words from its place on.
+///
+/// Returns `None` exactly if the numbers belong to no decoder.
 pub fn decoder_of<'a, Word: WordOf<State>, State: BitArray>(
     words: &'a [Word],
     parts: DecoderParts<State>,
@@ -112,7 +119,7 @@ pub fn decoder_of<'a, Word: WordOf<State>, State: BitArray>(
     }
 }
 
-/// The numbers of a decoder over a buffer of so many words.
+/// Returns the numbers of a decoder over a buffer of `count` words.
 pub fn decoder_parts<'a, Word: WordOf<State>, State: BitArray>(
     decoder: Reading<'a, Word, State>,
     count: usize,

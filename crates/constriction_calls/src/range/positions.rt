@@ -1,4 +1,4 @@
-//! Decoders of words: at their beginning, at a position, and at their end.
+//! Decoders at the beginning of words and at a position, and whether the words may have ended.
 
 ghost use Rattle.std.specs.Prelude.{map};
 ghost use Rattle.constriction_base.specs.Steps.{IsSizes};
@@ -11,7 +11,7 @@ use constriction_queue::{RangeCoderState, RangeDecoder};
 use constriction_stream::decoding::Decode;
 use constriction_words::{BitArray, WordOf};
 
-/// A decoder of words, such as a seal completes, before its first symbol.
+/// Makes a decoder of sealed words, before its first symbol.
 pub fn from_compressed<Word: WordOf<State>, State: BitArray>(words: &[Word]) -> DecoderParts<State>
     requires { IsSizes Word.BITS State.BITS }
     ensures call { RangeBegins Word.number State.number Word.BITS State.BITS words.now result }
@@ -23,11 +23,14 @@ pub fn from_compressed<Word: WordOf<State>, State: BitArray>(words: &[Word]) -> 
     }
 }
 
-/// Makes a decoder of the words at a position: how many words an encoder had written and held, and its interval.
+/// Makes a decoder of the words at an encoder's position.
+///
+/// `pos` is how many words the encoder had written and held, and `lower` and `range` are its interval.
 ///
 /// # Errors
 ///
-/// `InvalidData` exactly where the interval is too short.
+/// - `WrongLength` exactly if `pos` is past the buffer's end.
+/// - `InvalidData` exactly if the interval is too short.
 pub fn seek<Word: WordOf<State>, State: BitArray>(
     decoder: &mut DecoderParts<State>,
     words: &[Word],
@@ -55,7 +58,13 @@ pub fn seek<Word: WordOf<State>, State: BitArray>(
     Ok(())
 }
 
-/// Whether the words may have ended where the decoder stands, as 1 or 0: none is left, and the point is a seal's.
+/// Sets `maybe` to 1 if the words may have ended where the decoder stands, and to 0 if not.
+///
+/// They may have ended if no word is left, and the point is one that a seal gives.
+///
+/// # Errors
+///
+/// The errors of [`crate::range`].
 pub fn maybe_exhausted<Word: WordOf<State>, State: BitArray>(
     decoder: &DecoderParts<State>,
     words: &[Word],

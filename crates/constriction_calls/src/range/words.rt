@@ -1,4 +1,4 @@
-//! The words of an encoder.
+//! Sealing the words of an encoder.
 
 ghost use Rattle.std.specs.Prelude.{◌≡◌, ◌/◌};
 ghost use Rattle.constriction_base.specs.Steps.{IsSizes};
@@ -10,14 +10,15 @@ use constriction_inputs::refusal::Refusal;
 use constriction_words::{BitArray, WordOf};
 use std::alloc::Global;
 
-/// Puts the words that an encoder holds back, and a seal, behind the others, so that the buffer's first `len` words are
-/// those that a decoder reads.
+/// Appends the words that an encoder holds back, and a seal. A decoder reads the buffer's first `len` words.
 ///
 /// # Errors
 ///
-/// - `NoSpace` only where the buffer ends before all words, and tells how many there are. It comes before any memory is
-///   asked for.
-/// - `NoMemory` where memory is missing, or the bits of all words can't be counted.
+/// Those of [`crate::range`], and then:
+///
+/// - `NoSpace` exactly if the buffer is too short, unless the number of bits can't be counted. The error has the number
+///   of words. This is checked before the call asks for memory.
+/// - `NoMemory` if there is no memory, or the number of bits of all words can't be counted.
 pub fn into_compressed<Word: WordOf<State>, State: BitArray>(
     alloc: Global,
     encoder: &EncoderParts<Word, State>,
@@ -47,12 +48,16 @@ pub fn into_compressed<Word: WordOf<State>, State: BitArray>(
     }
 }
 
-/// The same for states of two words. There the seal holds whatever words follow: a decoder of the buffer's first `len`
-/// words and any others behind them gives the same symbols.
+/// Appends the words that an encoder holds back, and a seal that any words may follow, for states of two words.
+///
+/// A decoder of the buffer's first `len` words, and any others behind them, returns the same symbols.
+///
+/// With states of two words this seal has as many words as the other one, and `num_words` counts them without memory.
+/// So the room is checked first.
 ///
 /// # Errors
 ///
-/// As [`into_compressed`].
+/// The errors of [`into_compressed`].
 pub fn into_self_delimited<Word: WordOf<State>, State: BitArray>(
     alloc: Global,
     encoder: &EncoderParts<Word, State>,

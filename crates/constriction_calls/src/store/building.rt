@@ -1,4 +1,4 @@
-//! Chunks to words and an index.
+//! Encoding chunks to words and an index.
 
 ghost use Rattle.std.specs.Prelude.{◌↔◌, ◌≤◌, length, map, sum, IfSome, IsTrue};
 ghost use Rattle.constriction_base.specs.Steps.{IsSizes};
@@ -19,7 +19,8 @@ use constriction_store::{MOST_SYMBOLS, Store};
 use constriction_words::{BitArray, WordOf};
 use std::alloc::Global;
 
-/// Whether lengths are those of so many symbols, of no more than a store holds, and lists of an index are as many.
+/// Returns whether the lengths add up to a number of symbols that a store holds, and each list of the index has as many
+/// items as there are lengths.
 fn fit(symbols: usize, lengths: &[usize], positions: usize, lowers: usize, ranges: usize) -> bool
     ensures { IsTrue result ↔ FitStore symbols lengths.now positions lowers ranges }
 {
@@ -30,7 +31,9 @@ fn fit(symbols: usize, lengths: &[usize], positions: usize, lowers: usize, range
     add_up(lengths, symbols)
 }
 
-/// The words and the index of the store of these chunks; `None` for an impossible symbol, or where memory is missing.
+/// Returns the words and the index of the store of these chunks.
+///
+/// Returns `None` if a symbol is impossible, or if there is no memory.
 fn stored<Word: WordOf<State>, State: BitArray, P: WordOf<Word>, const PRECISION: usize>(
     alloc: Global,
     weights: &[P],
@@ -62,18 +65,20 @@ fn stored<Word: WordOf<State>, State: BitArray, P: WordOf<Word>, const PRECISION
     }
 }
 
-/// Puts the words of the store of chunks at the beginning of a buffer, their number into `len`, and its index into
-/// three lists: for each chunk where it begins, and its interval's lower end and length. The symbols of all chunks
-/// stand one behind another.
+/// Builds a store of chunks, and writes its words and its index into the caller's buffers.
+///
+/// The words stand at the beginning of `words`, and `len` is their number. Each chunk has an item in `positions`,
+/// `lowers` and `ranges`. The symbols of all chunks stand one behind another in `symbols`.
 ///
 /// # Errors
 ///
-/// The first of these that holds, and nothing changed:
-/// - `WrongLength`: the lists of the index aren't as long as `lengths`, which don't add up to the number of symbols, or
-///   there are more of these than a store holds, 1048576.
-/// - `WrongWeights`: the weights don't add up to two to the precision.
-/// - `ImpossibleSymbol`: the weight of a symbol is 0, or there is none.
-/// - `NoSpace`: the buffer ends before all words, and it tells how many there would be. Or `NoMemory`.
+/// The first of these that applies. Nothing changed then.
+///
+/// - `WrongLength`: a list of the index isn't as long as `lengths`, or `lengths` don't add up to the number of symbols,
+///   or there are more than 1048576 symbols.
+/// - `WrongWeights`: the weights don't add up to `2 ^ PRECISION`.
+/// - `ImpossibleSymbol`: a symbol has weight 0, or no weight.
+/// - `NoSpace`: the buffer is too short. The error has the number of words. Or `NoMemory`: there is no memory.
 pub fn build<Word: WordOf<State>, State: BitArray, P: WordOf<Word>, const PRECISION: usize>(
     alloc: Global,
     words: &mut [Word],

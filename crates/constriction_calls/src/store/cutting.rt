@@ -1,4 +1,4 @@
-//! Symbols that stand one chunk behind another.
+//! Cutting a list of symbols into chunks.
 
 ghost use Rattle.std.specs.Prelude.{◌≡◌, ◌↔◌, ◌≤◌, length, sum, IfOk, IsTrue};
 ghost use Rattle.constriction_store.specs.Chunks.{lists_of};
@@ -6,7 +6,7 @@ ghost use Rattle.constriction_calls.specs.StoreCalls.{chunks_by};
 
 use std::alloc::{AllocError, Global};
 
-/// Whether lengths add up to a number. The sum is exact, whatever the lengths.
+/// Returns whether the lengths add up to `count`. The sum is exact, whatever the lengths.
 pub fn add_up(lengths: &[usize], count: usize) -> bool
     ensures { IsTrue result ↔ (sum lengths.now ≡ count) }
 {
@@ -20,7 +20,7 @@ pub fn add_up(lengths: &[usize], count: usize) -> bool
     left == 0
 }
 
-/// The symbols as chunks of these lengths.
+/// Cuts the symbols into chunks of these lengths.
 pub fn cut(
     alloc: Global,
     symbols: &[usize],

@@ -6,7 +6,7 @@ ghost use Rattle.constriction_store.specs.Stores.{entry_at};
 use constriction_queue::RangeCoderState;
 use constriction_words::{BitArray, WordOf};
 
-/// Puts the positions, the lower ends and the lengths of the intervals of an index where a caller keeps them.
+/// Writes the positions, and the lower ends and lengths of the intervals, of an index into a caller's lists.
 pub fn put_index<Word: WordOf<State>, State: BitArray>(
     index: &[(usize, RangeCoderState<Word, State>, usize)],
     positions: &mut [usize],

@@ -1,4 +1,4 @@
-//! One chunk of a store.
+//! Decoding one chunk of a store.
 
 ghost use Rattle.std.specs.Prelude.{◌≤◌, length, map};
 ghost use Rattle.constriction_base.specs.Steps.{IsSizes};
@@ -17,7 +17,7 @@ use constriction_queue::{RangeCoderState, RangeDecoder};
 use constriction_words::{BitArray, WordOf};
 use std::alloc::Global;
 
-/// A decoder of borrowed words that stands at a position in them.
+/// Makes a decoder of borrowed words at a position.
 fn decoder_at<'a, Word: WordOf<State>, State: BitArray>(
     words: &'a [Word],
     place: usize,
@@ -40,17 +40,19 @@ fn decoder_at<'a, Word: WordOf<State>, State: BitArray>(
     }
 }
 
-/// The chunk of words that begins at a position, in an interval of this lower end and length: as many symbols as the
-/// buffer has places. No other words are read than those of the chunk, and as many more as a state has. All may be a
-/// stranger's.
+/// Decodes the chunk that begins at a position, in an interval, with as many symbols as `symbols` has places.
+///
+/// It reads only the words of the chunk, and as many words behind them as a state has. The words, the position and the
+/// interval may come from anywhere.
 ///
 /// # Errors
 ///
-/// The first of these that holds, and nothing changed:
+/// The first of these that applies. Nothing changed then.
+///
 /// - `WrongLength`: the position is past the words.
-/// - `WrongWeights`: the weights don't add up to two to the precision.
-/// - `InvalidData`: the interval is too short, or the words hold no such chunk, as those of a build do at its entries.
-///   Or `NoMemory`.
+/// - `WrongWeights`: the weights don't add up to `2 ^ PRECISION`.
+/// - `InvalidData`: the interval is too short, or the words hold no such chunk (a built store holds one at each entry).
+///   Or `NoMemory`: there is no memory.
 pub fn chunk<Word: WordOf<State>, State: BitArray, P: WordOf<Word>, const PRECISION: usize>(
     alloc: Global,
     words: &[Word],

@@ -1,4 +1,4 @@
-//! Words as symbols.
+//! Decoding symbols from words.
 
 ghost use Rattle.std.specs.Prelude.{◌≡◌, IfErr, OnErr, OnOk, length, map};
 ghost use Rattle.constriction_calls.specs.SymbolCalls.{AsQueue, AsStack, BeginBits, IsToldAs, ReadsNone};
@@ -16,7 +16,11 @@ use constriction_symbol::reading::ReadBitStream;
 use constriction_words::BitArray;
 use std::alloc::Global;
 
-/// Fills `symbols` with those whose codewords begin the words of a queue of bits.
+/// Decodes a symbol for each place of `symbols` from the words of a queue of bits.
+///
+/// # Errors
+///
+/// `WrongWeights`, `OutOfData`, `InvalidData` and `NoMemory`, as [`crate::symbol`] lists them.
 pub fn decode_queue<Word: BitArray, C: Codes>(
     alloc: Global,
     codes: &C,
@@ -33,7 +37,11 @@ pub fn decode_queue<Word: BitArray, C: Codes>(
     read_symbols::<Queue, _, C::Decoder>(alloc, &mut decoder, &codebook, symbols)
 }
 
-/// The same of a stack of bits, off which the codewords come.
+/// Decodes a symbol for each place of `symbols` from the words of a stack of bits.
+///
+/// # Errors
+///
+/// `WrongWeights`, `OutOfData`, `InvalidData` and `NoMemory`, as [`crate::symbol`] lists them.
 pub fn decode_stack<Word: BitArray, C: Codes>(
     alloc: Global,
     codes: &C,
@@ -54,10 +62,11 @@ pub fn decode_stack<Word: BitArray, C: Codes>(
     read_symbols::<Stack, _, C::Decoder>(alloc, &mut decoder, &codebook, symbols)
 }
 
-/// Fills `symbols` with those that are read one after the other.
+/// Decodes a symbol for each place of `symbols`.
 ///
 /// # Errors
-/// `OutOfData`, `InvalidData` and `NoMemory`, which comes also where the source of the bits refuses to give one.
+///
+/// `OutOfData`, `InvalidData` and `NoMemory`. The last comes also if the source of the bits refuses a read.
 fn read_symbols<S: Semantics, R: ReadBitStream<S>, C: DecoderCodebook>(
     alloc: Global,
     stream: &mut R,
@@ -88,7 +97,7 @@ where
     Ok(())
 }
 
-/// Why a symbol isn't read, as it is told to the caller.
+/// Converts a codebook's error to the caller's.
 fn told_as<V: Drop, E: Drop>(error: CoderError<SymbolCodeError<V>, E>) -> Refusal
     ensures { IsToldAs error result }
 {

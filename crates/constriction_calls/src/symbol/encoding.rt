@@ -1,4 +1,4 @@
-//! Symbols as words.
+//! Encoding symbols as words.
 
 ghost use Rattle.std.specs.Prelude.{◌≡◌, ◌-◌, ◌<◌, ◌^◌, IfErr, IfSome, OnErr, OnOk, OnSome, length, map};
 ghost use Rattle.constriction_inputs.specs.Buffers.{Appended};
@@ -14,7 +14,11 @@ use constriction_symbol::writing::WriteBitStream;
 use constriction_words::BitArray;
 use std::alloc::Global;
 
-/// Puts the words of a queue of bits with the symbols' codewords at the beginning of `words`, their number into `len`.
+/// Encodes symbols as a queue of bits. Its words stand at the beginning of `words`, and `len` is their number.
+///
+/// # Errors
+///
+/// `WrongWeights`, `ImpossibleSymbol`, `NoSpace` and `NoMemory`, as [`crate::symbol`] lists them.
 pub fn encode_queue<Word: BitArray, C: Codes>(
     alloc: Global,
     codes: &C,
@@ -31,7 +35,13 @@ pub fn encode_queue<Word: BitArray, C: Codes>(
     }
 }
 
-/// The same of a stack of bits, off which the codewords come in the order of the list.
+/// Encodes symbols as a stack of bits, which returns them in the order of the list.
+///
+/// Its words stand at the beginning of `words`, and `len` is their number.
+///
+/// # Errors
+///
+/// `WrongWeights`, `ImpossibleSymbol`, `NoSpace` and `NoMemory`, as [`crate::symbol`] lists them.
 pub fn encode_stack<Word: BitArray, C: Codes>(
     alloc: Global,
     codes: &C,
@@ -48,7 +58,7 @@ pub fn encode_stack<Word: BitArray, C: Codes>(
     }
 }
 
-/// The words of a queue. `None` comes where one of the refusals does, but for that of a short buffer.
+/// Returns the words of a queue, or `None` for any error but `NoSpace`.
 fn queue_words<Word: BitArray, C: Codes>(
     alloc: Global,
     codes: &C,
@@ -70,7 +80,7 @@ fn queue_words<Word: BitArray, C: Codes>(
     }
 }
 
-/// The words of a stack. `None` comes as for a queue.
+/// Returns the words of a stack, or `None` for any error but `NoSpace`.
 fn stack_words<Word: BitArray, C: Codes>(
     alloc: Global,
     codes: &C,
@@ -91,10 +101,11 @@ fn stack_words<Word: BitArray, C: Codes>(
     }
 }
 
-/// Puts words at the beginning of a buffer, and their number into `len`.
+/// Copies words to the beginning of a buffer, and sets `len` to their number.
 ///
 /// # Errors
-/// `NoSpace` where the buffer is shorter, with the number.
+///
+/// `NoSpace` with this number if the buffer is shorter.
 pub(crate) fn put_words<Word: BitArray>(
     all: &[Word],
     words: &mut [Word],

@@ -1,4 +1,4 @@
-//! Exp-Golomb codewords of numbers: each has one.
+//! Exp-Golomb codewords, which exist for all numbers.
 
 ghost use Rattle.constriction_calls.specs.SymbolCalls.{OfNumbers};
 

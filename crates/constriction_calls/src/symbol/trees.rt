@@ -1,4 +1,4 @@
-//! The codewords of trees of weights.
+//! Codewords of the Huffman tree of a caller's weights.
 
 ghost use Rattle.std.specs.Prelude.{◌↔◌, ◌<◌, All, IsTrue, map};
 ghost use Rattle.constriction_calls.specs.SymbolCalls.{MakesCode, OfWeights};
@@ -10,7 +10,7 @@ use constriction_words::BitArray;
 use std::alloc::Global;
 use std::convert::Infallible;
 
-/// The weights of the symbols `0`, `1`, .., whose codewords are those of the Huffman tree of the weights.
+/// The weights of the symbols `0`, `1`, .. of a Huffman tree.
 #[derive(Clone, Copy, Drop)]
 pub struct Tree<'a, P> {
     pub weights: &'a [P],
@@ -59,14 +59,14 @@ impl<'a, P: BitArray> Codes for Tree<'a, P> {
     }
 }
 
-/// Whether the weights make a tree, which has at most so many.
+/// Returns whether the weights make a tree of at most `most` symbols.
 fn make_tree<P: BitArray>(weights: &[P], most: usize) -> bool
     ensures { IsTrue result ↔ MakesCode most (OfWeights P.BITS (map P.number weights.now)) }
 {
     !weights.is_empty() && weights.len() <= most && total_fits(weights)
 }
 
-/// Whether each of the symbols is below a bound.
+/// Returns whether all symbols are below a bound.
 fn are_below(symbols: &[usize], bound: usize) -> bool
     ensures { IsTrue result ↔ All (λ s. s < bound) symbols.now }
 {

@@ -7,7 +7,7 @@ use Rattle.constriction_commands.specs.Lines.{line_of}
 use Rattle.constriction_commands.specs.Inputs.{GivesSymbols}
 use Rattle.constriction_commands.specs.Coding.{of_24_bits}
 
--- the words that hold the symbols, the last of them the top one, as a line
+-- The answer is the line of the words of the encoded symbols, top word last.
 pub record IsAnsEncoded (text answer : List ℕ) : Type 0 where
   pub table : List (ℕ × ℕ × ℕ)
   pub symbols : List ℕ

@@ -1,4 +1,4 @@
--- What `chain-split` answers a text, and when it gives which fault.
+-- What `chain-split` answers a text, and which fault it gives when.
 use Rattle.std.specs.Prelude.{◌≡◌, ℕ, ◌^◌, ◌<◌, ◌⊎◌, List, [], ◌∷◌, ◌++◌, length, reverse, ⊤}
 use Rattle.std.specs.Int.Digits.{digits_of}
 use Rattle.constriction_base.specs.Tables.{AtEntry}
@@ -12,23 +12,23 @@ use Rattle.constriction_commands.specs.Coding.{EndsWithZero}
 use Rattle.constriction_commands.specs.declared.fault.Fault.{Fault}
 use Rattle.constriction_commands.specs.declared.fault.Fault.TheVariants.{NoChain, OutOfData, OutOfMemory}
 
--- the state of a chain coder that words stand for: those that are read first, from the last one on, are the number of the
--- remainders, and no bits are left over
+-- The words stand for this state of a chain coder: the words read first, from the last one on, are the digits of the
+-- remainders' head, and no bits are left over.
 pub record IsChainOf (words : List ℕ) (state : ChainState) : Type 0 where
   pub whole : state.h ≡ 1
   pub none : state.remainders ≡ []
   pub chain : IsChain 32 64 24 state
   pub are : reverse words ≡ digits_of (2 ^ 32) state.r ++ state.compressed
 
--- words that stand for none: the last is zero, or there is none, or but one that is below 2 ^ 8
+-- The words stand for no chain coder: the last one is 0, there is none, or there is only one, which is below 2 ^ 8.
 abbrev pub IsNoChain : List ℕ → Type 0
 IsNoChain words = EndsWithZero words ⊎ (words ≡ []) ⊎ ((word : ℕ) × (word < 2 ^ 8) × (words ≡ word ∷ []))
 
--- decodes of the symbols, one after the other, lead from the old state to the new one
+-- Decodes of the symbols, one after the other, lead from the old state to the new one.
 abbrev pub ChainDecodes : List (ℕ × ℕ × ℕ) → List ℕ → ChainState → ChainState → Type 0
 ChainDecodes table symbols old new = InTurn (λ symbol from to. AtEntry 24 table symbol (λ step. IsDecode 32 64 step from to)) symbols old new
 
--- the symbols, the words that are left, and the remainders below both heads, each as a line
+-- The answer is three lines: the symbols, the words left, and the remainders below both heads.
 pub record IsChainSplit (text answer : List ℕ) : Type 0 where
   pub table : List (ℕ × ℕ × ℕ)
   pub count : ℕ
@@ -46,14 +46,14 @@ pub record IsChainSplit (text answer : List ℕ) : Type 0 where
   pub suffix_is : reverse suffix ≡ remainder_words 32 last
   pub printed : answer ≡ (line_of symbols ++ line_of prefix) ++ line_of suffix
 
--- why a coder does not give so many symbols: before the last of them it needs a word, and none is left
+-- Decoding `count` symbols fails: before the last of them the coder needs a word, and none is left.
 abbrev pub ChainFails : List (ℕ × ℕ × ℕ) → ℕ → ChainState → Fault → Type 0
 ChainFails table count first (OutOfData error) =
     (symbols : List ℕ) × (last : ChainState) × ChainDecodes table symbols first last × (length symbols < count) × NeedsWord 32 24 last.h × (last.compressed ≡ [])
 ChainFails table count first OutOfMemory = ⊤
 ChainFails table count first fault = ⊥
 
--- why a text is not split: it gives no words, or else they stand for no coder, or else they end
+-- The command fails: the text gives no words, they stand for no coder, or they end.
 abbrev pub ChainSplitFails : List ℕ → Fault → Type 0
 ChainSplitFails text NoChain = (table : List (ℕ × ℕ × ℕ)) × (count : ℕ) × (words : List ℕ) × GivesWords text table count words × IsNoChain words
 ChainSplitFails text (OutOfData error) =

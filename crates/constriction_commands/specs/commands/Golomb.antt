@@ -1,4 +1,4 @@
--- What `golomb` answers a text, and when it gives which fault.
+-- What `golomb` answers a text, and which fault it gives when.
 use Rattle.std.specs.Prelude.{◌≡◌, ℕ, ◌-◌, ◌^◌, Some, List, [], ◌∷◌, ◌++◌, map, flat_map, ⊤}
 use Rattle.std.specs.List.{join_with_byte}
 use Rattle.constriction_base.specs.Steps.{AreWords}
@@ -10,11 +10,11 @@ use Rattle.constriction_commands.specs.Inputs.{IsBad}
 use Rattle.constriction_commands.specs.declared.fault.Fault.{Fault}
 use Rattle.constriction_commands.specs.declared.fault.Fault.TheVariants.{BadNumber, OutOfMemory}
 
--- the codewords of numbers with a space between each two, as a line
+-- The line of the codewords of numbers, with a space between each two.
 abbrev pub golomb_line : List ℕ → List ℕ
 golomb_line numbers = join_with_byte 32 (map (λ n. digits (golomb n)) numbers) ++ 10 ∷ []
 
--- the codewords of the numbers as a line, and as another the words of a queue of bits that holds them in order
+-- The answer is the line of codewords, and the line of the words of a queue of bits that holds them in order.
 pub record IsGolomb (text answer : List ℕ) : Type 0 where
   pub numbers : List ℕ
   pub words : List ℕ
@@ -23,7 +23,7 @@ pub record IsGolomb (text answer : List ℕ) : Type 0 where
   pub fit : AreWords 32 words
   pub printed : answer ≡ golomb_line numbers ++ line_of words
 
--- why there are none: the line is bad
+-- The command fails: the line is bad, or there is no memory.
 abbrev pub GolombFails : List ℕ → Fault → Type 0
 GolombFails text BadNumber = IsBad (numbers_of (2 ^ 32 - 1) (first_line text))
 GolombFails text OutOfMemory = ⊤

@@ -1,4 +1,4 @@
--- What `huffman` answers a text, and when it gives which fault.
+-- What `huffman` answers a text, and which fault it gives when.
 use Rattle.std.specs.Prelude.{◌≡◌, ℕ, ◌-◌, ◌/◌, ◌<◌, ◌≤◌, ◌^◌, Option, Some, None, Bool, List, [], ◌∷◌, ◌++◌, length, map, sum, ⊤}
 use Rattle.std.specs.List.{join_with_byte}
 use Rattle.constriction_symbol.specs.Huffman.{huffman, symbols_from}
@@ -8,27 +8,27 @@ use Rattle.constriction_commands.specs.Inputs.{IsBad}
 use Rattle.constriction_commands.specs.declared.fault.Fault.{Fault}
 use Rattle.constriction_commands.specs.declared.fault.Fault.TheVariants.{BadNumber, NoWeights, TooManySymbols, WeightOverflow, OutOfMemory}
 
--- the first line lists these weights of 64 bits
+-- The first line lists these 64-bit weights.
 abbrev pub TreeWeightsAre : List ℕ → List ℕ → Type 0
 TreeWeightsAre text weights = numbers_of (2 ^ 64 - 1) (first_line text) ≡ Some weights
 
--- the codeword of a symbol that has one, as digits; the empty one as a hyphen
+-- The codeword of a symbol as digits; the empty codeword is a hyphen.
 abbrev pub codeword_text : Option (List Bool) → List ℕ
 codeword_text None = []
 codeword_text (Some []) = 45 ∷ []
 codeword_text (Some (bit ∷ bits)) = digits (bit ∷ bits)
 
--- the codewords of the symbols below a number, with a space between each two, as a line
+-- The line of the codewords of all symbols below a number, with a space between each two.
 abbrev pub codewords_line : ℕ → (ℕ → Option (List Bool)) → List ℕ
 codewords_line count codeword = join_with_byte 32 (map (λ symbol. codeword_text (codeword symbol)) (symbols_from 0 count)) ++ 10 ∷ []
 
--- the codewords under the tree that merging the weights gives, as a line
+-- The answer is the line of the codewords of the weights' tree.
 pub record IsHuffmanLine (text answer : List ℕ) : Type 0 where
   pub weights : List ℕ
   pub weights_line : TreeWeightsAre text weights
   pub printed : answer ≡ codewords_line (length weights) (huffman weights)
 
--- why weights make no tree: there is none, or there are too many, or their sum has more than 64 bits
+-- The weights make no tree: there is none, there are too many, or their sum has more than 64 bits.
 abbrev pub TreeFails : List ℕ → Fault → Type 0
 TreeFails weights NoWeights = weights ≡ []
 TreeFails weights TooManySymbols = (2 ^ 64 - 1) / 4 < length weights
@@ -36,7 +36,7 @@ TreeFails weights WeightOverflow = 2 ^ 64 ≤ sum weights
 TreeFails weights OutOfMemory = ⊤
 TreeFails weights fault = ⊥
 
--- why there is no line: the text lists no weights, or they make no tree; memory may be missing at any time
+-- The command fails: the text lists no weights, or they make no tree. `OutOfMemory` may come at any time.
 abbrev pub HuffmanFails : List ℕ → Fault → Type 0
 HuffmanFails text BadNumber = IsBad (numbers_of (2 ^ 64 - 1) (first_line text))
 HuffmanFails text OutOfMemory = ⊤

@@ -1,4 +1,4 @@
--- What `range-decode` answers a text, and when it gives which fault.
+-- What `range-decode` answers a text, and which fault it gives when.
 use Rattle.std.specs.Prelude.{◌≡◌, ℕ, List, length}
 use Rattle.constriction_base.specs.Models.{items_of}
 use Rattle.constriction_queue.specs.Range.{Run, initial}
@@ -10,7 +10,7 @@ use Rattle.constriction_commands.specs.Ranges.{ReadingFails}
 use Rattle.constriction_commands.specs.declared.fault.Fault.{Fault}
 use Rattle.constriction_commands.specs.declared.fault.Fault.TheVariants.{InvalidData}
 
--- the symbols that are read from the words, with zero words behind them, as a line
+-- The answer is the line of the symbols decoded from the words, with zero words behind them.
 pub record IsRangeDecoded (text answer : List ℕ) : Type 0 where
   pub table : List (ℕ × ℕ × ℕ)
   pub count : ℕ
@@ -22,7 +22,7 @@ pub record IsRangeDecoded (text answer : List ℕ) : Type 0 where
   pub counted : length symbols ≡ count
   pub printed : answer ≡ line_of symbols
 
--- why symbols are not decoded: the text gives no words, or else they hold fewer symbols
+-- The command fails: the text gives no words, or they hold fewer symbols.
 abbrev pub RangeDecodeFails : List ℕ → Fault → Type 0
 RangeDecodeFails text (InvalidData error) =
     (table : List (ℕ × ℕ × ℕ)) × (count : ℕ) × (words : List ℕ) × GivesWords text table count words × ReadingFails words table count (InvalidData error)

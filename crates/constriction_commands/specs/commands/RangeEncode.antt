@@ -7,7 +7,7 @@ use Rattle.constriction_commands.specs.Inputs.{GivesSymbols}
 use Rattle.constriction_commands.specs.Coding.{of_24_bits}
 use Rattle.constriction_queue.specs.Symbols.{NarrowsAll}
 
--- the seal of the run of the symbols, as a line
+-- The answer is the line of the sealed words of the encoded symbols.
 pub record IsRangeEncoded (text answer : List ℕ) : Type 0 where
   pub table : List (ℕ × ℕ × ℕ)
   pub symbols : List ℕ

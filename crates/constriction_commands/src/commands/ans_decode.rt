@@ -1,4 +1,4 @@
-//! `ans-decode`: the words of an ANS coder to symbols.
+//! The command `ans-decode`, which decodes symbols from the words of an ANS coder.
 
 ghost use Rattle.std.specs.Prelude.{◌≡◌, length, IfOk, IfErr};
 ghost use Rattle.constriction_base.specs.Models.{items_of};
@@ -18,7 +18,7 @@ use constriction_stack::coder::words::CompressedDataEndsWithZeroWord;
 use constriction_stream::decoding::Decode;
 use std::alloc::Global;
 
-/// The next symbols of a coder.
+/// Decodes `count` symbols.
 fn decode<M: DecoderModel<PRECISION, Symbol = usize, Probability = u32>>(
     alloc: Global,
     model: &M,
@@ -41,7 +41,7 @@ fn decode<M: DecoderModel<PRECISION, Symbol = usize, Probability = u32>>(
     Ok(symbols)
 }
 
-/// The line of symbols for a line of weights and a line of a count and words.
+/// Returns a line of symbols for a line of weights, and a line of a count and words.
 pub fn answer(alloc: Global, text: &[u8]) -> Result<Vec<u8>, Fault>
     ensures ok { IfOk result (λ answer. IsAnsDecoded text.now answer.items) }
     ensures err { IfErr result (AnsDecodeFails text.now) }

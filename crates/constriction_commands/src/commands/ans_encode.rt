@@ -1,4 +1,4 @@
-//! `ans-encode`: symbols to the words of an ANS coder.
+//! The command `ans-encode`, which encodes symbols with an ANS coder.
 
 ghost use Rattle.std.specs.Prelude.{◌≡◌, ◌%◌, ◌^◌, map, reverse, IfOk, IfErr};
 ghost use Rattle.constriction_base.specs.Models.{items_of};
@@ -17,7 +17,7 @@ use constriction_stack::DefaultAnsCoder;
 use constriction_stream::encoding::Encode;
 use std::alloc::Global;
 
-/// The words that hold the symbols, the first of which is decoded first.
+/// Encodes symbols so that the first one is decoded first, and returns the words.
 fn encode<M: EncoderModel<PRECISION, Symbol = usize, Probability = u32>>(
     alloc: Global,
     model: &M,
@@ -41,7 +41,7 @@ fn encode<M: EncoderModel<PRECISION, Symbol = usize, Probability = u32>>(
     Ok(coder.into_compressed()?)
 }
 
-/// The line of words for a line of weights and a line of symbols.
+/// Returns a line of words for a line of weights and a line of symbols.
 pub fn answer(alloc: Global, text: &[u8]) -> Result<Vec<u8>, Fault>
     ensures ok { IfOk result (λ answer. IsAnsEncoded text.now answer.items) }
     ensures err { IfErr result (EncodeFails text.now) }

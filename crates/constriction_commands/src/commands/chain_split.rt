@@ -1,4 +1,6 @@
-//! `chain-split`: the words of a chain coder to symbols, the words that are left and the remainders.
+//! The command `chain-split`, which decodes symbols with a chain coder.
+//!
+//! It also writes the words left and the remainders.
 
 ghost use Rattle.std.specs.Prelude.{◌≡◌, ◌%◌, ◌^◌, ◌++◌, length, map, IfOk, IfErr};
 ghost use Rattle.constriction_commands.specs.Lines.{line_of};
@@ -16,7 +18,7 @@ use constriction_chain::{BackendError, DefaultChainCoder};
 use constriction_stream::decoding::Decode;
 use std::alloc::{AllocError, Global};
 
-/// The coder that words stand for.
+/// Makes a coder from words.
 fn coder_of(alloc: Global, words: Vec<u32>) -> Result<DefaultChainCoder, Fault>
     ensures ok { IfOk result (λ coder. IsChainOf (map (λ word. word % 2 ^ 32) words.items) coder.state) }
     ensures err { IfErr result (λ fault. (fault ≡ NoChain) × IsNoChain (map (λ word. word % 2 ^ 32) words.items)) }
@@ -28,7 +30,7 @@ fn coder_of(alloc: Global, words: Vec<u32>) -> Result<DefaultChainCoder, Fault>
     }
 }
 
-/// The next symbols of a coder.
+/// Decodes `count` symbols.
 fn decode<M: DecoderModel<PRECISION, Symbol = usize, Probability = u32>>(
     alloc: Global,
     model: &M,
@@ -52,7 +54,7 @@ fn decode<M: DecoderModel<PRECISION, Symbol = usize, Probability = u32>>(
     Ok(symbols)
 }
 
-/// Symbols, and the words of two lists, as three lines.
+/// Returns three lines: the symbols, and two lists of words.
 fn three_lines(
     alloc: Global,
     symbols: &[usize],
@@ -69,8 +71,9 @@ fn three_lines(
     Ok(lines)
 }
 
-/// The lines of symbols, of the words that are left and of the remainders, for a line of weights and a line of a count
-/// and words.
+/// Returns the lines of the symbols, of the words left, and of the remainders.
+///
+/// The input is a line of weights, and a line of a count and words.
 pub fn answer(alloc: Global, text: &[u8]) -> Result<Vec<u8>, Fault>
     ensures ok { IfOk result (λ answer. IsChainSplit text.now answer.items) }
     ensures err { IfErr result (ChainSplitFails text.now) }

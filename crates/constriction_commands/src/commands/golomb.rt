@@ -1,4 +1,4 @@
-//! `golomb`: numbers to their Exp-Golomb codewords, as texts and in the words of a queue of bits.
+//! The command `golomb`, which writes numbers as Exp-Golomb codewords, as digits and in the words of a queue of bits.
 
 ghost use Rattle.std.specs.Prelude.{◌≡◌, ◌%◌, ◌^◌, ◌++◌, map, flat_map, IfOk, IfErr, OnOk};
 ghost use Rattle.constriction_symbol.specs.Bits.{IsQueueWords};
@@ -15,7 +15,7 @@ use constriction_symbol::exp_golomb::ExpGolomb;
 use constriction_symbol::writing::WriteBitStream;
 use std::alloc::{AllocError, Global};
 
-/// Adds the codeword of a number as digits.
+/// Appends the codeword of a number as digits.
 fn push_codeword(alloc: Global, line: &mut Vec<u8>, number: u32) -> Result<(), AllocError>
     ensures { OnOk result (line.new.items ≡ line.old.items ++ digits (golomb number)) }
 {
@@ -23,7 +23,7 @@ fn push_codeword(alloc: Global, line: &mut Vec<u8>, number: u32) -> Result<(), A
     push_digits(line, bits.as_slice())
 }
 
-/// The codewords of numbers as a line.
+/// Returns the line of the codewords of numbers.
 fn line_of_codewords(alloc: Global, numbers: &[u32]) -> Result<Vec<u8>, AllocError>
     ensures { IfOk result (λ line. line.items ≡ golomb_line numbers.now) }
 {
@@ -38,7 +38,7 @@ fn line_of_codewords(alloc: Global, numbers: &[u32]) -> Result<Vec<u8>, AllocErr
     Ok(line)
 }
 
-/// The words of a queue of bits that holds the codewords of numbers in order.
+/// Encodes numbers as a queue of bits, and returns its words.
 fn queue_of(alloc: Global, numbers: &[u32]) -> Result<Vec<u32>, AllocError>
     ensures { IfOk result
         (λ words. IsQueueWords 32 (flat_map golomb numbers.now) (map (λ word. word % 2 ^ 32) words.items)) }
@@ -47,14 +47,14 @@ fn queue_of(alloc: Global, numbers: &[u32]) -> Result<Vec<u32>, AllocError>
     for number in numbers {
         match coder.encode_symbol(number, ExpGolomb::<u32>::new()) {
             Ok(()) => {}
-            // Each number has a codeword, so that only memory was missing.
+            // Each number has a codeword, so there was no memory.
             Err(_) => return Err(AllocError),
         }
     }
     coder.into_compressed()
 }
 
-/// The line of codewords and the line of words for a line of numbers.
+/// Returns the line of codewords and the line of words for a line of numbers.
 pub fn answer(alloc: Global, text: &[u8]) -> Result<Vec<u8>, Fault>
     ensures ok { IfOk result (λ answer. IsGolomb text.now answer.items) }
     ensures err { IfErr result (GolombFails text.now) }

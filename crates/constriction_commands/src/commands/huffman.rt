@@ -1,4 +1,4 @@
-//! `huffman`: weights to the codewords of their symbols, as texts.
+//! The command `huffman`, which writes the codewords of the Huffman tree of weights as digits.
 
 ghost use Rattle.std.specs.Prelude.{IfErr, IfOk, OnOk, length, ◌++◌, ◌≡◌};
 ghost use Rattle.constriction_symbol.specs.Huffman.{IsHuffman, book_of, leaves, path};
@@ -11,7 +11,7 @@ use crate::input::{parse_numbers, split_line};
 use constriction_symbol::huffman::{EncoderHuffmanTree, HuffmanError};
 use std::alloc::{AllocError, Global};
 
-/// The tree of the weights of symbols 0, 1, ..
+/// Makes the tree of the weights of symbols 0, 1, ..
 fn make_tree(alloc: Global, weights: &[usize]) -> Result<EncoderHuffmanTree, Fault>
     ensures ok { IfOk result (λ tree. IsHuffman weights.now (book_of tree)) }
     ensures err { IfErr result (TreeFails weights.now) }
@@ -26,7 +26,7 @@ fn make_tree(alloc: Global, weights: &[usize]) -> Result<EncoderHuffmanTree, Fau
     }
 }
 
-/// Adds the codeword of a symbol as digits, or a hyphen where it has no bits.
+/// Appends the codeword of a symbol as digits, or a hyphen for the empty codeword.
 fn push_codeword(
     alloc: Global,
     line: &mut Vec<u8>,
@@ -43,7 +43,7 @@ fn push_codeword(
     push_digits(line, bits.as_slice())
 }
 
-/// The codewords of the symbols of a tree as a line.
+/// Returns the line of the codewords of a tree.
 fn line_of_codewords(alloc: Global, tree: &EncoderHuffmanTree) -> Result<Vec<u8>, AllocError>
     ensures { IfOk result (λ line. line.items ≡ codewords_line (length (leaves tree.now)) (path tree.now)) }
 {
@@ -58,7 +58,7 @@ fn line_of_codewords(alloc: Global, tree: &EncoderHuffmanTree) -> Result<Vec<u8>
     Ok(line)
 }
 
-/// The line of codewords for a line of weights.
+/// Returns the line of codewords for a line of weights.
 pub fn answer(alloc: Global, text: &[u8]) -> Result<Vec<u8>, Fault>
     ensures ok { IfOk result (λ answer. IsHuffmanLine text.now answer.items) }
     ensures err { IfErr result (HuffmanFails text.now) }

@@ -1,4 +1,4 @@
-//! `range-decode`: the words of a range coder to symbols.
+//! The command `range-decode`, which decodes symbols from the words of a range coder.
 
 ghost use Rattle.std.specs.Prelude.{◌≡◌, length, IfOk, IfErr};
 ghost use Rattle.constriction_base.specs.Models.{items_of};
@@ -22,7 +22,7 @@ use std::alloc::Global;
 /// A decoder that borrows its words.
 type Decoder<'a> = DefaultRangeDecoder<Cursor<u32, &'a [u32]>>;
 
-/// A decoder of words.
+/// Makes a decoder of words.
 fn decoder_of(words: &[u32]) -> Decoder<'_>
     ensures { IsAt 32 64 words.now (initial 64) result.lower result.range result.point result.words }
 {
@@ -32,7 +32,7 @@ fn decoder_of(words: &[u32]) -> Decoder<'_>
     }
 }
 
-/// So many symbols that the words hold, with zero words behind them.
+/// Decodes `count` symbols. Behind the words it reads zero words.
 fn decode<M: DecoderModel<PRECISION, Symbol = usize, Probability = u32>>(
     alloc: Global,
     model: &M,
@@ -58,7 +58,7 @@ fn decode<M: DecoderModel<PRECISION, Symbol = usize, Probability = u32>>(
     Ok(symbols)
 }
 
-/// The line of symbols for a line of weights and a line of a count and words.
+/// Returns a line of symbols for a line of weights, and a line of a count and words.
 pub fn answer(alloc: Global, text: &[u8]) -> Result<Vec<u8>, Fault>
     ensures ok { IfOk result (λ answer. IsRangeDecoded text.now answer.items) }
     ensures err { IfErr result (RangeDecodeFails text.now) }

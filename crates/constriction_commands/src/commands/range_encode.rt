@@ -1,4 +1,7 @@
-//! `range-encode`: symbols to the words of a range coder.
+//! The command `range-encode`, which encodes symbols with a range coder.
+//!
+//! It answers `out of memory` if the encoder can't take as many symbols. The encoder takes `2^64 - 18`, and each symbol
+//! stands in memory. But the language only knows that the length of a list is below `2^64`.
 
 ghost use Rattle.std.specs.Prelude.{◌≡◌, ◌%◌, ◌^◌, map, IfOk, IfErr};
 ghost use Rattle.constriction_base.specs.Models.{items_of};
@@ -17,7 +20,7 @@ use constriction_queue::DefaultRangeEncoder;
 use constriction_stream::encoding::Encode;
 use std::alloc::Global;
 
-/// The words that hold the symbols, the first of which is decoded first.
+/// Encodes symbols so that the first one is decoded first, and returns the words.
 fn encode<M: EncoderModel<PRECISION, Symbol = usize, Probability = u32>>(
     alloc: Global,
     model: &M,
@@ -29,7 +32,7 @@ fn encode<M: EncoderModel<PRECISION, Symbol = usize, Probability = u32>>(
     ensures err { IfErr result (CoderFails (M.table model.now) symbols.now) }
 {
     let mut coder = DefaultRangeEncoder::new(alloc);
-    // No memory has so many symbols.
+    // No memory holds so many symbols.
     if Encode::<PRECISION>::symbols_left(&coder) < symbols.len() {
         return Err(Fault::OutOfMemory);
     }
@@ -43,7 +46,7 @@ fn encode<M: EncoderModel<PRECISION, Symbol = usize, Probability = u32>>(
     Ok(coder.into_compressed()?)
 }
 
-/// The line of words for a line of weights and a line of symbols.
+/// Returns a line of words for a line of weights and a line of symbols.
 pub fn answer(alloc: Global, text: &[u8]) -> Result<Vec<u8>, Fault>
     ensures ok { IfOk result (λ answer. IsRangeEncoded text.now answer.items) }
     ensures err { IfErr result (EncodeFails text.now) }

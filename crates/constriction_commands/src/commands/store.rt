@@ -1,4 +1,4 @@
-//! `store`: chunks to the words of an indexed store, and the chunks that are looked up in it.
+//! The command `store`, which writes the words of an indexed store, and chunks that it looks up.
 
 ghost use Rattle.std.specs.Prelude.{◌≡◌, ◌++◌, List, ℕ, length, IfOk, IfErr, OnOk};
 ghost use Rattle.constriction_base.specs.WeightTables.{entries, model_of};
@@ -16,10 +16,10 @@ use constriction_base::model::{DecoderModel, EncoderModel, EntropyModel};
 use constriction_store::{BuildError, ChunkError, Store};
 use std::alloc::Global;
 
-/// A store of words of 32 bits.
+/// A store of 32-bit words.
 type Chunks = Store<u32, u64, Table, PRECISION>;
 
-/// The store of chunks.
+/// Builds the store of chunks.
 fn store_of(alloc: Global, chunks: &[Vec<usize>], table: Table) -> Result<Chunks, Fault>
     ensures words { IfOk result (λ store. AreWordsOf (entries table) (lists_of chunks.now) store.words) }
     ensures held { IfOk result (λ store. HoldsChunks 32 64 (model_of store.model) store.words store.index
@@ -36,7 +36,7 @@ fn store_of(alloc: Global, chunks: &[Vec<usize>], table: Table) -> Result<Chunks
     }
 }
 
-/// Adds the lines of the chunks at these places, in the order of the places.
+/// Appends the lines of the chunks at these places, in order.
 fn push_chunks(
     alloc: Global,
     lines: &mut Vec<u8>,
@@ -54,7 +54,7 @@ fn push_chunks(
         match store.chunk(alloc, *place) {
             Ok(symbols) => push_numbers(lines, symbols.as_slice())?,
             Err(ChunkError::NoSuchChunk) => return Err(Fault::NoSuchChunk),
-            // Each chunk of a store that was built is there.
+            // A built store holds each of its chunks.
             Err(ChunkError::Invalid) => unreachable!(),
             Err(ChunkError::Memory) => return Err(Fault::OutOfMemory),
         }
@@ -62,7 +62,9 @@ fn push_chunks(
     Ok(())
 }
 
-/// The line of words and the lines of chunks, for a line of weights, a line of places and a line for each chunk.
+/// Returns the line of words and the lines of chunks.
+///
+/// The input is a line of weights, a line of places, and a line for each chunk.
 pub fn answer(alloc: Global, text: &[u8]) -> Result<Vec<u8>, Fault>
     ensures ok { IfOk result (λ answer. IsStored text.now answer.items) }
     ensures err { IfErr result (StoreFails text.now) }

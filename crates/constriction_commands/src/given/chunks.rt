@@ -1,4 +1,4 @@
-//! Weights, look-ups and chunks.
+//! Parsing weights, look-ups and chunks.
 
 ghost use Rattle.std.specs.Prelude.{IfOk, IfErr};
 ghost use Rattle.constriction_store.specs.Chunks.{lists_of};
@@ -10,10 +10,10 @@ use crate::weights::{PRECISION, Table, make_table};
 use constriction_base::model::EntropyModel;
 use std::alloc::Global;
 
-/// The places of the chunks that are looked up, and all chunks.
+/// A table, the places to look up, and all chunks.
 pub type Given = (Table, Vec<usize>, Vec<Vec<usize>>);
 
-/// The table of the weights of line 1, the places of line 2, and a chunk for each line behind them.
+/// Parses the table of the weights of line 1, the places of line 2, and a chunk for each further line.
 pub fn table_and_chunks(alloc: Global, text: &[u8]) -> Result<Given, Fault>
     ensures ok { IfOk result (λ given. GivesChunks text.now (⟦<Table as EntropyModel<PRECISION>>⟧.table given.0)
         given.1.items (lists_of given.2.items)) }

@@ -1,4 +1,4 @@
-//! Weights and symbols.
+//! Parsing weights and symbols.
 
 ghost use Rattle.std.specs.Prelude.{IfOk, IfErr};
 ghost use Rattle.constriction_commands.specs.Inputs.{GivesSymbols, NoSymbols};
@@ -10,7 +10,7 @@ use crate::weights::{PRECISION, Table, make_table};
 use constriction_base::model::EntropyModel;
 use std::alloc::Global;
 
-/// The table of the weights of line 1, and the symbols of line 2.
+/// Parses the table of the weights of line 1, and the symbols of line 2.
 pub fn table_and_symbols(alloc: Global, text: &[u8]) -> Result<(Table, Vec<usize>), Fault>
     ensures ok { IfOk result
         (λ given. GivesSymbols text.now (⟦<Table as EntropyModel<PRECISION>>⟧.table given.0) given.1.items) }

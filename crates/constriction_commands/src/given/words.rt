@@ -1,4 +1,4 @@
-//! Weights, a count, and words.
+//! Parsing weights, a count of symbols, and words.
 
 ghost use Rattle.std.specs.Prelude.{◌≡◌, ◌⊎◌, ◌<◌, ◌≤◌, ℕ, List, ◌∷◌, [], IfOk, IfErr};
 ghost use Rattle.constriction_commands.specs.Inputs.{GivesWords, NoWords, most};
@@ -12,9 +12,11 @@ use constriction_base::model::EntropyModel;
 use std::alloc::Global;
 
 /// The greatest count of symbols.
+///
+/// The count is read as a 32-bit number, like the words. A greater one is a `bad number` either way.
 const MOST: u32 = 16_777_216;
 
-/// The number in front of a line, which is taken out of it.
+/// Removes the count from the front of a line of numbers, and returns it.
 fn take_count(numbers: &mut Vec<u32>) -> Result<u32, Fault>
     ensures ok { IfOk result (λ count. (numbers.old.items ≡ count ∷ numbers.new.items) × (count ≤ most)) }
     ensures err { IfErr result (λ fault. ((fault ≡ NoCount) × (numbers.old.items ≡ []))
@@ -31,7 +33,7 @@ fn take_count(numbers: &mut Vec<u32>) -> Result<u32, Fault>
     Ok(count)
 }
 
-/// The table of the weights of line 1, and the count and the words of line 2.
+/// Parses the table of the weights of line 1, and the count and the words of line 2.
 pub fn table_and_words(alloc: Global, text: &[u8]) -> Result<(Table, u32, Vec<u32>), Fault>
     ensures ok { IfOk result
         (λ given. GivesWords text.now (⟦<Table as EntropyModel<PRECISION>>⟧.table given.0) given.1 given.2.items) }

@@ -1,4 +1,4 @@
--- Why symbols weren't coded by a range encoder, or aren't read from words; and what a decoder says of an end.
+-- The errors of encoding and decoding symbols with range coders, and what a decoder says of the end.
 use Rattle.std.specs.Prelude.{◌≡◌, ◌<◌, ℕ, ⊤, List, Bool, IsTrue, length}
 use Rattle.constriction_base.specs.Models.{Item}
 use Rattle.constriction_base.specs.declared.errors.CoderError.{CoderError}
@@ -14,46 +14,47 @@ use Rattle.constriction_laws.specs.declared.queue.concatenated.DecodeError.{Deco
 use Rattle.constriction_laws.specs.declared.queue.concatenated.DecodeError.TheVariants.{NoSuchPlace, InvalidData}
 use Rattle.constriction_queue.specs.Symbols.{NarrowsAll, FindsAll, MayEnd, NearsEnd}
 
--- symbols weren't coded: one has no entry, or they are more than the encoder counts
+-- The symbols weren't encoded: one has no entry, or there are more than the encoder counts.
 abbrev pub NotCoded : Type 0 → Type 0 → RoundTripError → Type 0
 NotCoded impossible many e = Reasons impossible many ⊥ (λ taken. ⊥) e
 
--- symbols weren't read: the words hold none such
+-- The symbols weren't decoded: the words hold no such symbols.
 abbrev pub NotRead : Type 0 → RoundTripError → Type 0
 NotRead none e = Reasons ⊥ ⊥ none (λ taken. ⊥) e
 
--- items are read from these words, from a run on, and a decoder stands behind them
+-- The items are decoded from these words, from a run on, and a decoder stands behind them.
 abbrev pub ReadTo : {S B : Type 0} → ℕ → ℕ → List ℕ → List (Item S) → Run → Decoder B → Type 0
 ReadTo w s words items old new = (last : Run) × FindsAll w s words items old last × StandsAt w s words last new
 
--- no such list of so many symbols is read from these words, from that run on
+-- No such list of `amt` symbols is decoded from these words, from this run on.
 abbrev pub HoldNone : {S : Type 0} → ℕ → ℕ → List ℕ → (List S → List (Item S)) → ℕ → Run → Type 0
 HoldNone {S} w s words items amt old = (symbols : List S) (last : Run) → length symbols ≡ amt → FindsAll w s words (items symbols) old last → ⊥
 
--- none is read by a decoder over a backend that knows its words, from where it stands
+-- A decoder over a backend that knows its words decodes no such list, from where it stands.
 abbrev pub GivesNone : {S B : Type 0} → Type 0 → ℕ → ℕ → (List S → List (Item S)) → ℕ → Decoder B → Type 0
 GivesNone is_list w s items amt decoder = is_list → (words : List ℕ) (old : Run) → StandsAt w s words old decoder → HoldNone w s words items amt old
 
--- these are the sealed words of the items, behind those of a run
+-- The words are the sealed words of the items, behind those of a run.
 abbrev pub SealsAll : {S : Type 0} → ℕ → ℕ → List (Item S) → Run → List ℕ → Type 0
 SealsAll w s items old words = (last : Run) × NarrowsAll w s items old last × (words ≡ sealed w s last)
 
--- a new decoder of the words reads these items, and then says whether the words may have ended
+-- A new decoder of the words decodes these items, and then says whether the words may have ended.
 abbrev pub ReadsToEnd : {S : Type 0} → ℕ → ℕ → List ℕ → List (Item S) → Bool → Type 0
 ReadsToEnd w s words items ended =
     (last : Run) × FindsAll w s words items (initial s) last × (MayEnd w s words last → IsTrue ended) × (IsTrue ended → NearsEnd w s words last)
 
--- the words lie within the run of the items
+-- The words lie within the run of the items.
 abbrev pub LieWithin : {S : Type 0} → ℕ → ℕ → List ℕ → List (Item S) → Type 0
 LieWithin w s words items = (last : Run) × NarrowsAll w s items (initial s) last × Within w s words last
 
--- why so many symbols weren't read from a position in words; in the second case these hold none from any run at that position
+-- Decoding `amt` symbols from a position fails with this error. `InvalidData` says that the words hold none from any
+-- run at that position.
 abbrev pub NoneAt : {S : Type 0} → ℕ → ℕ → List ℕ → (List S → List (Item S)) → ℕ → ℕ → ℕ → ℕ → DecodeError → Type 0
 NoneAt w s words items amt place lower range NoSuchPlace = length words < place
 NoneAt w s words items amt place lower range InvalidData = (there : Run) → IsPosition s there place lower range → HoldNone w s words items amt there
 NoneAt w s words items amt place lower range other = ⊤
 
--- a list of decodes was refused by the decoder itself: this holds then
+-- If the decoder itself refused a list of decodes, the property holds.
 abbrev pub InvalidWhere : {F B : Type 0} → Type 0 → Stopped (CoderError F B) → Type 0
 InvalidWhere none (stopped.Refused (Frontend e)) = none
 InvalidWhere none other = ⊤

@@ -1,4 +1,4 @@
--- Words that a stack coder exports after encodes, and positions that were recorded between encodes.
+-- The words that a stack coder exports after encodes, and the positions recorded between encodes.
 use Rattle.std.specs.Prelude.{◌≡◌, ℕ, List}
 use Rattle.constriction_base.specs.Models.{Item}
 use Rattle.constriction_base.specs.Steps.{AreWords}
@@ -7,14 +7,14 @@ use Rattle.constriction_stack.specs.Ans.{AnsState, exported}
 use Rattle.constriction_stack.specs.Binary.{binary_state}
 use Rattle.constriction_stack.specs.Symbols.{EncodesAll, DecodesAll}
 
--- encodes of the items onto the old state lead to one whose words these are
+-- Encodes of the items onto the old state lead to a state with these words.
 abbrev pub ExportsAll : {S : Type 0} → ℕ → ℕ → List (Item S) → AnsState → List ℕ → Type 0
 ExportsAll w s items old words = (state : AnsState) × EncodesAll w s items old state × (words ≡ exported w state)
 
--- no words in binary form stand for a state from which decodes of the items lead to this one
+-- No words in binary form stand for a state from which decodes of the items lead to this one.
 abbrev pub ComesFromNoWords : {S : Type 0} → ℕ → ℕ → List (Item S) → AnsState → Type 0
 ComesFromNoWords w s items new = (words : List ℕ) → AreWords w words → DecodesAll w s items (binary_state w s words) new → ⊥
 
--- encodes of the items lead from this state to one that has no binary form
+-- Encodes of the items lead from this state to one that has no binary form.
 abbrev pub LeadsToNoBinary : {S : Type 0} → ℕ → ℕ → List (Item S) → AnsState → Type 0
 LeadsToNoBinary w s items old = (last : AnsState) × EncodesAll w s items old last × ((m : ℕ) → IsOneAbove w m last.head → ⊥)

@@ -1,4 +1,4 @@
--- Stack coders over backends of which reads tell the words, as iterators.
+-- Stack coders over backends whose reads tell the words, such as iterators.
 use Rattle.std.specs.Prelude.{ℕ, ◌<◌, ◌^◌, List, Option, Result, map}
 use Rattle.constriction_base.specs.Steps.{InTurn}
 use Rattle.constriction_base.specs.Tables.{AtEntry}
@@ -8,24 +8,24 @@ use Rattle.constriction_stack.specs.Ans.{AnsState, AnsValue, IsNext, RefillsBy, 
 use Rattle.constriction_laws.specs.Readings.{TellsWords}
 use Rattle.constriction_laws.specs.stack.Exporting.{ExportsAll}
 
--- the state of a coder whose words the function tells
+-- The state of a coder whose words the function tells.
 abbrev pub told : {W B : Type 0} → (W → ℕ) → (B → List W) → AnsValue B → AnsState
 told number words coder = record { head = coder.state.head; words = map number (words coder.backend) }
 
--- a decode of the symbol by reads: its entry holds the head's quantile, and reads refill what the pop leaves of the head
+-- A decode of the symbol by reads: its entry holds the head's quantile, and reads refill the head after the pop.
 abbrev pub DecodesBy : {S W E B : Type 0} → (W → ℕ) → (B → Result (Option W) E → B → Type 0) → ℕ → ℕ → Model S → S → AnsValue B → AnsValue B → Type 0
 DecodesBy number reads w s model symbol old new =
     AtEntry model.precision model.table symbol (λ e. IsNext e old.state × RefillsBy number reads w s (popped_head e old.state) old.backend new.state.head new.backend)
 
--- decodes of the items by reads, one after the other
+-- Decodes of the items by reads, one after the other.
 abbrev pub DecodesAllBy : {S W E B : Type 0} → (W → ℕ) → (B → Result (Option W) E → B → Type 0) → ℕ → ℕ → List (Item S) → AnsValue B → AnsValue B → Type 0
 DecodesAllBy number reads w s items old new = InTurn (λ item. DecodesBy number reads w s item.model item.symbol) items old new
 
--- by reads from this backend words are imported, with a head that fits, and then decodes of the items lead to this coder
+-- An import by reads from this backend makes a head that fits, and then decodes of the items lead to this coder.
 abbrev pub DecodesFrom : {S W E B : Type 0} → (W → ℕ) → (B → Result (Option W) E → B → Type 0) → ℕ → ℕ → B → List (Item S) → AnsValue B → Type 0
 DecodesFrom {B = B} number reads w s given items last =
     (start : AnsValue B) × FilledBy number reads w s given start.state.head start.backend × (start.state.head < 2 ^ s) × DecodesAllBy number reads w s items start last
 
--- the function tells the words that reads give, and of this backend they are an export of the items from an empty coder
+-- The function tells the words that reads give. For this backend they are an export of the items from an empty coder.
 abbrev pub TellsExport : {S W E B : Type 0} → (W → ℕ) → (B → Result (Option W) E → B → Type 0) → (B → List W) → ℕ → ℕ → List (Item S) → B → Type 0
 TellsExport number reads words w s items given = TellsWords reads words × ExportsAll w s items empty (map number (words given))

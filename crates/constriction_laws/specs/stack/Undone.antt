@@ -1,4 +1,4 @@
--- One encode or decode of the stack coder is undone, as the laws on lists ask of a coder.
+-- One encode or decode of the stack coder is undone, as the laws of lists require.
 use Rattle.std.proofs.Common.{ℕ, sym, arith}
 use Rattle.constriction_base.specs.Steps.{IsSizes}
 use Rattle.constriction_stack.specs.Ans.{AnsState, IsValid}
@@ -7,18 +7,18 @@ use Rattle.constriction_base.specs.Models.{Model, IsModel}
 use Rattle.constriction_stack.specs.Symbols.{Encodes, Decodes}
 use Rattle.constriction_base.proofs.Entering.{entry_is_step}
 
--- words of w bits and heads of s bits
+-- The sizes of a coder: words of w bits, and heads of s bits.
 pub record Sizes : Type 0 where
   pub w : ℕ
   pub s : ℕ
   pub are : IsSizes w s
 
--- a decode undoes an encode
+-- A decode undoes an encode.
 pub decode_back : {S : Type 0} (w s : ℕ) (model : Model S) (symbol : S) (old new : AnsState)
     → Encodes w s model symbol old new → Decodes w s model symbol new old
 decode_back w s model symbol old new i = (i.0, i.1, i.2, (i.3.holds, sym i.3.back))
 
--- an encode undoes a decode from a valid state
+-- An encode undoes a decode from a valid state.
 pub encode_back : {S : Type 0} (w s : ℕ) (model : Model S) (symbol : S) (old new : AnsState)
     → IsValid w s old → Decodes w s model symbol old new → Encodes w s model symbol new old
 encode_back w s model symbol old new v i = (i.0, i.1, i.2, record { valid = v; holds = i.3.0; back = sym i.3.1 })

@@ -1,39 +1,39 @@
--- What codewords cost under some weights, and which codewords are lawful.
+-- The cost of codewords under weights, and prefix-free codewords.
 use Rattle.std.specs.Prelude.{◌≡◌, ℕ, ◌+◌, ◌*◌, ◌<◌, Bool, List, [], ◌∷◌, ◌++◌, length, map, get_or, Option, Some, AllPairs}
 use Rattle.constriction_symbol.specs.Huffman.{symbols_from}
 use Rattle.constriction_symbol.specs.Lists.{AreEach}
 
--- the sum of weight times length, of a codeword for each symbol
+-- The sum of weight times length, with a codeword for each weight.
 abbrev pub cost : List ℕ → List (List Bool) → ℕ
 cost [] codewords = 0
 cost (weight ∷ weights) [] = 0
 cost (weight ∷ weights) (bits ∷ codewords) = weight * length bits + cost weights codewords
 
--- no codeword of the list begins another one
+-- No codeword of the list begins another one.
 abbrev pub AreLawful : List (List Bool) → Type 0
 AreLawful codewords =
     (s t : ℕ) (tail : List Bool) → s < length codewords → t < length codewords
     → get_or codewords t [] ≡ get_or codewords s [] ++ tail → s ≡ t
 
--- the codewords that a codebook has for the symbols from 0 on
+-- The codewords are those of a codebook for the symbols from 0 on.
 abbrev pub AreCodewordsOf : (ℕ → Option (List Bool)) → List (List Bool) → Type 0
 AreCodewordsOf codeword codewords = (s : ℕ) → s < length codewords → codeword s ≡ Some (get_or codewords s [])
 
--- each of the symbols has a codeword, and these are they, in order
+-- The codewords are those of the symbols, in order.
 abbrev pub HaveCodewords : {S : Type 0} → (S → Option (List Bool)) → List S → List (List Bool) → Type 0
 HaveCodewords codeword symbols codewords = AreEach (λ symbol bits. codeword symbol ≡ Some bits) symbols codewords
 
--- no two of the symbols mean the same
+-- No two of the symbols mean the same.
 abbrev pub AreApart : {S : Type 0} → (S → S → Type 0) → List S → Type 0
 AreApart same symbols = AllPairs (λ s t. (same s t → ⊥) × (same t s → ⊥)) symbols
 
--- a symbol for each weight, each of which has a codeword, and what these codewords cost
+-- The codewords of the symbols, one for each weight, have this cost.
 abbrev pub Costs : {S : Type 0} → (S → Option (List Bool)) → List S → List ℕ → ℕ → Type 0
 Costs codeword symbols weights total =
     (codewords : List (List Bool)) × (length codewords ≡ length weights) × HaveCodewords codeword symbols codewords
     × (total ≡ cost weights codewords)
 
--- what the codewords of the symbols from 0 on cost, one for each weight
+-- The codewords of the symbols from 0 on, one for each weight, have this cost.
 abbrev pub CostsFromZero : {P : Type 0} → (P → ℕ) → (ℕ → Option (List Bool)) → List P → ℕ → Type 0
 CostsFromZero number codeword weights total =
     Costs codeword (symbols_from 0 (length weights)) (map number weights) total

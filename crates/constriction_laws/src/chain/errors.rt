@@ -1,16 +1,16 @@
-//! Why symbols aren't put back to a chain coder.
+//! The errors of encoding symbols on a chain coder.
 
-/// Why symbols aren't put back to the coder of some remainders.
+/// The error of encoding symbols on a chain coder that was made of remainders.
 #[derive(Debug, Clone, Copy, PartialEq, Eq)]
 pub enum PutBackError {
-    /// The words are the remainders of no coder.
+    /// The remainders belong to no coder.
     InvalidRemainders,
-    /// There are not as many models as symbols.
+    /// The numbers of models and of symbols differ.
     UnequalCounts,
-    /// The model has no entry for one of the symbols.
+    /// A model has no entry for its symbol.
     ImpossibleSymbol,
-    /// A word of the remainders is needed, and none is left.
+    /// The coder needs a word of the remainders, and none is left.
     OutOfRemainders,
-    /// Memory was refused.
+    /// There is no memory.
     NoMemory,
 }

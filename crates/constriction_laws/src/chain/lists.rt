@@ -1,7 +1,7 @@
-//! Lists of symbols on the chain coder: encodes undo decodes and the other way round, the last one first.
+//! Lists of symbols on the chain coder: encodes undo decodes, and decodes undo encodes.
 //!
-//! Each symbol has its own table, and all are of the coder's precision. What is proved of one step is
-//! enough: the laws here follow by [`lists_undo`].
+//! Each symbol has its own table. All tables have the coder's precision. The laws follow from those of one step by
+//! [`lists_undo`].
 
 ghost use Rattle.std.specs.Prelude.{◌≡◌, ℕ, List, reverse, ⊤};
 ghost use Rattle.constriction_base.specs.Models.{Item};
@@ -63,7 +63,7 @@ impl<Symbol> StepsUndo for Decoding<Symbol> {
     ) };
 }
 
-/// Decodes of symbols that were encoded undo the encodes, the last one first.
+/// Decodes undo encodes, from the last symbol to the first.
 pub fn decodes_undo_encodes<Symbol>()
     ensures { (w s : ℕ) (items : List (Item Symbol)) (old new : ChainState) →
         PutsBackAll w s items old new → TakesOffAll w s (reverse items) new old }
@@ -71,8 +71,9 @@ pub fn decodes_undo_encodes<Symbol>()
     lists_undo::<Encoding<Symbol>>()
 }
 
-/// Encodes of the symbols that decodes gave, the last one first and under the same tables, undo the
-/// decodes: there are such encodes, and they lead to the state before and to no other.
+/// Encodes under the same tables undo decodes, from the last symbol to the first.
+///
+/// There are such encodes, and they lead to the state before and to no other.
 pub fn encodes_undo_decodes<Symbol>()
     ensures back { (w s P : ℕ) (items : List (Item Symbol)) (old new : ChainState) → IsSized w s P →
         AreModelsAt P items → IsChain w s P old →

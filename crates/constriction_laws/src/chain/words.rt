@@ -1,4 +1,4 @@
-//! Words that come back from the symbols that are decoded from them, by way of the remainders.
+//! Words come back from the symbols decoded from them, through the remainders.
 
 ghost use Rattle.std.specs.Prelude.{◌≡◌, ◌≤◌, ℕ, List, reverse, ◌++◌};
 ghost use Rattle.constriction_base.specs.Models.{Item};
@@ -11,8 +11,9 @@ ghost use Rattle.constriction_chain.specs.Symbols.{AreModelsAt, TakesOffAll, Put
 ghost use Rattle.constriction_base.specs.Writing.{IsOneAbove};
 ghost use Rattle.constriction_chain.specs.Words.{remainder_words};
 
-/// Words stand for one coder, as compressed words, in binary form, and as remainders; and of one number there is one
-/// binary form.
+/// Words stand for at most one coder as compressed words, in binary form, and as remainders.
+///
+/// A number has at most one binary form.
 pub fn one_coder()
     ensures compressed { (w s P : ℕ) (words : List ℕ) (x y : ChainState) → 1 ≤ w →
         FromCompressed w s P words x → FromCompressed w s P words y → x ≡ y }
@@ -23,12 +24,12 @@ pub fn one_coder()
     ensures form { (w m n r : ℕ) → 1 ≤ w → IsOneAbove w m r → IsOneAbove w n r → m ≡ n }
 {}
 
-/// Words come back from the symbols that are decoded from them.
+/// Words come back from the symbols decoded from them.
 ///
-/// Import the words; decode any symbols; export the remainders, and put other words below them, or none:
-/// the compressed words that are left, say. Import these; encode the same symbols, the last one first and
-/// under the same tables; export. The exported words, and behind them the compressed words that were left,
-/// are the words; and the other words are left of the remainders.
+/// Import the words, decode any symbols, and export the remainders. Put other words below these, or none; the
+/// compressed words left would do. Import these remainders, encode the same symbols from the last to the first under
+/// the same tables, and export. The exported words, followed by the compressed words left, are the words. The other
+/// words are left of the remainders.
 pub fn words_come_back<Symbol>()
     ensures encoded { (w s P : ℕ) (below : List ℕ) (items : List (Item Symbol)) (x y : ChainState) →
         IsSized w s P → AreModelsAt P items → AreWords w below → IsWhole w s P x → TakesOffAll w s items x y →

@@ -1,12 +1,12 @@
-//! Why no list was read from a place in words.
+//! Errors of decoding a list from a place in words.
 
-/// Why no list was read.
+/// The error of a list that wasn't decoded.
 #[derive(Debug, Clone, Copy, PartialEq, Eq)]
 pub enum DecodeError {
-    /// The words end before the place.
+    /// The place is past the words.
     NoSuchPlace,
-    /// The words from the place on hold no list of so many symbols of the model.
+    /// From the place on, the words hold no list of this many symbols of the model.
     InvalidData,
-    /// Memory was refused.
+    /// There is no memory.
     NoMemory,
 }

@@ -1,4 +1,4 @@
-//! Words that hold whatever follows them, for states of any number of words.
+//! Words that any words may follow, for states of any number of words.
 
 ghost use Rattle.std.specs.Prelude.{◌≡◌, ◌/◌, ◌<◌, ◌++◌, ◌∷◌, ℕ, List};
 ghost use Rattle.constriction_base.specs.Models.{Item, AreModels};
@@ -9,8 +9,10 @@ ghost use Rattle.constriction_queue.specs.Symbols.{NarrowsAll, FindsAll, MayEnd}
 
 use crate::queue::lists::decodes_undo_encodes;
 
-/// What the words are: one list for each run, of words; where a state is two words it is that of the sealed words;
-/// and reading them ends where the symbols do.
+/// Says which words these are.
+///
+/// There is one list of them for each run. If a state has two words, they are the sealed words. Reading them ends with
+/// the symbols.
 pub fn self_delimiting_words<Symbol>()
     ensures one { (w s : ℕ) (last : Run) (words others : List ℕ) → SelfDelimits w s last words →
         SelfDelimits w s last others → others ≡ words }
@@ -23,14 +25,13 @@ pub fn self_delimiting_words<Symbol>()
         MayEnd w s words last }
 {}
 
-/// The words are read as the steps that they were made of, whatever words follow.
+/// The words are read as the steps encoded, whatever words follow.
 pub fn self_delimiting_words_are_read()
     ensures { (w s : ℕ) (steps : List Step) (words rest : List ℕ) → IsSizes w s → AreSteps w steps → AreWords w rest →
         SelfDelimits w s (run w s steps (initial s)) words → ReadAs w s (words ++ rest) steps (initial s) }
 {}
 
-/// Symbols that a new encoder was given, all of them or those since a position, come back from the words, whatever
-/// words follow.
+/// Symbols encoded by a new encoder, or those since a position, come back from the words, whatever words follow.
 pub fn symbols_come_back_whatever_follows<Symbol>()
     ensures { (w s : ℕ) (before since : List (Item Symbol)) (middle last : Run) (words rest : List ℕ) → IsSizes w s →
         AreModels w before → AreModels w since → AreWords w rest →
@@ -40,7 +41,7 @@ pub fn symbols_come_back_whatever_follows<Symbol>()
     decodes_undo_encodes::<Symbol>()
 }
 
-/// With fewer zero words behind the digits there are words that may not follow: the symbols don't come back.
+/// With fewer zero words behind the digits, some words may not follow: with these, the symbols don't come back.
 pub fn fewer_zero_words_hold_less<Symbol>()
     ensures { (w s count fewer : ℕ) (first : Item Symbol) (others : List (Item Symbol)) (last : Run) → IsSizes w s →
         AreModels w (first ∷ others) → NarrowsAll w s (first ∷ others) (initial s) last →

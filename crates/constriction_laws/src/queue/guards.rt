@@ -1,16 +1,15 @@
-//! Guards: their words go again. That they show those of the owning export is said of the calls, by
-//! [`words_shown_and_given`].
+//! The drop of a guard restores the encoder.
 //!
-//! What a guard's maker says of it is the premise of the law here: its encoder holds the words of the seal
-//! above its own, with the heads of before.
+//! [`words_shown_and_given`] says of the calls that a guard's words are those of the export. The premise of the law
+//! here is what the call that makes a guard ensures: its encoder holds the words of the seal above its own, with the
+//! same heads.
 //!
 //! [`words_shown_and_given`]: crate::queue::round_trips::shown::words_shown_and_given
 
 ghost use Rattle.std.specs.Prelude.{◌≡◌, ℕ, drop};
 ghost use Rattle.constriction_queue.specs.Encoder.{Encoder, HasHeads, Without, run_by, sealed_by};
 
-/// Where as many words are taken off as were written, the encoder stands for the run before, and exports the
-/// words of before.
+/// Without the words that a guard wrote, the encoder has its run before, and exports the same words.
 pub fn shown_words_go<Backend>()
     ensures run { (w s count : ℕ) (encoder shown left : Encoder Backend) → HasHeads encoder shown →
         drop count shown.words ≡ encoder.words → Without count shown left →

@@ -1,8 +1,7 @@
-//! Lists of symbols on the range coder: they come back, the first one first.
+//! Lists of symbols on the range coder, which come back first symbol first.
 //!
-//! Each symbol has its own table and precision, as long as the precision is allowed. What is proved of one
-//! step is enough: the laws here follow by [`lists_undo`], where encodes are taken back from the last to the
-//! first.
+//! Each symbol has its own table, with any allowed precision. The laws follow from those of one step by [`lists_undo`],
+//! where encodes are taken back from the last to the first.
 
 ghost use Rattle.std.specs.Prelude.{◌≡◌, ◌↔◌, ◌∷◌, ℕ, List};
 ghost use Rattle.constriction_base.specs.Models.{Item, IsModel, models, AreModels, AreKnown};
@@ -48,7 +47,7 @@ pub fn one_list_of_encodes<Symbol>()
         NarrowsAll w s items old new → IsInterval w s new }
 {}
 
-/// Words that lie within the run at the end of encodes are decoded as their symbols, and as nothing else.
+/// Words within the final run of encodes are decoded as their symbols, and as nothing else.
 pub fn decodes_undo_encodes<Symbol>()
     ensures back { (w s : ℕ) (words : List ℕ) (items : List (Item Symbol)) (old new : Run) → IsSizes w s →
         AreWords w words → AreModels w items → IsInterval w s old →
@@ -65,8 +64,7 @@ pub fn decodes_undo_encodes<Symbol>()
     lists_undo::<Encoding<Symbol>>()
 }
 
-/// A decoder over any words gives a list of symbols that isn't empty exactly if the words lie within the run
-/// at its end.
+/// A decoder over any words returns a nonempty list of symbols exactly if the words lie within its final run.
 pub fn symbols_of_any_words<Symbol>()
     ensures { (w s : ℕ) (words : List ℕ) (first : Item Symbol) (others : List (Item Symbol)) (last : Run) →
         IsSizes w s → AreWords w words → AreModels w (first ∷ others) →
@@ -76,11 +74,10 @@ pub fn symbols_of_any_words<Symbol>()
     decodes_undo_encodes::<Symbol>()
 }
 
-/// Symbols that are encoded by a new encoder come back from its sealed words, the first one first.
+/// Symbols encoded by a new encoder come back from its sealed words, first symbol first.
 ///
-/// Encode any symbols, each under its own table; seal; decode from these words, followed by nothing, with the
-/// same tables in the same order. The symbols are the same, the run is the encoder's, and the decoder is
-/// exhausted.
+/// Encode any symbols, each under its own table. Seal. Decode from these words, followed by nothing, with the same
+/// tables in the same order. The symbols and the run are the same, and the decoder is exhausted.
 pub fn symbols_come_back<Symbol>()
     ensures decoded { (w s : ℕ) (items : List (Item Symbol)) (last : Run) → IsSizes w s → AreModels w items →
         NarrowsAll w s items (initial s) last → FindsAll w s (sealed w s last) items (initial s) last }

@@ -1,11 +1,12 @@
-//! Words of the range coder, and what they are read as: lists of steps.
+//! The words of the range coder, read as lists of steps.
 
 ghost use Rattle.std.specs.Prelude.{◌≡◌, ◌↔◌, ◌++◌, ◌∷◌, ◌/◌, ℕ, List};
 ghost use Rattle.constriction_base.specs.Steps.{Step, IsSizes, AreSteps, AreWords};
 ghost use Rattle.constriction_queue.specs.Range.{Run, ReadAs, Within, run, sealed, initial};
 
-/// Sealed words are read as the steps that they were made of; and where a state is two words, so they are
-/// whatever words follow.
+/// Sealed words are read as the steps encoded.
+///
+/// If a state has two words, this holds whatever words follow.
 pub fn sealed_words_are_read()
     ensures alone { (w s : ℕ) (steps : List Step) → IsSizes w s → AreSteps w steps →
         ReadAs w s (sealed w s (run w s steps (initial s))) steps (initial s) }
@@ -15,8 +16,7 @@ pub fn sealed_words_are_read()
     ensures words { (w s : ℕ) (last : Run) → AreWords w (sealed w s last) }
 {}
 
-/// Any words are read as a list of steps that isn't empty exactly if their number lies in the interval at
-/// the end of its run.
+/// Any words are read as a nonempty list of steps exactly if their number lies in the final interval of the run.
 pub fn words_within_are_read()
     ensures { (w s : ℕ) (words : List ℕ) (first : Step) (others : List Step) → IsSizes w s →
         AreWords w words → AreSteps w (first ∷ others) →

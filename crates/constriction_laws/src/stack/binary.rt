@@ -1,7 +1,7 @@
 //! Binary forms of the stack coder's states.
 //!
-//! In binary form any words are allowed, zeros at the top among them: they stand below a leading one
-//! bit of the head, which isn't written.
+//! In binary form any words are allowed, also with zeros at the top. They stand below a leading 1 of the head, which
+//! isn't written.
 
 ghost use Rattle.std.specs.Prelude.{◌≡◌, ◌≤◌, ℕ, List, reverse};
 ghost use Rattle.constriction_base.specs.Steps.{IsSizes, AreWords};
@@ -13,7 +13,7 @@ ghost use Rattle.constriction_stack.specs.Symbols.{EncodesAll, DecodesAll};
 
 use crate::stack::lists::encodes_undo_decodes;
 
-/// Any words are imported as a valid state in binary form, whose words they are.
+/// Any words are imported as a valid state in binary form, which exports them.
 pub fn binary_export_of_import()
     ensures words { (w s : ℕ) (words : List ℕ) → IsSizes w s → AreWords w words →
         (m : ℕ) × IsOneAbove w m (binary_state w s words).head × (binary_words w m (binary_state w s words) ≡ words) }
@@ -21,7 +21,7 @@ pub fn binary_export_of_import()
         IsValid w s (binary_state w s words) }
 {}
 
-/// What is imported from the words of a valid state in binary form is that state.
+/// An import of the words of a valid state in binary form returns that state.
 pub fn binary_import_of_export()
     ensures state { (w s m : ℕ) (state : AnsState) → IsSizes w s → IsValid w s state →
         IsOneAbove w m state.head →
@@ -30,16 +30,16 @@ pub fn binary_import_of_export()
         AreWords w (binary_words w m state) }
 {}
 
-/// A state has one binary form at most: its head says how many words it holds.
+/// A state has at most one binary form, because its head says how many words it holds.
 pub fn one_binary_form()
     ensures { (w m n : ℕ) (state : AnsState) → 1 ≤ w → IsOneAbove w m state.head → IsOneAbove w n state.head →
         m ≡ n }
 {}
 
-/// Any words come back from the symbols that are decoded from them.
+/// Any words come back from the symbols decoded from them.
 ///
-/// Import the words in binary form; decode any symbols; encode the same symbols, the last one first
-/// and under the same tables; export in binary form. The words are the same.
+/// Import the words in binary form and decode any symbols. Encode the same symbols from the last to the first under the
+/// same tables, and export in binary form. The words are the same.
 pub fn binary_words_come_back<Symbol>()
     ensures state { (w s : ℕ) (words : List ℕ) (items : List (Item Symbol)) (state last : AnsState) →
         IsSizes w s → AreWords w words → AreModels w items →

@@ -1,7 +1,7 @@
-//! Guards: the words that they show are those of the owning export, and go again.
+//! A guard's words are those of the export, and its drop restores the coder.
 //!
-//! What a guard's maker says of it, `shows`, is the premise of each law here: its coder holds the words of
-//! the export below the head.
+//! The premise of each law is the clause `shows` of the call that makes a guard: its coder holds the words of the
+//! export below the head.
 
 ghost use Rattle.std.specs.Prelude.{◌≡◌, ℕ};
 ghost use Rattle.constriction_base.specs.Digits.{count_of_words};
@@ -11,8 +11,7 @@ ghost use Rattle.constriction_base.specs.Writing.{IsOneAbove};
 ghost use Rattle.constriction_stack.specs.Binary.{binary_state, binary_words};
 ghost use Rattle.constriction_stack.specs.Guards.{without};
 
-/// While a guard lives, its words are those of the export: what is imported from them is the state that
-/// they were made from.
+/// A guard's words are those of the export: an import of them returns the state before.
 pub fn shown_words_are_exported()
     ensures compressed { (w s : ℕ) (state shown : AnsState) → IsSizes w s → IsValid w s state →
         shown ≡ record { head = state.head; words = exported w state } →
@@ -23,7 +22,7 @@ pub fn shown_words_are_exported()
         binary_state w s shown.words ≡ state }
 {}
 
-/// Where as many words are taken off as the head has, that is the state before, in both forms.
+/// Without as many words as the head has, the state is the one before, in both forms.
 pub fn shown_words_go()
     ensures compressed { (w : ℕ) (state shown : AnsState) →
         shown ≡ record { head = state.head; words = exported w state } →

@@ -1,7 +1,6 @@
-//! Lists of symbols on the stack coder: they come back, the last one first.
+//! Lists of symbols on the stack coder, which come back last symbol first.
 //!
-//! Each symbol has its own table and precision, as long as the precision is allowed. What is proved
-//! of one step is enough: the laws here follow by [`lists_undo`].
+//! Each symbol has its own table, with any allowed precision. The laws follow from those of one step by [`lists_undo`].
 
 ghost use Rattle.std.specs.Prelude.{◌≡◌, ℕ, List, reverse, ⊤};
 ghost use Rattle.constriction_base.specs.Readings.{BeginsHigh};
@@ -64,8 +63,7 @@ impl<Symbol> StepsUndo for Decoding<Symbol> {
     ) };
 }
 
-/// Symbols that their tables know can be encoded one after the other onto each valid state, in
-/// exactly one way.
+/// Symbols that their tables know can be encoded one after another onto each valid state, in exactly one way.
 pub fn one_list_of_encodes<Symbol>()
     ensures exists { (w s : ℕ) (items : List (Item Symbol)) (old : AnsState) →
         IsSizes w s → AreModels w items → AreKnown items → IsValid w s old →
@@ -75,8 +73,9 @@ pub fn one_list_of_encodes<Symbol>()
         EncodesAll w s items old new → EncodesAll w s items old other → new ≡ other }
 {}
 
-/// Decodes under the same tables in reverse order undo encodes: they give the same symbols, the last
-/// one first, and the state before.
+/// Decodes under the same tables in reverse order undo encodes.
+///
+/// They return the same symbols, last symbol first, and lead to the state before.
 pub fn decodes_undo_encodes<Symbol>()
     ensures back { (w s : ℕ) (items : List (Item Symbol)) (old new : AnsState) → IsSizes w s →
         EncodesAll w s items old new → DecodesAll w s (reverse items) new old }
@@ -89,8 +88,9 @@ pub fn decodes_undo_encodes<Symbol>()
     lists_undo::<Encoding<Symbol>>()
 }
 
-/// Encodes of the symbols that decodes gave, the last one first and under the same tables, undo the
-/// decodes: they give the valid state before.
+/// Encodes under the same tables undo decodes, from the last symbol to the first.
+///
+/// They lead to the valid state before.
 pub fn encodes_undo_decodes<Symbol>()
     ensures back { (w s : ℕ) (items : List (Item Symbol)) (old new : AnsState) → IsSizes w s →
         AreModels w items → IsValid w s old →
@@ -105,10 +105,10 @@ pub fn encodes_undo_decodes<Symbol>()
     lists_undo::<Decoding<Symbol>>()
 }
 
-/// Symbols that are encoded onto an empty coder come back from the words that it exports.
+/// Symbols encoded onto an empty coder come back from the words that it exports.
 ///
-/// Encode any symbols, each under its own table; export the words; import them; decode with the same
-/// tables in reverse order. The symbols are the same, the last one first, and the coder is empty.
+/// Encode any symbols, each under its own table. Export the words, import them, and decode with the same tables in
+/// reverse order. The symbols are the same, last symbol first, and the coder is empty.
 pub fn symbols_come_back<Symbol>()
     ensures encoded { (w s : ℕ) (items : List (Item Symbol)) → IsSizes w s → AreModels w items →
         AreKnown items →
@@ -128,11 +128,10 @@ pub fn symbols_come_back<Symbol>()
     decodes_undo_encodes::<Symbol>()
 }
 
-/// Words that don't begin with zero, the first to be read first, come back from the symbols that are
-/// decoded from them.
+/// Words whose first one in reading order isn't 0 come back from the symbols decoded from them.
 ///
-/// Import the words; decode any symbols; encode the same symbols, the last one first and under the
-/// same tables; export. The words are the same.
+/// Import the words and decode any symbols. Encode the same symbols from the last to the first under the same tables,
+/// and export. The words are the same.
 pub fn words_come_back<Symbol>()
     ensures { (w s : ℕ) (words : List ℕ) (items : List (Item Symbol)) (state last : AnsState) →
         IsSizes w s → AreWords w words → BeginsHigh words → AreModels w items →
@@ -142,8 +141,7 @@ pub fn words_come_back<Symbol>()
     encodes_undo_decodes::<Symbol>()
 }
 
-/// Lists of steps undo each other, whatever tables they are of: pops in reverse order undo pushes, and
-/// pushes in reverse order undo pops.
+/// Pops in reverse order undo pushes, and pushes in reverse order undo pops, whatever their tables.
 pub fn lists_of_entries_undo()
     ensures pushes { (w s : ℕ) (steps : List Step) (old : AnsState) → IsSizes w s →
         AreSteps w steps → IsValid w s old →

@@ -1,7 +1,7 @@
-//! Positions of the stack coder, which lead back to the moment at which they were recorded.
+//! Positions of the stack coder, which lead back to the states where they were recorded.
 //!
-//! A position is the number of words below the head, and the head. As long as the coder is only
-//! encoded to, the words of that moment stay where they are, below those that are written.
+//! A position is the number of words below the head, and the head. While the coder only encodes, the words of a
+//! recorded position stay below those that it writes.
 
 ghost use Rattle.std.specs.Prelude.{◌≡◌, ◌≤◌, ◌⊎◌, ℕ, ◌%◌, ◌^◌, ◌∷◌, List, length, reverse};
 ghost use Rattle.constriction_base.specs.Steps.{Step, IsSizes, IsStep};
@@ -12,15 +12,14 @@ ghost use Rattle.constriction_stack.specs.Symbols.{EncodesAll, DecodesAll};
 
 use crate::stack::lists::decodes_undo_encodes;
 
-/// A push writes the lowest word of the head before the words below it, or none.
+/// A push writes the lowest word of the head before the words below it, or no word.
 pub fn one_word_at_most()
     ensures { (w s : ℕ) (e : Step) (old new : AnsState) → IsSizes w s → IsStep w e →
         IsPush w s e old new →
         (new.words ≡ old.words) ⊎ (new.words ≡ old.head % 2 ^ w ∷ old.words) }
 {}
 
-/// Encodes leave the words below where they are, so that a position that was recorded before leads
-/// back to its state.
+/// Encodes leave the words below unchanged, so a position recorded before leads back to its state.
 pub fn position_leads_back<Symbol>()
     ensures grows { (w s : ℕ) (items : List (Item Symbol)) (old new : AnsState) → IsSizes w s →
         AreModels w items →
@@ -33,11 +32,10 @@ pub fn position_leads_back<Symbol>()
         EncodesAll w s items old new → sought (position_of old) new ≡ old }
 {}
 
-/// Decoding from a position undoes the encodes up to the moment at which it was recorded, in reverse order.
-/// The coder may have encoded more since then, but decoded nothing.
+/// Decoding from a position undoes the encodes before it, in reverse order.
 ///
-/// The decoder may stand over the coder's own words or over its exported ones. It ends at the state from
-/// which the coder began, for instance the empty one.
+/// The coder may have encoded more since then, but decoded nothing. The decoder may stand over the coder's own words,
+/// or over its exported ones. It ends at the state in which the coder began, such as the empty one.
 pub fn symbols_before_a_position<Symbol>()
     ensures decoded { (w s : ℕ) (before since : List (Item Symbol)) (start middle last : AnsState) →
         IsSizes w s → AreModels w since →

@@ -1,7 +1,7 @@
-//! Coders over backends of which reads tell the words, as iterators.
+//! Coders over backends whose reads tell the words, such as iterators.
 //!
-//! Such a backend doesn't know its words. Where a function tells the words of each of its states, the
-//! reads take them one by one, and what is decoded by reads is what is decoded from those words.
+//! Such a backend doesn't know its words. But if a function gives the words of each of its states, and reads take these
+//! one by one, then a decode by reads is a decode from these words.
 
 ghost use Rattle.std.specs.Prelude.{◌≡◌, ℕ, List, reverse};
 ghost use Rattle.constriction_base.specs.Iterators.{FusedRead};
@@ -17,15 +17,15 @@ use crate::stack::words::{imports_are_words, reads_are_words};
 use constriction_base::backends::{ReadWords, Stack};
 use constriction_words::BitArray;
 
-/// Where a function tells the words that an iterator gives, it tells the words of a backend over it:
-/// those, or none once the iterator has ended.
+/// If a function tells the words of an iterator, it tells the words of a backend over it.
+///
+/// These are the words left, or none after the iterator has ended.
 pub fn items_are_words<Word, ReadError, Iter: Iterator<Item = Result<Word, ReadError>>>()
     ensures { (words : Iter → List Word) → TellsItems Iter.next_gives words →
         TellsWords (FusedRead Iter.next_gives) (words_left words) }
 {}
 
-/// Where a function tells the words of each state of a backend, a decode by reads is a decode from those
-/// words, and so are many.
+/// If a function tells the words of a backend, decodes by reads are decodes from these words.
 pub fn decodes_are_words<Symbol, Word: BitArray, Backend: ReadWords<Word, Stack>>()
     ensures one { (words : Backend → List Word) (w s : ℕ) (model : Model Symbol) (symbol : Symbol)
         (old new : AnsValue Backend) → TellsWords Backend.reads words →
@@ -39,11 +39,11 @@ pub fn decodes_are_words<Symbol, Word: BitArray, Backend: ReadWords<Word, Stack>
     reads_are_words::<Word, Backend>()
 }
 
-/// Symbols that are encoded onto an empty coder come back by reads that give the words that it exports.
+/// Symbols encoded onto an empty coder come back by reads that give the exported words.
 ///
-/// Encode any symbols, each under its own table; export the words; import them by reads, as from an
-/// iterator that gives them; decode with the same tables in reverse order. The symbols are the same, the
-/// last one first, no word is left, and the coder is empty.
+/// Encode any symbols, each under its own table, and export the words. Import them by reads, as from an iterator, and
+/// decode with the same tables in reverse order. The symbols are the same, last symbol first. No word is left, and the
+/// coder is empty.
 pub fn symbols_come_back_by_reads<Symbol, Word: BitArray, Backend: ReadWords<Word, Stack>>()
     ensures { (words : Backend → List Word) (w s : ℕ) (items others : List (Item Symbol)) (given : Backend)
         (last : AnsValue Backend) → IsSizes w s → AreModels w items →

@@ -1,4 +1,4 @@
-//! Sizes of the stack coder's states.
+//! The sizes of the stack coder's states.
 
 ghost use Rattle.std.specs.Prelude.{◌≡◌, ℕ, ◌+◌, ◌*◌, ◌^◌, ◌<◌, ◌≤◌, length, drop};
 ghost use Rattle.std.specs.Int.Digits.{digits_of};
@@ -7,21 +7,20 @@ ghost use Rattle.constriction_stack.specs.Sizes.{word_count, bit_count, valid_bi
 ghost use Rattle.constriction_base.specs.Writing.{IsOneAbove};
 ghost use Rattle.constriction_stack.specs.Binary.{binary_words};
 
-/// A state has as many words as it exports, and the words below its head are what is left of them
-/// where those of the head are taken off.
+/// A state has as many words as it exports. Below its head stand those that the head doesn't have.
 pub fn words_that_are_exported()
     ensures count { (w : ℕ) (state : AnsState) → length (exported w state) ≡ word_count w state }
     ensures below { (w : ℕ) (state : AnsState) →
         drop (length (digits_of (2 ^ w) state.head)) (exported w state) ≡ state.words }
 {}
 
-/// The bits that a state in binary form tells are those of its words.
+/// The number of bits of a state in binary form is that of its words.
 pub fn bits_of_binary_words()
     ensures { (w m : ℕ) (state : AnsState) → IsOneAbove w m state.head →
         valid_bit_count w state ≡ w * length (binary_words w m state) }
 {}
 
-/// A number has so many bits where it is below that power of two, and not below the one before.
+/// A number has `bits` bits if it is below `2 ^ bits`, and not below the power of two before.
 pub fn bits_of_numbers()
     ensures { (bits n : ℕ) → n < 2 ^ bits → 2 ^ bits ≤ 2 * n + 1 → bit_count n ≡ bits }
 {}

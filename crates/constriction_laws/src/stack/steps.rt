@@ -1,7 +1,6 @@
 //! One step of the stack coder.
 //!
-//! A decode pops the one entry of its table that holds the head's quantile, and an encode pushes
-//! the entry of its symbol.
+//! A decode pops the entry of its table that holds the head's quantile. An encode pushes the entry of its symbol.
 
 ghost use Rattle.std.specs.Prelude.{◌≡◌, ℕ};
 ghost use Rattle.constriction_base.specs.Steps.{Step, IsSizes, IsStep};
@@ -18,7 +17,7 @@ pub fn one_push()
         IsPush w s e state new → IsPush w s e state other → new ≡ other }
 {}
 
-/// A pop after a push of an entry gives the state before, and so does a push after a pop.
+/// A pop undoes a push, and a push undoes a pop.
 pub fn pushes_and_pops_undo()
     ensures pop_undoes { (w s : ℕ) (e : Step) (old new : AnsState) →
         IsPush w s e old new → IsNext e new × (pop w s e new ≡ old) }
@@ -38,7 +37,7 @@ pub fn one_encode<Symbol>()
         Encodes w s model symbol old new → Encodes w s model symbol old other → new ≡ other }
 {}
 
-/// From each state, valid or not, exactly one symbol is decoded, and leaves exactly one state.
+/// From each state, valid or not, exactly one symbol is decoded, and leads to exactly one state.
 pub fn one_decode<Symbol>()
     ensures exists { (w s : ℕ) (model : Model Symbol) (old : AnsState) →
         IsTable model.precision model.table →
@@ -49,7 +48,7 @@ pub fn one_decode<Symbol>()
         (symbol ≡ other) × (new ≡ last) }
 {}
 
-/// A decode after an encode under the same table gives that symbol and the state before.
+/// A decode under the same table undoes an encode: it returns the symbol, and leads to the state before.
 pub fn decode_undoes_encode<Symbol>()
     ensures back { (w s : ℕ) (model : Model Symbol) (symbol : Symbol) (old new : AnsState) →
         Encodes w s model symbol old new → Decodes w s model symbol new old }
@@ -61,7 +60,7 @@ pub fn decode_undoes_encode<Symbol>()
         Encodes w s model symbol old new → IsValid w s new }
 {}
 
-/// An encode of the symbol that a decode gave, under the same table, gives the valid state before.
+/// An encode of the same symbol under the same table undoes a decode from a valid state.
 pub fn encode_undoes_decode<Symbol>()
     ensures back { (w s : ℕ) (model : Model Symbol) (symbol : Symbol) (old new : AnsState) →
         IsValid w s old → Decodes w s model symbol old new → Encodes w s model symbol new old }

@@ -6,8 +6,9 @@ ghost use Rattle.std.specs.Prelude.{Bool, List, Some, reverse, ◌≡◌};
 use constriction_base::backends::{Queue, Stack};
 use constriction_symbol::codebooks::{BitOrder, Codebook};
 
-/// What is written of a symbol to a stack, its suffix form, is the reverse of what is written of it to a queue, its
-/// prefix form. It holds for every codebook.
+/// The suffix form of a codeword, which a stack writes, is the reverse of its prefix form, which a queue writes.
+///
+/// This holds for every codebook.
 pub fn suffix_turns_prefix<C: Codebook>()
     ensures { (codebook : C) (symbol : C.Symbol) (prefix suffix : List Bool) →
         formed (⟦<Queue as BitOrder>⟧.form) (C.codeword codebook symbol) ≡ Some prefix →

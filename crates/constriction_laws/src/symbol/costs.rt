@@ -1,8 +1,8 @@
-//! Huffman trees beside other codebooks: what the codewords of symbols cost under weights, one for each, the sum of
-//! weight times length.
+//! The cost of a Huffman tree that a call makes, compared with other codebooks.
 //!
-//! [`least_cost`](crate::symbol::huffman::least_cost) compares definitions. Here the tree is the one that its maker
-//! makes.
+//! The cost of codewords under weights, one codeword for each weight, is the sum of weight times length.
+//! [`least_cost`](crate::symbol::huffman::least_cost) compares definitions. The law here is about the tree that
+//! `EncoderHuffmanTree::from_probabilities` makes.
 
 ghost use Rattle.constriction_laws.specs.symbol.Cost.{AreApart, Costs, CostsFromZero};
 ghost use Rattle.constriction_laws.specs.symbol.Refusals.{HaveNoTree};
@@ -16,12 +16,16 @@ use constriction_words::BitArray;
 use std::alloc::Global;
 use std::convert::Infallible;
 
-/// The encoder's tree of some weights: `EncoderHuffmanTree::from_probabilities`. Its codewords of the symbols `0`, `1`,
-/// .., one for each weight, cost at most what those of any other codebook cost, whatever the symbols of that one are,
-/// where it has codewords for as many, of which no two mean the same.
+/// Makes the encoder's Huffman tree of weights, which costs at most what any other codebook does.
+///
+/// Its codewords are those of the symbols `0`, `1`, .., one for each weight. The other codebook may have any symbols.
+/// It has codewords for as many of them, of which no two mean the same.
 ///
 /// # Errors
-/// Those of [`EncoderHuffmanTree::from_probabilities`].
+///
+/// The errors of [`EncoderHuffmanTree::from_probabilities`].
+///
+/// # Examples
 ///
 /// ```
 /// let tree = tree_of_least_cost::<u32, ExpGolomb<u16>>(alloc, &[2, 2, 4, 1, 1])?;

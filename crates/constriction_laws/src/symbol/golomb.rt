@@ -8,8 +8,9 @@ pub fn golomb_is_prefix_free()
     ensures { (m n : ℕ) (tail : List Bool) → golomb n ≡ golomb m ++ tail → m ≡ n }
 {}
 
-/// The reverse of an Exp-Golomb codeword, which is its suffix form, has the bits of the number after it, the lowest
-/// first, and then as many zeros, less one.
+/// The suffix form of an Exp-Golomb codeword ends in zeros.
+///
+/// It has the bits of `n + 1`, lowest first, and then zeros, one fewer than these bits.
 pub fn golomb_suffix_ends_in_zeros()
     ensures { (n : ℕ) → reverse (golomb n) ≡ reverse (binary (n + 1)) ++ replicate (length (binary (n + 1)) - 1) false }
 {}

@@ -4,7 +4,7 @@ ghost use Rattle.constriction_laws.specs.symbol.Cost.{AreCodewordsOf, AreLawful,
 ghost use Rattle.constriction_symbol.specs.Huffman.{Book, IsHuffman, Tree, huffman, merge};
 ghost use Rattle.std.specs.Prelude.{Bool, List, None, Option, Some, [], ◌++◌, ◌∷◌, ◌<◌, ◌≡◌, ◌≤◌, length, ℕ};
 
-/// Merging some weights gives one tree.
+/// Merging weights gives exactly one tree, if there is a weight.
 pub fn one_tree()
     ensures { (weights : List ℕ) → 0 < length weights → (tree : Tree) × (merge weights ≡ tree ∷ []) }
 {}
@@ -15,15 +15,16 @@ pub fn huffman_is_prefix_free()
         huffman weights s ≡ Some bits → huffman weights t ≡ Some (bits ++ tail) → s ≡ t }
 {}
 
-/// Each symbol that has a weight has a codeword, and no other symbol has one.
+/// A symbol has a codeword exactly if it has a weight.
 pub fn huffman_knows_its_symbols()
     ensures known { (weights : List ℕ) (s : ℕ) → s < length weights →
         (bits : List Bool) × (huffman weights s ≡ Some bits) }
     ensures impossible { (weights : List ℕ) (s : ℕ) → length weights ≤ s → huffman weights s ≡ None }
 {}
 
-/// No lawful codewords, one for each symbol, cost less than those of the Huffman tree of the same weights; nor do
-/// those of a lawful codebook. `tree` says so of what the makers of both trees ensure.
+/// The codewords of a Huffman tree cost at most what any prefix-free codewords cost, one for each weight.
+///
+/// `codebook` says so of the codewords of a prefix-free codebook, and `tree` of the trees that both makers ensure.
 pub fn least_cost()
     ensures codewords { (weights : List ℕ) (codewords others : List (List Bool)) →
         length codewords ≡ length weights → AreCodewordsOf (huffman weights) codewords →
@@ -41,7 +42,7 @@ pub fn least_cost()
         cost weights codewords ≤ cost weights others }
 {}
 
-/// The Huffman tree of some weights has lawful codewords, one for each of them.
+/// The Huffman tree of weights has prefix-free codewords, one for each weight.
 pub fn huffman_has_codewords()
     ensures { (weights : List ℕ) →
         (codewords : List (List Bool)) × (length codewords ≡ length weights)

@@ -1,4 +1,4 @@
-//! Lists of symbols that are read from their codewords.
+//! Lists of symbols that are decoded from their codewords.
 
 ghost use Rattle.constriction_symbol.specs.Lists.{AreCodewords, AreCodewordsBy, AreEach, AreSameBy};
 ghost use Rattle.constriction_symbol.specs.Lists.{ReadsAll, ReadsPairs};
@@ -13,8 +13,9 @@ use constriction_base::backends::Semantics;
 use constriction_symbol::codebooks::DecoderCodebook;
 use constriction_symbol::reading::ReadBitStream;
 
-/// Symbols whose codewords begin the bits of a stream that knows them, one behind another, come back from as many reads
-/// by their codebook, and just their codewords were read.
+/// Symbols come back from a stream that knows its bits, if these begin with their concatenated codewords.
+///
+/// As many reads by the codebook return the symbols, and read exactly their codewords.
 pub fn symbols_come_back<S: Semantics, R: ReadBitStream<S>, C: DecoderCodebook>()
     requires { R.is_list }
     ensures { (codebook : C) (symbols again : List C.Symbol) (code rest : List Bool) (old new : R) →
@@ -23,7 +24,7 @@ pub fn symbols_come_back<S: Semantics, R: ReadBitStream<S>, C: DecoderCodebook>(
         AreEach (C.is_same codebook) again symbols × (R.unread new ≡ rest) }
 {}
 
-/// The same of symbols of which each has a codebook of its own, so that codebooks are mixed in one stream.
+/// Symbols come back under mixed codebooks, one codebook for each symbol.
 pub fn mixed_symbols_come_back<S: Semantics, R: ReadBitStream<S>, C: DecoderCodebook>()
     requires { R.is_list }
     ensures { (codebooks : List C) (symbols again : List C.Symbol) (code rest : List Bool) (old new : R) →
@@ -33,8 +34,7 @@ pub fn mixed_symbols_come_back<S: Semantics, R: ReadBitStream<S>, C: DecoderCode
         AreSameBy C.is_same codebooks again symbols × (R.unread new ≡ rest) }
 {}
 
-/// Bits of which a read of so many symbols was refused by the codebook don't begin with the codewords of so many
-/// symbols.
+/// Bits for which the codebook refuses a read of this many symbols don't begin with the codewords of as many symbols.
 pub fn refused_where_none_begin<S: Semantics, R: ReadBitStream<S>, C: DecoderCodebook>()
     requires { R.is_list }
     ensures { (codebook : C) (amt : ℕ) (bits tail : List Bool) (old new : R) (e : SymbolCodeError C.InvalidCodeword) →

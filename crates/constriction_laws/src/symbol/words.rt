@@ -1,23 +1,22 @@
-//! Words of bits.
+//! The words of lists of bits.
 
 ghost use Rattle.constriction_base.specs.Steps.{AreWords};
 ghost use Rattle.constriction_symbol.specs.Bits.{HasStackWords, IsQueueWords, IsStackWords};
 ghost use Rattle.std.specs.Prelude.{Bool, List, ◌≡◌, ℕ};
 
-/// The words of a stack of bits are those of no other bits: what is imported from the words of an export holds the bits
-/// that were exported.
+/// The words of a stack determine its bits, so an import of an export holds the bits that were exported.
 pub fn one_stack_of_words()
     ensures { (w : ℕ) (words : List ℕ) (bits others : List Bool) →
         HasStackWords w bits words → HasStackWords w others words → bits ≡ others }
 {}
 
-/// A stack of bits has one list of words: what a guard lends is what the export then gives.
+/// A stack has one list of words, so a guard lends the words that the export then returns.
 pub fn one_list_of_stack_words()
     ensures { (w : ℕ) (bits : List Bool) (words others : List ℕ) → AreWords w words → AreWords w others →
         IsStackWords w bits words → IsStackWords w bits others → words ≡ others }
 {}
 
-/// The same of a queue of bits.
+/// A queue has one list of words.
 pub fn one_list_of_queue_words()
     ensures { (w : ℕ) (bits : List Bool) (words others : List ℕ) → AreWords w words → AreWords w others →
         IsQueueWords w bits words → IsQueueWords w bits others → words ≡ others }

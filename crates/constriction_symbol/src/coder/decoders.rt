@@ -1,4 +1,4 @@
-//! The same bits for reading.
+//! Turning bit coders into readers of the same bits.
 
 ghost use Rattle.constriction_base.specs.Backends.{IsWrite};
 ghost use Rattle.constriction_symbol.specs.Bits.{PadsTo, ReadsClosed, bits_of_words};
@@ -16,10 +16,11 @@ impl<
     Word: BitArray,
     B: WriteWords<Word> + IntoReadWords<Word, Queue> + BothWays<Word>,
 > QueueEncoder<Word, B> {
-    /// The bits from the first to the last, and behind them zeros to a whole word.
+    /// Turns the queue into a decoder, which reads the bits first to last and then zeros up to a whole word.
     ///
     /// # Errors
-    /// Where there are bits outside the backend, and the backend refuses to write their word. The coder is gone then.
+    ///
+    /// The backend's error if there are bits outside the backend, and it refuses their word. The coder is consumed.
     pub fn into_decoder(self) -> Result<QueueDecoder<Word, B::IntoReadWords>, B::WriteError>
     where
         B: Drop,
@@ -37,10 +38,11 @@ impl<
         }
     }
 
-    /// The same as an iterator, which gives the zeros too.
+    /// Turns the queue into an iterator over its bits, first to last, and over the zeros behind them.
     ///
     /// # Errors
-    /// Those of [`QueueEncoder::into_decoder`].
+    ///
+    /// The errors of [`QueueEncoder::into_decoder`].
     pub fn into_overshooting_iter(
         self,
     ) -> Result<QueueDecoder<Word, B::IntoReadWords>, B::WriteError>
@@ -59,7 +61,7 @@ impl<
 }
 
 impl<Word: BitArray, B: IntoReadWords<Word, Stack>> StackCoder<Word, B> {
-    /// The same bits over a backend for reading.
+    /// Moves the bits to a backend for reading.
     pub fn into_decoder(self) -> StackCoder<Word, B::IntoReadWords>
         ensures bits { result.bits ≡ self.bits }
         ensures last { result.last ≡ self.last }
@@ -77,7 +79,7 @@ impl<Word: BitArray, B: IntoReadWords<Word, Stack>> StackCoder<Word, B> {
         }
     }
 
-    /// The same as an iterator: the bits from the last to the first.
+    /// Turns the stack into an iterator over its bits, last to first.
     pub fn into_iterator(self) -> StackCoder<Word, B::IntoReadWords>
         ensures bits { result.bits ≡ self.bits }
         ensures last { result.last ≡ self.last }
@@ -88,11 +90,13 @@ impl<Word: BitArray, B: IntoReadWords<Word, Stack>> StackCoder<Word, B> {
 }
 
 impl<Word: BitArray, B: Holds<Word, Stack>> StackCoder<Word, B> {
-    /// The same bits over borrowed words, for reading.
+    /// Returns a stack with the same bits that borrows this coder's words, for reading.
+    ///
+    /// # Examples
     ///
     /// ```
     /// let mut decoder = coder.as_decoder();
-    /// decoder.decode_symbol(&codebook)?; // what was written last; `coder` still holds it
+    /// decoder.decode_symbol(&codebook)?; // the last symbol encoded; `coder` still holds it
     /// ```
     pub fn as_decoder<'a>(&'a self) -> StackCoder<Word, B::AsReadWords>
     where
@@ -108,7 +112,7 @@ impl<Word: BitArray, B: Holds<Word, Stack>> StackCoder<Word, B> {
         }
     }
 
-    /// The same as an iterator: the bits from the last to the first.
+    /// Returns an iterator over the bits, last to first, that borrows this coder's words.
     pub fn iter<'a>(&'a self) -> StackCoder<Word, B::AsReadWords>
     where
         B: AsReadWords<'a, Word, Stack>,

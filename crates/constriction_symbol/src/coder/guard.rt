@@ -1,4 +1,4 @@
-//! The words of a coder that is used again: a guard shows them on the vector, and its drop takes them off.
+//! Guards that lend a coder's compressed words: a guard writes them onto the vector, and its drop removes them.
 
 ghost use Rattle.constriction_symbol.specs.Bits.{IsQueueWords, IsStackWords};
 ghost use Rattle.constriction_symbol.specs.Guards.{LacksEnd, LacksRest, SameBits, bits_without};
@@ -13,14 +13,15 @@ use constriction_words::BitArray;
 use std::alloc::{AllocError, Allocator, Global};
 use std::fmt;
 
-/// A coder whose last words were written onto its vector, and are taken off again when this is dropped, which takes no
-/// memory. A guard that is forgotten leaves its words there.
+/// A guard over a coder whose last words stand in its vector until the guard is dropped.
+///
+/// The drop takes no memory. A forgotten guard leaves its words in the vector.
 pub struct CoderGuard<'a, Word: BitArray, S: Semantics, A: Allocator = Global> {
     inner: &'a mut SymbolCoder<Word, S, Vec<Word, A>>,
     count: usize,
 }
 
-/// The guard of a stack of bits. [`StackCoder::get_compressed`] makes it.
+/// The guard of a stack of bits. [`StackCoder::get_compressed`] makes it, and has an example.
 pub type StackCoderGuard<'a, Word, A = Global> = CoderGuard<'a, Word, Stack, A>;
 
 /// The guard of a queue of bits. [`QueueEncoder::get_compressed`] makes it.
@@ -29,7 +30,7 @@ pub type QueueEncoderGuard<'a, Word, A = Global> = CoderGuard<'a, Word, Queue, A
 impl<'a, Word: BitArray, S: Semantics, A: Allocator> CoderGuard<'a, Word, S, A> {
     ghost use Rattle.constriction_symbol.specs.Guarded.{lender};
 
-    /// The words, the first one first.
+    /// Returns the words, first to last.
     pub fn words(&self) -> &[Word]
         ensures words { result.now ≡ (lender self.now).now.backend.items }
     {
@@ -41,7 +42,7 @@ impl<'a, Word: BitArray, S: Semantics, A: Allocator> CoderGuard<'a, Word, S, A> 
 impl<Word: BitArray, S: Semantics, A: Allocator> Drop for CoderGuard<'_, Word, S, A> {
     ghost use Rattle.constriction_symbol.specs.Guarded.{lender, lent_back, written};
 
-    /// Takes the words off that were written.
+    /// Removes the words that the guard wrote.
     fn drop(self)
         ensures last { (lent_back self.exit).now.last ≡ (lender self.entry).now.last }
         ensures back { (lent_back self.exit).now.bits
@@ -54,15 +55,15 @@ impl<Word: BitArray, S: Semantics, A: Allocator> Drop for CoderGuard<'_, Word, S
 
 impl<Word: BitArray + fmt::Debug, S: Semantics, A: Allocator> fmt::Debug
     for CoderGuard<'_, Word, S, A> {
-    /// The list of the words.
+    /// Formats the list of the words.
     fn fmt<W: fmt::Write>(&self, f: &mut fmt::Formatter<W>) -> fmt::Result {
         f.debug_list().entries(self.words().iter()).finish()
     }
 }
 
 impl<Word: BitArray, A: Allocator> StackCoder<Word, Vec<Word, A>> {
-    /// Writes the words that end the bits, and keeps the bits outside the vector. Returns how many they are: two where
-    /// the last word is full, else one.
+    /// Writes the words that end the bits, keeps the bits outside the vector, and returns how many words it wrote: two
+    /// if the last word is full, else one.
     fn put_end(&mut self) -> Result<usize, AllocError>
         ensures shows { OnOk result (IsStackWords Word.BITS self.old.bits (map Word.number self.new.backend.items)) }
         ensures back { IfOk result (λ count. bits_without Word.BITS Word.number count self.new ≡ self.old.bits) }
@@ -98,7 +99,7 @@ impl<Word: BitArray, A: Allocator> StackCoder<Word, Vec<Word, A>> {
 }
 
 impl<Word: BitArray, A: Allocator> QueueEncoder<Word, Vec<Word, A>> {
-    /// Writes the word of the bits outside the vector, and keeps them. Returns how many words it wrote: none where
+    /// Writes the word of the bits outside the vector, keeps these bits, and returns how many words it wrote: none if
     /// there are no such bits, else one.
     fn put_rest(&mut self) -> Result<usize, AllocError>
         ensures shows { OnOk result (IsQueueWords Word.BITS self.old.bits (map Word.number self.new.backend.items)) }
@@ -123,18 +124,23 @@ impl<Word: BitArray, A: Allocator> StackCoder<Word, Vec<Word, A>> {
     ghost use Rattle.constriction_symbol.specs.contracts.coder.SymbolCoder.{the_row};
     ghost use Rattle.constriction_symbol.specs.Guarded.{lender, written};
 
-    /// The words that [`StackCoder::into_compressed`] would give, for as long as the guard lives. When it is dropped,
-    /// the coder holds its bits as before.
+    /// Returns a guard that lends the words that [`StackCoder::into_compressed`] would return.
+    ///
+    /// Dropping the guard restores the coder's bits.
     ///
     /// # Errors
-    /// Where there is no memory for the words, two where the last word is full, else one. The bits are as before.
+    ///
+    /// `AllocError` if there is no memory for the words that end the bits (two if the last word is full, else one). The
+    /// bits are unchanged.
+    ///
+    /// # Examples
     ///
     /// ```
     /// {
     ///     let guard = coder.get_compressed()?;
     ///     send(guard.words());
     /// }
-    /// coder.write_bit(true)?; // the coder goes on as if its words had not been looked at
+    /// coder.write_bit(true)?; // continues from the bits before the guard
     /// ```
     pub fn get_compressed(&mut self) -> Result<StackCoderGuard<'_, Word, A>, AllocError>
         ensures same_reference { IfOk result (λ g. (lender g).ghost_name ≡ self.entry.ghost_name) }
@@ -159,11 +165,13 @@ impl<Word: BitArray, A: Allocator> QueueEncoder<Word, Vec<Word, A>> {
     ghost use Rattle.constriction_symbol.specs.contracts.coder.SymbolCoder.{the_row};
     ghost use Rattle.constriction_symbol.specs.Guarded.{lender, written};
 
-    /// The words that [`QueueEncoder::into_compressed`] would give, for as long as the guard lives. When it is dropped,
-    /// the coder holds its bits as before.
+    /// Returns a guard that lends the words that [`QueueEncoder::into_compressed`] would return.
+    ///
+    /// Dropping the guard restores the coder's bits.
     ///
     /// # Errors
-    /// Where there are bits outside the vector, and there is no memory for their word. The bits are as before.
+    ///
+    /// `AllocError` if there are bits outside the vector, and no memory for their word. The bits are unchanged.
     pub fn get_compressed(&mut self) -> Result<QueueEncoderGuard<'_, Word, A>, AllocError>
         ensures same_reference { IfOk result (λ g. (lender g).ghost_name ≡ self.entry.ghost_name) }
         ensures shows { IfOk result (λ g.

@@ -1,4 +1,4 @@
-//! Words from a coder, and a coder from words.
+//! Importing and exporting the words of bit coders.
 
 ghost use Rattle.constriction_base.specs.Backends.{IsWrite};
 ghost use Rattle.constriction_base.specs.declared.errors.CoderError.TheVariants as coder_error;
@@ -15,11 +15,13 @@ use constriction_words::BitArray;
 use std::marker::PhantomData;
 
 impl<Word: BitArray, B: WriteWords<Word>> StackCoder<Word, B> {
-    /// The words of the bits: one more bit that is set ends them, and then come zeros to a whole word. So those of no
-    /// bits are one word, 1.
+    /// Returns the words of the stack: its bits, a 1 that ends them, and zeros up to a whole word.
+    ///
+    /// A stack without bits has the one word 1.
     ///
     /// # Errors
-    /// Where the backend refuses to write the last word, or a full word before it. The coder is gone then.
+    ///
+    /// The backend's error if it refuses the last word, or a full word before it. The coder is consumed.
     pub fn into_compressed(self) -> Result<B, B::WriteError>
     where
         B: Drop,
@@ -44,12 +46,22 @@ impl<Word: BitArray, B: WriteWords<Word>> StackCoder<Word, B> {
 }
 
 impl<Word: BitArray, B: ReadWords<Word, Stack>> StackCoder<Word, B> {
-    /// The coder whose words these are, as [`StackCoder::into_compressed`] gives them. Of no words it is a coder
-    /// without bits. The highest set bit of the last word ends the bits.
+    /// Makes a stack from the words that [`StackCoder::into_compressed`] returns.
+    ///
+    /// The highest set bit of the last word ends the bits. From no words this makes a stack without bits.
     ///
     /// # Errors
-    /// - `Frontend(backend)` exactly where the last word is zero, which was then read.
-    /// - `Backend(error)` where the read of the last word is refused. The backend is gone then.
+    ///
+    /// - `Frontend(backend)` exactly if the last word is zero. That word was read.
+    /// - `Backend(error)` if the read of the last word failed. The backend is consumed.
+    ///
+    /// # Examples
+    ///
+    /// ```
+    /// if let Ok(mut stack) = DefaultStackCoder::from_compressed([6u32].to_vec(alloc)?) {
+    ///     stack.read_bit()?; // Some(true): the word 6 is the bits 0, 1 and the 1 that ends them
+    /// }
+    /// ```
     pub fn from_compressed(mut compressed: B) -> Result<Self, CoderError<B, B::ReadError>>
     where
         B: Drop,
@@ -88,10 +100,11 @@ impl<Word: BitArray, B: ReadWords<Word, Stack>> StackCoder<Word, B> {
 }
 
 impl<Word: BitArray, B: WriteWords<Word>> QueueEncoder<Word, B> {
-    /// The words of the bits, the last one with zeros above its bits. Those of no bits are none.
+    /// Returns the words of the queue, the last one with zeros above its bits. An empty queue has no words.
     ///
     /// # Errors
-    /// Where there are bits outside the backend, and the backend refuses to write their word. The coder is gone then.
+    ///
+    /// The backend's error if there are bits outside the backend, and it refuses their word. The coder is consumed.
     pub fn into_compressed(self) -> Result<B, B::WriteError>
     where
         B: Drop,
@@ -117,8 +130,9 @@ impl<Word: BitArray, B: WriteWords<Word>> QueueEncoder<Word, B> {
 }
 
 impl<Word: BitArray, B: Holds<Word, Stack>> QueueEncoder<Word, B> {
-    /// The coder of all bits of a backend's words. It takes no bit for padding: those of a coder that was no whole word
-    /// stay in it.
+    /// Makes a queue of all bits of a backend's words.
+    ///
+    /// It treats no bit as padding. The zeros that completed the last word of an export become bits of the queue.
     pub fn from_compressed(compressed: B) -> Self
         ensures bits { result.bits ≡ bits_of_words Word.BITS (map Word.number (reverse (B.words compressed))) }
         ensures last { result.last ≡ [] }

@@ -1,4 +1,7 @@
-//! The codewords of a tree's nodes, each as one number.
+//! The codewords of a tree's nodes, each stored as one number.
+//!
+//! The number has the bits of the codeword below a 1. It is 0 for a codeword of `usize::BITS` bits or more. The encoder
+//! then climbs the tree instead.
 
 ghost use Rattle.constriction_symbol.specs.Codewords.{IsLowBits};
 ghost use Rattle.constriction_symbol.specs.EncoderTree.{HasBelowOne, HasCodewords, OneBitMore};
@@ -9,7 +12,7 @@ use crate::turning::same_number;
 use constriction_words::BitArray;
 use std::alloc::{AllocError, Global};
 
-/// The codeword of a node below another one: one bit more. 0 stands for none, also where it is as long as the number.
+/// Returns the number of a codeword with one more bit, or 0 if the number has no room for it.
 fn codeword_below(above: usize, bit: usize) -> usize
     requires { bit < 2 }
     ensures { OneBitMore above bit result }
@@ -20,8 +23,7 @@ fn codeword_below(above: usize, bit: usize) -> usize
     2 * above + bit
 }
 
-/// For each node the bits that lead to it from the root, as the lowest ones of a number, the first one highest, below
-/// a bit that is set. 0 where they are too many.
+/// Returns for each node the number of its codeword, first bit highest below a leading 1, or 0 if it has too many bits.
 pub fn codewords_of(alloc: Global, nodes: &[usize]) -> Result<Vec<usize>, AllocError>
     requires rising { GoesUp (length nodes.now) nodes.now }
     ensures { IfOk result (λ codewords. HasCodewords nodes.now codewords.items) }
@@ -38,8 +40,9 @@ pub fn codewords_of(alloc: Global, nodes: &[usize]) -> Result<Vec<usize>, AllocE
     Ok(codewords)
 }
 
-/// The bits below the highest one that is set as the lowest of a word, the first one highest, and how many they are.
-/// `None` where there is none, or as many as the word has.
+/// Returns the bits below the highest 1, first bit highest, and their count.
+///
+/// Returns `None` if there is no such bit, or if a `Word` doesn't have more bits than these.
 #[inline]
 pub fn below_one<Word: BitArray>(number: usize) -> Option<(Word, u32)>
     ensures some { OnSome result (1 < number) }

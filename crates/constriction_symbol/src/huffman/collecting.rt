@@ -1,4 +1,4 @@
-//! Weights that come from an iterator.
+//! Collecting weights from iterators.
 
 ghost use Rattle.constriction_symbol.specs.Merging.{GivesWeights, LendsWeights, StopsGiving, StopsLending};
 ghost use Rattle.std.specs.Iterator.{IsFiniteIterable};
@@ -9,7 +9,7 @@ use constriction_stream::encoding::Lent;
 use constriction_words::BitArray;
 use std::alloc::{AllocError, Global};
 
-/// The weights, up to the first error in place of one.
+/// Collects weights up to the first error.
 pub fn collect_given<P: BitArray, E, I>(
     alloc: Global,
     probabilities: I,
@@ -36,7 +36,7 @@ where
     Ok(weights)
 }
 
-/// The weights that are lent.
+/// Collects lent weights.
 pub fn collect_lent<P: BitArray, L, I>(
     alloc: Global,
     probabilities: I,

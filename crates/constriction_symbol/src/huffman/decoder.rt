@@ -1,4 +1,4 @@
-//! Huffman trees for decoding: from the root to the symbols.
+//! Huffman trees for decoding, which lead from the root to the symbols.
 
 ghost use Rattle.constriction_symbol.specs.Codewords.{BeginsTopBits, GivesBits, StopsWithin};
 ghost use Rattle.constriction_symbol.specs.Bits.{top_bits};
@@ -23,17 +23,26 @@ use std::alloc::{AllocError, Global};
 use std::convert::Infallible;
 use std::marker::Model;
 
-/// A Huffman tree for decoding: codewords of the symbols `0`, `1`, .. that cost as little as any prefix-free ones for
-/// their weights.
+/// A Huffman tree for decoding, with a codeword for each of the symbols `0`, `1`, ..
 ///
-/// Contracts see it as a tree, whose leaves are the symbols. A symbol's codeword is the path to it from the root.
+/// No prefix-free codebook costs less for the same weights. Contracts see the tree itself, with symbols as its leaves.
+/// The codeword of a symbol is the path from the root to its leaf.
+///
+/// # Examples
+///
+/// ```
+/// // the codewords of 0, 1, 2, 3, 4 are 00, 01, 11, 100, 101
+/// let tree = DecoderHuffmanTree::from_probabilities(alloc, [2u32, 2, 4, 1, 1].iter())?;
+/// let symbol = decoder.decode_symbol(&tree)?;
+/// ```
 #[derive(Debug, Drop)]
 pub struct DecoderHuffmanTree {
-    /// The children of each node that is no leaf, the root last: a symbol, or the number of symbols and which node.
+    /// The children of each inner node, the root last. A child is a symbol, or the number of symbols plus a place in
+    /// this list.
     nodes: Vec<[usize; 2]>,
-    /// Where the bits of each number below its highest one lead, the first one highest.
+    /// The decoding table: entry `1xyz` (binary) says where the bits `x`, `y`, `z` lead.
     places: Vec<Place>,
-    /// How many bits have a place.
+    /// How many bits the table looks up.
     most: u32,
 }
 
@@ -59,7 +68,9 @@ impl Clone for DecoderHuffmanTree {
 
     ghost is_infallible = { λ _. ⊥ };
 
-    /// The same tree.
+    /// Returns the same tree.
+    ///
+    /// A derived clone would have to prove the invariant of fields that are only known to be clones.
     fn clone(&self) -> Result<Self, AllocError> {
         let nodes = self.nodes.clone()?;
         let places = self.places.clone()?;
@@ -71,7 +82,7 @@ impl Clone for DecoderHuffmanTree {
     }
 }
 
-/// The tree of these weights.
+/// Makes the tree of these weights.
 fn tree_of<P: BitArray, E>(
     alloc: Global,
     weights: &[P],
@@ -89,21 +100,26 @@ fn tree_of<P: BitArray, E>(
 }
 
 impl DecoderHuffmanTree {
-    /// The tree of the weights that are lent, a symbol for each of them, in memory of `alloc`.
+    /// Makes a tree from lent weights, one symbol for each weight, in memory of `alloc`.
     ///
-    /// The two least trees by weight, and of one weight by index, are made one, until one is left. Its index is the
-    /// next one: the symbols have the first indices. The lesser of the two has bit 0.
+    /// The two trees of least weight (on equal weight, of least index) are joined until one tree is left. Symbols have
+    /// the first indices, and each join the next one. The lesser tree of a join has bit 0.
     ///
     /// # Errors
-    /// Looked for in this order:
-    /// - `Memory`, while the weights are collected.
-    /// - `Empty`, where there is no weight.
-    /// - `TooManySymbols`, where there are more than `usize::MAX / 2`.
-    /// - `WeightOverflow`, where the sum of all weights doesn't fit their type.
-    /// - `Memory`, for want of memory for the tree.
+    ///
+    /// Checked in this order:
+    ///
+    /// - `Memory` if there is no memory to collect the weights.
+    /// - `Empty` if there is no weight.
+    /// - `TooManySymbols` if there are more than `usize::MAX / 2` weights.
+    /// - `WeightOverflow` if the sum of all weights doesn't fit their type.
+    /// - `Memory` if there is no memory for the tree.
+    ///
+    /// # Examples
     ///
     /// ```
     /// let tree = DecoderHuffmanTree::from_probabilities(alloc, [2u32, 2, 4, 1, 1].iter())?;
+    /// tree.num_symbols(); // 5
     /// ```
     pub fn from_probabilities<P, L, I>(
         alloc: Global,
@@ -126,12 +142,14 @@ impl DecoderHuffmanTree {
         }
     }
 
-    /// The tree of the weights, each of which comes as the `Ok` of a `Result`.
+    /// Makes a tree from an iterator of `Result`s of weights.
     ///
     /// # Errors
-    /// Looked for in this order:
-    /// - `Iterator(error)`, where an item is this error, or `Memory`, while the weights are collected.
-    /// - Those of [`DecoderHuffmanTree::from_probabilities`].
+    ///
+    /// Checked in this order:
+    ///
+    /// - `Iterator(error)` if an item is this error, or `Memory` if there is no memory to collect the weights.
+    /// - The errors of [`DecoderHuffmanTree::from_probabilities`].
     pub fn try_from_probabilities<P, E, I>(
         alloc: Global,
         probabilities: I,
@@ -152,7 +170,7 @@ impl DecoderHuffmanTree {
         }
     }
 
-    /// How many symbols there are.
+    /// Returns the number of symbols.
     pub fn num_symbols(&self) -> usize
         ensures value { result ≡ length (leaves self.now) }
     {
@@ -183,12 +201,14 @@ impl DecoderCodebook for DecoderHuffmanTree {
 
     ghost invalid_law = { λ t bits e never. absurd never };
 
-    /// Takes the bits of a codeword, and returns its symbol. It takes no memory.
+    /// Reads the bits of a codeword, and returns its symbol. It needs no memory.
     ///
     /// # Errors
-    /// After each of them the bits that were read stay read.
-    /// - `Frontend(OutOfCompressedData)` exactly where the bits end within a codeword.
-    /// - `Backend(error)` where the source returns this error in place of a bit that is asked for.
+    ///
+    /// After each error, the bits read so far stay read.
+    ///
+    /// - `Frontend(OutOfCompressedData)` exactly if the bits end within a codeword.
+    /// - `Backend(error)` if the source returns this error in place of a bit.
     #[inline]
     fn decode_symbol<E, I: Iterator<Item = Result<bool, E>>>(
         &self,
@@ -197,7 +217,7 @@ impl DecoderCodebook for DecoderHuffmanTree {
         walk(&self.nodes, source)
     }
 
-    /// The symbol whose codeword the highest bits of a word begin with, where it has some bits and fewer than `count`.
+    /// Looks up the codeword that begins the bits, if it has at least one bit and fewer than `count`.
     #[inline]
     fn symbol_at_once<Word: BitArray>(&self, bits: Word, count: u32) -> Option<(usize, u32)> {
         let place = place_of(&self.places, self.most, bits);
@@ -211,7 +231,7 @@ impl DecoderCodebook for DecoderHuffmanTree {
     }
 }
 
-/// Takes bits from the root of a tree down to a symbol, one for each node.
+/// Reads bits from the root of a tree to a symbol, one bit for each inner node.
 #[inline]
 fn walk<V, E, I: Iterator<Item = Result<bool, E>>>(
     nodes: &[[usize; 2]],
@@ -237,8 +257,9 @@ fn walk<V, E, I: Iterator<Item = Result<bool, E>>>(
     Ok(index)
 }
 
-/// Takes the highest bits of a word down to a symbol, from where the first of them lead, and returns it with their
-/// count. `None` where they are not fewer than `count`.
+/// Follows the highest bits of a word from a place to a symbol, and returns it with the length of its codeword.
+///
+/// Returns `None` if the codeword has `count` bits or more.
 #[inline]
 fn walk_on<Word: BitArray>(
     nodes: &[[usize; 2]],

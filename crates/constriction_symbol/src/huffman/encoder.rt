@@ -1,4 +1,4 @@
-//! Huffman trees for encoding: from the symbols to the root.
+//! Huffman trees for encoding, which lead from the symbols to the root.
 
 ghost use Rattle.constriction_symbol.specs.Huffman.{leaves, path};
 ghost use Rattle.constriction_symbol.specs.HuffmanLaws.{path_prefix_free, same_path};
@@ -22,18 +22,26 @@ use std::alloc::{AllocError, Global};
 use std::convert::Infallible;
 use std::marker::Model;
 
-/// A Huffman tree for encoding: codewords of the symbols `0`, `1`, .. that cost as little as any prefix-free ones for
-/// their weights.
+/// A Huffman tree for encoding, with a codeword for each of the symbols `0`, `1`, ..
 ///
-/// Contracts see it as a tree, whose leaves are the symbols. A symbol's codeword is the path to it from the root.
+/// No prefix-free codebook costs less for the same weights. Contracts see the tree itself, with symbols as its leaves.
+/// The codeword of a symbol is the path from the root to its leaf.
+///
+/// # Examples
+///
+/// ```
+/// let tree = EncoderHuffmanTree::from_probabilities(alloc, [2u32, 2, 4, 1, 1].iter())?;
+/// encoder.encode_symbol(&2, &tree)?; // 11
+/// encoder.encode_symbol(&3, &tree)?; // 100
+/// ```
 #[derive(Debug, Clone, Drop)]
 pub struct EncoderHuffmanTree {
-    /// For each node, the symbols first and the root last, twice its parent, and one more where it is the child of
-    /// bit 1; 0 at the root.
+    /// For each node (the symbols first, the root last) twice its parent, plus 1 if it is the child at bit 1; 0 for the
+    /// root.
     nodes: Vec<usize>,
-    /// For each node its codeword below a bit that is set; 0 where it is as long as the number.
+    /// For each node its codeword below a 1; 0 if the codeword has as many bits as the number.
     codewords: Vec<usize>,
-    /// Where the prefix form of a long codeword finds memory.
+    /// The allocator for the prefix form of long codewords.
     alloc: Global,
 }
 
@@ -52,7 +60,7 @@ impl Model for EncoderHuffmanTree {
         × HasCodewords t.nodes.items t.codewords.items };
 }
 
-/// The tree of these weights.
+/// Makes the tree of these weights.
 fn tree_of<P: BitArray, E>(
     alloc: Global,
     weights: &[P],
@@ -79,21 +87,26 @@ fn tree_of<P: BitArray, E>(
 }
 
 impl EncoderHuffmanTree {
-    /// The tree of the weights that are lent, a symbol for each of them, in memory of `alloc`.
+    /// Makes a tree from lent weights, one symbol for each weight, in memory of `alloc`.
     ///
-    /// The two least trees by weight, and of one weight by index, are made one, until one is left. Its index is the
-    /// next one: the symbols have the first indices. The lesser of the two has bit 0.
+    /// The two trees of least weight (on equal weight, of least index) are joined until one tree is left. Symbols have
+    /// the first indices, and each join the next one. The lesser tree of a join has bit 0.
     ///
     /// # Errors
-    /// Looked for in this order:
-    /// - `Memory`, while the weights are collected.
-    /// - `Empty`, where there is no weight.
-    /// - `TooManySymbols`, where there are more than `usize::MAX / 4`.
-    /// - `WeightOverflow`, where the sum of all weights doesn't fit their type.
-    /// - `Memory`, for want of memory for the tree.
+    ///
+    /// Checked in this order:
+    ///
+    /// - `Memory` if there is no memory to collect the weights.
+    /// - `Empty` if there is no weight.
+    /// - `TooManySymbols` if there are more than `usize::MAX / 4` weights.
+    /// - `WeightOverflow` if the sum of all weights doesn't fit their type.
+    /// - `Memory` if there is no memory for the tree.
+    ///
+    /// # Examples
     ///
     /// ```
     /// let tree = EncoderHuffmanTree::from_probabilities(alloc, [2u32, 2, 4, 1, 1].iter())?;
+    /// tree.num_symbols(); // 5
     /// ```
     pub fn from_probabilities<P, L, I>(
         alloc: Global,
@@ -116,12 +129,14 @@ impl EncoderHuffmanTree {
         }
     }
 
-    /// The tree of the weights, each of which comes as the `Ok` of a `Result`.
+    /// Makes a tree from an iterator of `Result`s of weights.
     ///
     /// # Errors
-    /// Looked for in this order:
-    /// - `Iterator(error)`, where an item is this error, or `Memory`, while the weights are collected.
-    /// - Those of [`EncoderHuffmanTree::from_probabilities`].
+    ///
+    /// Checked in this order:
+    ///
+    /// - `Iterator(error)` if an item is this error, or `Memory` if there is no memory to collect the weights.
+    /// - The errors of [`EncoderHuffmanTree::from_probabilities`].
     pub fn try_from_probabilities<P, E, I>(
         alloc: Global,
         probabilities: I,
@@ -142,7 +157,7 @@ impl EncoderHuffmanTree {
         }
     }
 
-    /// How many symbols there are.
+    /// Returns the number of symbols.
     pub fn num_symbols(&self) -> usize
         ensures value { result ≡ length (leaves self.now) }
     {
@@ -163,8 +178,7 @@ impl Codebook for EncoderHuffmanTree {
 }
 
 impl SuffixCodebook for EncoderHuffmanTree {
-    /// Emits the codeword from the last bit to the first, one for each node from the symbol up to the root. It takes no
-    /// memory.
+    /// Emits the codeword from the last bit to the first, on a climb from the symbol to the root. It needs no memory.
     #[inline]
     fn emit_suffix<E, F: FnMut(bool) -> Result<(), E>>(
         &self,
@@ -183,8 +197,10 @@ impl EncoderCodebook for EncoderHuffmanTree {
 
     ghost suffix_wants = { λ _ _. ⊥ };
 
-    /// Emits the codeword from the first bit to the last. It is found from the last to the first, and turned round: one
-    /// of more than `2 * usize::BITS` bits wants memory.
+    /// Emits the codeword from the first bit to the last.
+    ///
+    /// The climb finds the bits from the last to the first, so they are reversed. Reversing more than `2 * usize::BITS`
+    /// bits needs memory.
     #[inline]
     fn encode_symbol_prefix<E: From<AllocError>, F: FnMut(bool) -> Result<(), E>>(
         &self,
@@ -194,7 +210,7 @@ impl EncoderCodebook for EncoderHuffmanTree {
         reversed_codeword(self.alloc, self, symbol, emit)
     }
 
-    /// Emits the codeword from the last bit to the first. It takes no memory.
+    /// Emits the codeword from the last bit to the first. It needs no memory.
     #[inline]
     fn encode_symbol_suffix<E: From<AllocError>, F: FnMut(bool) -> Result<(), E>>(
         &self,
@@ -204,7 +220,7 @@ impl EncoderCodebook for EncoderHuffmanTree {
         self.emit_suffix(symbol, emit)
     }
 
-    /// The codeword of a symbol, where it has some bits and fewer than the word.
+    /// Returns the codeword of a symbol if it has at least one bit and fewer than `Word`.
     #[inline]
     fn codeword_at_once<Word: BitArray>(&self, symbol: &usize) -> Option<(Word, u32)> {
         if *symbol > self.nodes.len() / 2 {

@@ -1,4 +1,4 @@
-//! Why weights make no tree.
+//! The error of weights that make no Huffman tree.
 
 ghost use Rattle.constriction_symbol.specs.declared.huffman.error.HuffmanError.TheVariants as errors;
 ghost use Rattle.std.specs.Prelude.{◌≡◌};
@@ -7,24 +7,26 @@ use std::alloc::AllocError;
 use std::fmt::Display;
 use thiserror::Error;
 
-/// Why weights make no Huffman tree. The refusals are looked for in this order, but for `Iterator` and want of memory
-/// while the weights are collected, which come first.
+/// The error of weights that make no Huffman tree.
+///
+/// `Iterator`, and `Memory` while the weights are collected, come first. The others are checked in the order of the
+/// variants.
 #[derive(Debug, Drop, Error)]
 #[error_bound(E: Display)]
 pub enum HuffmanError<E> {
-    /// There is no weight at all.
+    /// There is no weight.
     #[error("no weights")]
     Empty,
-    /// There are more weights than a tree has indices for.
+    /// There are more weights than a tree can index.
     #[error("too many symbols")]
     TooManySymbols,
     /// The sum of the weights doesn't fit their type.
     #[error("sum of weights too large")]
     WeightOverflow,
-    /// An item was this error in place of a weight.
+    /// The iterator returned this error in place of a weight.
     #[error("{0}")]
     Iterator(E),
-    /// The weights or the tree found no memory.
+    /// There is no memory for the weights or the tree.
     #[error("out of memory")]
     Memory,
 }

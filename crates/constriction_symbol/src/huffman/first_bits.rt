@@ -1,4 +1,8 @@
-//! Where the first bits of a codeword lead from the root of a tree for decoding, as a table of all first bits.
+//! The table of a decoding tree: where the first bits of a codeword lead from the root.
+//!
+//! The index of an entry is a number with the bits below its highest 1. The entry of `n` is one step from the entry of
+//! `n / 2`, so one loop fills the table. The table looks up one bit more than codewords of equal weights have, and at
+//! most 9 bits, so a small tree has a small table.
 
 ghost use Rattle.constriction_symbol.specs.DecoderTree.{HasPlaces, HoldsTree, IsPlace, LeadsTo, tree_of_pairs};
 ghost use Rattle.constriction_symbol.specs.Bits.{top_bits};
@@ -7,18 +11,19 @@ ghost use Rattle.std.specs.Prelude.{Bool, IfOk, List, [], length, ◌+◌, ◌++
 use constriction_words::BitArray;
 use std::alloc::{AllocError, Global};
 
-/// How many of the first bits have a place at most: a table of as many takes 16 KiB.
+/// The largest number of bits that the table looks up. Such a table takes 16 KiB.
 const MOST: u32 = 9;
 
-/// Where some bits lead: to a symbol, which takes so many of them, or by all of them to a node.
+/// Where some bits lead: to a symbol, after `taken` bits, or to an inner node, after all of them.
 #[derive(Debug, Clone, Copy)]
 pub struct Place {
     pub index: usize,
     pub taken: u32,
 }
 
-/// How many of the first bits have a place in the table of a tree of so many nodes: one more than the codewords of as
-/// many symbols of one weight have.
+/// Returns how many bits the table of a tree with `nodes` inner nodes looks up.
+///
+/// This is one more than the length of the codewords of equally many symbols of equal weights, and at most `MOST`.
 fn most_of(nodes: usize) -> u32
     ensures some { 0 < result }
     ensures few { result ≤ 9 }
@@ -27,7 +32,7 @@ fn most_of(nodes: usize) -> u32
     if count < MOST { count } else { MOST }
 }
 
-/// The place of one bit more.
+/// Returns where one more bit leads.
 fn place_below(nodes: &[[usize; 2]], place: Place, bit: usize) -> Place
     requires tree { HoldsTree nodes.now (tree_of_pairs nodes.now) }
     requires place { (bits : List Bool) × (length bits < 32) × IsPlace nodes.now bits place }
@@ -45,8 +50,9 @@ fn place_below(nodes: &[[usize; 2]], place: Place, bit: usize) -> Place
     }
 }
 
-/// Of each number up to a number of bits the place of the bits below the highest one that is set, and how many these
-/// are at most.
+/// Makes the decoding table: entry `1xyz` (binary) says where the bits `x`, `y`, `z` lead.
+///
+/// Also returns how many bits the table looks up.
 pub fn places_of(alloc: Global, nodes: &[[usize; 2]]) -> Result<(Vec<Place>, u32), AllocError>
     requires tree { HoldsTree nodes.now (tree_of_pairs nodes.now) }
     ensures some { IfOk result (λ table. 0 < table.1) }
@@ -69,7 +75,7 @@ pub fn places_of(alloc: Global, nodes: &[[usize; 2]]) -> Result<(Vec<Place>, u32
     Ok((places, most))
 }
 
-/// The lesser of two counts.
+/// Returns the lesser of two counts.
 #[inline]
 fn lesser(most: u32, all: u32) -> u32
     ensures most { result ≤ most }
@@ -79,7 +85,7 @@ fn lesser(most: u32, all: u32) -> u32
     if most < all { most } else { all }
 }
 
-/// The place of the highest bits of a word.
+/// Looks up where the highest bits of a word lead.
 #[inline]
 pub fn place_of<Word: BitArray>(places: &[Place], most: u32, bits: Word) -> Place
     requires some { 0 < most }

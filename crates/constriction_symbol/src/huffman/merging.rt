@@ -1,4 +1,10 @@
-//! Merging a set of weights, the two least at a time.
+//! Huffman's algorithm: joining the two least weights until one is left.
+//!
+//! No union weighs less than an earlier union. So the least tree is the first one of the leaves, which are sorted, or
+//! of the unions, in the order of their making. On equal weights it is the leaf, because leaves have the lower indices.
+//!
+//! Weights are collected before the merge, so that their sum is known to fit. If the weights are lent, `Memory` may
+//! come wherever one more was to be collected.
 
 ghost use Rattle.constriction_symbol.specs.Huffman.{IsPairLe, keys_from};
 ghost use Rattle.constriction_symbol.specs.Merging.{ArePairs, FitTree, MakeNoTree, all_keys, key_of, keys_of};
@@ -13,7 +19,7 @@ use constriction_words::BitArray;
 use std::alloc::{AllocError, Global};
 use std::collections::VecDeque;
 
-/// Whether the sum of the weights fits their type, as that of a Huffman tree's weights has to.
+/// Returns whether the sum of the weights fits their type, which a Huffman tree requires.
 pub fn total_fits<P: BitArray>(weights: &[P]) -> bool
     ensures { IsTrue result ↔ (sum_by P.number weights.now < 2 ^ P.BITS) }
 {
@@ -27,7 +33,7 @@ pub fn total_fits<P: BitArray>(weights: &[P]) -> bool
     true
 }
 
-/// The weights with their indices, in order.
+/// Returns the weights with their indices, sorted.
 fn sorted_leaves<P: BitArray>(
     alloc: Global,
     weights: &[P],
@@ -47,7 +53,7 @@ fn sorted_leaves<P: BitArray>(
     Ok(VecDeque::from_vec(leaves))
 }
 
-/// Takes out the least of both queues. Where a leaf and a union weigh as much, it is the leaf.
+/// Removes the least tree of both queues. If a leaf and a union weigh the same, it is the leaf.
 fn take_least<P: BitArray>(
     leaves: &mut VecDeque<Weighed<P>>,
     unions: &mut VecDeque<Weighed<P>>,
@@ -76,7 +82,7 @@ fn take_least<P: BitArray>(
     }
 }
 
-/// The pairs of indices that merging these weights merges, in order, until one is left.
+/// Returns the pairs of indices that the merge joins, in order, until one tree is left.
 fn merge_all<P: BitArray>(alloc: Global, weights: &[P]) -> Result<Vec<[usize; 2]>, AllocError>
     requires some { 0 < length weights.now }
     requires total { sum_by P.number weights.now < 2 ^ P.BITS }
@@ -101,11 +107,12 @@ fn merge_all<P: BitArray>(alloc: Global, weights: &[P]) -> Result<Vec<[usize; 2]
     Ok(pairs)
 }
 
-/// The pairs of indices that merging these weights merges, in order, which are at most `most`.
+/// Returns the pairs of indices that the merge of at most `most` weights joins, in order.
 ///
 /// # Errors
-/// - `Empty`, `TooManySymbols`, `WeightOverflow`, looked for in this order.
-/// - `Memory`, for want of memory.
+///
+/// - `Empty`, `TooManySymbols`, `WeightOverflow`, checked in this order.
+/// - `Memory` if there is no memory.
 pub fn merged_pairs<P: BitArray, E>(
     alloc: Global,
     weights: &[P],

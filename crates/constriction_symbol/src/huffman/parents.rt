@@ -1,4 +1,4 @@
-//! Parents of the nodes of a tree, and climbing from a symbol to the root.
+//! The parent of each node of a tree, and the climb from a symbol to the root.
 
 ghost use Rattle.constriction_symbol.specs.Codewords.{Emits};
 ghost use Rattle.constriction_symbol.specs.Huffman.{AreUnions, GoesUp, IsParents, climbed};
@@ -8,7 +8,7 @@ ghost use Rattle.std.specs.Prelude.{IfOk, length, map, reverse, ◌*◌, ◌+◌
 use constriction_base::errors::{CoderError, DefaultEncoderError};
 use std::alloc::{AllocError, Global};
 
-/// For each node twice its parent, and one more where it is the other child; 0 at the root.
+/// Returns for each node twice its parent, plus 1 if it is the second child; 0 for the root.
 pub fn parents_of(alloc: Global, pairs: &[[usize; 2]]) -> Result<Vec<usize>, AllocError>
     requires unions { AreUnions (length pairs.now + 1) (map as_pair pairs.now) }
     requires fits { 4 * length pairs.now + 4 < 2 ^ 64 }

@@ -1,4 +1,6 @@
-//! A tree that is merged, by its weight and its index.
+//! A tree in the merge, with its weight and its index.
+//!
+//! Both queues compare weights at their own width, as the Rust crate does.
 
 ghost use Rattle.std.specs.Prelude.{◌==◌};
 ghost use Rattle.std.proofs.Common.{rules};
@@ -9,7 +11,7 @@ ghost use Rattle.std.specs.Ordering.{as_partial_cmp, eq_of_both, nat_cmp, on, th
 use constriction_words::BitArray;
 use std::cmp::Ordering;
 
-/// A tree of a set that is merged: ordered by its weight, and trees of one weight by their indices.
+/// A tree in the merge, ordered by weight, then by index.
 #[derive(Clone, Copy)]
 pub struct Weighed<P: BitArray> {
     pub weight: P,
