@@ -11,7 +11,7 @@ use Rattle.constriction_inputs.specs.Refusals.{Asks, Else, Memory, Never, Room}
 use Rattle.constriction_inputs.specs.declared.refusal.Refusal.{Refusal}
 use Rattle.constriction_inputs.specs.declared.refusal.Refusal.TheVariants.{ImpossibleSymbol, InvalidData, WrongLength}
 
--- A coder that a caller keeps: a head, and a buffer of which `len` words are in use, last word on top.
+-- A coder that a caller keeps: a head, and a buffer with `len` words in use, last word on top.
 pub record AnsKept (Word State : Type 0) : Type 0 where
   pub head : State
   pub words : List Word

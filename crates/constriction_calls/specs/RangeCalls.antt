@@ -128,8 +128,8 @@ pub record IsRead {State B : Type 0} (state : State → ℕ) (buffer : List ℕ)
   pub point : decoder.point ≡ state d.point
   pub words : decoder.words ≡ drop d.pos buffer
 
--- The decoder stands at this run of reading the words, of which those from its place on are left in the buffer. The
--- words before need not be the buffer's: a decoder of any point stands somewhere.
+-- The decoder stands at this run of reading the words. Those from its place on are left in the buffer. The words before
+-- need not be the buffer's: a decoder of any point stands somewhere.
 abbrev pub StandsOver : {State : Type 0} → (State → ℕ) → ℕ → ℕ → List ℕ → List ℕ → Run → DecoderParts State → Type 0
 StandsOver state w s buffer words r d = IsAt w s words r (state d.lower) (state d.range) (state d.point) (drop d.pos buffer)
 

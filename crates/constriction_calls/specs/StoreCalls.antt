@@ -19,7 +19,7 @@ entries_by (place ∷ places) (lower ∷ lowers) (range ∷ ranges) (len ∷ len
     entry_of place lower range len ∷ entries_by places lowers ranges lengths
 entries_by places lowers ranges lengths = []
 
--- The buffers of a store: an index, and words, of which the first `len` are the store's.
+-- The buffers of a store: an index, and words. The first `len` words are the store's.
 pub record StoreKept (Word State : Type 0) : Type 0 where
   pub positions : List ℕ
   pub lowers : List State

@@ -37,7 +37,7 @@ pub trait StepsUndo {
         undoes g e new old × valid g new };
 }
 
-/// A list of steps can be undone, from the last step to the first.
+/// A list of allowed steps from a valid state can be undone, from the last step to the first.
 pub fn lists_undo<C: StepsUndo>()
     ensures undone { (g : C.setting) (steps : List C.step) (old new : C.state) →
         AllByRecursion (C.allowed g) steps → C.valid g old →

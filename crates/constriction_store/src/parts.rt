@@ -76,7 +76,9 @@ impl<
         })
     }
 
-    /// Returns the words, the index and the model, of which [`Store::from_parts`] makes the same store.
+    /// Takes the store apart: returns its words, its index and its model.
+    ///
+    /// [`Store::from_parts`] makes the same store of them.
     pub fn into_parts(
         self,
     ) -> (

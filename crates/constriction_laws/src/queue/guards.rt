@@ -9,7 +9,7 @@
 ghost use Rattle.std.specs.Prelude.{◌≡◌, ℕ, drop};
 ghost use Rattle.constriction_queue.specs.Encoder.{Encoder, HasHeads, Without, run_by, sealed_by};
 
-/// Without the words that a guard wrote, the encoder has its run before, and exports the same words.
+/// Removing the words that a guard wrote restores the run of the encoder, and its exported words.
 pub fn shown_words_go<Backend>()
     ensures run { (w s count : ℕ) (encoder shown left : Encoder Backend) → HasHeads encoder shown →
         drop count shown.words ≡ encoder.words → Without count shown left →

@@ -22,7 +22,7 @@ pub fn shown_words_are_exported()
         binary_state w s shown.words ≡ state }
 {}
 
-/// Without as many words as the head has, the state is the one before, in both forms.
+/// Removing as many words as the head has restores the state, in both forms.
 pub fn shown_words_go()
     ensures compressed { (w : ℕ) (state shown : AnsState) →
         shown ≡ record { head = state.head; words = exported w state } →

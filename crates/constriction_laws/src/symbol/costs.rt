@@ -19,7 +19,7 @@ use std::convert::Infallible;
 /// Makes the encoder's Huffman tree of weights, which costs at most what any other codebook does.
 ///
 /// Its codewords are those of the symbols `0`, `1`, .., one for each weight. The other codebook may have any symbols.
-/// It has codewords for as many of them, of which no two mean the same.
+/// It has codewords for equally many of them, and no two of these mean the same.
 ///
 /// # Errors
 ///
