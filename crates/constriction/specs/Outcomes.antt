@@ -1,2 +1,2 @@
 -- Why lists of symbols weren't coded, or didn't come back.
-pub use Rattle.constriction_laws.specs.Outcomes.{StopsAmong, HasImpossibleItem, Reasons, OnlyRefused, UnlessImpossible, UnlessInvalid}
+pub use Rattle.constriction_laws.specs.Outcomes.{StopsAmong, HasImpossibleItem, IfRefused, Reasons, OnlyRefused, UnlessImpossible, UnlessInvalid}

@@ -1,10 +1,43 @@
--- Why a symbol wasn't exchanged for another.
-use Rattle.std.specs.Prelude.{⊤}
+-- How far an exchange of one symbol for another came, and why it stopped.
+use Rattle.std.specs.Prelude.{◌≡◌, ◌-◌, ◌<◌, ◌≤◌, ◌^◌, ◌⊎◌, ℕ, Result, Ok, Err}
+use Rattle.constriction_base.specs.Models.{Model}
+use Rattle.constriction_base.specs.Tables.{Impossible}
+use Rattle.constriction_base.specs.declared.errors.CoderError.{CoderError}
+use Rattle.constriction_base.specs.declared.errors.CoderError.TheVariants.{Backend}
+use Rattle.constriction_stack.specs.Ans.{AnsState, AnsValue}
+use Rattle.constriction_stack.specs.Symbols.{Decodes}
 use Rattle.constriction_laws.specs.declared.bounds.words.ExchangeError.{ExchangeError}
 use Rattle.constriction_laws.specs.declared.bounds.words.ExchangeError.TheVariants.{LowHead, ImpossibleSymbol, Refused}
 
--- what is known in each case; a refusal tells nothing
-abbrev pub StopsExchange : Type 0 → Type 0 → ExchangeError → Type 0
-StopsExchange low impossible LowHead = low
-StopsExchange low impossible ImpossibleSymbol = impossible
-StopsExchange low impossible Refused = ⊤
+-- a head is low: a word moves in below it where one is left
+abbrev pub IsLow : ℕ → ℕ → AnsState → Type 0
+IsLow w s x = x.head < 2 ^ (s - w)
+
+-- a symbol was taken off, and the head is low neither before nor behind it
+abbrev pub TakenHigh : {S : Type 0} → ℕ → ℕ → Model S → S → AnsState → AnsState → Type 0
+TakenHigh w s model taken old new = (2 ^ (s - w) ≤ old.head) × Decodes w s model taken old new × (2 ^ (s - w) ≤ new.head)
+
+-- the head is low at first, and nothing changed; or it isn't, and is low behind the symbol that was taken off
+abbrev pub StopsLow : {S : Type 0} → ℕ → ℕ → Model S → AnsState → AnsState → Type 0
+StopsLow {S} w s model old new =
+    (IsLow w s old × (new ≡ old)) ⊎ ((2 ^ (s - w) ≤ old.head) × (taken : S) × Decodes w s model taken old new × IsLow w s new)
+
+-- the symbol that is put on has no entry; one was taken off
+abbrev pub StopsImpossible : {S T : Type 0} → ℕ → ℕ → Model S → Model T → T → AnsState → AnsState → Type 0
+StopsImpossible {S} w s off on symbol old new = Impossible on.table symbol × (taken : S) × TakenHigh w s off taken old new
+
+-- a backend refused the decode, by an error that the decode may answer here, and the state is as before
+abbrev pub RefusesOff : {B S D : Type 0} → ℕ → ℕ → (AnsValue B → Result S D → AnsValue B → Type 0) → AnsValue B → AnsValue B → Type 0
+RefusesOff {D = D} w s decodes old new = (2 ^ (s - w) ≤ old.state.head) × (new.state ≡ old.state) × (e : D) × decodes old (Err e) new
+
+-- or it refused the encode, and the state is as behind the symbol that was taken off
+abbrev pub RefusesOn : {B S D F E : Type 0} → ℕ → ℕ → Model S → (AnsValue B → Result S D → AnsValue B → Type 0)
+    → (AnsValue B → Result (Unit {0}) (CoderError F E) → AnsValue B → Type 0) → AnsValue B → AnsValue B → Type 0
+RefusesOn {B} {S} {E = E} w s off decodes encodes old new =
+    (taken : S) × (mid : AnsValue B) × (e : E) × TakenHigh w s off taken old.state new.state × decodes old (Ok taken) mid × encodes mid (Err (Backend e)) new
+
+-- what is known in each case
+abbrev pub StopsExchange : Type 0 → Type 0 → Type 0 → ExchangeError → Type 0
+StopsExchange low impossible refused LowHead = low
+StopsExchange low impossible refused ImpossibleSymbol = impossible
+StopsExchange low impossible refused Refused = refused

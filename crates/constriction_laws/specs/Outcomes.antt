@@ -1,5 +1,5 @@
 -- Why lists of symbols weren't coded, or didn't come back.
-use Rattle.std.specs.Prelude.{◌≡◌, ℕ, ◌<◌, ⊤, List, ◌∷◌, ◌++◌, Result, Ok, Err, length, drop}
+use Rattle.std.specs.Prelude.{◌≡◌, ℕ, ◌<◌, ◌≤◌, ⊤, List, ◌∷◌, ◌++◌, Result, Ok, Err, length, drop}
 use Rattle.std.specs.List.{zip}
 use Rattle.constriction_base.specs.Steps.{Step, InTurn}
 use Rattle.constriction_base.specs.Tables.{Impossible}
@@ -10,13 +10,15 @@ use Rattle.constriction_laws.specs.declared.errors.Stopped.TheVariants.{Refused,
 use Rattle.constriction_laws.specs.declared.errors.RoundTripError.{RoundTripError}
 use Rattle.constriction_laws.specs.declared.errors.RoundTripError.TheVariants as trip
 
--- of symbols that have a model each so many came, by the first models, and the step by the next one was refused; of any decoder
+-- of symbols that have a model each so many came, by the first models, and the step by the next one was refused; of any decoder.
+-- Where memory was missing, some came
 abbrev pub StopsAmong : {C S M E : Type 0} → (C → Step → Result (Unit {0}) E → C → Type 0) → (C → E → C → Type 0) → ℕ → (M → List (S × ℕ × ℕ)) → List M → ℕ → C → Stopped E → C → Type 0
 StopsAmong {C} {S} {M} {E} decodes halts precision table models taken old (Refused e) new = (given : List S) × (mid : C) × (model : M) × (rest : List M)
     × (length given ≡ taken) × (taken < length models) × (drop (length given) models ≡ model ∷ rest)
     × InTurn (λ (pair : S × M) old new. DecodesByModel decodes halts precision table old pair.1 (Ok pair.0) new) (zip given models) old mid
     × DecodesByModel {S = S} decodes halts precision table mid model (Err e) new
-StopsAmong decodes halts precision table models taken old NoMemory new = ⊤
+StopsAmong {C} {S} {M} decodes halts precision table models taken old NoMemory new = (given : List S) × (length given ≤ length models)
+    × InTurn (λ (pair : S × M) old new. DecodesByModel decodes halts precision table old pair.1 (Ok pair.0) new) (zip given models) old new
 
 -- one of the symbols has no entry in the table of its own model
 abbrev pub HasImpossibleItem : {S : Type 0} → List (Item S) → Type 0
@@ -29,6 +31,11 @@ Reasons impossible many invalid ended trip.TooManySymbols = many
 Reasons impossible many invalid ended trip.InvalidData = invalid
 Reasons impossible many invalid ended (trip.OutOfData taken) = ended taken
 Reasons impossible many invalid ended trip.Refused = ⊤
+
+-- what is known of a refusal
+abbrev pub IfRefused : Type 0 → RoundTripError → Type 0
+IfRefused known trip.Refused = known
+IfRefused known other = ⊤
 
 -- memory or a word was refused: nothing else stops the call
 abbrev pub OnlyRefused : RoundTripError → Type 0

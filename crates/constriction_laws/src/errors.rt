@@ -11,8 +11,7 @@ pub enum Stopped<E> {
 
 /// Why symbols weren't coded, or weren't taken from words.
 ///
-/// Each function says of its cases when they come. `Refused` tells nothing more: it doesn't come where there is memory
-/// and room.
+/// Each function says of its cases when they come. `Refused` doesn't come where there is memory and room.
 #[derive(Debug, Clone, Copy, PartialEq, Eq)]
 pub enum RoundTripError {
     /// The model has no entry for one of the symbols.

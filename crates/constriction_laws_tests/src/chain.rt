@@ -1,93 +1,62 @@
 //! The callers of the chain coder, at words of 8 bits and numbers of the remainders of 16.
 //!
-//! At 8 bits of precision each symbol is decoded from a word of its own, the last one first, so that as many words are
-//! left over as weren't decoded from.
+//! The last word begins the remainders. At 8 bits of precision each symbol is decoded from a word of its own, the last
+//! one first: 30 is a quantile of 1 under the first table, and 20 one of 0 under the second.
 
-use constriction_base::weights::WeightTable;
+use crate::given::{SYMBOLS, Table, are_back, tables_of, words_of};
 use constriction_chain::ChainCoder;
 use constriction_laws::chain::round_trips::isolation::decode_by_two;
 use constriction_laws::chain::round_trips::words::{put_back_pairs, take_pairs};
 use std::alloc::Global;
 use std::test::Fail;
 
-type Table = WeightTable<u8, 8>;
-
 type Small = ChainCoder<u8, u16, Vec<u8>, Vec<u8>, 8>;
 
 /// The coder of words in compressed form.
-fn coder_of(alloc: Global, words: &[u8]) -> Option<Small> {
-    Small::from_compressed(alloc, words.to_vec(alloc).ok()?).ok()
+fn coder_of(alloc: Global) -> Result<Small, Fail> {
+    match Small::from_compressed(alloc, words_of(alloc, &[20, 30, 9])?) {
+        Ok(coder) => Ok(coder),
+        Err(_) => Err(Fail::from("no coder")),
+    }
 }
 
-/// The quantiles are 30, 200 and 10.
-fn pairs_are_taken(alloc: Global, tables: &[Table]) -> bool {
-    let Some(coder) = coder_of(alloc, &[7, 99, 10, 200, 30, 9]) else {
-        return false;
-    };
+/// The remainders are 9 * 240 + 14, whose low word goes, and 8 * 100 + 20.
+fn taken(alloc: Global, coder: Small, tables: &[Table; 2]) -> bool {
     match take_pairs::<u8, u16, _, 8>(alloc, coder, tables) {
-        Ok((symbols, prefix, suffix)) => symbols.as_slice() == [1usize, 1, 0].as_slice()
-            && prefix.as_slice() == [7u8, 99].as_slice()
-            && suffix.as_slice() == [126u8, 68, 242, 3, 1].as_slice(),
+        Ok((again, _, suffix)) => {
+            are_back(again.as_slice()) && suffix.as_slice() == [126u8, 52, 3, 1].as_slice()
+        }
         Err(_) => false,
     }
 }
 
-/// The same the other way round.
-fn pairs_are_put_back(alloc: Global, tables: &[Table]) -> bool {
-    let Ok(remainders) = [126u8, 68, 242, 3, 1].to_vec(alloc) else {
-        return false;
-    };
-    match put_back_pairs::<u8, u16, _, 8>(alloc, remainders, &[1, 1, 0], tables) {
-        Ok(coder) => match coder.into_compressed() {
-            Ok((rest, words)) => {
-                rest.is_empty() && words.as_slice() == [10u8, 200, 30, 9].as_slice()
-            }
-            Err(_) => false,
-        },
+fn put_back(alloc: Global, remainders: Vec<u8>, tables: &[Table; 2]) -> bool {
+    match put_back_pairs::<u8, u16, _, 8>(alloc, remainders, &SYMBOLS, tables) {
+        Ok(_) => true,
+        Err(_) => false,
+    }
+}
+
+fn by_two(alloc: Global, coder: &mut Small, same: &mut Small, tables: &[Table; 2]) -> bool {
+    match decode_by_two::<u8, u16, Vec<u8>, Vec<u8>, _, _, 8>(alloc, coder, tables, same, tables) {
+        Ok((one, two)) => are_back(one.as_slice()) && are_back(two.as_slice()),
         Err(_) => false,
     }
 }
 
 #[test]
 fn symbols_out_of_words_and_back(rt: HostRuntime) -> Result<(), Fail> {
-    let tables = [
-        Table::new(rt.alloc(), &[16, 240])?,
-        Table::new(rt.alloc(), &[100, 156])?,
-        Table::new(rt.alloc(), &[200, 56])?,
-    ];
-    assert!(rt; pairs_are_taken(rt.alloc(), &tables));
-    assert!(rt; pairs_are_put_back(rt.alloc(), &tables));
+    let tables = tables_of(rt.alloc())?;
+    assert!(rt; taken(rt.alloc(), coder_of(rt.alloc())?, &tables));
+    assert!(rt; put_back(rt.alloc(), words_of(rt.alloc(), &[126, 52, 3, 1])?, &tables));
     Ok(())
 }
 
-/// Two coders of which one has another table at the second place: the quantiles are 20 and 10.
 #[test]
-fn symbols_stay_at_every_place(rt: HostRuntime) -> Result<(), Fail> {
-    let first = [
-        Table::new(rt.alloc(), &[16, 240])?,
-        Table::new(rt.alloc(), &[100, 156])?,
-    ];
-    let other = [
-        Table::new(rt.alloc(), &[16, 240])?,
-        Table::new(rt.alloc(), &[5, 251])?,
-    ];
-    let words = [10u8, 20, 30];
-    let (Some(mut coder), Some(mut same)) = (
-        coder_of(rt.alloc(), &words),
-        coder_of(rt.alloc(), &words),
-    ) else {
-        return Err(Fail::from("refused"));
-    };
-    let Ok((one, two)) = decode_by_two::<u8, u16, Vec<u8>, Vec<u8>, _, _, 8>(
-        rt.alloc(),
-        &mut coder,
-        &first,
-        &mut same,
-        &other,
-    ) else {
-        return Err(Fail::from("refused"));
-    };
-    assert_eq!(rt; one.as_slice(), [1usize, 0].as_slice());
-    assert_eq!(rt; two.as_slice(), [1usize, 1].as_slice());
+fn symbols_of_two_coders(rt: HostRuntime) -> Result<(), Fail> {
+    let tables = tables_of(rt.alloc())?;
+    let mut coder = coder_of(rt.alloc())?;
+    let mut same = coder_of(rt.alloc())?;
+    assert!(rt; by_two(rt.alloc(), &mut coder, &mut same, &tables));
     Ok(())
 }

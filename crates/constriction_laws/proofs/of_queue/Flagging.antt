@@ -1,13 +1,14 @@
 -- Symbols with a flag among them, as items of the range coder.
-use Rattle.std.specs.Prelude.{Err}
+use Rattle.std.specs.Prelude.{Ok, Err}
 use Rattle.std.proofs.Common.{◌≡◌, ◌<◌, ◌==◌, ◌||◌, ℕ, Bool, true, false, List, [], ◌∷◌, ◌++◌, length, map, refl, sym, ap, ap₂, ◌∙◌, subst, inl, inr, arith}
 use Rattle.constriction_base.specs.declared.backends.reading.Holds as holding
 use Rattle.constriction_base.specs.declared.backends.reading.ReadWords as reading
 use Rattle.constriction_base.specs.declared.errors.CoderError.{CoderError}
 use Rattle.constriction_base.specs.declared.errors.CoderError.TheVariants.{Backend, Frontend}
 use Rattle.constriction_base.specs.Models.{Model, Item, IsModel, AreModels, item_of, items_of}
+use Rattle.constriction_base.specs.Steps.{InTurn}
 use Rattle.constriction_base.proofs.InTurn.{InTurn-more}
-use Rattle.constriction_queue.specs.Decoder.{Decoder}
+use Rattle.constriction_queue.specs.Decoder.{Decoder, StandsAt}
 use Rattle.constriction_queue.specs.Flagged.{DecodesUnder, HoldsNone, flagged, has_flag, next_model}
 use Rattle.constriction_laws.specs.queue.Flagging.{flagged_behind}
 use Rattle.constriction_queue.specs.declared.decoder.symbols.DecoderFrontendError.{DecoderFrontendError}
@@ -65,9 +66,32 @@ finds_behind w s flag first second words b xs x old mid new all one =
     subst (λ (items : List (Item ℕ)). FindsAll w s words items old new) (sym (behind_more flag first second b xs x))
     (InTurn-more (λ (item : Item ℕ). Finds w s words item.model item.symbol) (flagged_behind b flag first second xs) (item_of (next_model (b || has_flag flag xs) first second) x) old mid new all one)
 
+-- so are decodes of a switch
+pub decodes_behind : {W B E Q : Type 0} (number : W → ℕ) (holds : holding.Ghosts B W Q) (reads : reading.Ghosts B W Q E) (w s flag : ℕ) (first second : Model ℕ) (b : Bool) (xs : List ℕ) (x : ℕ) (old mid new : Decoder B)
+    → InTurn (λ (item : Item ℕ) (before after : Decoder B). DecodesUnder number holds reads w s item.model before (Ok item.symbol) after) (flagged_behind b flag first second xs) old mid
+    → DecodesUnder number holds reads w s (next_model (b || has_flag flag xs) first second) mid (Ok x) new
+    → InTurn (λ (item : Item ℕ) (before after : Decoder B). DecodesUnder number holds reads w s item.model before (Ok item.symbol) after) (flagged_behind b flag first second (xs ++ x ∷ [])) old new
+decodes_behind {B = B} number holds reads w s flag first second b xs x old mid new all one =
+    let Gives : Item ℕ → Decoder B → Decoder B → Type 0 = λ item before after. DecodesUnder number holds reads w s item.model before (Ok item.symbol) after in
+    subst (λ (items : List (Item ℕ)). InTurn Gives items old new) (sym (behind_more flag first second b xs x))
+    (InTurn-more Gives (flagged_behind b flag first second xs) (item_of (next_model (b || has_flag flag xs) first second) x) old mid new all one)
+
+-- a decode that is refused leaves a decoder where it stands
+pub stands_still : {W B E Q : Type 0} (number : W → ℕ) (holds : holding.Ghosts B W Q) (reads : reading.Ghosts B W Q E) (w s : ℕ) (model : Model ℕ) (words : List ℕ) (r : Run) (old new : Decoder B) (e : CoderError DecoderFrontendError E)
+    → holds.is_list → DecodesUnder number holds reads w s model old (Err e) new → StandsAt w s words r old → StandsAt w s words r new
+stands_still {B = B} number holds reads w s model words r old new e known (inl halt) at = subst (λ (d : Decoder B). StandsAt w s words r d) (sym halt.2) at
+stands_still number holds reads w s model words r old new e known (inr (symbol, (left, p, has, (Ok u, call, is)))) at = absurd cc
+stands_still number holds reads w s model words r old new e known (inr (symbol, (left, p, has, (Err f, call, is)))) at =
+    rw (call.lower, call.range, call.point, call.kept known) at
+
 pub none_behind : (w s : ℕ) (words : List ℕ) (flag : ℕ) (first second : Model ℕ) (b : Bool) (old : Run) → FindsAll w s words (flagged_behind b flag first second []) old old
 none_behind w s words flag first second true old = refl
 none_behind w s words flag first second false old = refl
+
+pub taken_none : {W B E Q : Type 0} (number : W → ℕ) (holds : holding.Ghosts B W Q) (reads : reading.Ghosts B W Q E) (w s flag : ℕ) (first second : Model ℕ) (b : Bool) (d : Decoder B)
+    → InTurn (λ (item : Item ℕ) (before after : Decoder B). DecodesUnder number holds reads w s item.model before (Ok item.symbol) after) (flagged_behind b flag first second []) d d
+taken_none number holds reads w s flag first second true d = refl
+taken_none number holds reads w s flag first second false d = refl
 
 pub or_none : (b : Bool) → (b || false) ≡ b
 or_none true = refl

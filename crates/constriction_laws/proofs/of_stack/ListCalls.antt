@@ -1,13 +1,14 @@
 -- What list calls of a stack coder do, in the words of the laws.
-use Rattle.std.proofs.Common.{ℕ, List, [], ◌∷◌, Ok, Err, map, ap}
+use Rattle.std.proofs.Common.{◌≡◌, ℕ, List, [], ◌∷◌, Ok, Err, inl, inr, map, ap}
 use Rattle.constriction_base.specs.declared.errors.CoderError.{CoderError}
+use Rattle.constriction_base.specs.declared.errors.CoderError.TheVariants.{Backend}
 use Rattle.constriction_base.specs.Steps.{InTurn}
 use Rattle.constriction_base.specs.declared.backends.reading.Holds as holding
 use Rattle.constriction_base.specs.declared.backends.reading.ReadWords as reading
 use Rattle.constriction_base.specs.declared.backends.writing.WriteWords as writing
 use Rattle.constriction_base.specs.Tables.{AtEntry}
 use Rattle.constriction_stream.specs.Lists.{StepsAll}
-use Rattle.constriction_stream.specs.Symbols.{EncodesSymbol, ByBackend}
+use Rattle.constriction_stream.specs.Symbols.{DecodesSymbol, EncodesSymbol, ByBackend}
 use Rattle.constriction_stack.specs.Ans.{AnsValue, IsValid}
 use Rattle.constriction_stack.specs.Ans as calls
 use Rattle.constriction_laws.specs.stack.Readings.{DecodesBy, DecodesAllBy}
@@ -46,3 +47,18 @@ module _ {S W B E K : Type 0} (F : Type 0) (number : W → ℕ) (holds : holding
       let first = decode_of (item x).model (item x).symbol old all.0 all.1 in
       let more = decodes_of item xs all.0 new all.2 in
       ((λ known. (all.0.state, first.0 known, more.0 known)), (all.0, first.1, more.1))
+
+-- ---- steps that were refused
+-- by a backend that knows its words: a decode leaves the state
+pub refused_decode : {S W B E K F : Type 0} (number : W → ℕ) (holds : holding.Ghosts B W K) (reads : reading.Ghosts B W K E) (w s precision : ℕ) (table : List (S × ℕ × ℕ)) (old new : AnsValue B) (e : CoderError F E)
+    → holds.is_list → DecodesSymbol {S = S} (ByBackend {F = F} (calls.DecodeCall number holds reads w s)) (λ before error after. ⊥) precision table old (Err e) new → new.state ≡ old.state
+refused_decode number holds reads w s precision table old new e known (inl halt) = absurd halt
+refused_decode number holds reads w s precision table old new e known (inr (symbol, (left, p, has, (Ok u, call, is)))) = absurd cc
+refused_decode number holds reads w s precision table old new e known (inr (symbol, (left, p, has, (Err x, call, is)))) = call.kept known
+
+-- and so does an encode
+pub refused_encode : {S W B E K F : Type 0} (number : W → ℕ) (holds : holding.Ghosts B W K) (writes : writing.Ghosts B W E) (w s : ℕ) (is_impossible : F → Type 0) (precision : ℕ) (table : List (S × ℕ × ℕ)) (symbol : S) (old new : AnsValue B) (e : E)
+    → EncodesSymbol (ByBackend (calls.EncodeCall number holds writes w s)) is_impossible precision table symbol old (Err (Backend e)) new → new.state ≡ old.state
+refused_encode number holds writes w s is_impossible precision table symbol old new e (inl (left, p, has, (Ok u, call, is))) = absurd cc
+refused_encode number holds writes w s is_impossible precision table symbol old new e (inl (left, p, has, (Err x, call, is))) = call.kept
+refused_encode number holds writes w s is_impossible precision table symbol old new e (inr (never, f, impossible, is, same)) = absurd cc

@@ -1,12 +1,13 @@
 -- Why symbols aren't taken out of a chain coder, or put back.
-use Rattle.std.specs.Prelude.{◌≡◌, ℕ, ◌*◌, ◌+◌, ◌<◌, ⊤, List, [], ◌∷◌, ◌++◌, length}
+use Rattle.std.specs.Prelude.{◌≡◌, ℕ, ◌*◌, ◌+◌, ◌<◌, ◌⊎◌, ⊤, List, [], ◌∷◌, ◌++◌, Result, length}
+use Rattle.constriction_base.specs.Steps.{Step}
 use Rattle.constriction_base.specs.Models.{Item}
 use Rattle.constriction_base.specs.Tables.{AtEntry, Impossible}
 use Rattle.constriction_base.specs.declared.errors.CoderError.{CoderError}
 use Rattle.constriction_base.specs.declared.errors.CoderError.TheVariants.{Frontend, Backend}
-use Rattle.constriction_laws.specs.Outcomes.{Reasons}
+use Rattle.constriction_laws.specs.Outcomes.{Reasons, StopsAmong}
 use Rattle.constriction_laws.specs.declared.errors.RoundTripError.{RoundTripError}
-use Rattle.constriction_laws.specs.declared.errors.Stopped.TheVariants.{NoMemory}
+use Rattle.constriction_laws.specs.declared.errors.Stopped.TheVariants.{NoMemory, Refused}
 use Rattle.constriction_chain.specs.Chain.{ChainState, least}
 use Rattle.constriction_chain.specs.Imports.{AreBinaryWords, FromRemainders}
 use Rattle.constriction_chain.specs.Symbols.{TakesOffAll, PutsBackAll}
@@ -30,6 +31,17 @@ pub record Ended {S : Type 0} (w s P : ℕ) (items : List S → List (Item S)) (
 -- fewer symbols were taken than asked for; over a backend that knows its words they ended there
 abbrev pub EndsEarly : {S : Type 0} → Type 0 → ℕ → ℕ → ℕ → (List S → List (Item S)) → ℕ → ChainState → ℕ → ChainState → Type 0
 EndsEarly is_list w s P items amt old taken new = (taken < amt) × (is_list → Ended w s P items taken old new)
+
+-- so many symbols were taken off; over a backend that knows its words
+abbrev pub TookOff : {S : Type 0} → Type 0 → ℕ → ℕ → (List S → List (Item S)) → ℕ → ChainState → ChainState → Type 0
+TookOff {S} is_list w s items amt old new = (given : List S) × (length given ≡ amt) × (is_list → TakesOffAll w s (items given) old new)
+
+-- decodes of some symbols went well, and then a backend refused the one of the next symbol, or memory was refused
+abbrev pub RefusedAmong : {C S M F B : Type 0} → (C → Step → Result (Unit {0}) (CoderError F B) → C → Type 0)
+    → (C → CoderError F B → C → Type 0) → ℕ → (M → List (S × ℕ × ℕ)) → List M → C → C → Type 0
+RefusedAmong {S = S} {B = B} decodes halts precision table models old new =
+    ((taken : ℕ) × (e : B) × StopsAmong {S = S} decodes halts precision table models taken old (Refused (Backend e)) new)
+    ⊎ StopsAmong {S = S} decodes halts precision table models 0 old NoMemory new
 
 -- nothing stops the call but words that end, and a refusal
 abbrev pub UnlessEnded : (ℕ → Type 0) → RoundTripError → Type 0

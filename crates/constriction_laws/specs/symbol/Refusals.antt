@@ -1,28 +1,37 @@
 -- Why codewords weren't written or read, and why weights make no tree.
-use Rattle.std.specs.Prelude.{◌≡◌, ℕ, ◌<◌, ◌⊎◌, ⊤, Bool, List, ◌∷◌, ◌++◌, Option, None, Result, Err, length, drop}
+use Rattle.std.specs.Prelude.{◌≡◌, ℕ, ◌<◌, ◌≤◌, ◌⊎◌, ⊤, Bool, List, ◌∷◌, ◌++◌, Option, None, Result, Err, length, drop}
 use Rattle.std.specs.List.{zip}
 use Rattle.constriction_base.specs.declared.errors.CoderError.{CoderError}
 use Rattle.constriction_base.specs.declared.errors.CoderError.TheVariants.{Frontend, Backend}
 use Rattle.constriction_base.specs.declared.errors.DefaultEncoderFrontendError.{DefaultEncoderFrontendError}
 use Rattle.constriction_laws.specs.declared.errors.Stopped.{Stopped}
 use Rattle.constriction_laws.specs.declared.errors.Stopped.TheVariants as stopped
-use Rattle.constriction_symbol.specs.Codewords.{ReadsSymbol}
+use Rattle.constriction_symbol.specs.Codewords.{Answer, ReadsSymbol}
 use Rattle.constriction_symbol.specs.Merging.{MakeNoTree}
 use Rattle.constriction_symbol.specs.declared.codebooks.SymbolCodeError.{SymbolCodeError}
 use Rattle.constriction_symbol.specs.declared.huffman.error.HuffmanError.{HuffmanError}
 use Rattle.constriction_symbol.specs.declared.huffman.error.HuffmanError.TheVariants as huffman_error
 use Rattle.constriction_symbol.specs.Lists.{AreCodewords, ReadsAll, ReadsPairs}
 
--- one of the items has no codeword
-abbrev pub HasNoCodeword : {A : Type 0} → (A → Option (List Bool)) → List A → Type 0
-HasNoCodeword {A} codeword items =
-    (before after : List A) × (item : A) × (items ≡ before ++ item ∷ after) × (codeword item ≡ None)
+-- items are written from the first on up to one of them: the codewords of those before it are these bits, of which this holds
+abbrev pub StopsAtItem : {A : Type 0} → (A → Option (List Bool)) → List A → (A → List Bool → Type 0) → Type 0
+StopsAtItem {A} codeword items holds =
+    (before after : List A) × (item : A) × (code : List Bool) × (items ≡ before ++ item ∷ after)
+    × AreCodewords codeword before code × holds item code
 
--- a refusal of the writer itself says that; one of what holds the bits tells nothing
-abbrev pub SymbolNotWritten : {A E : Type 0} → (A → Option (List Bool)) → List A
-    → CoderError DefaultEncoderFrontendError E → Type 0
-SymbolNotWritten codeword items (Frontend e) = HasNoCodeword codeword items
-SymbolNotWritten codeword items (Backend e) = ⊤
+-- the same from the last item on: the codewords of those behind it, in the order of the list
+abbrev pub StopsAtItemFromBack : {A : Type 0} → (A → Option (List Bool)) → List A → (A → List Bool → Type 0) → Type 0
+StopsAtItemFromBack {A} codeword items holds =
+    (before after : List A) × (item : A) × (code : List Bool) × (items ≡ before ++ item ∷ after)
+    × AreCodewords codeword after code × holds item code
+
+-- why a list of items wasn't written: one has no codeword, and just the codewords of the items written before it are
+-- there; or they were there, and then the write of the next one was refused with this error
+abbrev pub SymbolNotWritten : {A C E : Type 0} → ((A → List Bool → Type 0) → Type 0) → (A → Option (List Bool))
+    → (C → List Bool → Type 0) → (C → A → Answer E → C → Type 0) → CoderError DefaultEncoderFrontendError E → C → Type 0
+SymbolNotWritten stops codeword has writes (Frontend e) new = stops (λ item code. (codeword item ≡ None) × has new code)
+SymbolNotWritten {C = C} stops codeword has writes (Backend e) new =
+    stops (λ item code. (mid : C) × has mid code × writes mid item (Err (Backend e)) new)
 
 -- the bits don't begin with the codewords of so many symbols
 abbrev pub BeginsWithNone : {S : Type 0} → (S → Option (List Bool)) → ℕ → List Bool → Type 0
@@ -39,7 +48,7 @@ StopsReading {I} {S} next codeword reads_on is_invalid amt old (stopped.Refused 
     × ReadsSymbol next codeword reads_on is_invalid mid (Err e) new
 StopsReading next codeword reads_on is_invalid amt old stopped.NoMemory new = ⊤
 
--- the same where each symbol has a codebook of its own: the next one was asked
+-- the same where each symbol has a codebook of its own: the next one was asked; or memory was missing behind some symbols
 abbrev pub StopsAtCodebook : {I K S V E : Type 0} → (I → Option (Result Bool E) → I → Type 0)
     → (K → S → Option (List Bool)) → (K → List Bool → Type 0) → (K → List Bool → V → Type 0) → List K → I
     → Stopped (CoderError (SymbolCodeError V) E) → I → Type 0
@@ -47,7 +56,8 @@ StopsAtCodebook {I} {K} {S} next codeword reads_on is_invalid books old (stopped
     (given : List S) × (mid : I) × (book : K) × (rest : List K)
     × (drop (length given) books ≡ book ∷ rest) × ReadsPairs next codeword reads_on is_invalid (zip given books) old mid
     × ReadsSymbol next (codeword book) (reads_on book) (is_invalid book) mid (Err e) new
-StopsAtCodebook next codeword reads_on is_invalid books old stopped.NoMemory new = ⊤
+StopsAtCodebook {S = S} next codeword reads_on is_invalid books old stopped.NoMemory new =
+    (given : List S) × (length given ≤ length books) × ReadsPairs next codeword reads_on is_invalid (zip given books) old new
 
 -- the weights make no tree of so many symbols at most
 abbrev pub HaveNoTree : {P E : Type 0} → (P → ℕ) → ℕ → ℕ → List P → HuffmanError E → Type 0

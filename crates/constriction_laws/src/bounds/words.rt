@@ -1,12 +1,13 @@
 //! Words that are known to be few, from the public contracts of the coders and the bounds alone.
 
-ghost use Rattle.std.specs.Prelude.{◌≡◌, ◌-◌, ◌<◌, ◌≤◌, ◌^◌, ◌⊎◌, [], ◌∷◌, IfOk};
-ghost use Rattle.std.specs.Prelude.{IfErr, MatchBool};
+ghost use Rattle.std.specs.Prelude.{◌≡◌, ◌-◌, ◌<◌, ◌≤◌, ◌^◌, ◌⊎◌, [], ◌∷◌, IfOk, IfErr, MatchBool};
 ghost use Rattle.constriction_base.specs.Steps.{Step, IsSizes};
-ghost use Rattle.constriction_base.specs.Tables.{AtEntry, Impossible};
-ghost use Rattle.constriction_stack.specs.Ans.{AnsState, IsValid};
-ghost use Rattle.constriction_stack.specs.Symbols.{Decodes, Encodes};
-ghost use Rattle.constriction_laws.specs.Exchanges.{StopsExchange};
+ghost use Rattle.constriction_base.specs.Tables.{AtEntry};
+ghost use Rattle.constriction_stack.specs.Ans.{AnsState};
+ghost use Rattle.constriction_stack.specs.Symbols.{Encodes};
+ghost use Rattle.constriction_stream.specs.Symbols.{DecodesSymbol, EncodesSymbol};
+ghost use Rattle.constriction_laws.specs.Exchanges.{RefusesOff, RefusesOn, StopsExchange, StopsImpossible, StopsLow};
+ghost use Rattle.constriction_laws.specs.Exchanges.{TakenHigh};
 ghost use Rattle.constriction_laws.specs.Bounds.{Decode, Encode, IsNetBounded};
 
 use crate::bounds::stack_net_bound;
@@ -35,7 +36,7 @@ pub enum ExchangeError {
     LowHead,
     /// The other model has no entry for the symbol that is put on.
     ImpossibleSymbol,
-    /// Memory was refused, or a backend refused a word.
+    /// The backend refused a word.
     Refused,
 }
 
@@ -45,7 +46,7 @@ pub enum ExchangeError {
 /// # Errors
 /// - `LowHead`: the head is low, and the coder is as before; or it is low behind the symbol that was taken off.
 /// - `ImpossibleSymbol`: the other model has no entry for the symbol. A symbol was taken off.
-/// - `Refused`: memory was refused, or a backend refused a word.
+/// - `Refused`: a backend refused a word. The state is as before, or as behind the symbol that was taken off.
 pub fn exchange<
     Word: WordOf<State>,
     State: BitArray,
@@ -64,21 +65,29 @@ where
     E::Probability: WordOf<Word>,
     Backend::ReadError: Drop,
     Backend::WriteError: Drop,
-    ensures net { IsValid Word.BITS State.BITS coder.old.state → IfOk result (λ taken. (out put : Step)
+    ensures net { IfOk result (λ taken. (out put : Step)
         × AtEntry PRECISION (D.table off.now) taken (λ step. step ≡ out)
         × AtEntry PRECISION (E.table on.now) symbol.now (λ step. step ≡ put)
         × IsNetBounded Word.BITS State.BITS (Decode out ∷ Encode put ∷ []) coder.old.state coder.new.state) }
-    ensures done { IsValid Word.BITS State.BITS coder.old.state → IfOk result (λ taken. (mid : AnsState)
-        × Decodes Word.BITS State.BITS record { precision = PRECISION; table = D.table off.now } taken
+    ensures done { IfOk result (λ taken. (mid : AnsState)
+        × TakenHigh Word.BITS State.BITS record { precision = PRECISION; table = D.table off.now } taken
         coder.old.state mid
         × Encodes Word.BITS State.BITS record { precision = PRECISION; table = E.table on.now } symbol.now
         mid coder.new.state) }
     ensures err { IfErr result (StopsExchange
-        (((coder.old.state.head < 2 ^ (State.BITS - Word.BITS)) × (coder.new.state ≡ coder.old.state))
-        ⊎ ((taken : D.Symbol) × Decodes Word.BITS State.BITS record { precision = PRECISION; table = D.table off.now }
-        taken coder.old.state coder.new.state × (coder.new.state.head < 2 ^ (State.BITS - Word.BITS))))
-        (Impossible (E.table on.now) symbol.now × (taken : D.Symbol) × Decodes Word.BITS State.BITS
-        record { precision = PRECISION; table = D.table off.now } taken coder.old.state coder.new.state)) }
+        (StopsLow Word.BITS State.BITS record { precision = PRECISION; table = D.table off.now }
+        coder.old.state coder.new.state)
+        (StopsImpossible Word.BITS State.BITS record { precision = PRECISION; table = D.table off.now }
+        record { precision = PRECISION; table = E.table on.now } symbol.now coder.old.state coder.new.state)
+        (RefusesOff Word.BITS State.BITS
+        (DecodesSymbol (⟦<AnsCoder<Word, State, Backend> as Decode<PRECISION>>⟧.decodes)
+        (⟦<AnsCoder<Word, State, Backend> as Decode<PRECISION>>⟧.halts) PRECISION (D.table off.now)) coder.old coder.new
+        ⊎ RefusesOn Word.BITS State.BITS record { precision = PRECISION; table = D.table off.now }
+        (DecodesSymbol (⟦<AnsCoder<Word, State, Backend> as Decode<PRECISION>>⟧.decodes)
+        (⟦<AnsCoder<Word, State, Backend> as Decode<PRECISION>>⟧.halts) PRECISION (D.table off.now))
+        (EncodesSymbol (⟦<AnsCoder<Word, State, Backend> as Encode<PRECISION>>⟧.encodes)
+        (⟦<AnsCoder<Word, State, Backend> as Encode<PRECISION>>⟧.is_impossible_symbol) PRECISION (E.table on.now)
+        symbol.now) coder.old coder.new)) }
 {
     if is_low::<Word, State>(coder.state()) {
         return Err(ExchangeError::LowHead);

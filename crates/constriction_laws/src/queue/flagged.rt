@@ -1,11 +1,11 @@
 //! Symbols under two models in one stream, which change behind a flag.
 
-ghost use Rattle.std.specs.Prelude.{◌≡◌, ◌≤◌, ◌++◌, ◌||◌, ℕ, List, length, IfOk, IfErr};
+ghost use Rattle.std.specs.Prelude.{◌≡◌, ◌++◌, ℕ, List, length, IfOk, IfErr, MatchResult};
 ghost use Rattle.constriction_base.specs.Models.{Model, IsModel};
 ghost use Rattle.constriction_base.specs.Steps.{IsSizes, AreWords};
-ghost use Rattle.constriction_queue.specs.Decoder.{StandsAt};
-ghost use Rattle.constriction_queue.specs.Flagged.{flagged, has_flag};
-ghost use Rattle.constriction_laws.specs.queue.Flagging.{flagged_behind};
+ghost use Rattle.constriction_queue.specs.Decoder.{Decoder, StandsAt};
+ghost use Rattle.constriction_queue.specs.Flagged.{flagged};
+ghost use Rattle.constriction_laws.specs.queue.Flagging.{GivesFlagged, StopsFlagged, flagged_behind};
 ghost use Rattle.constriction_queue.specs.Range.{Run, initial};
 ghost use Rattle.constriction_queue.specs.SelfDelimiting.{SelfDelimits};
 ghost use Rattle.constriction_laws.specs.queue.Outcomes.{HoldNone, InvalidWhere, ReadTo};
@@ -46,6 +46,9 @@ pub fn flagged_symbols_come_back()
 /// - `Refused(error)`: the switch answered this error. It is `InvalidData` only where the words hold no list of so
 ///   many symbols.
 /// - `NoMemory`: memory for the symbols was refused.
+///
+/// The switch then stands behind the symbols that it gave, where the words are known, and has switched where the flag
+/// was among them.
 pub fn decode_flagged<
     Word: WordOf<State>,
     State: BitArray,
@@ -70,8 +73,14 @@ where
         ReadTo Word.BITS State.BITS words (flagged_behind switch.old.switched switch.old.flag
         record { precision = P1; table = M1.table first.now }
         record { precision = P2; table = M2.table second.now } again.items) old switch.new.decoder) }
-    ensures switched { (given : List ℕ) × (length given ≤ amt) × IfOk result (λ again. again.items ≡ given)
-        × (switch.new.switched ≡ (switch.old.switched || has_flag switch.old.flag given)) }
+    ensures steps { (given : List ℕ) × (mid : Decoder Backend) × IfOk result (λ again. again.items ≡ given)
+        × GivesFlagged Word.number Backend.Holds Backend.ReadWords.own Word.BITS State.BITS
+        record { precision = P1; table = M1.table first.now } record { precision = P2; table = M2.table second.now }
+        amt switch.old given mid switch.new
+        × MatchResult result (λ _. switch.new.decoder ≡ mid)
+        (λ e. StopsFlagged Word.number Backend.Holds Backend.ReadWords.own Word.BITS State.BITS
+        record { precision = P1; table = M1.table first.now } record { precision = P2; table = M2.table second.now }
+        amt given mid e switch.new) }
     ensures flag { switch.new.flag ≡ switch.old.flag }
     ensures err { Backend.is_list → (words : List ℕ) (old : Run) →
         StandsAt Word.BITS State.BITS words old switch.old.decoder →

@@ -25,8 +25,9 @@ pub fn position_leads_there()
         IsAt w s words there lower range point rest }
 {}
 
-/// A decoder that seeks to a recorded position gives the symbols that were encoded after it, over the words
-/// that the encoder exported later, if it wasn't cleared in between. So it does from any interval on.
+/// Decoding from a position yields what the encoder was given since it recorded it, in the order of encoding. The
+/// decoder may have any words that the encoder exports afterwards, until it is cleared. Words that were written before
+/// the position don't matter (`anywhere`): its interval alone does.
 pub fn symbols_after_a_position<Symbol>()
     ensures decoded { (w s : ℕ) (before since : List (Item Symbol)) (middle last : Run) → IsSizes w s →
         AreModels w before → AreModels w since →

@@ -6,7 +6,7 @@
 //! [`RoundTripError`](crate::errors::RoundTripError), and a clause `err` says of each of its cases when it comes: none
 //! but `Refused` comes for another reason.
 //!
-//! - [`lent_pairs`]: the words or the decoder that an encoder lends.
+//! - [`lent_pairs`]: the words that an encoder lends.
 //! - [`pairs`]: exported words, and any words.
 //! - [`positions_of_pairs`]: recorded positions.
 

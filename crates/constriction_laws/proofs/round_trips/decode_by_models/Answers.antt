@@ -53,3 +53,23 @@ returns-in-Err-clause-err g c =
       subst (λ d. GavePairs g.C.Decode.decodes g.C.Decode.halts g.row.PRECISION g.M.EntropyModel.table (zip c.decode.symbols.items models) d c.decode.answer-iterator.decoder.now) begun kept.5,
       search (rules, given.1.2, c.in-Err.is),
     )
+
+pub returns-in_default-clause-err : goal.returns-in_default-clause-err
+returns-in_default-clause-err g c =
+    let table = g.M.EntropyModel.table in
+    let models = c.args.models.now in
+    let kept = c.decode.invariant in
+    let given = c.in-Some.ensures.steps in
+    let xs = c.decode.symbols.items in
+    let x = c.in-Ok.symbol in
+    let before = c.decode.answer-iterator in
+    let after = c.next.new.self in
+    let model = given.1.0 in
+    let begun = ap (λ i. i.decoder.now) c.into_iter-answer-iterator.ensures.into_iter_gives ∙ c.decode_symbols-answer-items.ensures.decoder in
+    let next : drop (length xs) models ≡ model.now ∷ iter_rest after.models = sym kept.3 ∙ given.1.1 in
+    let gave = subst (λ d. GavePairs g.C.Decode.decodes g.C.Decode.halts g.row.PRECISION table (zip xs models) d before.decoder.now) begun kept.5 in
+    let all = pairs_more g.C.Decode.decodes g.C.Decode.halts g.row.PRECISION table models c.args.decoder.now xs before.decoder.now x model.now (iter_rest after.models) c.in-Some.answer after.decoder.now gave next c.in-Ok.is given.1.2 in (
+      xs ++ x ∷ [],
+      omega (arith, length-append xs (x ∷ []), kept.4, ap length given.1.1),
+      subst (λ d. GavePairs g.C.Decode.decodes g.C.Decode.halts g.row.PRECISION table (zip (xs ++ x ∷ []) models) c.args.decoder.now d) (search rules) all,
+    )

@@ -3,7 +3,8 @@
 ghost use Rattle.std.specs.Prelude.{◌≡◌, length, reverse, IfErr, IfOk, OnOk};
 ghost use Rattle.constriction_base.specs.Models.{pairs_of};
 ghost use Rattle.constriction_chain.specs.Symbols.{TakesOffAll, PutsBackAll};
-ghost use Rattle.constriction_laws.specs.chain.Endings.{EndsEarly, NotEncoded, UnlessEnded};
+ghost use Rattle.constriction_laws.specs.Outcomes.{IfRefused};
+ghost use Rattle.constriction_laws.specs.chain.Endings.{EndsEarly, NotEncoded, RefusedAmong, UnlessEnded};
 
 use crate::errors::{RoundTripError, Stopped};
 use crate::round_trips as any_coder;
@@ -11,6 +12,7 @@ use constriction_base::backends::{Holds, ReadWords, Stack, WriteWords};
 use constriction_base::errors::CoderError;
 use constriction_base::model::{DecoderModel, EncoderModel, EntropyModel};
 use constriction_chain::{ChainCoder, EncoderError};
+use constriction_stream::decoding::Decode;
 use constriction_stream::encoding::{Encode, EncodeReverse};
 use constriction_words::{BitArray, WordOf};
 use std::alloc::Global;
@@ -42,13 +44,18 @@ where
     ensures err { IfErr result (UnlessEnded (λ taken. EndsEarly C.is_list Word.BITS State.BITS PRECISION
         (λ given. pairs_of PRECISION M.table given models.now)
         (length models.now) coder.old.state taken coder.new.state)) }
+    ensures refused { IfErr result (IfRefused (RefusedAmong
+        (⟦<ChainCoder<Word, State, C, R, PRECISION> as Decode<PRECISION>>⟧.decodes)
+        (⟦<ChainCoder<Word, State, C, R, PRECISION> as Decode<PRECISION>>⟧.halts)
+        PRECISION M.table models.now coder.old coder.new)) }
 {
     match any_coder::decode_by_models::<_, _, PRECISION>(alloc, coder, models) {
         Ok(symbols) => Ok(symbols),
         Err((taken, Stopped::Refused(CoderError::Frontend(_)))) => Err(RoundTripError::OutOfData(
             taken,
         )),
-        Err(_) => Err(RoundTripError::Refused),
+        Err((_, Stopped::Refused(CoderError::Backend(_)))) => Err(RoundTripError::Refused),
+        Err((_, Stopped::NoMemory)) => Err(RoundTripError::Refused),
     }
 }
 

@@ -5,7 +5,8 @@ ghost use Rattle.std.specs.Prelude.{◌≡◌, ◌⊎◌, length, IfErr, IfOk};
 ghost use Rattle.constriction_base.specs.Models.{pairs_of};
 ghost use Rattle.constriction_chain.specs.Runs.{AreIsolated};
 ghost use Rattle.constriction_chain.specs.Symbols.{TakesOffAll};
-ghost use Rattle.constriction_laws.specs.chain.Endings.{EndsEarly, UnlessEnded};
+ghost use Rattle.constriction_laws.specs.Outcomes.{IfRefused};
+ghost use Rattle.constriction_laws.specs.chain.Endings.{EndsEarly, RefusedAmong, TookOff, UnlessEnded};
 ghost use Rattle.constriction_laws.specs.chain.Isolating.{decodings_by};
 
 use crate::chain::isolation::symbols_are_isolated;
@@ -24,6 +25,9 @@ use std::alloc::Global;
 /// # Errors
 /// - `OutOfData(count)`: after so many symbols one of the coders needs a word, and none is left.
 /// - `Refused`: a read, a write or memory was refused.
+///
+/// Where it is the first coder that stops, the other one is as before. Where it is the other one, the first has given
+/// all its symbols.
 pub fn decode_by_two<
     Word: WordOf<State>,
     State: BitArray,
@@ -56,10 +60,21 @@ where
         IfOk result (λ both. AreIsolated (decodings_by PRECISION M.table both.0.items models.now)
         (decodings_by PRECISION L.table both.1.items others.now)) }
     ensures err { IfErr result (UnlessEnded (λ taken.
-        EndsEarly C.is_list Word.BITS State.BITS PRECISION (λ given. pairs_of PRECISION M.table given models.now)
-        (length models.now) coder.old.state taken coder.new.state
-        ⊎ EndsEarly C.is_list Word.BITS State.BITS PRECISION (λ given. pairs_of PRECISION L.table given others.now)
-        (length others.now) same.old.state taken same.new.state)) }
+        (EndsEarly C.is_list Word.BITS State.BITS PRECISION (λ given. pairs_of PRECISION M.table given models.now)
+        (length models.now) coder.old.state taken coder.new.state × (same.new ≡ same.old))
+        ⊎ (TookOff C.is_list Word.BITS State.BITS (λ given. pairs_of PRECISION M.table given models.now)
+        (length models.now) coder.old.state coder.new.state
+        × EndsEarly C.is_list Word.BITS State.BITS PRECISION (λ given. pairs_of PRECISION L.table given others.now)
+        (length others.now) same.old.state taken same.new.state))) }
+    ensures refused { IfErr result (IfRefused
+        ((RefusedAmong (⟦<ChainCoder<Word, State, C, R, PRECISION> as Decode<PRECISION>>⟧.decodes)
+        (⟦<ChainCoder<Word, State, C, R, PRECISION> as Decode<PRECISION>>⟧.halts)
+        PRECISION M.table models.now coder.old coder.new × (same.new ≡ same.old))
+        ⊎ (TookOff C.is_list Word.BITS State.BITS (λ given. pairs_of PRECISION M.table given models.now)
+        (length models.now) coder.old.state coder.new.state
+        × RefusedAmong (⟦<ChainCoder<Word, State, C, R, PRECISION> as Decode<PRECISION>>⟧.decodes)
+        (⟦<ChainCoder<Word, State, C, R, PRECISION> as Decode<PRECISION>>⟧.halts)
+        PRECISION L.table others.now same.old same.new))) }
 {
     let one = decode_pairs(alloc, coder, models)?;
     let two = decode_pairs(alloc, same, others)?;

@@ -9,6 +9,7 @@ ghost use Rattle.constriction_stack.specs.Ans.{AnsState, IsValid, empty, filled}
 ghost use Rattle.constriction_stack.specs.Imports.{ImportRefused};
 ghost use Rattle.constriction_stack.specs.Symbols.{DecodesAll};
 ghost use Rattle.constriction_laws.specs.stack.Exporting.{ExportsAll};
+ghost use Rattle.constriction_laws.specs.stack.Readings.{DecodesFrom};
 
 use crate::bounds::stack_bound;
 use crate::errors::RoundTripError;
@@ -87,6 +88,8 @@ where
     ensures read { Backend.is_list → IfOk result (λ back. DecodesAll Word.BITS State.BITS
         (pairs_of PRECISION M.table back.0.items models.now)
         (filled Word.BITS State.BITS 0 (map Word.number (Backend.words words))) back.1.state) }
+    ensures reads { IfOk result (λ back. DecodesFrom Word.number Backend.reads Word.BITS State.BITS words
+        (pairs_of PRECISION M.table back.0.items models.now) back.1) }
     ensures back { Backend.is_list → (symbols : List M.Symbol) (old : AnsState) → IsValid Word.BITS State.BITS old →
         ExportsAll Word.BITS State.BITS (reverse (pairs_of PRECISION M.table symbols models.now)) old
         (map Word.number (Backend.words words)) → length symbols ≡ length models.now →

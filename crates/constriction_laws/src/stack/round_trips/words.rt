@@ -7,8 +7,9 @@ ghost use Rattle.constriction_base.specs.Iterators.{FusedRead};
 ghost use Rattle.constriction_base.specs.Steps.{IsSizes};
 ghost use Rattle.constriction_laws.specs.Outcomes.{UnlessInvalid};
 ghost use Rattle.constriction_laws.specs.Readings.{TellsItems};
-ghost use Rattle.constriction_stack.specs.Ans.{AnsState, exported, filled, empty};
-ghost use Rattle.constriction_stack.specs.Imports.{FilledBy, ImportRefused};
+ghost use Rattle.constriction_laws.specs.stack.Readings.{DecodesFrom};
+ghost use Rattle.constriction_stack.specs.Ans.{AnsState, AnsValue, exported, filled, empty};
+ghost use Rattle.constriction_stack.specs.Imports.{ImportRefused};
 ghost use Rattle.constriction_stack.specs.Symbols.{DecodesAll, EncodesAll};
 
 use crate::errors::RoundTripError;
@@ -88,8 +89,9 @@ where
         EncodesAll Word.BITS State.BITS (reverse (pairs_of PRECISION M.table symbols models.now)) empty state →
         map Word.number (words items) ≡ exported Word.BITS state → length symbols ≡ length models.now →
         IfOk result (λ again. again.items ≡ symbols) }
-    ensures imported { IfOk result (λ _. (head : ℕ) × (there : Iter × Bool) × FilledBy Word.number
-        (FusedRead Iter.next_gives) Word.BITS State.BITS (items, false) head there) }
+    ensures reads { IfOk result (λ again. (last : AnsValue (Iter × Bool)) × DecodesFrom Word.number
+        (FusedRead Iter.next_gives) Word.BITS State.BITS (items, false)
+        (pairs_of PRECISION M.table again.items models.now) last) }
     ensures err { IfErr result (UnlessInvalid ((rest : Iter) × (done : Bool)
         × ImportRefused Word.number (FusedRead Iter.next_gives) Word.BITS State.BITS (items, false) (rest, done))) }
 {

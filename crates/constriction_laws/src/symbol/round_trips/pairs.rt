@@ -4,7 +4,11 @@
 //! [`one_stack_of_words`](crate::symbol::words::one_stack_of_words) says that they are those of no other bits.
 
 ghost use Rattle.constriction_symbol.specs.Lists.{AreCodewordsBy, AreSameBy, ReadsPairs, of_pair};
-ghost use Rattle.constriction_laws.specs.symbol.Refusals.{HasNoCodeword, SymbolNotWritten, StopsAtCodebook};
+ghost use Rattle.constriction_base.specs.Backends.{IsWrite};
+ghost use Rattle.constriction_symbol.specs.Codewords.{LacksMemory, WritesPair};
+ghost use Rattle.constriction_symbol.specs.Reversed.{StacksPair};
+ghost use Rattle.constriction_laws.specs.symbol.Refusals.{StopsAtCodebook, StopsAtItem, StopsAtItemFromBack};
+ghost use Rattle.constriction_laws.specs.symbol.Refusals.{SymbolNotWritten};
 ghost use Rattle.std.specs.List.{zip};
 ghost use Rattle.std.specs.Prelude.{Bool, IfErr, IfOk, List, OnOk, length, reverse, ◌++◌, ◌≡◌};
 
@@ -23,7 +27,8 @@ use std::alloc::{AllocError, Global};
 ///
 /// # Errors
 /// - `Frontend(ImpossibleSymbol)`: a codebook has no codeword for its symbol. The codewords before it are written.
-/// - `Backend(error)`: the backend refused a word, or memory was refused.
+/// - `Backend(error)`: the backend refused a word, or memory was refused. The codewords before are written, and of this
+///   one the bits before the refused one.
 pub fn encode_pairs<W: WriteBitStream<Queue>, C: EncoderCodebook>(
     stream: &mut W,
     symbols: &[C::Symbol],
@@ -31,7 +36,11 @@ pub fn encode_pairs<W: WriteBitStream<Queue>, C: EncoderCodebook>(
 ) -> Result<(), DefaultEncoderError<W::WriteError>>
     ensures words { OnOk result ((code : List Bool) × AreCodewordsBy C.codeword codebooks.now symbols.now code
         × (W.bits stream.new ≡ W.bits stream.old ++ code)) }
-    ensures err { IfErr result (SymbolNotWritten (of_pair C.codeword) (zip symbols.now codebooks.now)) }
+    ensures err { IfErr result (λ e. SymbolNotWritten
+        (StopsAtItem (of_pair C.codeword) (zip symbols.now codebooks.now)) (of_pair C.codeword)
+        (λ now code. W.bits now ≡ W.bits stream.old ++ code)
+        (WritesPair W.bits W.puts (λ book symbol. LacksMemory (C.prefix_wants book symbol) W.WriteError.from_gives)
+        C.codeword (λ bits. bits) (λ symbol. symbol)) e stream.new) }
 {
     WriteBitStream::<Queue>::encode_symbols(stream, symbols.iter().zip(codebooks.iter()))
 }
@@ -41,7 +50,8 @@ pub fn encode_pairs<W: WriteBitStream<Queue>, C: EncoderCodebook>(
 ///
 /// # Errors
 /// - `Frontend(ImpossibleSymbol)`: a codebook has no codeword for its symbol. The codewords behind it are written.
-/// - `Backend(error)`: the backend refused a word, or memory was refused.
+/// - `Backend(error)`: the backend refused a word, or memory was refused. The codewords behind are written, and of this
+///   one the bits before the refused one.
 pub fn encode_pairs_reverse<Word: BitArray, B: WriteWords<Word>, C: EncoderCodebook>(
     coder: &mut StackCoder<Word, B>,
     symbols: &[C::Symbol],
@@ -52,7 +62,11 @@ where
     requires { length symbols.now ≡ length codebooks.now }
     ensures words { OnOk result ((code : List Bool) × AreCodewordsBy C.codeword codebooks.now symbols.now code
         × (reverse coder.new.bits ≡ code ++ reverse coder.old.bits)) }
-    ensures err { IfErr result (SymbolNotWritten (of_pair C.codeword) (zip symbols.now codebooks.now)) }
+    ensures err { IfErr result (λ e. SymbolNotWritten
+        (StopsAtItemFromBack (of_pair C.codeword) (zip symbols.now codebooks.now)) (of_pair C.codeword)
+        (λ now code. reverse now.bits ≡ code ++ reverse coder.old.bits)
+        (StacksPair Word.BITS Word.number (IsWrite B.words B.room B.writes B.write_fails) C.suffix_wants
+        B.WriteError.from_gives C.codeword (λ symbol. symbol)) e coder.new) }
 {
     coder.encode_symbols_reverse(symbols.iter().zip(codebooks.iter()))
 }

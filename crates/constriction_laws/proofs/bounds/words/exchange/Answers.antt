@@ -1,17 +1,19 @@
-use Rattle.std.proofs.Common.{◌-◌, ◌≤◌, ◌^◌, [], ◌∷◌, refl, sym, subst, arith}
-use Rattle.constriction_base.specs.Steps.{Step, IsSizes, IsStep}
+use Rattle.std.proofs.Common.{ℕ, ◌-◌, ◌≤◌, ◌^◌, List, [], ◌∷◌, inl, inr, refl, sym, subst, arith}
+use Rattle.constriction_base.specs.Steps.{Step, AreWords, IsSizes, IsStep}
 use Rattle.constriction_base.specs.Models.{Model, IsModel}
+use Rattle.constriction_queue.proofs.Seals.{words_of_numbers}
 use Rattle.constriction_stack.specs.Ans.{AnsState, IsValid}
 use Rattle.constriction_stack.specs.Symbols.{Decodes, Encodes}
 use Rattle.constriction_stack.proofs.Pushing.{valid_pop}
 use Rattle.constriction_laws.specs.Bounds.{Decode, Encode}
+use Rattle.constriction_laws.specs.Exchanges.{TakenHigh}
 use Rattle.constriction_laws.proofs.of_stack.Choosing.{step_of}
 use Rattle.constriction_stack.proofs.StepCalls.{encode_of}
-use Rattle.constriction_laws.proofs.of_stack.ListCalls.{decode_of}
+use Rattle.constriction_laws.proofs.of_stack.ListCalls.{decode_of, refused_decode, refused_encode}
 use Rattle.constriction_laws.proofs.bounds.words.exchange.Goals as goal
 
 pub returns-clause-net : goal.returns-clause-net
-returns-clause-net g c = λ valid.
+returns-clause-net g c =
     let w = g.Word.BitArray.BITS in
     let s = g.State.BitArray.BITS in
     let number = g.Word.BitArray.number in
@@ -26,6 +28,14 @@ returns-clause-net g c = λ valid.
     let new : AnsState = c.encode_symbol.new.self.state in
     let sizes : IsSizes w s = c.state.ensures.1.sizes in
     let full : 2 ^ (s - w) ≤ old.head = rw c.state.ensures.0 at c.if-is_low.ensures in
+    let coder = c.state.ensures.1 in
+    let valid : IsValid w s old = record {
+      state = record {
+        fits = coder.head_fits;
+        are_words = subst (λ (ws : List ℕ). AreWords w ws) (sym coder.words_are) (words_of_numbers number w g.met.Word.BitArray.number_law (g.Backend.Holds.words c.args.coder.now.backend));
+      };
+      full = inl full;
+    } in
     let middle_full : 2 ^ (s - w) ≤ middle.head = rw c.state-2.ensures.0 at c.if-is_low-2.ensures in
     let taken : Decodes w s off c.in-Ok.taken old middle =
     (decode_of _ number g.Backend.Holds g.Backend.ReadWords w s off _ _ _ c.in-Ok.ensures.step).0 g.met.Backend.WriteWords.knows_words in
@@ -44,7 +54,7 @@ returns-clause-net g c = λ valid.
     )
 
 pub returns-clause-done : goal.returns-clause-done
-returns-clause-done g c = λ valid.
+returns-clause-done g c =
     let w = g.Word.BitArray.BITS in
     let s = g.State.BitArray.BITS in
     let number = g.Word.BitArray.number in
@@ -55,6 +65,16 @@ returns-clause-done g c = λ valid.
     let old : AnsState = c.args.coder.now.state in
     let middle : AnsState = c.decode_symbol.new.self.state in
     let sizes : IsSizes w s = c.state.ensures.1.sizes in
+    let full : 2 ^ (s - w) ≤ old.head = rw c.state.ensures.0 at c.if-is_low.ensures in
+    let middle_full : 2 ^ (s - w) ≤ middle.head = rw c.state-2.ensures.0 at c.if-is_low-2.ensures in
+    let coder = c.state.ensures.1 in
+    let valid : IsValid w s old = record {
+      state = record {
+        fits = coder.head_fits;
+        are_words = subst (λ (ws : List ℕ). AreWords w ws) (sym coder.words_are) (words_of_numbers number w g.met.Word.BitArray.number_law (g.Backend.Holds.words c.args.coder.now.backend));
+      };
+      full = inl full;
+    } in
     let taken : Decodes w s off c.in-Ok.taken old middle =
     (decode_of _ number g.Backend.Holds g.Backend.ReadWords w s off _ _ _ c.in-Ok.ensures.step).0 g.met.Backend.WriteWords.knows_words in
     let out : Step = record { precision = g.row.PRECISION; left = taken.0; p = taken.1 } in
@@ -62,4 +82,28 @@ returns-clause-done g c = λ valid.
     let middle_valid : IsValid w s middle = subst (λ (x : AnsState). IsValid w s x) (sym taken.3.1) (valid_pop w s out sizes out_step old valid taken.3.0) in
     let given : Encodes w s on c.args.symbol.now middle c.encode_symbol.new.self.state =
     encode_of number g.Backend.Holds g.Backend.WriteWords w s _ on _ _ _ middle_valid c.in-Ok-encode_symbol.ensures.step in
-    (middle, taken, given)
+    (middle, (full, taken, middle_full), given)
+
+pub returns-in_default-clause-err : goal.returns-in_default-clause-err
+returns-in_default-clause-err g c =
+    let full = rw c.state.ensures.0 at c.if-is_low.ensures in
+    let kept = refused_decode g.Word.BitArray.number g.Backend.Holds g.Backend.ReadWords g.Word.BitArray.BITS g.State.BitArray.BITS g.row.PRECISION (g.D.EntropyModel.table c.args.off.now)
+    c.args.coder.now c.decode_symbol.new.self c.in_default.field-0 g.met.Backend.WriteWords.knows_words c.in_default.ensures.step in
+    inl (full, kept, c.in_default.field-0, c.in_default.ensures.step)
+
+pub returns-in-Err-Backend-clause-err : goal.returns-in-Err-Backend-clause-err
+returns-in-Err-Backend-clause-err g c =
+    let w = g.Word.BitArray.BITS in
+    let s = g.State.BitArray.BITS in
+    let number = g.Word.BitArray.number in
+    let off : Model g.row.D-Symbol.Denot = record { precision = g.row.PRECISION; table = g.D.EntropyModel.table c.args.off.now } in
+    let old : AnsState = c.args.coder.now.state in
+    let full : 2 ^ (s - w) ≤ old.head = rw c.state.ensures.0 at c.if-is_low.ensures in
+    let middle : AnsState = c.decode_symbol.new.self.state in
+    let middle_full : 2 ^ (s - w) ≤ middle.head = rw c.state-2.ensures.0 at c.if-is_low-2.ensures in
+    let taken : Decodes w s off c.in-Ok.taken old middle =
+    (decode_of _ number g.Backend.Holds g.Backend.ReadWords w s off _ _ _ c.in-Ok.ensures.step).0 g.met.Backend.WriteWords.knows_words in
+    let step = rw c.in-Err-Backend.field-0-is at c.in-Err-Backend.ensures.step in
+    let kept = refused_encode number g.Backend.Holds g.Backend.WriteWords w s _ g.row.PRECISION (g.E.EntropyModel.table c.args.on.now) c.args.symbol.now c.decode_symbol.new.self c.encode_symbol.new.self c.in-Err-Backend.field-0-0 step in
+    let high = subst (λ (x : AnsState). TakenHigh w s off c.in-Ok.taken old x) (sym kept) (full, taken, middle_full) in
+    inr (c.in-Ok.taken, c.decode_symbol.new.self, c.in-Err-Backend.field-0-0, high, c.in-Ok.ensures.step, step)

@@ -1,4 +1,5 @@
 use Rattle.std.specs.List.{zip}
+use Rattle.std.proofs.Common.{inl}
 use Rattle.constriction_base.specs.Models.{item_of}
 use Rattle.constriction_laws.proofs.of_chain.Ending.{pairs_end_early}
 use Rattle.constriction_laws.proofs.of_chain.ListCalls.{decodes_of}
@@ -16,3 +17,8 @@ returns-in-Err-default-Refused-Frontend-clause-err g c =
     let stopped = rw here.field-0-1-0-is at (rw here.field-0-1-is at here.ensures.err) in
     pairs_end_early g.Word.BitArray.number g.C.Holds g.C.ReadWords g.R.Holds g.R.WriteWords
     g.Word.BitArray.BITS g.State.BitArray.BITS g.row.PRECISION g.M.EntropyModel.table c.args.models.now _ c.args.coder.now c.decode_by_models.new.decoder _ stopped
+
+pub returns-in-Err-default-Refused-Backend-clause-refused : goal.returns-in-Err-default-Refused-Backend-clause-refused
+returns-in-Err-default-Refused-Backend-clause-refused g c =
+    let here = c.in-Err-default-Refused-Backend in
+    inl (here.field-0-0, here.field-0-1-0-0, rw here.field-0-1-0-is at (rw here.field-0-1-is at here.ensures.err))

@@ -11,6 +11,9 @@ returns-clause-read g c = λ known.
     let items = pairs_of g.row.PRECISION g.M.EntropyModel.table c.in_ok-again.again.items c.args.models.now in
     subst (λ x. DecodesAll g.Word.BitArray.BITS g.State.BitArray.BITS items x c.decode_pairs.new.coder.state) (c.in-Ok.ensures.ok known) (c.in_ok-again.ensures.decoded known)
 
+pub returns-clause-reads : goal.returns-clause-reads
+returns-clause-reads g c = (c.in-Ok.decoder, c.in-Ok.ensures.reads, c.in-Ok.ensures.coder.head_fits, c.in_ok-again.ensures.read)
+
 pub returns-clause-back : goal.returns-clause-back
 returns-clause-back g c = λ known symbols old valid exports count.
     let w = g.Word.BitArray.BITS in

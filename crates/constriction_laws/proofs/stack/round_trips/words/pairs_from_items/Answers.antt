@@ -42,7 +42,7 @@ returns-clause-back g c = λ words symbols state tells coded same count.
     (models_alike P table symbols again.items models count many) in
     symbols_alike P table symbols again.items models count many back.0))
 
-pub returns-clause-imported : goal.returns-clause-imported
-returns-clause-imported g c =
-    let start = c.in-Ok.decoder in
-    ok_weaker c.decode_pairs.result c.decode_pairs.ensures.count (λ _ _. (start.state.head, start.backend, c.in-Ok.ensures.reads))
+pub returns-clause-reads : goal.returns-clause-reads
+returns-clause-reads g c =
+    ok_weaker c.decode_pairs.result c.decode_pairs.ensures.read
+    (λ again read. (c.decode_pairs.new.coder, (c.in-Ok.decoder, c.in-Ok.ensures.reads, c.in-Ok.ensures.coder.head_fits, read)))

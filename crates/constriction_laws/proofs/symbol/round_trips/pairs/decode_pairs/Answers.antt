@@ -62,6 +62,29 @@ returns-in-Err-clause-err g c =
       search (rules, given.1.2, c.in-Err.is),
     )
 
+pub returns-in_default-clause-err : goal.returns-in_default-clause-err
+returns-in_default-clause-err g c =
+    let gives = g.R.ReadBitStream.gives in
+    let codeword = g.C.Codebook.codeword in
+    let on = g.C.DecoderCodebook.reads_on in
+    let invalid = g.C.DecoderCodebook.is_invalid in
+    let books = c.args.codebooks.now in
+    let kept = c.decode.invariant in
+    let given = c.in-Some.ensures.steps in
+    let xs = c.decode.symbols.items in
+    let x = c.in-Ok.symbol in
+    let before = c.decode.answer-iterator in
+    let after = c.next.new.self in
+    let book = given.1.0 in
+    let begun = ap (λ i. i.bit_stream.now) c.into_iter-answer-iterator.ensures.into_iter_gives ∙ c.decode_symbols-answer-items.ensures.stream in
+    let left : drop (length xs) books ≡ book.now ∷ iter_rest after.codebooks = sym kept.3 ∙ given.1.1 in
+    let read = subst (λ d. ReadsPairs gives codeword on invalid (zip xs books) d before.bit_stream.now) begun kept.5 in
+    let all = reads_pairs_more gives codeword on invalid books c.args.stream.now xs before.bit_stream.now x book.now (iter_rest after.codebooks) c.in-Some.answer after.bit_stream.now read left c.in-Ok.is given.1.2 in (
+      xs ++ x ∷ [],
+      omega (arith, length-append xs (x ∷ []), kept.4, ap length given.1.1),
+      subst (λ d. ReadsPairs gives codeword on invalid (zip (xs ++ x ∷ []) books) c.args.stream.now d) (search rules) all,
+    )
+
 pub returns-clause-back : goal.returns-clause-back
 returns-clause-back g c = λ known symbols code rest first_count coded is.
     let gives = g.R.ReadBitStream.gives in

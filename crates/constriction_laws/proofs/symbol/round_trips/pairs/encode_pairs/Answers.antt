@@ -6,7 +6,7 @@ use Rattle.std.proofs.lemmas.Result.{MatchResult-weaker}
 use Rattle.constriction_symbol.specs.Lists.{AreCodewords}
 use Rattle.constriction_symbol.proofs.CodewordLists.{codewords_map, written_first}
 use Rattle.constriction_laws.proofs.of_symbol.bit_coders.Pairs.{all_pairs}
-use Rattle.constriction_laws.proofs.of_symbol.bit_coders.Unwritten.{not_written, pair_stands_front}
+use Rattle.constriction_laws.proofs.of_symbol.bit_coders.Unwritten.{pair_stands_front, stops_front}
 use Rattle.constriction_laws.proofs.PairCalls.{rest_of, both_now}
 use Rattle.constriction_laws.proofs.symbol.round_trips.pairs.encode_pairs.Goals as goal
 
@@ -31,11 +31,12 @@ returns-clause-err g c =
     let codeword = g.C.Codebook.codeword in
     let symbols = c.args.symbols.now in
     let books = c.args.codebooks.now in
+    let bits = g.W.WriteBitStream.bits in
     let e = c.encode_symbols.ensures in
     let first : iter_rest (zip_first e.0) ≡ symbols = ap (λ i. iter_rest (zip_first i)) e.1 ∙ (ap iter_rest c.zip.ensures.first ∙ c.iter.ensures.rest) in
     let second : iter_rest (zip_second e.0) ≡ books = ap (λ i. iter_rest (zip_second i)) e.1 ∙ (ap iter_rest c.zip.ensures.second ∙ c.iter-2.ensures.rest) in
     MatchResult-weaker c.encode_symbols.result e.5
     (λ _ _. tt)
     (λ refusal p.
-    not_written g.W.WriteBitStream.bits g.W.WriteBitStream.puts _ (λ bs. bs) (λ q. codeword q.1 q.0) (zip symbols books) (map both_now e.2) (rest_of p.1) (both_now p.0) e.3 _ refusal
-    (sym (ap₂ (λ xs ks. zip xs ks) first second) ∙ pair_stands_front e.0 e.2 p.0 p.1 p.2) p.3)
+    stops_front bits g.W.WriteBitStream.puts _ codeword (zip symbols books) (rest_of p.1) e.2 p.0 c.args.stream.now e.3 _ refusal
+    (sym (ap₂ (λ xs ks. zip xs ks) first second) ∙ pair_stands_front e.0 e.2 p.0 p.1 p.2) e.4 p.3)

@@ -10,7 +10,7 @@ use Rattle.constriction_symbol.specs.Bits.{PutsOnto}
 use Rattle.constriction_symbol.specs.Lists.{AreCodewords}
 use Rattle.constriction_laws.proofs.PairCalls.{all_pairs_from_back, rest_of, both_now}
 use Rattle.constriction_symbol.proofs.CodewordLists.{codewords_map, written_last}
-use Rattle.constriction_laws.proofs.of_symbol.bit_coders.Unwritten.{not_written, pair_stands_back}
+use Rattle.constriction_laws.proofs.of_symbol.bit_coders.Unwritten.{pair_stands_back, stops_back}
 use Rattle.constriction_laws.proofs.symbol.round_trips.pairs.encode_pairs_reverse.Goals as goal
 use Rattle.constriction_base.proofs.Turns.{map-reverse}
 
@@ -43,6 +43,6 @@ returns-clause-err g c =
     MatchResult-weaker c.encode_symbols_reverse.result e.5
     (λ _ _. tt)
     (λ refusal p.
-    not_written (λ s. s.bits) (PutsOnto g.Word.BitArray.BITS g.Word.BitArray.number (IsWrite g.B.Holds.words g.B.WriteWords.room g.B.WriteWords.writes g.B.WriteWords.write_fails)) _ (λ bs. reverse bs)
-    (λ q. codeword q.1 q.0) (zip symbols books) (rest_of p.1) (reverse (map both_now e.2)) (both_now p.0) e.3 _ refusal
-    (sym (ap₂ (λ xs ks. zip xs ks) first second) ∙ pair_stands_back e.0 e.2 p.0 p.1 same p.2) p.3)
+    stops_back (λ s. s.bits) (PutsOnto g.Word.BitArray.BITS g.Word.BitArray.number (IsWrite g.B.Holds.words g.B.WriteWords.room g.B.WriteWords.writes g.B.WriteWords.write_fails)) _ codeword
+    (zip symbols books) (rest_of p.1) e.2 p.0 c.args.coder.now e.3 _ refusal
+    (sym (ap₂ (λ xs ks. zip xs ks) first second) ∙ pair_stands_back e.0 e.2 p.0 p.1 same p.2) e.4 p.3)

@@ -1,0 +1,32 @@
+//! What all tests of coders are given: two tables, and the symbols 1 and 0 under them.
+//!
+//! The stack coder's word for these symbols is 16, and so is the range coder's: the first symbol's interval begins at 16,
+//! and the second one's at 0.
+
+use constriction_base::weights::WeightTable;
+use std::alloc::Global;
+use std::test::Fail;
+
+pub(crate) type Table = WeightTable<u8, 8>;
+
+pub(crate) const SYMBOLS: [usize; 2] = [1, 0];
+
+pub(crate) fn tables_of(alloc: Global) -> Result<[Table; 2], Fail> {
+    Ok([
+        Table::new(alloc, &[16, 240])?,
+        Table::new(alloc, &[100, 156])?,
+    ])
+}
+
+/// Words on the heap.
+pub(crate) fn words_of(alloc: Global, words: &[u8]) -> Result<Vec<u8>, Fail> {
+    match words.to_vec(alloc) {
+        Ok(words) => Ok(words),
+        Err(_) => Err(Fail::from("no memory")),
+    }
+}
+
+/// Whether the symbols are back.
+pub(crate) fn are_back(again: &[usize]) -> bool {
+    again == SYMBOLS.as_slice()
+}
