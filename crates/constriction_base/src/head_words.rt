@@ -1,6 +1,6 @@
 //! Words that move between a coder's head and a backend. The head is the number that a coder keeps above its words.
 //!
-//! Where there are no words to write, `append_words` doesn't call the backend. A refused write returns how many words
+//! If there are no words to write, `append_words` doesn't call the backend. A refused write returns how many words
 //! were written before it, because the stack coder's guard takes these off again, and generic code can't count them on
 //! the backend.
 
@@ -16,7 +16,7 @@ use crate::backends::semantics::Stack;
 use crate::backends::writing::WriteWords;
 use constriction_words::{BitArray, WordOf};
 
-/// Returns the number of words of a head, without leading zero words.
+/// Returns how many words a head has, leading zero words not counted.
 #[inline]
 pub fn count_of_words<Word: WordOf<State>, State: BitArray>(head: State) -> usize
     requires { IsSizes Word.BITS State.BITS }
@@ -31,7 +31,7 @@ pub fn count_of_words<Word: WordOf<State>, State: BitArray>(head: State) -> usiz
     count
 }
 
-/// Returns the number of words below the leading one of a head, or `None` where these bits aren't whole words.
+/// Returns the number of words below the leading one of a head, or `None` if these bits aren't whole words.
 ///
 /// It also returns `None` for the head 0.
 pub fn words_below_one<Word: WordOf<State>, State: BitArray>(head: State) -> Option<usize>

@@ -16,11 +16,11 @@ use constriction_words::{BitArray, Reciprocal};
 /// An implementor chooses which symbols have an interval, the order of the intervals, and their lengths. It then
 /// proves three laws for each value of the type:
 ///
-/// - `lawful`: the intervals lie one after another from 0 to `2 ^ PRECISION`, without gap or overlap. None is empty,
-///   and no symbol has two.
+/// - `lawful`: the intervals lie one after another from 0 to `2 ^ PRECISION`, without gap or overlap. No interval is
+///   empty, and no symbol has two intervals.
 /// - `sized`: the precision is at least 1 bit and at most the bits of `Probability`.
-/// - `two_symbols`: where the precision is all bits of `Probability`, the table has at least two symbols. The length
-///   of an interval has to fit `Probability`, which the length of all numbers would not.
+/// - `two_symbols`: if `PRECISION` equals `Probability::BITS`, the table has at least two symbols. A single interval
+///   of all `2 ^ PRECISION` numbers wouldn't fit `Probability`.
 pub trait EntropyModel<const PRECISION: usize>: Drop {
     /// The type of the symbols.
     type Symbol: Drop;
@@ -43,8 +43,7 @@ pub trait EntropyModel<const PRECISION: usize>: Drop {
 
 /// A model that an encoder can use.
 ///
-/// An implementor proves that each call returns the entry of the symbol in the table, or `None` where the table has
-/// none.
+/// An implementor proves that each call returns the entry of the symbol in the table, or `None` if the table has none.
 ///
 /// # Examples
 ///
@@ -53,7 +52,7 @@ pub trait EntropyModel<const PRECISION: usize>: Drop {
 /// table.left_cumulative_and_probability(&1) // Some((255, 1))
 /// ```
 pub trait EncoderModel<const PRECISION: usize>: EntropyModel<PRECISION> {
-    /// Returns the start and the length of the symbol's interval, or `None` where the model doesn't know the symbol.
+    /// Returns the start and the length of the symbol's interval, or `None` if the model doesn't know the symbol.
     fn left_cumulative_and_probability(
         &self,
         symbol: &Self::Symbol,
@@ -66,7 +65,7 @@ pub trait EncoderModel<const PRECISION: usize>: EntropyModel<PRECISION> {
     /// Returns the start and the length of the symbol's interval, and the length's reciprocal where the model has one.
     ///
     /// An encoder that divides by the length then takes a product instead of a division. A model without reciprocals
-    /// needs no such method of its own: the default returns none. Returns `None` where the model doesn't know the
+    /// needs no such method of its own: the default returns none. Returns `None` if the model doesn't know the
     /// symbol.
     fn left_cumulative_and_reciprocal(
         &self,

@@ -171,7 +171,7 @@ impl<
     ///
     /// # Errors
     ///
-    /// `AllocError` only where cloning a backend fails.
+    /// `AllocError` only if cloning a backend fails.
     fn clone(&self) -> Result<Self, AllocError> {
         let compressed = self.compressed.clone()?;
         let remainders = self.remainders.clone()?;

@@ -127,8 +127,10 @@ pub fn run<R: Read, O: Write, E: Write>(
 
 /// Runs the program with the arguments that the system gives, the program's name first, and returns the exit status.
 ///
-/// The status is that of [`run`], with two additions: without memory for the arguments it is 1, with the line of that
-/// fault. If an argument isn't UTF-8, it is 2.
+/// The status is the one that [`run`] returns, except in two cases:
+///
+/// - 1, with the line `out of memory`, if there is no memory for the arguments;
+/// - 2, if an argument isn't UTF-8.
 pub fn start<R: Read, O: Write, E: Write>(
     alloc: Global,
     given: io::Result<Args>,

@@ -1,4 +1,4 @@
-//! The commands, each in its own file. A new command has a variant, a name and an answer here.
+//! The commands, each in its own file. To add a command, add its variant, its name and its answer here.
 
 mod ans_decode;
 mod ans_encode;
@@ -31,6 +31,8 @@ pub enum Command {
 
 impl Command {
     /// Returns the command that the single argument names.
+    ///
+    /// Returns `None` if it names no command, or if there isn't exactly one argument.
     pub fn parse(args: &[String]) -> Option<Command>
         ensures some { IfSome result (Names (map string_bytes args.now)) }
         ensures none { IfNone result ((command : Command) → Names (map string_bytes args.now) command → ⊥) }

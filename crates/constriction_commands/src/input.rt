@@ -9,7 +9,7 @@ use crate::fault::Fault;
 use std::alloc::Global;
 use std::io::{ErrorKind, Read};
 
-/// Reads all bytes left.
+/// Reads all remaining bytes of the input.
 pub fn read_all<R: Read>(alloc: Global, input: &mut R) -> Result<Vec<u8>, Fault>
     ensures ok { IfOk result (λ text. IfSome (R.remaining input.old) (λ left. text.items ≡ left)) }
     ensures err { IfErr result (λ fault. (fault ≡ Unreadable) ⊎ (fault ≡ OutOfMemory)) }

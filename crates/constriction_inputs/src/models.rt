@@ -65,7 +65,7 @@ pub trait Models<P: BitArray, const PRECISION: usize> {
         requires { AreFit PRECISION (coded self.now symbols.now) }
         ensures { IsTrue result ↔ AreKnown (items PRECISION (coded self.now symbols.now)) };
 
-    /// Returns the models of the symbols, or `None` where there is no memory for them.
+    /// Returns the models of the symbols, or `None` if there is no memory for them.
     ///
     /// `divides` says whether the coder's steps divide by weights. The caller proves that `check` would succeed.
     fn list(&self, alloc: Global, symbols: &[usize], divides: bool) -> Option<Self::List>

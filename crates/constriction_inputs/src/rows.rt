@@ -33,7 +33,7 @@ pub struct Row<'a, P: BitArray, const PRECISION: usize> {
 }
 
 impl<'a, P: BitArray, const PRECISION: usize> Row<'a, P, PRECISION> {
-    /// Creates the model of these weights, or returns `None` where they don't add up to `2 ^ PRECISION`.
+    /// Creates the model of these weights, or returns `None` if they don't add up to `2 ^ PRECISION`.
     ///
     /// The type has an example.
     pub fn new(weights: &'a [P]) -> Option<Self>

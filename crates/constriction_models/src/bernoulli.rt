@@ -34,7 +34,7 @@ pub struct BernoulliModel<Probability: WordOf<u32>, const PRECISION: usize> {
 impl<Probability: WordOf<u32>, const PRECISION: usize> BernoulliModel<Probability, PRECISION> {
     /// Creates the model in which `true` has this weight and `false` has the rest of `2 ^ PRECISION`.
     ///
-    /// Returns `None` where either weight would be 0.
+    /// Returns `None` if either weight would be 0.
     ///
     /// # Examples
     ///

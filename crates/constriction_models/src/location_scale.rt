@@ -68,7 +68,7 @@ pub struct LocationScale<D: StandardDistribution> {
 }
 
 impl<D: StandardDistribution> LocationScale<D> {
-    /// Creates the distribution of a location and a scale, or returns `None` where the scale is 0.
+    /// Creates the distribution of a location and a scale, or returns `None` if the scale is 0.
     ///
     /// Both are multiples of `2^-16`. The type has an example.
     #[inline]

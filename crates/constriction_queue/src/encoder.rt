@@ -235,7 +235,7 @@ impl<Word: WordOf<State>, State: BitArray, Backend: Holds<Word, Stack> + Clone> 
     ///
     /// # Errors
     ///
-    /// `AllocError` only where cloning the backend fails.
+    /// `AllocError` only if cloning the backend fails.
     fn clone(&self) -> Result<Self, AllocError> {
         let bulk = self.bulk.clone()?;
         Ok(RangeEncoder {

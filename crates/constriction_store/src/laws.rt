@@ -77,7 +77,7 @@ where
     Ok(found)
 }
 
-/// The error of chunks that don't come back.
+/// The error of a round trip through a store.
 #[derive(Debug, Clone, Copy, PartialEq, Eq)]
 pub enum ThroughStore {
     /// The chunks made no store.

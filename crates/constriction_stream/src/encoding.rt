@@ -64,7 +64,7 @@ pub trait Encode<const PRECISION: usize>: Code {
 
     /// Holds where the coder counts symbols and can be asked to encode only as many as `symbols_left`.
     ///
-    /// An implementor chooses it freely. Where it fails, no call requires room for symbols.
+    /// An implementor chooses it freely. If it fails, no call requires room for symbols.
     ghost counts_symbols: { Type 0 };
 
     /// The number of symbols that the coder can still be asked to encode.
@@ -74,13 +74,13 @@ pub trait Encode<const PRECISION: usize>: Code {
 
     /// Holds of the errors that say that the coder is full.
     ///
-    /// An implementor chooses it freely among the errors that no impossible symbol has (`never_full`). Where it holds
+    /// An implementor chooses it freely among the errors that no impossible symbol has (`never_full`). If it holds
     /// of no error, `maybe_full` guarantees nothing.
     ghost is_lack_of_room: { CoderError Self.FrontendError Self.BackendError → Type 0 };
 
     /// Holds where `maybe_full` can tell whether there is room. An implementor chooses it freely.
     ///
-    /// Where it fails, `maybe_full` guarantees nothing.
+    /// If it fails, `maybe_full` guarantees nothing.
     ghost tells_room: { Self → Type 0 };
 
     /// Returns the number of symbols that the coder can still be asked to encode.

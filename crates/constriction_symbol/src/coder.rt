@@ -242,7 +242,7 @@ impl<Word: BitArray, S: Semantics, B: Holds<Word, Stack> + Clone> Clone
     ///
     /// # Errors
     ///
-    /// `AllocError` only where cloning the backend fails.
+    /// `AllocError` only if cloning the backend fails.
     fn clone(&self) -> Result<Self, AllocError> {
         let backend = self.backend.clone()?;
         Ok(SymbolCoder {

@@ -180,7 +180,7 @@ impl<Word: BitArray> TopBits<Word> {
         }
     }
 
-    /// Removes the last `count` bits, and leaves at least one.
+    /// Removes the last `count` bits. The caller proves that `count` is at least 1 and below the number of bits.
     #[inline]
     pub fn drop_last(&mut self, count: u32)
         requires some { 0 < count }

@@ -1,6 +1,6 @@
 //! Positions in a backend or in a coder.
 //!
-//! Over vectors and cursors, `can_seek` and `seek_fails` exclude each other, so a seek succeeds exactly where it can,
+//! Over vectors and cursors, `can_seek` and `seek_fails` exclude each other, so a seek succeeds exactly if it can,
 //! and a refused seek changes nothing. A coder that reads after its backend's seek, or that stands on two backends,
 //! may allow both at the same position. `stays` states what its refused seek leaves.
 
@@ -50,7 +50,7 @@ pub trait CountsWords<Word>: Pos<Position = usize> + Holds<Word, Stack> {
 ///
 /// An implementor chooses freely when a seek may succeed, when it may be refused, and what either leaves, and proves
 /// that `seek` obeys these choices. Both may be possible at one position where a read decides. Where `can_seek` and
-/// `seek_fails` exclude each other, as for vectors and cursors, `seek` succeeds exactly where it can.
+/// `seek_fails` exclude each other, as for vectors and cursors, `seek` succeeds exactly if it can.
 pub trait Seek: PosSeek {
     /// Holds where a seek to the position may succeed. A seek to any other position is refused.
     ghost can_seek: { Self → Self.Position → Type 0 };

@@ -9,7 +9,7 @@ use crate::backends::writing::WriteWords;
 
 /// Takes `count` words off the backend, and stops where a read is refused.
 ///
-/// Where no read is ever refused, exactly the first `count` words go, or all where there are fewer. A guard takes off
+/// If no read is ever refused, exactly the first `count` words go, or all where there are fewer. A guard takes off
 /// in this way the words that it wrote onto a backend.
 pub fn take_back<Word, Backend>(bulk: &mut Backend, count: usize)
 where

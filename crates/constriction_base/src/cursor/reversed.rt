@@ -54,7 +54,7 @@ impl<Word: BitArray, Buf: WordsMut<Word> + Drop> Cursor<Word, Buf> {
 }
 
 impl<Word: BitArray, Buf: WordsMut<Word> + Drop> Reverse<Cursor<Word, Buf>> {
-    /// Returns the same stack and the same queue over the reversed buffer, as a plain cursor.
+    /// Reverses the buffer, as a plain cursor. The words that it holds as a stack and as a queue stay the same.
     pub fn into_reversed(self) -> Cursor<Word, Buf>
         ensures stack { ⟦<Cursor<Word, Buf> as Holds<Word, Stack>>⟧.words result
             ≡ ⟦<Reverse<Cursor<Word, Buf>> as Holds<Word, Stack>>⟧.words self }

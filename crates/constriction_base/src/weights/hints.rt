@@ -12,7 +12,7 @@ use std::alloc::{AllocError, Global};
 
 /// Returns the number of low bits of a quantile that its bucket leaves out, for this number of symbols.
 ///
-/// There are more than two and at most four buckets for each symbol. Fewer than that are possible only where the
+/// There are more than two and at most four buckets for each symbol. Fewer than that are possible only if the
 /// precision has no more bits, or where the number of buckets would exceed 2^63.
 pub fn shift_for(symbols: usize, precision: usize) -> u32
     requires some { 0 < symbols }

@@ -1,4 +1,4 @@
-//! The numbers of a range coder between two calls, which its caller keeps.
+//! What a caller keeps of a range coder between two calls.
 
 ghost use Rattle.std.specs.Prelude.{◌≡◌, ◌↔◌, ◌≤◌, ◌-◌, [], length, map, IfSome, IsSome};
 ghost use Rattle.constriction_base.specs.Steps.{IsSizes};
@@ -37,7 +37,7 @@ pub struct DecoderParts<State> {
     pub pos: usize,
 }
 
-/// Makes an encoder without words of these numbers. It needs no memory.
+/// Makes an encoder with an empty backend from the caller's numbers. This takes no memory.
 ///
 /// Returns `None` exactly if the numbers belong to no encoder, or to one that can't count `count` further symbols.
 pub fn encoder_for<Word: WordOf<State>, State: BitArray>(

@@ -152,7 +152,7 @@ impl<'a> Families<'a> {
     }
 }
 
-/// Returns the family of a number, or `None` where no family has it.
+/// Returns the family of a number, or `None` if no family has it.
 fn family_at(code: u32) -> Option<Family>
     ensures { result ≡ family_of code }
 {

@@ -9,9 +9,9 @@ ghost use Rattle.constriction_queue.specs.Symbols.{NarrowsAll, FindsAll, MayEnd}
 
 use crate::queue::lists::decodes_undo_encodes;
 
-/// Says which words these are.
+/// A run has exactly one list of self-delimiting words.
 ///
-/// There is one list of them for each run. If a state has two words, they are the sealed words. Reading them ends with
+/// If a state has two words, they are the sealed words. Reading them ends with
 /// the symbols.
 pub fn self_delimiting_words<Symbol>()
     ensures one { (w s : ℕ) (last : Run) (words others : List ℕ) → SelfDelimits w s last words →
@@ -31,7 +31,7 @@ pub fn self_delimiting_words_are_read()
         SelfDelimits w s (run w s steps (initial s)) words → ReadAs w s (words ++ rest) steps (initial s) }
 {}
 
-/// Symbols encoded by a new encoder, or those since a position, come back from the words, whatever words follow.
+/// Symbols encoded since a position, or by a new encoder, come back from the words, whatever words follow.
 pub fn symbols_come_back_whatever_follows<Symbol>()
     ensures { (w s : ℕ) (before since : List (Item Symbol)) (middle last : Run) (words rest : List ℕ) → IsSizes w s →
         AreModels w before → AreModels w since → AreWords w rest →

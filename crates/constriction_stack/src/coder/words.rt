@@ -37,11 +37,11 @@ impl<Word: WordOf<State>, State: BitArray, Backend: ReadWords<Word, Stack>> AnsC
     /// Makes a coder from words in the form that [`AnsCoder::into_compressed`] returns.
     ///
     /// Reads words into the head until it is full (two words if `State` has twice the bits of `Word`) or until
-    /// no word is left. From no words this makes an empty coder.
+    /// no word is left. With no words to read, the coder is empty.
     ///
     /// # Errors
     ///
-    /// Returns the backend as the reads left it, exactly if the last word is zero (that word was read) or if a
+    /// Returns the backend as the reads left it, in exactly two cases: the last word is zero (it has been read), or a
     /// read returned an error.
     ///
     /// # Examples

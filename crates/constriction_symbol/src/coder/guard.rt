@@ -13,7 +13,7 @@ use constriction_words::BitArray;
 use std::alloc::{AllocError, Allocator, Global};
 use std::fmt;
 
-/// A guard over a coder whose last words stand in its vector until the guard is dropped.
+/// A guard that keeps a coder's last words in its vector until it is dropped.
 ///
 /// The drop takes no memory. A forgotten guard leaves its words in the vector.
 pub struct CoderGuard<'a, Word: BitArray, S: Semantics, A: Allocator = Global> {
@@ -30,7 +30,7 @@ pub type QueueEncoderGuard<'a, Word, A = Global> = CoderGuard<'a, Word, Queue, A
 impl<'a, Word: BitArray, S: Semantics, A: Allocator> CoderGuard<'a, Word, S, A> {
     ghost use Rattle.constriction_symbol.specs.Guarded.{lender};
 
-    /// Returns the words, first to last.
+    /// Returns all words of the vector, first to last, including those that the guard wrote.
     pub fn words(&self) -> &[Word]
         ensures words { result.now ≡ (lender self.now).now.backend.items }
     {

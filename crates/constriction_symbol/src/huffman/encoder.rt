@@ -135,7 +135,7 @@ impl EncoderHuffmanTree {
     ///
     /// Checked in this order:
     ///
-    /// - `Iterator(error)` if an item is this error, or `Memory` if there is no memory to collect the weights.
+    /// - `Iterator(error)` if an item is `Err(error)`, or `Memory` if there is no memory for a weight before it.
     /// - The errors of [`EncoderHuffmanTree::from_probabilities`].
     pub fn try_from_probabilities<P, E, I>(
         alloc: Global,

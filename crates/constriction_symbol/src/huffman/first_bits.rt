@@ -23,7 +23,7 @@ pub struct Place {
 
 /// Returns how many bits the table of a tree with `nodes` inner nodes looks up.
 ///
-/// This is one more than the length of the codewords of equally many symbols of equal weights, and at most `MOST`.
+/// This is one more than the longest codeword would have if all weights were equal, and at most `MOST`.
 fn most_of(nodes: usize) -> u32
     ensures some { 0 < result }
     ensures few { result ≤ 9 }
