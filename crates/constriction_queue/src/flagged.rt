@@ -120,8 +120,8 @@ impl<
     ///
     /// - `Frontend(InvalidData)` exactly if the words don't encode a symbol of any model with the precision in use. The
     ///   switch is unchanged.
-    /// - `Backend(error)` only if a word had to be read and the read returned that error. The flag's state is unchanged,
-    ///   and the decoder is as `decode_symbol` leaves it.
+    /// - `Backend(error)` only if a word had to be read and the read returned that error. The flag's state is
+    ///   unchanged, and the decoder is as `decode_symbol` leaves it.
     pub fn next_symbol<M1, M2>(
         &mut self,
         first: M1,

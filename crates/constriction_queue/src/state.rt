@@ -1,7 +1,7 @@
 //! The interval of a range coder.
 //!
-//! A struct keeps the length as a `State` with an invariant; `range()` returns it as a nonzero number. `new` takes a plain
-//! `State` and refuses 0 like every other length that is too short.
+//! A struct keeps the length as a `State` with an invariant; `range()` returns it as a nonzero number. `new` takes a
+//! plain `State` and refuses 0 like every other length that is too short.
 
 ghost use Rattle.std.specs.Prelude.{◌≡◌, ◌↔◌, ◌+◌, ◌-◌, ◌*◌, ◌<◌, ◌≤◌, ◌^◌, IfOk, IsOk};
 

@@ -58,9 +58,9 @@ impl<
     ///   word is left. Only that room changed.
     /// - `Backend(Compressed(error))` if a word is needed and its read returned that error. The compressed words are
     ///   unchanged if the backend knows its words.
-    /// - `Backend(Remainders(error))` if a word is needed and the remainders refused room for one: nothing changed. Or if
-    ///   the remainders refused to write a word: the compressed backend has lost at most one word, and nothing changed
-    ///   if the backend of the remainders grants room.
+    /// - `Backend(Remainders(error))` if a word is needed and the remainders refused room for one: nothing changed. Or
+    ///   if the remainders refused to write a word: the compressed backend has lost at most one word, and nothing
+    ///   changed if the backend of the remainders grants room.
     #[inline]
     fn decode_symbol<M>(
         &mut self,
@@ -146,13 +146,13 @@ impl<
     /// After each error the heads are unchanged, and the compressed words have at least as much room as before.
     ///
     /// - `Frontend(ImpossibleSymbol)` exactly if the model doesn't contain the symbol. The coder is unchanged.
-    /// - `Frontend(OutOfRemainders)` if a word of the remainders is needed and none is left. Only the room that was asked
-    ///   for changed.
+    /// - `Frontend(OutOfRemainders)` if a word of the remainders is needed and none is left. Only the room that was
+    ///   asked for changed.
     /// - `Backend(Remainders(error))` if a word of the remainders is needed and its read returned that error. The
     ///   remainders are unchanged if the backend knows its words.
-    /// - `Backend(Compressed(error))` if a word had to be written and the backend refused room for it: nothing changed. Or
-    ///   if its write was refused, which happens only over a backend that doesn't grant room: the remainders have lost at
-    ///   most one word.
+    /// - `Backend(Compressed(error))` if a word had to be written and the backend refused room for it: nothing changed.
+    ///   Or if its write was refused, which happens only over a backend that doesn't grant room: the remainders have
+    ///   lost at most one word.
     #[inline]
     fn encode_symbol<M>(
         &mut self,

@@ -83,8 +83,8 @@ impl<
     ///
     /// - `Frontend(ImpossibleSymbol)` exactly if the model doesn't contain the symbol. The encoder is unchanged.
     /// - `Backend(error)` only if words had to be written, and the backend refused room for them or one of the writes.
-    ///   The interval and the pending words are unchanged. The backend has taken the first few of the words; a vector is
-    ///   unchanged.
+    ///   The interval and the pending words are unchanged. The backend has taken the first few of the words; a vector
+    ///   is unchanged.
     #[inline]
     fn encode_symbol<M>(
         &mut self,

@@ -1,7 +1,7 @@
 //! Encoding lists of symbols from last to first, as methods of the coder, so that no trait has to be in scope.
 //!
-//! The contracts speak of the iterator's `next_back`, so a caller doesn't have to know `Rev`. They ask that the iterator
-//! ends and can be asked from the back.
+//! The contracts speak of the iterator's `next_back`, so a caller doesn't have to know `Rev`. They ask that the
+//! iterator ends and can be asked from the back.
 
 ghost use Rattle.constriction_stream.specs.Lists.{GivesAtMost, LowersByItems, StepsUntilFault, TriesItem};
 ghost use Rattle.constriction_stream.specs.Symbols.{EncodesPair, EncodesSymbol};
