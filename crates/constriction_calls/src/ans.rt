@@ -19,6 +19,17 @@
 //! - `ImpossibleSymbol`: a model doesn't know its symbol.
 //! - `NoSpace`: the buffer is too short. The error has the number of words that the state would have.
 //! - `NoMemory`: there is no memory. This may also come if the buffer is too short.
+//!
+//! # Examples
+//!
+//! ```
+//! let weights = [8388608u32, 8388608];
+//! let models = Weights { weights: &weights };
+//! let (mut head, mut words, mut len) = (0u64, [0u32; 4], 0);
+//! encode_reverse::<_, _, u32, _, 24>(alloc, &mut head, &mut words, &mut len, &models, &[1, 0])?;
+//! let mut symbols = [0; 2];
+//! decode::<_, _, u32, _, 24>(alloc, &mut head, &words, &mut len, &models, &mut symbols)?; // symbols is [1, 0]
+//! ```
 
 pub mod decoding;
 pub mod encoding;

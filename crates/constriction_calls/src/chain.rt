@@ -29,6 +29,14 @@ pub use words::{
 };
 
 /// The two heads of a chain coder, which a caller keeps between calls.
+///
+/// # Examples
+///
+/// ```
+/// let words = [5u32, 6, 7, 8];
+/// let (mut heads, mut len) = (ChainHeads { remainders: 0u64, compressed: 0u32 }, 0);
+/// from_compressed::<_, _, 24>(alloc, &words, &mut heads, &mut len)?; // len is 2: two words stay below the heads
+/// ```
 #[derive(Debug, Clone, Copy, PartialEq, Eq)]
 pub struct ChainHeads<Word, State> {
     /// The head of the remainders.

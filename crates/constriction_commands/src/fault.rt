@@ -14,6 +14,12 @@ use constriction_stack::coder::words::CompressedDataEndsWithZeroWord;
 use std::alloc::{AllocError, AllocFailed};
 
 /// A fault that stops a run of the program.
+///
+/// # Examples
+///
+/// ```
+/// Fault::BadNumber.line(); // b"bad number\n"
+/// ```
 #[derive(Debug, Drop, Clone, PartialEq, Eq)]
 pub enum Fault {
     Unreadable,

@@ -21,6 +21,14 @@ use std::alloc::Global;
 use thiserror::Error;
 
 /// The error of chunks that make no store.
+///
+/// # Examples
+///
+/// ```
+/// // under a table of two weights, symbols are 0 and 1
+/// let chunks = [&[1, 0], &[2]]; // as a list of `Vec<usize>`
+/// Store::<u32, u64, _, 24>::build(alloc, chunks, table); // Err(ImpossibleSymbol { chunk: 1, index: 0 })
+/// ```
 #[derive(Debug, Clone, Copy, PartialEq, Eq, Error)]
 pub enum BuildError {
     /// The chunks have more than [`MOST_SYMBOLS`] symbols together.

@@ -21,7 +21,7 @@ use constriction_words::{BitArray, WordOf};
 use std::alloc::Global;
 use thiserror::Error;
 
-/// The error of a look-up.
+/// The error of a look-up. [`Store::chunk`] has an example.
 #[derive(Debug, Clone, Copy, PartialEq, Eq, Error)]
 pub enum ChunkError {
     /// The store has no chunk with this number.

@@ -10,7 +10,7 @@ use constriction_queue::RangeCoderState;
 use constriction_words::{BitArray, WordOf};
 use thiserror::Error;
 
-/// The error of an index that doesn't fit its words or is too long.
+/// The error of an index that doesn't fit its words or is too long. [`Store::from_parts`] returns it.
 #[derive(Debug, Clone, Copy, PartialEq, Eq, Error)]
 #[error("bad index")]
 pub struct BadIndex;

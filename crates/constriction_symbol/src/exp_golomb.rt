@@ -152,7 +152,7 @@ impl<N: BitArray> EncoderCodebook for ExpGolomb<N> {
     }
 }
 
-/// The error for bits that begin with no codeword of the number type.
+/// The error for bits that begin with no codeword of the number type, such as 9 zeros for `u8`.
 #[derive(Debug, Clone, PartialEq, Eq, Drop, Error)]
 #[error("Invalid Exp-Golomb codeword.")]
 pub struct InvalidCodeword;

@@ -50,6 +50,13 @@ impl<Word: BitArray, B: ReadWords<Word, Queue>> QueueDecoder<Word, B> {
     /// Makes a decoder for all bits of a backend's words.
     ///
     /// The zeros that complete the last word of an export are bits like any others.
+    ///
+    /// # Examples
+    ///
+    /// ```
+    /// let mut decoder = DefaultQueueDecoder::from_compressed(Cursor::new_at_write_beginning(words)); // words is [6]
+    /// decoder.read_bit()?; // Some(false): the bits of 6 are 0, 1, 1, and zeros
+    /// ```
     pub fn from_compressed(compressed: B) -> Self
         ensures bits { result.bits ≡ bits_of_words Word.BITS (map Word.number (B.words compressed)) }
         ensures last { result.last ≡ [] }

@@ -70,8 +70,9 @@ pub trait WriteBitStream<S: BitOrder> {
     ///
     /// # Errors
     ///
-    /// The error of the first symbol that fails. The codewords of the symbols before it were written, and what that
-    /// error says. The iterator isn't asked for further items.
+    /// The error of the first symbol that fails. Exactly the codewords of the symbols before it were written, and the
+    /// part of its own codeword that [`WriteBitStream::encode_symbol`] says. The iterator isn't asked for further
+    /// items.
     ///
     /// # Examples
     ///
@@ -229,8 +230,9 @@ where
     ///
     /// # Errors
     ///
-    /// The error of the first symbol that fails. The codewords of the symbols behind it in the list were written, and
-    /// what that error says. The iterator isn't asked for further items.
+    /// The error of the first symbol that fails. Exactly the codewords of the symbols behind it in the list were
+    /// written, and the part of its own codeword that [`WriteBitStream::encode_symbol`] says. The iterator isn't asked
+    /// for further items.
     pub fn encode_symbols_reverse<L, C, I>(
         &mut self,
         symbols_and_codebooks: I,

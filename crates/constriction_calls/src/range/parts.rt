@@ -16,6 +16,14 @@ use std::num::NonZeroUsize;
 ///
 /// It holds `held` words: the first is `first`, and all others have only ones. If it holds none, `first` is 0. The
 /// words that it wrote are in the caller's buffer.
+///
+/// # Examples
+///
+/// ```
+/// let mut encoder = EncoderParts { lower: 0u64, range: u64::MAX, held: 0, first: 0u32 }; // no symbols yet
+/// encode::<_, _, u32, _, 24>(alloc, &mut encoder, &mut words, &mut len, &models, &[1, 0])?;
+/// into_compressed(alloc, &encoder, &mut words, &mut len)?;
+/// ```
 #[derive(Debug, Drop, Clone, Copy)]
 #[repr(C)]
 pub struct EncoderParts<Word, State> {
@@ -28,6 +36,13 @@ pub struct EncoderParts<Word, State> {
 /// A range decoder between two calls: its interval, its point, and how many words of the caller's buffer it read.
 ///
 /// The point is the number of the words read last, as many as a state has.
+///
+/// # Examples
+///
+/// ```
+/// let mut decoder: DecoderParts<u64> = from_compressed(&words[..len]);
+/// decode::<_, _, u32, _, 24>(alloc, &mut decoder, &words[..len], &models, &mut symbols)?; // symbols is [1, 0]
+/// ```
 #[derive(Debug, Drop, Clone, Copy)]
 #[repr(C)]
 pub struct DecoderParts<State> {

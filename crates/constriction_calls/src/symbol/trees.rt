@@ -11,6 +11,14 @@ use std::alloc::Global;
 use std::convert::Infallible;
 
 /// The weights of the symbols `0`, `1`, .. of a Huffman tree.
+///
+/// # Examples
+///
+/// ```
+/// let weights = [2u32, 2, 4, 1, 1];
+/// let tree = Tree { weights: &weights };
+/// encode_queue(alloc, &tree, &[2, 3], &mut words, &mut len)?; // the bits 11, 100 in one word: words[0] is 7
+/// ```
 #[derive(Clone, Copy, Drop)]
 pub struct Tree<'a, P> {
     pub weights: &'a [P],

@@ -150,6 +150,13 @@ impl DecoderHuffmanTree {
     ///
     /// - `Iterator(error)` if an item is this error, or `Memory` if there is no memory to collect the weights.
     /// - The errors of [`DecoderHuffmanTree::from_probabilities`].
+    ///
+    /// # Examples
+    ///
+    /// ```
+    /// let weights = [Ok(2u8), Ok(1), Err("no weight")];
+    /// DecoderHuffmanTree::try_from_probabilities(alloc, weights); // Err(HuffmanError::Iterator("no weight"))
+    /// ```
     pub fn try_from_probabilities<P, E, I>(
         alloc: Global,
         probabilities: I,

@@ -137,6 +137,13 @@ impl EncoderHuffmanTree {
     ///
     /// - `Iterator(error)` if an item is `Err(error)`, or `Memory` if there is no memory for a weight before it.
     /// - The errors of [`EncoderHuffmanTree::from_probabilities`].
+    ///
+    /// # Examples
+    ///
+    /// ```
+    /// let weights = [Ok(2u8), Ok(1), Err("no weight")];
+    /// EncoderHuffmanTree::try_from_probabilities(alloc, weights); // Err(HuffmanError::Iterator("no weight"))
+    /// ```
     pub fn try_from_probabilities<P, E, I>(
         alloc: Global,
         probabilities: I,

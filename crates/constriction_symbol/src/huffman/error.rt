@@ -11,6 +11,13 @@ use thiserror::Error;
 ///
 /// `Iterator`, and `Memory` while the weights are collected, come first. The others are checked in the order of the
 /// variants.
+///
+/// # Examples
+///
+/// ```
+/// let none: [u32; 0] = [];
+/// EncoderHuffmanTree::from_probabilities(alloc, none.iter()); // Err(HuffmanError::Empty)
+/// ```
 #[derive(Debug, Drop, Error)]
 #[error_bound(E: Display)]
 pub enum HuffmanError<E> {

@@ -1,4 +1,4 @@
-//! List calls of the chain coder, said in the words of the laws: which states they lead to.
+//! List calls of the chain coder, with contracts in the terms of the laws: the states to which they lead.
 
 ghost use Rattle.std.specs.Prelude.{◌≡◌, length, reverse, IfErr, IfOk, OnOk};
 ghost use Rattle.constriction_base.specs.Models.{pairs_of};

@@ -1,5 +1,6 @@
-//! The two halves of the way of words there and back. The law
-//! [`words_come_back`](crate::chain::words::words_come_back) says what joins their states.
+//! The two halves of the way of words through the remainders.
+//!
+//! The law [`words_come_back`](crate::chain::words::words_come_back) joins their states.
 
 ghost use Rattle.std.specs.Prelude.{◌≡◌, ◌<◌, ◌++◌, ℕ, List, length, map, reverse, IfErr, IfOk, OnOk};
 ghost use Rattle.constriction_base.specs.Models.{pairs_of};

@@ -1,4 +1,4 @@
-//! List calls of the range coder, said in the words of the laws: which runs they lead to.
+//! List calls of the range coder, with contracts in the terms of the laws: the runs to which they lead.
 
 ghost use Rattle.std.specs.Prelude.{◌≡◌, ◌↔◌, ◌+◌, ◌<◌, ◌≤◌, ℕ, List, length, IfOk, IfErr, IsTrue};
 ghost use Rattle.constriction_base.specs.Models.{pairs_of};

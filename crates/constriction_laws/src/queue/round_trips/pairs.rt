@@ -1,7 +1,7 @@
-//! Symbols that have a model each, and the words that an encoder exports.
+//! Symbols, each with its own model, and the words that an encoder exports.
 //!
-//! [`compressed_words_of_pairs`] says what the words are. [`pairs_from_words`] takes any words, says what is in them,
-//! and joins the two: its clauses `sealed`, `followed` and `delimited` take the words of the other half.
+//! [`compressed_words_of_pairs`] says which words these are. [`pairs_from_words`] takes any words and says what they
+//! hold. Its clauses `sealed`, `followed` and `delimited` take the words of the other half, and so join the two.
 
 ghost use Rattle.std.specs.Prelude.{◌≡◌, ◌<◌, ◌≤◌, ◌-◌, ◌*◌, ◌^◌, ◌/◌, ◌++◌, ℕ, List, length, map, reverse, IfOk, IfErr, IsTrue};
 ghost use Rattle.constriction_base.specs.Models.{pairs_of};

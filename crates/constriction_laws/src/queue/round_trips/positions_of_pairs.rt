@@ -1,5 +1,7 @@
-//! Symbols that have a model each, from a recorded position. The law
-//! [`symbols_after_a_position`](crate::queue::positions::symbols_after_a_position) says which symbols are there.
+//! Symbols, each with its own model, from a recorded position.
+//!
+//! The law [`symbols_after_a_position`](crate::queue::positions::symbols_after_a_position) says which symbols these
+//! are.
 
 ghost use Rattle.std.specs.Prelude.{◌≡◌, ◌<◌, ◌≤◌, List, length, map, IfOk, IfErr};
 ghost use Rattle.constriction_base.specs.Models.{pairs_of};

@@ -1,4 +1,4 @@
-//! Words of which any come back, by way of their binary form.
+//! Any words come back through their binary form.
 
 ghost use Rattle.std.specs.Prelude.{◌≡◌, ℕ, List, length, map, reverse, IfOk, IfErr};
 ghost use Rattle.constriction_base.specs.Models.{pairs_of};

@@ -1,4 +1,4 @@
-//! List calls of the stack coder, said in the words of the laws: which states they lead to.
+//! List calls of the stack coder, with contracts in the terms of the laws: the states to which they lead.
 
 ghost use Rattle.std.specs.Prelude.{◌≡◌, List, length, reverse, IfOk, IfErr, OnOk};
 ghost use Rattle.constriction_laws.specs.Outcomes.{HasImpossibleItem, OnlyRefused, UnlessImpossible};

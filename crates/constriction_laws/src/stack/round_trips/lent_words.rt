@@ -1,4 +1,4 @@
-//! Symbols from the words that a coder lends by a guard, and the coder as it was.
+//! Symbols from the words that a coder lends through a guard, and the coder afterwards, which is unchanged.
 
 ghost use Rattle.std.specs.Prelude.{◌≡◌, List, length, reverse, IfOk, IfErr, OnOk};
 ghost use Rattle.constriction_base.specs.Models.{pairs_of};

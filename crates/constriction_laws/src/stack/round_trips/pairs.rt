@@ -1,4 +1,4 @@
-//! Symbols that have a model each, and the words that a coder exports.
+//! Symbols, each with its own model, and the words that a coder exports.
 
 ghost use Rattle.std.specs.Prelude.{◌≡◌, ◌≤◌, ◌-◌, ◌*◌, ◌^◌, List, length, map, reverse, IfOk, IfErr, OnOk};
 ghost use Rattle.constriction_base.specs.Models.{pairs_of};

@@ -1,4 +1,4 @@
-//! Symbols that come back from recorded positions.
+//! Symbols come back from recorded positions.
 
 ghost use Rattle.std.specs.Prelude.{◌≡◌, ◌≤◌, ◌<◌, List, length, reverse, IfOk, IfErr, OnOk};
 ghost use Rattle.constriction_base.specs.Models.{pairs_of};
