@@ -9,10 +9,10 @@ use constriction_words::{BitArray, WordOf};
 use std::alloc::AllocError;
 use std::marker::PhantomData;
 
-/// An interval of numbers: its lower end and its length, which is at least 2 to the power of (bits of `State` - bits
-/// of `Word`).
+/// An interval of numbers, by its lower end and its length.
 ///
-/// Contracts see it by `lower_of` and `range_of`.
+/// The length is at least 2 to the power of (bits of `State` - bits of `Word`). Contracts see it by `lower_of` and
+/// `range_of`.
 ///
 /// # Examples
 ///

@@ -117,8 +117,10 @@ impl<
         }
     }
 
-    /// Returns whether the words may have ended: the backend knows of no further word, and either the point lies
-    /// where a seal puts it, or no symbol was decoded.
+    /// Returns whether the words may have ended.
+    ///
+    /// They may have if the backend knows of no further word, and either the point lies where a seal puts it, or no
+    /// symbol was decoded.
     #[inline]
     fn maybe_exhausted(&self) -> bool
         ensures value { IsTrue result ↔ MayBeExhausted Word.BITS State.BITS Backend.seems_exhausted self.now }

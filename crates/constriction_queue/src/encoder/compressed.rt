@@ -194,11 +194,11 @@ impl<Word: WordOf<State>, State: BitArray, Backend: Holds<Word, Stack> + Words<W
     State,
     Backend,
 > {
-    /// Returns an iterator over the words that [`RangeEncoder::into_compressed`] would return, and leaves the encoder
-    /// unchanged.
+    /// Returns an iterator over the words that [`RangeEncoder::into_compressed`] would return.
     ///
-    /// Over any backend these are the lent words, then the pending words and the seal. They are the exported words if
-    /// the backend lends its words in writing order ([`crate::as_written::LendsAsWritten`]), as vectors and slices do.
+    /// The encoder is unchanged. Over any backend these are the lent words, then the pending words and the seal. They
+    /// are the exported words if the backend lends its words in writing order ([`crate::as_written::LendsAsWritten`]),
+    /// as vectors and slices do.
     pub fn iter_compressed(&self) -> RangeCompressedIter<'_, Word>
         // The words that the backend lends, and then what the sealed words have behind those written.
         ensures lent { result ≡ map Word.number (Backend.lent self.now.bulk)

@@ -207,8 +207,9 @@ impl<Word: WordOf<State>, State: BitArray, Buf: Words<Word> + Drop> AnsCoder<
         }
     }
 
-    /// Makes a coder from arbitrary words, in the reverse of the order in which [`AnsCoder::into_binary`]
-    /// returns them.
+    /// Makes a coder from arbitrary words in reverse order.
+    ///
+    /// [`AnsCoder::into_binary`] returns these words in the reverse of this order.
     ///
     /// # Examples
     ///
@@ -237,10 +238,10 @@ impl<
     ReadError: Drop,
     Iter: Iterator<Item = Result<Word, ReadError>>,
 > AnsCoder<Word, State, FallibleIteratorReadWords<Iter>> {
-    /// Makes a coder from an iterator over words in the reverse of the order in which
-    /// [`AnsCoder::into_compressed`] returns them.
+    /// Makes a coder from an iterator over compressed words in reverse order.
     ///
-    /// Takes words into the head until it is full. Decoding takes the other words when it needs them.
+    /// [`AnsCoder::into_compressed`] returns the words in the reverse of this order. Takes words into the head until it
+    /// is full. Decoding takes the other words when it needs them.
     ///
     /// # Errors
     ///
@@ -271,10 +272,10 @@ impl<
         }
     }
 
-    /// Makes a coder from an iterator over arbitrary words, in the reverse of the order in which
-    /// [`AnsCoder::into_binary`] returns them.
+    /// Makes a coder from an iterator over arbitrary words in reverse order.
     ///
-    /// Takes words into the head until it is full. Decoding takes the other words when it needs them.
+    /// [`AnsCoder::into_binary`] returns the words in the reverse of this order. Takes words into the head until it is
+    /// full. Decoding takes the other words when it needs them.
     ///
     /// # Errors
     ///

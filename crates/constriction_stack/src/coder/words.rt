@@ -23,8 +23,9 @@ use std::fmt;
 use std::marker::{Model, PhantomData};
 use thiserror::Error;
 
-/// The error for compressed words that end with a zero word. No coder exports such words, because the last
-/// word is the highest word of the head, without leading zeros.
+/// The error for compressed words that end with a zero word.
+///
+/// No coder exports such words: the last word is the highest word of the head, without leading zeros.
 #[derive(Debug, Clone, Copy, PartialEq, Eq, Error)]
 #[error("Tried to decode from compressed data that ends with a zero word, which is invalid for an ANS coder.")]
 pub struct CompressedDataEndsWithZeroWord;
@@ -98,9 +99,9 @@ impl<Word: WordOf<State>, State: BitArray, Backend: WriteWords<Word>> AnsCoder<
     State,
     Backend,
 > {
-    /// Returns the coder's words: the words below the head, then the words of the head, lowest first, without
-    /// leading zero words.
+    /// Returns the coder's words.
     ///
+    /// These are the words below the head, then the words of the head, lowest first, without leading zero words.
     /// The coder first asks the backend for room for the head's words. If the head is 0, the backend is returned
     /// unchanged.
     ///
@@ -135,8 +136,9 @@ impl<Word: WordOf<State>, State: BitArray, Backend: ReadWords<Word, Stack>> AnsC
     State,
     Backend,
 > {
-    /// Makes a coder from arbitrary words. [`AnsCoder::into_binary`] returns the same words, zero words at the
-    /// top included.
+    /// Makes a coder from arbitrary words.
+    ///
+    /// [`AnsCoder::into_binary`] returns the same words, zero words at the top included.
     ///
     /// Reads words into the head, below a leading 1, until it is full (one word if `State` has twice the bits of
     /// `Word`) or until no word is left. From no words this makes a coder with head 1.
@@ -182,9 +184,10 @@ impl<Word: WordOf<State>, State: BitArray, Backend: WriteWords<Word>> AnsCoder<
     State,
     Backend,
 > {
-    /// Returns the words of a coder whose head is a 1 above whole words: the words below the head, then the
-    /// head's words below its leading 1, lowest first, zero words at the top included.
+    /// Returns the words of a coder whose head is a 1 above whole words.
     ///
+    /// These are the words below the head, then the head's words below its leading 1, lowest first, zero words at
+    /// the top included.
     /// The coder first asks the backend for room for the head's words. If the head is 1, the backend is returned
     /// unchanged.
     ///
@@ -256,8 +259,10 @@ impl<Word: WordOf<State>, State: BitArray, Backend: BoundedReadWords<Word, Stack
         Word::BITS as usize * self.num_words()
     }
 
-    /// Returns the number of bits that carry information: the bits of the words below the head, and the bits of
-    /// the head below its leading 1. For a new coder this is 0.
+    /// Returns the number of bits that carry information.
+    ///
+    /// These are the bits of the words below the head, and the bits of the head below its leading 1. For a new coder
+    /// this is 0.
     pub fn num_valid_bits(&self) -> usize
         requires { SizesFit Word.BITS self.now.state }
         ensures { result ≡ valid_bit_count Word.BITS self.now.state }
@@ -325,11 +330,10 @@ impl<Word: WordOf<State>, State: BitArray, Backend: Holds<Word, Stack> + Words<W
     State,
     Backend,
 > {
-    /// Returns an iterator over the words that [`AnsCoder::into_compressed`] would return, and leaves the coder
-    /// unchanged.
+    /// Returns an iterator over the words that [`AnsCoder::into_compressed`] would return.
     ///
-    /// The words that the backend lends come first, then the words of the head, lowest first, without leading
-    /// zero words.
+    /// The coder is unchanged. The words that the backend lends come first, then the words of the head, lowest first,
+    /// without leading zero words.
     pub fn iter_compressed(&self) -> AnsCompressedIter<'_, Word, State>
         ensures words { result ≡ map Word.number (Backend.lent self.now.backend)
             ++ reverse (digits_of (2 ^ Word.BITS) self.now.state.head) }
