@@ -13,15 +13,15 @@ use std::test::Fail;
 type Small = ChainCoder<u8, u16, Vec<u8>, Vec<u8>, 8>;
 
 /// The coder of words in compressed form.
-fn coder_of(alloc: Global) -> Result<Small, Fail> {
-    match Small::from_compressed(alloc, words_of(alloc, &[20, 30, 9])?) {
-        Ok(coder) => Ok(coder),
-        Err(_) => Err(Fail::from("no coder")),
-    }
+fn coder_of(alloc: Global) -> Option<Small> {
+    Small::from_compressed(alloc, words_of(alloc, &[20, 30, 9])?).ok()
 }
 
 /// The remainders are 9 * 240 + 14, whose low word goes, and 8 * 100 + 20.
-fn taken(alloc: Global, coder: Small, tables: &[Table; 2]) -> bool {
+fn taken(alloc: Global, tables: &[Table; 2]) -> bool {
+    let Some(coder) = coder_of(alloc) else {
+        return false;
+    };
     match take_pairs::<u8, u16, _, 8>(alloc, coder, tables) {
         Ok((again, _, suffix)) => {
             are_back(again.as_slice()) && suffix.as_slice() == [126u8, 52, 3, 1].as_slice()
@@ -30,7 +30,10 @@ fn taken(alloc: Global, coder: Small, tables: &[Table; 2]) -> bool {
     }
 }
 
-fn put_back(alloc: Global, remainders: Vec<u8>, tables: &[Table; 2]) -> bool {
+fn put_back(alloc: Global, tables: &[Table; 2]) -> bool {
+    let Some(remainders) = words_of(alloc, &[126, 52, 3, 1]) else {
+        return false;
+    };
     match put_back_pairs::<u8, u16, _, 8>(alloc, remainders, &SYMBOLS, tables) {
         Ok(_) => true,
         Err(_) => false,
@@ -44,19 +47,20 @@ fn by_two(alloc: Global, coder: &mut Small, same: &mut Small, tables: &[Table; 2
     }
 }
 
-#[test]
-fn symbols_out_of_words_and_back(rt: HostRuntime) -> Result<(), Fail> {
-    let tables = tables_of(rt.alloc())?;
-    assert!(rt; taken(rt.alloc(), coder_of(rt.alloc())?, &tables));
-    assert!(rt; put_back(rt.alloc(), words_of(rt.alloc(), &[126, 52, 3, 1])?, &tables));
-    Ok(())
+fn of_two_coders(alloc: Global, tables: &[Table; 2]) -> bool {
+    match (coder_of(alloc), coder_of(alloc)) {
+        (Some(mut coder), Some(mut same)) => by_two(alloc, &mut coder, &mut same, tables),
+        _ => false,
+    }
+}
+
+fn are_all(alloc: Global, tables: &[Table; 2]) -> bool {
+    taken(alloc, tables) && put_back(alloc, tables) && of_two_coders(alloc, tables)
 }
 
 #[test]
-fn symbols_of_two_coders(rt: HostRuntime) -> Result<(), Fail> {
+fn symbols_out_of_words_and_back(rt: HostRuntime) -> Result<(), Fail> {
     let tables = tables_of(rt.alloc())?;
-    let mut coder = coder_of(rt.alloc())?;
-    let mut same = coder_of(rt.alloc())?;
-    assert!(rt; by_two(rt.alloc(), &mut coder, &mut same, &tables));
+    assert!(rt; are_all(rt.alloc(), &tables));
     Ok(())
 }

@@ -1,7 +1,7 @@
 //! What all tests of coders are given: two tables, and the symbols 1 and 0 under them.
 //!
-//! The stack coder's word for these symbols is 16, and so is the range coder's: the first symbol's interval begins at 16,
-//! and the second one's at 0.
+//! The stack coder's word for these symbols is 16, and so is the range coder's: the first symbol's interval begins at
+//! 16, and the second one's at 0.
 
 use constriction_base::weights::WeightTable;
 use std::alloc::Global;
@@ -19,11 +19,8 @@ pub(crate) fn tables_of(alloc: Global) -> Result<[Table; 2], Fail> {
 }
 
 /// Words on the heap.
-pub(crate) fn words_of(alloc: Global, words: &[u8]) -> Result<Vec<u8>, Fail> {
-    match words.to_vec(alloc) {
-        Ok(words) => Ok(words),
-        Err(_) => Err(Fail::from("no memory")),
-    }
+pub(crate) fn words_of(alloc: Global, words: &[u8]) -> Option<Vec<u8>> {
+    words.to_vec(alloc).ok()
 }
 
 /// Whether the symbols are back.

@@ -13,8 +13,6 @@ use std::test::Fail;
 
 type Small = RangeEncoder<u8, u16, Vec<u8>>;
 
-type Switch<'a> = FlagSwitch<u8, u16, Cursor<u8, &'a [u8]>, 8, 8>;
-
 fn put_in(alloc: Global, tables: &[Table; 2]) -> bool {
     match compressed_words_of_pairs::<u8, u16, Vec<u8>, _, 8>(Small::new(alloc), &SYMBOLS, tables) {
         Ok(words) => words.as_slice() == [16u8].as_slice(),
@@ -23,7 +21,10 @@ fn put_in(alloc: Global, tables: &[Table; 2]) -> bool {
 }
 
 /// The symbols come back, and the word has been read.
-fn from_words(alloc: Global, words: Vec<u8>, tables: &[Table; 2]) -> bool {
+fn from_words(alloc: Global, tables: &[Table; 2]) -> bool {
+    let Some(words) = words_of(alloc, &[16]) else {
+        return false;
+    };
     match pairs_from_words::<u8, u16, Vec<u8>, _, 8>(alloc, words, tables) {
         Ok((again, ended)) => are_back(again.as_slice()) && ended,
         Err(_) => false,
@@ -31,7 +32,10 @@ fn from_words(alloc: Global, words: Vec<u8>, tables: &[Table; 2]) -> bool {
 }
 
 /// The position of a new encoder is that of all symbols.
-fn from_position(alloc: Global, words: Vec<u8>, tables: &[Table; 2]) -> bool {
+fn from_position(alloc: Global, tables: &[Table; 2]) -> bool {
+    let Some(words) = words_of(alloc, &[16]) else {
+        return false;
+    };
     let place = Small::new(alloc).pos();
     match pairs_from_position::<u8, u16, _, 8>(alloc, words, place, tables) {
         Ok(again) => are_back(again.as_slice()),
@@ -40,47 +44,41 @@ fn from_position(alloc: Global, words: Vec<u8>, tables: &[Table; 2]) -> bool {
 }
 
 /// An encoder that holds nothing lends no words, which are read as zeros.
-fn from_lent_words(alloc: Global, encoder: &mut Small, tables: &[Table; 2]) -> bool {
-    match decode_lent_words_by_models::<u8, u16, Global, _, 8>(alloc, encoder, tables) {
+fn from_lent_words(alloc: Global, tables: &[Table; 2]) -> bool {
+    let mut encoder = Small::new(alloc);
+    match decode_lent_words_by_models::<u8, u16, Global, _, 8>(alloc, &mut encoder, tables) {
         Ok(again) => again.as_slice() == [0usize, 0].as_slice(),
         Err(_) => false,
     }
 }
 
 /// The symbol 1 is the flag.
-fn from_a_switch(alloc: Global, switch: &mut Switch<'_>, tables: &[Table; 2]) -> bool {
-    match decode_flagged(alloc, switch, 2, &tables[0], &tables[1]) {
+fn from_a_switch(alloc: Global, tables: &[Table; 2]) -> bool {
+    let decoder = match RangeDecoder::<u8, u16, Cursor<u8, &[u8]>>::from_compressed([
+        16u8,
+    ].as_slice())
+    {
+        Ok(decoder) => decoder,
+        Err(never) => match never {},
+    };
+    let mut switch: FlagSwitch<u8, u16, Cursor<u8, &[u8]>, 8, 8> = FlagSwitch::new(decoder, 1);
+    match decode_flagged(alloc, &mut switch, 2, &tables[0], &tables[1]) {
         Ok(again) => are_back(again.as_slice()),
         Err(_) => false,
     }
 }
 
+fn are_all(alloc: Global, tables: &[Table; 2]) -> bool {
+    put_in(alloc, tables)
+        && from_words(alloc, tables)
+        && from_position(alloc, tables)
+        && from_lent_words(alloc, tables)
+        && from_a_switch(alloc, tables)
+}
+
 #[test]
 fn symbols_come_back(rt: HostRuntime) -> Result<(), Fail> {
     let tables = tables_of(rt.alloc())?;
-    assert!(rt; put_in(rt.alloc(), &tables));
-    assert!(rt; from_words(rt.alloc(), words_of(rt.alloc(), &[16])?, &tables));
-    assert!(rt; from_position(rt.alloc(), words_of(rt.alloc(), &[16])?, &tables));
+    assert!(rt; are_all(rt.alloc(), &tables));
     Ok(())
-}
-
-#[test]
-fn symbols_come_back_from_an_encoder(rt: HostRuntime) -> Result<(), Fail> {
-    let tables = tables_of(rt.alloc())?;
-    let mut encoder = Small::new(rt.alloc());
-    assert!(rt; from_lent_words(rt.alloc(), &mut encoder, &tables));
-    Ok(())
-}
-
-#[test]
-fn symbols_come_back_from_a_switch(rt: HostRuntime) -> Result<(), Fail> {
-    let tables = tables_of(rt.alloc())?;
-    match RangeDecoder::<u8, u16, Cursor<u8, &[u8]>>::from_compressed([16u8].as_slice()) {
-        Ok(decoder) => {
-            let mut switch: Switch<'_> = FlagSwitch::new(decoder, 1);
-            assert!(rt; from_a_switch(rt.alloc(), &mut switch, &tables));
-            Ok(())
-        }
-        Err(never) => match never {},
-    }
 }

@@ -23,14 +23,20 @@ fn put_on(alloc: Global, tables: &[Table; 2]) -> bool {
     }
 }
 
-fn from_words(alloc: Global, words: Vec<u8>, tables: &[Table; 2]) -> bool {
+fn from_words(alloc: Global, tables: &[Table; 2]) -> bool {
+    let Some(words) = words_of(alloc, &[16]) else {
+        return false;
+    };
     match pairs_from_words::<u8, u16, Vec<u8>, _, 8>(alloc, words, tables) {
         Ok((again, _)) => are_back(again.as_slice()),
         Err(_) => false,
     }
 }
 
-fn from_reversed_words(alloc: Global, words: Vec<u8>, tables: &[Table; 2]) -> bool {
+fn from_reversed_words(alloc: Global, tables: &[Table; 2]) -> bool {
+    let Some(words) = words_of(alloc, &[16]) else {
+        return false;
+    };
     match pairs_from_reversed_words::<u8, u16, _, 8>(alloc, words, tables) {
         Ok(again) => are_back(again.as_slice()),
         Err(_) => false,
@@ -48,30 +54,34 @@ fn from_items(alloc: Global, tables: &[Table; 2]) -> bool {
 }
 
 /// The coder of some words.
-pub(crate) fn coder_of(words: Vec<u8>) -> Result<Small, Fail> {
-    match Small::from_compressed(words) {
-        Ok(coder) => Ok(coder),
-        Err(_) => Err(Fail::from("no coder")),
-    }
+pub(crate) fn coder_of(alloc: Global, words: &[u8]) -> Option<Small> {
+    Small::from_compressed(words_of(alloc, words)?).ok()
 }
 
-fn from_lent_words(alloc: Global, coder: &mut Small, tables: &[Table; 2]) -> bool {
-    match decode_lent_words::<u8, u16, Global, _, 8>(alloc, coder, tables) {
+fn from_lent_words(alloc: Global, tables: &[Table; 2]) -> bool {
+    let Some(mut coder) = coder_of(alloc, &[16]) else {
+        return false;
+    };
+    match decode_lent_words::<u8, u16, Global, _, 8>(alloc, &mut coder, tables) {
         Ok(again) => are_back(again.as_slice()),
         Err(_) => false,
     }
 }
 
 /// The position of a head of 16 below which there are no words.
-fn at_position(alloc: Global, coder: &Small, tables: &[Table; 2]) -> bool {
-    match pairs_at_position::<u8, u16, _, 8>(alloc, coder, (0, 16), tables) {
+fn at_position(alloc: Global, tables: &[Table; 2]) -> bool {
+    let coder = Small::new(alloc);
+    match pairs_at_position::<u8, u16, _, 8>(alloc, &coder, (0, 16), tables) {
         Ok(again) => are_back(again.as_slice()),
         Err(_) => false,
     }
 }
 
 /// The word 16 as any word, which comes back from the symbols that are decoded from it.
-fn from_any_word(alloc: Global, words: Vec<u8>, tables: &[Table; 2]) -> bool {
+fn from_any_word(alloc: Global, tables: &[Table; 2]) -> bool {
+    let Some(words) = words_of(alloc, &[16]) else {
+        return false;
+    };
     match pairs_from_binary_words::<u8, u16, Vec<u8>, _, 8>(alloc, words, tables) {
         Ok((symbols, coder)) => back_to_any_word(coder, symbols.as_slice(), tables),
         Err(_) => false,
@@ -88,22 +98,19 @@ fn back_to_any_word(coder: Small, symbols: &[usize], tables: &[Table; 2]) -> boo
     }
 }
 
-#[test]
-fn symbols_come_back(rt: HostRuntime) -> Result<(), Fail> {
-    let tables = tables_of(rt.alloc())?;
-    assert!(rt; put_on(rt.alloc(), &tables));
-    assert!(rt; from_words(rt.alloc(), words_of(rt.alloc(), &[16])?, &tables));
-    assert!(rt; from_reversed_words(rt.alloc(), words_of(rt.alloc(), &[16])?, &tables));
-    assert!(rt; from_items(rt.alloc(), &tables));
-    assert!(rt; from_any_word(rt.alloc(), words_of(rt.alloc(), &[16])?, &tables));
-    Ok(())
+fn are_all(alloc: Global, tables: &[Table; 2]) -> bool {
+    put_on(alloc, tables)
+        && from_words(alloc, tables)
+        && from_reversed_words(alloc, tables)
+        && from_items(alloc, tables)
+        && from_lent_words(alloc, tables)
+        && at_position(alloc, tables)
+        && from_any_word(alloc, tables)
 }
 
 #[test]
-fn symbols_come_back_from_a_coder(rt: HostRuntime) -> Result<(), Fail> {
+fn symbols_come_back(rt: HostRuntime) -> Result<(), Fail> {
     let tables = tables_of(rt.alloc())?;
-    let mut coder = coder_of(words_of(rt.alloc(), &[16])?)?;
-    assert!(rt; from_lent_words(rt.alloc(), &mut coder, &tables));
-    assert!(rt; at_position(rt.alloc(), &coder, &tables));
+    assert!(rt; are_all(rt.alloc(), &tables));
     Ok(())
 }

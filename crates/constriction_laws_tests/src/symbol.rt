@@ -14,25 +14,31 @@ type Codebook = ExpGolomb<u32>;
 
 const SYMBOLS: [u32; 2] = [0, 5];
 
-fn written(encoder: &mut QueueEncoder<u32>, books: &[Codebook; 2]) -> bool {
-    match encode_pairs::<QueueEncoder<u32>, _>(encoder, &SYMBOLS, books) {
+fn is_written(alloc: Global, books: &[Codebook; 2]) -> bool {
+    let mut encoder: QueueEncoder<u32> = QueueEncoder::new(alloc);
+    match encode_pairs::<QueueEncoder<u32>, _>(&mut encoder, &SYMBOLS, books) {
         Ok(()) => true,
         Err(_) => false,
     }
 }
 
-fn written_from_back(coder: &mut StackCoder<u32>, books: &[Codebook; 2]) -> bool {
+fn is_written_from_back(coder: &mut StackCoder<u32>, books: &[Codebook; 2]) -> bool {
     match encode_pairs_reverse(coder, &SYMBOLS, books) {
         Ok(()) => true,
         Err(_) => false,
     }
 }
 
-fn read(alloc: Global, coder: &mut StackCoder<u32>, books: &[Codebook; 2]) -> bool {
+fn is_read(alloc: Global, coder: &mut StackCoder<u32>, books: &[Codebook; 2]) -> bool {
     match decode_pairs::<Stack, _, _>(alloc, coder, books) {
         Ok(again) => again.as_slice() == SYMBOLS.as_slice(),
         Err(_) => false,
     }
+}
+
+fn on_a_stack(alloc: Global, books: &[Codebook; 2]) -> bool {
+    let mut coder: StackCoder<u32> = StackCoder::new(alloc);
+    is_written_from_back(&mut coder, books) && is_read(alloc, &mut coder, books)
 }
 
 fn tree_is_made(alloc: Global) -> bool {
@@ -45,11 +51,8 @@ fn tree_is_made(alloc: Global) -> bool {
 #[test]
 fn symbols_come_back(rt: HostRuntime) -> Result<(), Fail> {
     let books = [Codebook::new(), Codebook::new()];
-    let mut encoder: QueueEncoder<u32> = QueueEncoder::new(rt.alloc());
-    let mut coder: StackCoder<u32> = StackCoder::new(rt.alloc());
-    assert!(rt; written(&mut encoder, &books));
-    assert!(rt; written_from_back(&mut coder, &books));
-    assert!(rt; read(rt.alloc(), &mut coder, &books));
-    assert!(rt; tree_is_made(rt.alloc()));
+    assert!(rt;
+        is_written(rt.alloc(), &books) && on_a_stack(rt.alloc(), &books) && tree_is_made(rt.alloc())
+    );
     Ok(())
 }

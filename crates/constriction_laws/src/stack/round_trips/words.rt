@@ -81,8 +81,9 @@ where
     requires sizes { IsSizes Word.BITS State.BITS }
     requires can { Iter.can_next items }
     ensures count { IfOk result (λ again. length again.items ≡ length models.now) }
-    ensures read { (words : Iter → List Word) → TellsItems Iter.next_gives words → IfOk result (λ again. (last : AnsState)
-        × DecodesAll Word.BITS State.BITS (pairs_of PRECISION M.table again.items models.now)
+    ensures read { (words : Iter → List Word) → TellsItems Iter.next_gives words →
+        IfOk result (λ again. (last : AnsState) × DecodesAll Word.BITS State.BITS
+        (pairs_of PRECISION M.table again.items models.now)
         (filled Word.BITS State.BITS 0 (map Word.number (words items))) last) }
     ensures back { (words : Iter → List Word) (symbols : List M.Symbol) (state : AnsState) →
         TellsItems Iter.next_gives words →
