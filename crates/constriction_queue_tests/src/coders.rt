@@ -6,7 +6,7 @@ ghost use Rattle.std.specs.Prelude.{◌≤◌};
 use crate::decoding::{Owning, follow_decoding};
 use crate::encoding::follow;
 use constriction_base::cursor::Cursor;
-use constriction_base::weights::WeightTable;
+use constriction_base::weights::{TableError, WeightTable};
 use constriction_queue::{RangeDecoder, RangeEncoder};
 use constriction_scripts::answers::MEMORY;
 use constriction_scripts::numbers::Number;
@@ -35,26 +35,15 @@ pub fn said(failed: Option<&'static str>) -> Result<(), Fail> {
     }
 }
 
-/// Goes through a script with an encoder, by a table of the weights.
-pub fn go_on<Word, State, Probability, const PRECISION: usize>(
+/// Makes a table, and reads a script.
+fn read<Probability: BitArray, const PRECISION: usize>(
     alloc: Global,
-    encoder: &mut RangeEncoder<Word, State>,
     part: Part<'_, Probability>,
-) -> Option<&'static str>
-where
-    Word: WordOf<State> + Number,
-    State: BitArray + Number,
-    Probability: WordOf<Word>,
-    requires sizes { IsSizes Word.BITS State.BITS }
-    requires precision { (1 ≤ PRECISION) × (PRECISION ≤ Probability.BITS) }
+) -> Result<(WeightTable<Probability, PRECISION>, Script), TableError>
+    requires { (1 ≤ PRECISION) × (PRECISION ≤ Probability.BITS) }
 {
-    match (
-        WeightTable::<Probability, PRECISION>::new(alloc, part.0),
-        Script::read(alloc, part.1),
-    ) {
-        (Ok(table), Ok(script)) => follow(alloc, encoder, &table, &script),
-        _ => Some(MEMORY),
-    }
+    let table = WeightTable::new(alloc, part.0)?;
+    Ok((table, Script::read(alloc, part.1)?))
 }
 
 /// Goes through scripts with a new encoder, each by a table of its own.
@@ -71,34 +60,15 @@ where
 {
     let mut encoder = RangeEncoder::<Word, State>::new(alloc);
     for part in parts {
-        let failed = go_on::<Word, State, Probability, PRECISION>(alloc, &mut encoder, *part);
+        let Ok((table, script)) = read::<Probability, PRECISION>(alloc, *part) else {
+            return Some(MEMORY);
+        };
+        let failed = follow(alloc, &mut encoder, &table, &script);
         if failed.is_some() {
             return failed;
         }
     }
     None
-}
-
-/// Goes through a script with a decoder, by a table of the weights.
-fn decode_on<Word, State, Probability, const PRECISION: usize>(
-    alloc: Global,
-    decoder: &mut Owning<Word, State>,
-    part: Part<'_, Probability>,
-) -> Option<&'static str>
-where
-    Word: WordOf<State>,
-    State: BitArray + Number,
-    Probability: WordOf<Word>,
-    requires sizes { IsSizes Word.BITS State.BITS }
-    requires precision { (1 ≤ PRECISION) × (PRECISION ≤ Probability.BITS) }
-{
-    match (
-        WeightTable::<Probability, PRECISION>::new(alloc, part.0),
-        Script::read(alloc, part.1),
-    ) {
-        (Ok(table), Ok(script)) => follow_decoding(alloc, decoder, &table, &script),
-        _ => Some(MEMORY),
-    }
 }
 
 /// Goes through scripts with a decoder of words, each by a table of its own.
@@ -121,7 +91,10 @@ where
         return Some("no decoder");
     };
     for part in parts {
-        let failed = decode_on::<Word, State, Probability, PRECISION>(alloc, &mut decoder, *part);
+        let Ok((table, script)) = read::<Probability, PRECISION>(alloc, *part) else {
+            return Some(MEMORY);
+        };
+        let failed = follow_decoding(alloc, &mut decoder, &table, &script);
         if failed.is_some() {
             return failed;
         }

@@ -1,4 +1,8 @@
 //! The acts of scripts on decoders.
+//!
+//! A decoder is `at` a lower end and a length; it `stands` there, before words of this number, with so many words left
+//! behind them; it `seek`s a place, a lower end and a length; of `parts` it has a lower end, a length and a point, and
+//! no words left. It may be `exhausted`, or is `unfinished`.
 
 ghost use Rattle.constriction_base.specs.Steps.{IsSizes};
 
@@ -10,7 +14,7 @@ use constriction_base::weights::WeightTable;
 use constriction_queue::RangeDecoder;
 use constriction_scripts::answers::{DONE, OTHER, Told, answer_if};
 use constriction_scripts::numbers::Number;
-use constriction_scripts::script::{Act, Script, find};
+use constriction_scripts::script::{Act, Script};
 use constriction_scripts::taking::take_by;
 use constriction_stream::coder::Code;
 use constriction_stream::decoding::Decode;
@@ -23,29 +27,6 @@ pub type Lent<'a, Word, State> = RangeDecoder<Word, State, Cursor<Word, &'a [Wor
 /// A decoder that owns its words: scripts go through these, since the checker has no proof of a generic call on a borrowing one
 /// that returns a text.
 pub type Owning<Word, State> = RangeDecoder<Word, State, Cursor<Word, Vec<Word>>>;
-
-/// What is done with a decoder, or expected of it.
-#[derive(Clone, Copy)]
-enum Verb {
-    At,
-    Stands,
-    Seek,
-    Parts,
-    Exhausted,
-    Unfinished,
-}
-
-/// The verbs. A decoder is `at` a lower end and a length; it `stands` there, before words of this number, with so many
-/// words left behind them; it `seek`s a place, a lower end and a length; of `parts` it has a lower end, a length and a
-/// point, and no words left. It may be `exhausted`, or is `unfinished`.
-const VERBS: &[(&str, Verb)] = &[
-    ("at", Verb::At),
-    ("stands", Verb::Stands),
-    ("seek", Verb::Seek),
-    ("parts", Verb::Parts),
-    ("exhausted", Verb::Exhausted),
-    ("unfinished", Verb::Unfinished),
-];
 
 /// Compares where a decoder stands, by taking a clone apart.
 fn stands<Word, State>(decoder: &Owning<Word, State>, act: &Act<'_>) -> bool
@@ -135,16 +116,14 @@ where
     Probability: WordOf<Word>,
     requires { IsSizes Word.BITS State.BITS }
 {
-    let Some(verb) = find(VERBS, act.verb) else {
-        return takes(alloc, decoder, table, act);
-    };
-    match verb {
-        Verb::Seek => seeks(decoder, act),
-        Verb::Parts => makes_parts(alloc, decoder, act),
-        Verb::At => tells(is_interval(decoder.state(), act.numbers, 0), act),
-        Verb::Stands => tells(stands(decoder, act), act),
-        Verb::Exhausted => tells(Decode::<PRECISION>::maybe_exhausted(decoder), act),
-        Verb::Unfinished => tells(!Decode::<PRECISION>::maybe_exhausted(decoder), act),
+    match act.verb {
+        "seek" => seeks(decoder, act),
+        "parts" => makes_parts(alloc, decoder, act),
+        "at" => tells(is_interval(decoder.state(), act.numbers, 0), act),
+        "stands" => tells(stands(decoder, act), act),
+        "exhausted" => tells(Decode::<PRECISION>::maybe_exhausted(decoder), act),
+        "unfinished" => tells(!Decode::<PRECISION>::maybe_exhausted(decoder), act),
+        _ => takes(alloc, decoder, table, act),
     }
 }
 

@@ -1,4 +1,16 @@
 //! The acts of scripts on encoders over vectors.
+//!
+//! `clear` takes all off; `of` has these words before its own; `parts` has a lower end, a length, a number of held words,
+//! the first of these, and words; `again` takes the encoder apart and puts it together.
+//!
+//! The sealed words are `sealed` one by one, `shown` by a guard, `lent` to a function; `export` and `delimited` are both
+//! seals, and leave a new encoder.
+//!
+//! An encoder has words `written`, a number of words `held` and the first of these; it stands `at` a place, a lower end
+//! and a length; it has `sizes` in words and bits, so many symbols `left`, or is `empty`.
+//!
+//! Symbols are `decoded` by a decoder that borrows the encoder, which may be at its end then in `ended`, or `owned` by one
+//! that it becomes, of which a trait and a conversion are other ways.
 
 ghost use Rattle.constriction_base.specs.Steps.{IsSizes};
 
@@ -13,7 +25,7 @@ use constriction_queue::{EncoderGuard, RangeDecoder, RangeEncoder};
 use constriction_scripts::answers::{DONE, MEMORY, OTHER, Told, answer_if};
 use constriction_scripts::numbers::{Number, same, words_of};
 use constriction_scripts::putting::put_by;
-use constriction_scripts::script::{Act, Script, find};
+use constriction_scripts::script::{Act, Script};
 use constriction_scripts::taking::take_each;
 use constriction_stream::conversions::IntoDecoder;
 use constriction_stream::decoding::Decode;
@@ -21,85 +33,6 @@ use constriction_stream::encoding::Encode;
 use constriction_words::{BitArray, WordOf};
 use std::alloc::{AllocError, Global};
 use std::mem;
-
-/// What is done with an encoder, or expected of it.
-#[derive(Clone, Copy)]
-enum Verb {
-    Make(Make),
-    Show(Show),
-    Says(Says),
-    Decode(Reader),
-}
-
-/// How an encoder takes the place of another.
-#[derive(Clone, Copy)]
-enum Make {
-    Clear,
-    Of,
-    Parts,
-    Again,
-}
-
-/// How the sealed words are shown.
-#[derive(Clone, Copy)]
-enum Show {
-    Sealed,
-    Shown,
-    Lent,
-    Export,
-    Delimited,
-}
-
-/// What is said of an encoder that stays.
-#[derive(Clone, Copy)]
-enum Says {
-    Written,
-    Held,
-    At,
-    Sizes,
-    Left,
-    Empty,
-}
-
-/// Which decoder gives the symbols.
-#[derive(Clone, Copy)]
-enum Reader {
-    Borrowing,
-    Ended,
-    Owning,
-    ByTrait,
-    ByConversion,
-}
-
-/// The verbs. `clear` takes all off; `of` has these words before its own; `parts` has a lower end, a length, a number of
-/// held words, the first of these, and words; `again` takes the encoder apart and puts it together. The sealed words
-/// are `sealed` one by one, `shown` by a guard, `lent` to a function; `export` and `delimited` are both seals, and leave a
-/// new encoder. An encoder has words `written`, a number of words `held` and the first of these; it stands `at` a place,
-/// a lower end and a length; it has `sizes` in words and bits, so many symbols `left`, or is `empty`. Symbols are
-/// `decoded` by a decoder that borrows the encoder, which may be at its end then in `ended`, or `owned` by one that it
-/// becomes, of which a trait and a conversion are other ways.
-const VERBS: &[(&str, Verb)] = &[
-    ("clear", Verb::Make(Make::Clear)),
-    ("of", Verb::Make(Make::Of)),
-    ("parts", Verb::Make(Make::Parts)),
-    ("again", Verb::Make(Make::Again)),
-    ("sealed", Verb::Show(Show::Sealed)),
-    ("shown", Verb::Show(Show::Shown)),
-    ("lent", Verb::Show(Show::Lent)),
-    ("export", Verb::Show(Show::Export)),
-    ("delimited", Verb::Show(Show::Delimited)),
-    ("written", Verb::Says(Says::Written)),
-    ("held", Verb::Says(Says::Held)),
-    ("at", Verb::Says(Says::At)),
-    ("sizes", Verb::Says(Says::Sizes)),
-    ("left", Verb::Says(Says::Left)),
-    ("empty", Verb::Says(Says::Empty)),
-    ("decoded", Verb::Decode(Reader::Borrowing)),
-    ("ended", Verb::Decode(Reader::Ended)),
-    ("owned", Verb::Decode(Reader::Owning)),
-    ("owned-by-trait", Verb::Decode(Reader::ByTrait)),
-    ("owned-by-conversion", Verb::Decode(Reader::ByConversion)),
-];
 
 /// Returns the encoder, and leaves a new one in its place.
 fn taken<Word, State>(
@@ -156,31 +89,31 @@ where
     Some(RangeEncoder::from_raw_parts(bulk, state, situation))
 }
 
-/// Makes another encoder.
+/// Makes another encoder, if an act says so.
 fn make_by<Word, State>(
     alloc: Global,
     encoder: &mut RangeEncoder<Word, State>,
-    make: Make,
-    numbers: &[u128],
-) -> &'static str
+    act: &Act<'_>,
+) -> Option<&'static str>
 where
     Word: WordOf<State> + Number,
     State: BitArray + Number,
     requires { IsSizes Word.BITS State.BITS }
 {
-    match make {
-        Make::Clear => encoder.clear(),
-        Make::Parts => return make_parts(alloc, encoder, numbers),
-        Make::Of => match words_of(alloc, numbers) {
+    match act.verb {
+        "clear" => encoder.clear(),
+        "parts" => return Some(make_parts(alloc, encoder, act.numbers)),
+        "of" => match words_of(alloc, act.numbers) {
             Ok(words) => *encoder = RangeEncoder::with_write_backend(words),
-            Err(AllocError) => return MEMORY,
+            Err(AllocError) => return Some(MEMORY),
         },
-        Make::Again => match put_together(taken(alloc, encoder)) {
+        "again" => match put_together(taken(alloc, encoder)) {
             Some(again) => *encoder = again,
-            None => return OTHER,
+            None => return Some(OTHER),
         },
+        _ => return None,
     }
-    DONE
+    Some(DONE)
 }
 
 /// Whether an encoder gives its sealed words one by one.
@@ -244,25 +177,25 @@ where
     }
 }
 
-/// Compares the sealed words.
+/// Compares the sealed words, if an act says so.
 fn show_by<Word, State>(
     alloc: Global,
     encoder: &mut RangeEncoder<Word, State>,
-    show: Show,
-    numbers: &[u128],
-) -> &'static str
+    act: &Act<'_>,
+) -> Option<&'static str>
 where
     Word: WordOf<State> + Number,
     State: BitArray,
     requires { IsSizes Word.BITS State.BITS }
 {
-    match show {
-        Show::Sealed => answer_if(are_given(encoder, numbers)),
-        Show::Shown => shown(encoder, numbers),
-        Show::Lent => lent(encoder, numbers),
-        Show::Export => exported(taken(alloc, encoder), numbers, false),
-        Show::Delimited => exported(taken(alloc, encoder), numbers, true),
-    }
+    Some(match act.verb {
+        "sealed" => answer_if(are_given(encoder, act.numbers)),
+        "shown" => shown(encoder, act.numbers),
+        "lent" => lent(encoder, act.numbers),
+        "export" => exported(taken(alloc, encoder), act.numbers, false),
+        "delimited" => exported(taken(alloc, encoder), act.numbers, true),
+        _ => return None,
+    })
 }
 
 /// Compares where an encoder stands: how many words were written and are held, and the interval.
@@ -290,30 +223,30 @@ where
     }
 }
 
-/// Whether an encoder is as an act says.
+/// Whether an encoder is as an act says, if it says that.
 fn is_as_said<Word, State, const PRECISION: usize>(
     encoder: &RangeEncoder<Word, State>,
-    saying: Says,
     act: &Act<'_>,
-) -> bool
+) -> Option<bool>
 where
     Word: WordOf<State> + Number,
     State: BitArray + Number,
 {
-    match saying {
-        Says::Written => same(encoder.bulk(), act.numbers),
-        Says::Held => has_held(encoder, act.numbers),
-        Says::At => stands_at(encoder, act),
-        Says::Sizes => {
+    Some(match act.verb {
+        "written" => same(encoder.bulk(), act.numbers),
+        "held" => has_held(encoder, act.numbers),
+        "at" => stands_at(encoder, act),
+        "sizes" => {
             encoder.sizes_fit()
                 && act.symbols == [encoder.num_words(), encoder.num_bits()].as_slice()
         }
-        Says::Left => {
+        "left" => {
             act.symbols == [Encode::<PRECISION>::symbols_left(encoder)].as_slice()
                 && !Encode::<PRECISION>::maybe_full(encoder)
         }
-        Says::Empty => encoder.is_empty(),
-    }
+        "empty" => encoder.is_empty(),
+        _ => return None,
+    })
 }
 
 /// Has a decoder that borrows an encoder give symbols.
@@ -382,33 +315,28 @@ where
     }
 }
 
-/// Has a decoder give symbols.
+/// Has a decoder give symbols, if an act says so.
 fn decode_by<Word, State, Probability, const PRECISION: usize>(
     alloc: Global,
     encoder: &mut RangeEncoder<Word, State>,
     table: &WeightTable<Probability, PRECISION>,
-    reader: Reader,
-    symbols: &[usize],
-) -> &'static str
+    act: &Act<'_>,
+) -> Option<&'static str>
 where
     Word: WordOf<State>,
     State: BitArray,
     Probability: WordOf<Word>,
     requires { IsSizes Word.BITS State.BITS }
 {
-    match reader {
-        Reader::Borrowing => decoded(encoder, table, symbols, false),
-        Reader::Ended => decoded(encoder, table, symbols, true),
-        Reader::Owning => owned_by(taken(alloc, encoder).into_decoder(), table, symbols),
-        Reader::ByTrait => {
-            let became = IntoDecoder::<PRECISION>::into_decoder(taken(alloc, encoder));
-            owned_by(became, table, symbols)
-        }
-        Reader::ByConversion => {
-            let became = Owning::<Word, State>::try_from(taken(alloc, encoder));
-            owned_by(became, table, symbols)
-        }
-    }
+    let became = match act.verb {
+        "decoded" => return Some(decoded(encoder, table, act.symbols, false)),
+        "ended" => return Some(decoded(encoder, table, act.symbols, true)),
+        "owned" => taken(alloc, encoder).into_decoder(),
+        "owned-by-trait" => IntoDecoder::<PRECISION>::into_decoder(taken(alloc, encoder)),
+        "owned-by-conversion" => Owning::<Word, State>::try_from(taken(alloc, encoder)),
+        _ => return None,
+    };
+    Some(owned_by(became, table, act.symbols))
 }
 
 /// Does an act with an encoder.
@@ -424,13 +352,19 @@ where
     Probability: WordOf<Word>,
     requires { IsSizes Word.BITS State.BITS }
 {
-    match find(VERBS, act.verb) {
-        None => put_by(alloc, encoder, table, act).unwrap_or(OTHER),
-        Some(Verb::Make(make)) => make_by(alloc, encoder, make, act.numbers),
-        Some(Verb::Show(show)) => show_by(alloc, encoder, show, act.numbers),
-        Some(Verb::Says(saying)) => answer_if(is_as_said::<_, _, PRECISION>(encoder, saying, act)),
-        Some(Verb::Decode(reader)) => decode_by(alloc, encoder, table, reader, act.symbols),
+    if let Some(answer) = put_by(alloc, encoder, table, act) {
+        return answer;
     }
+    if let Some(answer) = make_by(alloc, encoder, act) {
+        return answer;
+    }
+    if let Some(answer) = show_by(alloc, encoder, act) {
+        return answer;
+    }
+    if let Some(is_so) = is_as_said::<_, _, PRECISION>(encoder, act) {
+        return answer_if(is_so);
+    }
+    decode_by(alloc, encoder, table, act).unwrap_or(OTHER)
 }
 
 /// Goes through a script with an encoder, and returns the first act that it doesn't do as the script says.
