@@ -67,8 +67,9 @@ class Codewords(unittest.TestCase):
 
     def test_lists_beside_the_definitions(self) -> None:
         dice = random.Random(9)
-        for count in (0, 1, 5, 300):
-            weights = [dice.randrange(1000) for _ in range(dice.randrange(1, 20))]
+        for count in (0, 1, 5, 300, *[32] * 500):
+            bound = dice.choice((1, 2, 5, 17, 1000))
+            weights = [dice.randrange(bound) for _ in range(dice.randrange(1, 33))]
             symbols = [dice.randrange(len(weights)) for _ in range(count)]
             numbers = [dice.choice((0, 1, 5, (1 << 32) - 1, dice.randrange(1 << 32))) for _ in range(count)]
             codewords = definitions.huffman_codewords(weights)

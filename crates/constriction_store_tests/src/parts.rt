@@ -18,6 +18,7 @@ fn a_store_of_the_parts_of_a_store(rt: HostRuntime) -> Result<(), Fail> {
     assert!(rt;
         store.words() == [2684354560u32].as_slice()
             && store.num_chunks() == 3
+            && store.index().len() == 3
             && gives_all(rt.alloc(), &store, &[&[1, 0], &[], &[1]])
     );
     Ok(())

@@ -3,9 +3,9 @@
 //!
 //! What a contract of `constriction_symbol` says is proved there for all values. These tests stand for
 //! what no contract can say: that the definitions give the words that a reader expects, that calls which
-//! take memory succeed where there is some, and that a caller reaches each call. `tests/cases/constriction_symbol_tests` has
-//! tests that run without a proof, by `tests/unproved`: of each width of words, other backends, clones, texts, forgotten guards,
-//! callers' iterators, and Huffman trees beside merges in every order.
+//! take memory succeed where there is some, and that a caller reaches each call. `tests/cases/constriction_symbol_tests`
+//! has tests that run without a proof, by `tests/unproved`: of each width of words, other backends, clones, texts,
+//! forgotten guards, and callers' iterators.
 //!
 //! Expected words come from a model of the definitions (lists of bits, and the grammar) apart from this
 //! library. The calls stand in helpers without clauses, most of them for any stream of bits ([`bits`],

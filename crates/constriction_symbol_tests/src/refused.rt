@@ -21,20 +21,14 @@ use std::alloc::{AllocError, Global};
 use std::convert::Infallible;
 use std::test::Fail;
 
-/// What comes of a call of which a request may be refused.
-#[derive(Clone, Copy)]
-enum Came {
-    /// It went at once.
-    Whole,
-    /// It answered want of memory, left what it has to, and went then.
-    Refused,
-    Otherwise,
-}
+/// What comes of a call of which a request may be refused: whether one was, and whether all is there then that has to
+/// be.
+type Came = (bool, bool);
 
 /// Whether a call went, where there was memory.
 type Went = Result<bool, AllocError>;
 
-/// A call on a coder that stays. Lists are of the numbers 0 and 5.
+/// A call that writes bits. Lists are of the numbers 0 and 5.
 #[derive(Clone, Copy)]
 enum Call {
     Bit,
@@ -43,77 +37,41 @@ enum Call {
     Pairs,
     ListBack,
     PairsBack,
-    Guard,
 }
 
-/// What comes of codewords.
-fn went_of(answer: Put) -> Went {
-    match answer {
-        Put::Done => Ok(true),
-        Put::Refused => Err(AllocError),
-        Put::Unknown => Ok(false),
-    }
-}
+/// A call and its name, the bits before it and those that it writes, and how many of these the items before the faulty
+/// one have.
+type Row = (Call, &'static str, &'static [u8], &'static [u8], usize);
 
-/// What comes of a bit.
-fn bit_went(answer: Result<(), AllocError>) -> Went {
-    match answer {
-        Ok(()) => Ok(true),
-        Err(error) => Err(error),
-    }
-}
+/// Three full words of bits.
+const FULL: &[u8] = b"101100111011001110110011";
 
-/// Makes a call on a queue.
-fn make_in_queue(coder: &mut QueueEncoder<u8>, call: Call) -> Went {
+/// Bits with room for two more in their last word.
+const BITS: &[u8] = b"1011001110110011101100";
+
+/// Makes a call.
+fn make<S: BitOrder>(coder: &mut SymbolCoder<u8, S>, call: Call) -> Put {
     let codebook = ExpGolomb::<u8>::new();
     match call {
-        Call::Bit => bit_went(coder.write_bit(true)),
-        Call::Symbol => went_of(answer_of(coder.encode_symbol(&5, &codebook))),
-        Call::List | Call::ListBack => {
-            went_of(answer_of(coder.encode_iid_symbols(&[0u8, 5], &codebook)))
-        }
-        Call::Pairs | Call::PairsBack => {
-            went_of(answer_of(coder.encode_symbols([(&0u8, &codebook), (&5, &codebook)])))
-        }
-        Call::Guard => shows_queue(coder, &[205, 205, 13]),
+        Call::Bit => match coder.write_bit(true) {
+            Ok(()) => Put::Done,
+            Err(AllocError) => Put::Refused,
+        },
+        Call::Symbol => answer_of(coder.encode_symbol(&5, &codebook)),
+        Call::List => answer_of(coder.encode_iid_symbols(&[0u8, 5], &codebook)),
+        _ => answer_of(coder.encode_symbols([(&0u8, &codebook), (&5, &codebook)])),
     }
 }
 
-/// The same on a stack, where lists in reverse give the same bits.
-fn make_on_stack(coder: &mut StackCoder<u8>, call: Call) -> Went {
+/// Makes a call on a stack, where lists in reverse give the same bits.
+fn make_on_stack(coder: &mut StackCoder<u8>, call: Call) -> Put {
     let codebook = ExpGolomb::<u8>::new();
     match call {
-        Call::Bit => bit_went(coder.write_bit(true)),
-        Call::Symbol => went_of(answer_of(coder.encode_symbol(&5, &codebook))),
-        Call::List => went_of(answer_of(coder.encode_iid_symbols(&[0u8, 5], &codebook))),
-        Call::Pairs => {
-            went_of(answer_of(coder.encode_symbols([(&0u8, &codebook), (&5, &codebook)])))
-        }
-        Call::ListBack => {
-            went_of(answer_of(coder.encode_iid_symbols_reverse(&[5u8, 0], &codebook)))
-        }
+        Call::ListBack => answer_of(coder.encode_iid_symbols_reverse(&[5u8, 0], &codebook)),
         Call::PairsBack => {
-            went_of(answer_of(coder.encode_symbols_reverse([(&5u8, &codebook), (&0, &codebook)])))
+            answer_of(coder.encode_symbols_reverse([(&5u8, &codebook), (&0, &codebook)]))
         }
-        Call::Guard => shows_stack(coder, &[205, 205, 77]),
-    }
-}
-
-/// The bits that a call writes, and how many of them the items before the faulty one have.
-fn bits_of(call: Call, on_stack: bool) -> (&'static [u8], usize) {
-    match call {
-        Call::Bit => (b"1", 0),
-        Call::Symbol => (if on_stack { b"01100" } else { b"00110" }, 0),
-        Call::Guard => (b"", 0),
-        _ => (if on_stack { b"101100" } else { b"100110" }, 1),
-    }
-}
-
-/// How many bits there are before a call. There is room for two more, and for none where the call writes one.
-fn len_before(call: Call) -> usize {
-    match call {
-        Call::Bit => 24,
-        _ => 22,
+        _ => make::<Stack>(coder, call),
     }
 }
 
@@ -126,156 +84,130 @@ fn len_of<S: Semantics>(coder: &SymbolCoder<u8, S>) -> Option<usize> {
     }
 }
 
-/// The bits of a call that are wanting, where those that are there are a beginning of it that has the items before
+/// The bits of a call that are wanting, where those that are there are a beginning of its bits that has the items before
 /// the faulty one.
-fn rest_of(len: Option<usize>, call: Call, on_stack: bool) -> Option<&'static [u8]> {
-    let (bits, whole) = bits_of(call, on_stack);
-    match len?.checked_sub(len_before(call)) {
-        Some(held) if (whole <= held) & (held < bits.len().max(1)) => bits.get(held..),
+fn rest_of(len: Option<usize>, (_, _, before, bits, whole): Row) -> Option<&'static [u8]> {
+    match len?.checked_sub(before.len()) {
+        Some(held) if (whole <= held) & (held < bits.len()) => bits.get(held..),
         _ => None,
     }
 }
 
-/// The words that a guard shows behind a call.
-fn words_of(call: Call, on_stack: bool) -> &'static [u8] {
-    match (call, on_stack) {
-        (Call::Bit, false) => &[205, 205, 205, 1],
-        (Call::Symbol, false) => &[205, 205, 13, 3],
-        (Call::Guard, false) => &[205, 205, 13],
-        (_, false) => &[205, 205, 77, 6],
-        (Call::Bit, true) => &[205, 205, 205, 3],
-        (Call::Symbol, true) => &[205, 205, 141, 9],
-        (Call::Guard, true) => &[205, 205, 77],
-        (_, true) => &[205, 205, 77, 19],
-    }
-}
-
-/// Whether a queue holds a beginning of what a call writes, and takes the other bits.
-fn queue_goes_on(coder: &mut QueueEncoder<u8>, call: Call) -> bool {
-    match rest_of(len_of(coder), call, false) {
-        Some(rest) => writes::<Queue, _>(coder, rest),
-        None => false,
-    }
-}
-
-/// The same of a stack.
-fn stack_goes_on(coder: &mut StackCoder<u8>, call: Call) -> bool {
-    match rest_of(len_of(coder), call, true) {
-        Some(rest) => writes::<Stack, _>(coder, rest),
-        None => false,
-    }
-}
-
-/// What a call came to, where all bits are there then.
-fn came_of(is_refused: bool, are_there: bool) -> Came {
-    match (is_refused, are_there) {
-        (false, true) => Came::Whole,
-        (true, true) => Came::Refused,
-        _ => Came::Otherwise,
-    }
-}
-
-/// Makes a call on a queue, and writes what is left of it where memory was refused.
-fn queue_comes(coder: &mut QueueEncoder<u8>, call: Call) -> Result<Came, AllocError> {
-    let (is_refused, goes) = match make_in_queue(coder, call) {
-        Ok(went) => (false, went),
-        Err(AllocError) => (true, queue_goes_on(coder, call)),
+/// What a call came to by its answer, and behind want of memory by writing what is left of it. Another coder holds the
+/// bits before it, and gets those of the call one by one.
+fn comes<S: BitOrder>(
+    coder: &mut SymbolCoder<u8, S>,
+    other: &mut SymbolCoder<u8, S>,
+    put: Put,
+    row: Row,
+) -> Result<Came, AllocError> {
+    let (is_refused, goes) = match put {
+        Put::Done => (false, true),
+        Put::Unknown => (false, false),
+        Put::Refused => match rest_of(len_of(coder), row) {
+            Some(rest) => (true, writes::<S, _>(coder, rest)),
+            None => (true, false),
+        },
     };
-    let are_shown = shows_queue(coder, words_of(call, false))?;
-    Ok(came_of(is_refused, goes & are_shown))
-}
-
-/// The same of a stack.
-fn stack_comes(coder: &mut StackCoder<u8>, call: Call) -> Result<Came, AllocError> {
-    let (is_refused, goes) = match make_on_stack(coder, call) {
-        Ok(went) => (false, went),
-        Err(AllocError) => (true, stack_goes_on(coder, call)),
-    };
-    let are_shown = shows_stack(coder, words_of(call, true))?;
-    Ok(came_of(is_refused, goes & are_shown))
+    if writes::<S, _>(other, row.3) {
+        Ok((is_refused, goes & (*coder == *other)))
+    } else {
+        Err(AllocError)
+    }
 }
 
 /// What a call came to, as a test says it.
 fn said(came: Came, name: &'static str) -> Result<(), Fail> {
     match came {
-        Came::Whole => Ok(()),
-        Came::Refused => Err(Fail::from(name)),
-        Came::Otherwise => Err(Fail::from("another answer, or another coder")),
+        (false, true) => Ok(()),
+        (true, true) => Err(Fail::from(name)),
+        _ => Err(Fail::from("another answer, or another coder")),
     }
 }
 
-/// The last bits before a call.
-fn last_bits(call: Call) -> &'static [u8] {
-    match call {
-        Call::Bit => b"10110011",
-        _ => b"101100",
-    }
-}
-
-/// A queue whose vector has no room for another word.
-fn queue(alloc: Global, call: Call) -> Result<QueueEncoder<u8>, AllocError> {
-    let mut coder = QueueEncoder::from_compressed([205u8, 205].to_vec(alloc)?);
-    writes::<Queue, _>(&mut coder, last_bits(call));
+/// A queue of these bits, whose vector has no room for a third word.
+fn queue(alloc: Global, bits: &[u8]) -> Result<QueueEncoder<u8>, AllocError> {
+    let mut coder = QueueEncoder::<u8>::with_bit_capacity(alloc, 16)?;
+    writes::<Queue, _>(&mut coder, bits);
     Ok(coder)
 }
 
-/// The same bits on a stack.
-fn stack(alloc: Global, call: Call) -> Result<StackCoder<u8>, Fail> {
-    let words = [205u8, 1].to_vec(alloc)?;
-    match StackCoder::from_compressed(words) {
-        Ok(mut coder) => {
-            writes::<Stack, _>(&mut coder, b"10110011");
-            writes::<Stack, _>(&mut coder, last_bits(call));
-            Ok(coder)
-        }
-        Err(_) => Err(Fail::from("no stack")),
-    }
+/// The same on a stack.
+fn stack(alloc: Global, bits: &[u8]) -> Result<StackCoder<u8>, AllocError> {
+    let mut coder = StackCoder::<u8>::with_bit_capacity(alloc, 15)?;
+    writes::<Stack, _>(&mut coder, bits);
+    Ok(coder)
 }
 
 /// A call on a queue of its own.
-fn queue_call(alloc: Global, call: Call, name: &'static str) -> Result<(), Fail> {
-    let mut coder = queue(alloc, call)?;
-    let came = queue_comes(&mut coder, call)?;
-    said(came, name)
+fn queue_goes(alloc: Global, row: Row) -> Result<(), Fail> {
+    let mut coder = queue(alloc, row.2)?;
+    let mut other = queue(alloc, row.2)?;
+    let put = make::<Queue>(&mut coder, row.0);
+    let came = comes::<Queue>(&mut coder, &mut other, put, row)?;
+    said(came, row.1)
 }
 
 /// A call on a stack of its own.
-fn stack_call(alloc: Global, call: Call, name: &'static str) -> Result<(), Fail> {
-    let mut coder = stack(alloc, call)?;
-    let came = stack_comes(&mut coder, call)?;
-    said(came, name)
+fn stack_goes(alloc: Global, row: Row) -> Result<(), Fail> {
+    let mut coder = stack(alloc, row.2)?;
+    let mut other = stack(alloc, row.2)?;
+    let put = make_on_stack(&mut coder, row.0);
+    let came = comes::<Stack>(&mut coder, &mut other, put, row)?;
+    said(came, row.1)
+}
+
+/// What a guard of a queue came to.
+fn queue_shows(coder: &mut QueueEncoder<u8>) -> Came {
+    let words = [205u8, 205, 13];
+    match shows_queue(coder, &words) {
+        Ok(are_shown) => (false, are_shown),
+        Err(AllocError) => (true, matches!(shows_queue(coder, &words), Ok(true))),
+    }
+}
+
+/// What a guard of a stack came to.
+fn stack_shows(coder: &mut StackCoder<u8>) -> Came {
+    let words = [205u8, 205, 77];
+    match shows_stack(coder, &words) {
+        Ok(are_shown) => (false, are_shown),
+        Err(AllocError) => (true, matches!(shows_stack(coder, &words), Ok(true))),
+    }
 }
 
 #[test]
 fn refused_requests_of_queues(rt: HostRuntime) -> Result<(), Fail> {
-    let calls = [
-        (Call::Bit, "write_bit"),
-        (Call::Symbol, "encode_symbol"),
-        (Call::List, "encode_iid_symbols"),
-        (Call::Pairs, "encode_symbols"),
-        (Call::Guard, "get_compressed"),
+    let rows: [Row; 4] = [
+        (Call::Bit, "write_bit", FULL, b"1", 0),
+        (Call::Symbol, "encode_symbol", BITS, b"00110", 0),
+        (Call::List, "encode_iid_symbols", BITS, b"100110", 1),
+        (Call::Pairs, "encode_symbols", BITS, b"100110", 1),
     ];
-    for (call, name) in calls {
-        queue_call(rt.alloc(), call, name)?;
+    for row in rows {
+        queue_goes(rt.alloc(), row)?;
     }
-    Ok(())
+    let came = queue_shows(&mut queue(rt.alloc(), BITS)?);
+    said(came, "get_compressed")
 }
 
 #[test]
 fn refused_requests_of_stacks(rt: HostRuntime) -> Result<(), Fail> {
-    let calls = [
-        (Call::Bit, "write_bit"),
-        (Call::Symbol, "encode_symbol"),
+    stack_goes(rt.alloc(), (Call::Bit, "write_bit", FULL, b"1", 0))?;
+    stack_goes(
+        rt.alloc(),
+        (Call::Symbol, "encode_symbol", BITS, b"01100", 0),
+    )?;
+    let lists = [
         (Call::List, "encode_iid_symbols"),
         (Call::Pairs, "encode_symbols"),
         (Call::ListBack, "encode_iid_symbols_reverse"),
         (Call::PairsBack, "encode_symbols_reverse"),
-        (Call::Guard, "get_compressed"),
     ];
-    for (call, name) in calls {
-        stack_call(rt.alloc(), call, name)?;
+    for (call, name) in lists {
+        stack_goes(rt.alloc(), (call, name, BITS, b"101100", 1))?;
     }
-    Ok(())
+    let came = stack_shows(&mut stack(rt.alloc(), BITS)?);
+    said(came, "get_compressed")
 }
 
 /// A call that takes a queue away.
@@ -285,9 +217,6 @@ enum Export {
     Decoder,
     Bits,
 }
-
-/// The bits of a queue before most calls.
-const BITS: &[u8] = b"1011001110110011101100";
 
 /// Takes a queue away.
 fn take(coder: QueueEncoder<u8>, export: Export) -> Went {
@@ -311,8 +240,8 @@ fn take(coder: QueueEncoder<u8>, export: Export) -> Went {
 fn take_or_copy(coder: QueueEncoder<u8>, copy: QueueEncoder<u8>, export: Export) -> Came {
     let are_same = coder == copy;
     match take(coder, export) {
-        Ok(went) => came_of(false, went & are_same),
-        Err(AllocError) => came_of(true, are_same & matches!(take(copy, export), Ok(true))),
+        Ok(went) => (false, went & are_same),
+        Err(AllocError) => (true, are_same & matches!(take(copy, export), Ok(true))),
     }
 }
 
@@ -326,10 +255,10 @@ fn copies<S: BitOrder>(coder: &SymbolCoder<u8, S>) -> bool {
 
 /// Copies a queue, and takes it away.
 fn export_goes(alloc: Global, export: Export, name: &'static str) -> Result<(), Fail> {
-    let coder = queue(alloc, Call::Guard)?;
+    let coder = queue(alloc, BITS)?;
     match coder.clone() {
         Ok(copy) => said(take_or_copy(coder, copy, export), name),
-        Err(AllocError) => said(came_of(true, copies(&coder)), "clone"),
+        Err(AllocError) => said((true, copies(&coder)), "clone"),
     }
 }
 
@@ -345,17 +274,17 @@ fn stack_words(coder: StackCoder<u8>) -> Went {
 fn stack_or_copy(coder: StackCoder<u8>, copy: StackCoder<u8>) -> Came {
     let are_same = coder == copy;
     match stack_words(coder) {
-        Ok(went) => came_of(false, went & are_same),
-        Err(AllocError) => came_of(true, are_same & matches!(stack_words(copy), Ok(true))),
+        Ok(went) => (false, went & are_same),
+        Err(AllocError) => (true, are_same & matches!(stack_words(copy), Ok(true))),
     }
 }
 
 /// Copies a stack, and takes it away.
-fn stack_goes(alloc: Global) -> Result<(), Fail> {
-    let coder = stack(alloc, Call::Guard)?;
+fn stack_export_goes(alloc: Global) -> Result<(), Fail> {
+    let coder = stack(alloc, BITS)?;
     match coder.clone() {
         Ok(copy) => said(stack_or_copy(coder, copy), "into_compressed of a stack"),
-        Err(AllocError) => said(came_of(true, copies(&coder)), "clone of a stack"),
+        Err(AllocError) => said((true, copies(&coder)), "clone of a stack"),
     }
 }
 
@@ -363,11 +292,11 @@ fn stack_goes(alloc: Global) -> Result<(), Fail> {
 fn capacities_go(alloc: Global) -> Result<(), Fail> {
     if QueueEncoder::<u8>::with_bit_capacity(alloc, 40).is_err() {
         let again = QueueEncoder::<u8>::with_bit_capacity(alloc, 40).is_ok();
-        return said(came_of(true, again), "with_bit_capacity");
+        return said((true, again), "with_bit_capacity");
     }
     if StackCoder::<u8>::with_bit_capacity(alloc, 40).is_err() {
         let again = StackCoder::<u8>::with_bit_capacity(alloc, 40).is_ok();
-        return said(came_of(true, again), "with_bit_capacity of a stack");
+        return said((true, again), "with_bit_capacity of a stack");
     }
     Ok(())
 }
@@ -378,7 +307,7 @@ fn refused_requests_of_exports(rt: HostRuntime) -> Result<(), Fail> {
     export_goes(rt.alloc(), Export::Words, "into_compressed")?;
     export_goes(rt.alloc(), Export::Decoder, "into_decoder")?;
     export_goes(rt.alloc(), Export::Bits, "into_overshooting_iter")?;
-    stack_goes(rt.alloc())
+    stack_export_goes(rt.alloc())
 }
 
 /// What comes of a tree of three symbols.
@@ -390,53 +319,47 @@ fn tree_went(tree: Result<usize, HuffmanError<Infallible>>) -> Went {
     }
 }
 
-/// A tree, and whether its weights are lent or given.
-#[derive(Clone, Copy)]
-enum Tree {
-    Encoder,
-    EncoderOfItems,
-    Decoder,
-    DecoderOfItems,
-}
-
-/// Makes a tree of three weights.
-fn make_tree(alloc: Global, tree: Tree) -> Went {
+/// Makes a tree of three weights: whether one for encoding, and of weights that are given or lent.
+fn make_tree(alloc: Global, for_encoding: bool, are_given: bool) -> Went {
     let weights = [5u8, 2, 4];
     let items: [Result<u8, Infallible>; 3] = [Ok(5), Ok(2), Ok(4)];
-    tree_went(match tree {
-        Tree::Encoder => EncoderHuffmanTree::from_probabilities(alloc, &weights).map(
+    tree_went(match (for_encoding, are_given) {
+        (true, false) => EncoderHuffmanTree::from_probabilities(alloc, &weights).map(
             |tree| tree.num_symbols(),
         ),
-        Tree::EncoderOfItems => EncoderHuffmanTree::try_from_probabilities(alloc, items).map(
+        (true, true) => EncoderHuffmanTree::try_from_probabilities(alloc, items).map(
             |tree| tree.num_symbols(),
         ),
-        Tree::Decoder => DecoderHuffmanTree::from_probabilities(alloc, &weights).map(
+        (false, false) => DecoderHuffmanTree::from_probabilities(alloc, &weights).map(
             |tree| tree.num_symbols(),
         ),
-        Tree::DecoderOfItems => DecoderHuffmanTree::try_from_probabilities(alloc, items).map(
+        (false, true) => DecoderHuffmanTree::try_from_probabilities(alloc, items).map(
             |tree| tree.num_symbols(),
         ),
     })
 }
 
 /// Makes a tree, and once more where memory was refused.
-fn tree_comes(alloc: Global, tree: Tree) -> Came {
-    match make_tree(alloc, tree) {
-        Ok(went) => came_of(false, went),
-        Err(AllocError) => came_of(true, matches!(make_tree(alloc, tree), Ok(true))),
+fn tree_comes(alloc: Global, for_encoding: bool, are_given: bool) -> Came {
+    match make_tree(alloc, for_encoding, are_given) {
+        Ok(went) => (false, went),
+        Err(AllocError) => (
+            true,
+            matches!(make_tree(alloc, for_encoding, are_given), Ok(true)),
+        ),
     }
 }
 
 #[test]
 fn refused_requests_of_trees(rt: HostRuntime) -> Result<(), Fail> {
     let trees = [
-        (Tree::Encoder, "from_probabilities, for encoding"),
-        (Tree::EncoderOfItems, "try_from_probabilities, for encoding"),
-        (Tree::Decoder, "from_probabilities, for decoding"),
-        (Tree::DecoderOfItems, "try_from_probabilities, for decoding"),
+        (true, false, "from_probabilities, for encoding"),
+        (true, true, "try_from_probabilities, for encoding"),
+        (false, false, "from_probabilities, for decoding"),
+        (false, true, "try_from_probabilities, for decoding"),
     ];
-    for (tree, name) in trees {
-        said(tree_comes(rt.alloc(), tree), name)?;
+    for (for_encoding, are_given, name) in trees {
+        said(tree_comes(rt.alloc(), for_encoding, are_given), name)?;
     }
     Ok(())
 }
