@@ -122,6 +122,20 @@ pub record AreBetween (low high : ℕ) (xs near : List ℕ) : Type 0 where
   pub count : length near ≡ sum_by (reaches low) near
   pub parts : (least : ℕ) → low ≤ least → least ≤ high → sum_by (reaches least) near + sum_by (reaches high) xs ≡ sum_by (reaches least) xs
 
+pub is_between : (low high x : ℕ) → low ≤ high → (reaches low x ≡ reaches high x → ⊥) → (low ≤ x) × (x < high)
+is_between low high x order other =
+    elim (cases_lt x low) [
+      | inl less ↦ absurd (other (reach_no low x less ∙ sym (reach_no high x (omega (arith, less, order)))))
+      | inr from ↦ elim (cases_lt x high) [ inl below ↦ (from, below) | inr more ↦ absurd (other (reach_yes low x from ∙ sym (reach_yes high x more))) ]
+    ]
+
+pub not_between : (low high x : ℕ) → reaches low x ≡ reaches high x → (x < low) ⊎ (high ≤ x)
+not_between low high x same =
+    elim (cases_lt x low) [
+      | inl less ↦ inl less
+      | inr from ↦ elim (cases_lt x high) [ inl below ↦ absurd (omega (arith, same, reach_yes low x from, reach_no high x below)) | inr more ↦ inr more ]
+    ]
+
 pub one_between : (xs near : List ℕ) (low high i : ℕ) → AreBetween low high (take i xs) near → i < length xs → low ≤ slice_index xs i → slice_index xs i < high → AreBetween low high (take (i + 1) xs) (near ++ slice_index xs i ∷ [])
 one_between xs near low high i are inside from below =
     let x : ℕ = slice_index xs i in

@@ -1,8 +1,8 @@
-use Rattle.std.specs.Prelude.{◌≡◌, ◌<◌, ℕ, length, take}
-use Rattle.std.proofs.Common.{ap, ◌∙◌, inl, inr, arith}
+use Rattle.std.specs.Prelude.{◌≡◌, ◌<◌, ℕ, length, take, slice_index}
+use Rattle.std.proofs.Common.{ap, sym, ◌∙◌, arith}
 use Rattle.std.proofs.Math.Seq.{take-length}
-use Rattle.constriction_models.proofs.Dividing.{one_between, none_between}
-use Rattle.constriction_models.proofs.counts.between.Goals.{then-low-measure+then-measure-high+in_ok-push, else-low-measure, else-low-measure-via-then-low-measure+else-measure-high, else-low-measure-via-else-low-measure}
+use Rattle.constriction_models.proofs.Dividing.{one_between, none_between, is_between, not_between}
+use Rattle.constriction_models.proofs.counts.between.Goals.{then-reaches_one+in_ok-push, else-reaches_one}
 use Rattle.constriction_models.proofs.counts.between.Goals as goal
 
 pub returns-clause-count : goal.returns-clause-count
@@ -21,10 +21,9 @@ loop-measure-preserved c =
     let i = c.loop-measure.measure-index in
     let near = c.loop-measure.near.items in
     let inside : c.loop-measure.measure-index < length xs = omega arith in
-    elim c.if-low-measure.branch [
-      | then-low-measure+then-measure-high+in_ok-push w ↦ rw (w.near-is, w.in_ok-push.ensures.items) (one_between xs near c.args.low c.args.high i c.loop-measure.invariant inside w.if-low-measure.true w.if-measure-high.true)
-      | else-low-measure w ↦ rw w.near-is (elim w.else-low-measure.branch [
-        | else-low-measure-via-then-low-measure+else-measure-high other ↦ none_between xs near c.args.low c.args.high i c.loop-measure.invariant inside c.requires (inr other.if-measure-high.false)
-        | else-low-measure-via-else-low-measure other ↦ none_between xs near c.args.low c.args.high i c.loop-measure.invariant inside c.requires (inl other.if-low-measure.false)
-      ])
+    elim c.if-reaches_one.branch [
+      | then-reaches_one+in_ok-push w ↦ (
+          let is = is_between c.args.low c.args.high (slice_index xs i) c.requires (λ same. w.if-reaches_one.true (c.reaches_one.ensures ∙ (same ∙ sym c.reaches_one-in-loop-measure.ensures))) in
+          rw (w.near-is, w.in_ok-push.ensures.items) (one_between xs near c.args.low c.args.high i c.loop-measure.invariant inside is.0 is.1))
+      | else-reaches_one w ↦ rw w.near-is (none_between xs near c.args.low c.args.high i c.loop-measure.invariant inside c.requires (not_between c.args.low c.args.high (slice_index xs i) (sym c.reaches_one.ensures ∙ (w.if-reaches_one.false ∙ c.reaches_one-in-loop-measure.ensures))))
     ]

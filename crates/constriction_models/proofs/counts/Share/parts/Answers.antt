@@ -13,4 +13,4 @@ pub overflow_add-total : goal.overflow_add-total
 overflow_add-total c =
     let s = c.args.self.now in
     let inside : c.loop-count.count-index < length c.args.counts.now = omega arith in
-    omega (arith, c.part-whole.ensures.whole, c.loop-count.invariant.wholes, c.requires.small, sum_by_more_le (whole s.limit s.mass s.rest) c.args.counts.now c.loop-count.count-index 0 inside)
+    omega (arith, c.part-whole.ensures.whole, c.loop-count.invariant.total, c.requires.small, sum_by_more_le (whole s.limit s.mass s.rest) c.args.counts.now c.loop-count.count-index 0 inside)

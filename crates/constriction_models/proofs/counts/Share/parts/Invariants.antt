@@ -5,6 +5,7 @@ use Rattle.constriction_models.proofs.counts.Share.parts.Given as goal
 
 abbrev pub invariant-loop-count : goal.invariant-loop-count
 invariant-loop-count l = record {
-  wholes : l.total ≡ sum_by (whole l.self.limit l.self.mass l.self.rest) (take l.count-index l.counts);
+  wholes : l.wholes.items ≡ map (whole l.self.limit l.self.mass l.self.rest) (take l.count-index l.counts);
   overs : l.overs.items ≡ map (over l.self.limit l.self.mass l.self.rest) (take l.count-index l.counts);
+  total : l.total ≡ sum_by (whole l.self.limit l.self.mass l.self.rest) (take l.count-index l.counts);
 }
