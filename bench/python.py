@@ -14,6 +14,9 @@ Cases of `one` are a symbol a call, 20,000 of them, in nanoseconds a call: `tabl
 symbols, `gaussian` with a mean and a deviation of its own over -100 .. 100, `row` by a row of 16 weights that is
 handed in (a decode makes a model of it). `bare` is a call of the C function alone, ans_decode of one symbol under
 three weights, by ctypes with all its arguments made before.
+
+Cases of `_categorical_` make a model of so many probabilities, in nanoseconds a model, and encode a symbol under each
+row of 256 probabilities, in nanoseconds a symbol.
 """
 
 from __future__ import annotations
@@ -31,7 +34,7 @@ from unittest import mock
 
 from constriction._library import plain_function
 from constriction.stream.chain import ChainCoder
-from constriction.stream.model import Model, QuantizedGaussian, WeightTable
+from constriction.stream.model import Categorical, Model, QuantizedGaussian, WeightTable
 from constriction.stream.queue import RangeDecoder, RangeEncoder
 from constriction.stream.stack import AnsCoder
 
@@ -202,6 +205,35 @@ def single_cases(weights: list[int]) -> list[Case]:
     return cases
 
 
+def categorical_cases(numpy: Any) -> list[tuple[str, Callable[[], Any], int]]:
+    """Models of probabilities, and rows of them; each with how many there are of what is counted."""
+    dice = random.Random(3)
+    cases: list[tuple[str, Callable[[], Any], int]] = []
+    for size in (256, 50_257, 65_536):
+        drawn = [dice.random() for _ in range(size)]
+        kinds: dict[str, Any] = {"list": drawn, "array": array("d", drawn)}
+        if numpy:
+            kinds["numpy"] = numpy.array(drawn)
+        times = CALLS // size or 1
+        for kind, given in kinds.items():
+
+            def make(given: Any = given, times: int = times) -> Any:
+                return [Categorical(given) for _ in range(times)]
+
+            run = without_numpy(make) if kind == "array" else make
+            cases.append((f"python_categorical_{size}_{kind}", run, times))
+    if numpy:
+        rows = numpy.array([[dice.random() for _ in range(256)] for _ in range(256)])
+        symbols = numpy.array([dice.randrange(256) for _ in range(256)])
+        for coder in ("ans", "range"):
+
+            def encode(coder: str = coder) -> Any:
+                return encoded(symbols, Categorical(), coder, rows)
+
+            cases.append((f"python_categorical_rows_{coder}_encode_numpy", encode, 256))
+    return cases
+
+
 def main() -> None:
     wanted = sys.argv[1] if len(sys.argv) > 1 else ""
     weights = driver_weights()
@@ -210,15 +242,20 @@ def main() -> None:
             if wanted in name:
                 print(f"{name} {least(run, CALLS):.0f}", flush=True)
         return
-    symbols, model = driver_symbols(weights), WeightTable(weights)
-    kinds: dict[str, Any] = {"array": symbols, "list": symbols.tolist()}
     numpy: Any
     try:
         import numpy
     except ImportError:
         numpy = None
         print("numpy is not there, so nothing of it is measured", file=sys.stderr)
-    else:
+    if "_categorical_" in wanted:
+        for name, run, count in categorical_cases(numpy):
+            if wanted in name:
+                print(f"{name} {least(run, count):.0f}", flush=True)
+        return
+    symbols, model = driver_symbols(weights), WeightTable(weights)
+    kinds: dict[str, Any] = {"array": symbols, "list": symbols.tolist()}
+    if numpy:
         kinds["numpy"] = numpy.frombuffer(symbols, dtype=numpy.uint64)
 
     cases: list[Case] = []

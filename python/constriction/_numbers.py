@@ -12,8 +12,8 @@ from ._buffers import NUMBER, SYMBOL, WORD, List, numpy_module, room
 from .errors import IMPOSSIBLE_SYMBOL, ImpossibleSymbolError, InvalidDataError, Refusal
 
 __all__ = [
-    "count_of", "floats_of", "is_one", "listed_of", "places_of", "real", "rows_of", "sequence_of", "table_of", "whole", "wholes_of",
-    "words_of",
+    "count_of", "floats_of", "is_one", "listed_of", "places_of", "plain_of", "real", "reals_of", "rows_of",
+    "sequence_of", "table_of", "whole", "wholes_of", "words_of",
 ]  # fmt: skip
 
 #: The numbers that words and symbols can be.
@@ -21,6 +21,7 @@ _RANGES = {WORD: (0, (1 << 32) - 1), SYMBOL: (-(1 << 63), (1 << 63) - 1)}
 _WANTED = "whole numbers are wanted, and not {}: round them, and make integers of them, as by array.astype('int64')"
 #: The formats of memory that holds such numbers. What is past 63 bits is no place in a table, by either sign.
 _ALIKE = {WORD: ("I", "L"), SYMBOL: ("q", "Q", "l", "L", "n", "N"), NUMBER: ("d",)}
+_FLOAT = frozenset((float,))
 #: No list has more symbols than this: they would take 2^51 bytes.
 _MOST = 1 << 48
 #: Tables that begin within this are shifted by numpy, since their symbols lie within twice of it.
@@ -112,6 +113,12 @@ def listed_of(numbers: Any) -> list[Any]:
         return [numbers]
     table = _as_numpy(numbers)
     return list(_listed(numbers)) if table is None else table.tolist()  # type: ignore[no-any-return]
+
+
+def plain_of(numbers: Any) -> Any:
+    """A list of numbers as an array of numpy where it is one, else as a list of Python's."""
+    table = _as_numpy(numbers)
+    return listed_of(numbers) if table is None else table
 
 
 def _flat(dimensions: int) -> None:
@@ -211,18 +218,33 @@ def places_of(symbols: Any, first: int) -> array[Any]:
         raise ImpossibleSymbolError(IMPOSSIBLE_SYMBOL) from None
 
 
+def _real_table(numbers: Any) -> Any:
+    """A list of real numbers where it is an array of numpy, else None."""
+    table = _as_numpy(numbers)
+    if table is not None:
+        _flat(table.ndim)
+        if table.dtype.kind not in "iubf":
+            raise TypeError(f"floats are wanted, and not those of the type {table.dtype}")
+    return table
+
+
 def floats_of(numbers: Any) -> array[float]:
     """A copy of a list of floats, or of one alone."""
     if is_one(numbers):
         return array(NUMBER, (real(numbers),))
-    table = _as_numpy(numbers)
-    if table is None:
-        memory = _copied(NUMBER, numbers)
-        return array(NUMBER, map(real, _listed(numbers))) if memory is None else memory
-    _flat(table.ndim)
-    if table.dtype.kind not in "iubf":
-        raise TypeError(f"floats are wanted, and not those of the type {table.dtype}")
-    return _filled(NUMBER, table)
+    table = _real_table(numbers)
+    if table is not None:
+        return _filled(NUMBER, table)
+    if type(numbers) is list and _FLOAT.issuperset(map(type, numbers)):
+        return array(NUMBER, numbers)
+    memory = _copied(NUMBER, numbers)
+    return array(NUMBER, map(real, _listed(numbers))) if memory is None else memory
+
+
+def reals_of(numbers: Any) -> Any:
+    """The same of a list; an array of numpy as one of 64 bits, itself where it is that already."""
+    table = _real_table(numbers)
+    return floats_of(numbers) if table is None else table.astype("float64", copy=False)
 
 
 def table_of(numbers: Any) -> Any:

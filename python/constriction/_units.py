@@ -34,20 +34,26 @@ _FEW = 32
 Ends = tuple[float, float]
 
 
-def _numpy_for(floats: array[float]) -> Any:
-    """numpy, where it is loaded and these are not few, else None."""
-    return numpy_module() if len(floats) > _FEW else None
+def _numpy_for(floats: Any) -> Any:
+    """numpy, where it is loaded and these are not few, or are an array of it; else None."""
+    return numpy_module() if len(floats) > _FEW or not isinstance(floats, array) else None
 
 
-def _ends(floats: array[float]) -> Ends:
+def _seen(numpy: Any, floats: Any) -> Any:
+    """The same floats as an array of numpy, without a copy."""
+    return floats if isinstance(floats, numpy.ndarray) else numpy.frombuffer(floats, dtype="float64")
+
+
+def _ends(floats: Any) -> Ends:
     """The least and the greatest of these floats, both 1 where there are none. Where one isn't finite, both are
     NaN."""
     numpy = _numpy_for(floats)
     if not len(floats):
         return 1.0, 1.0
     if numpy is not None:
-        table = numpy.frombuffer(floats, dtype="float64")
-        return (float(table.min()), float(table.max())) if numpy.isfinite(table).all() else (nan, nan)
+        table = _seen(numpy, floats)
+        least, greatest = float(table.min()), float(table.max())  # NaN, where one is.
+        return (least, greatest) if isfinite(least) and isfinite(greatest) else (nan, nan)
     return (min(floats), max(floats)) if all(map(isfinite, floats)) else (nan, nan)
 
 
@@ -115,8 +121,8 @@ def parts_of(probabilities: array[float]) -> array[int]:
     return _rounded(WORD, probabilities, _TOTAL, (1 / _TOTAL, 1 - 1 / _TOTAL), ends)
 
 
-def counts_of(probabilities: array[float]) -> array[int]:
-    """Counts in proportion to probabilities, each 1 at least.
+def counts_of(probabilities: Any) -> array[int]:
+    """Counts in proportion to probabilities, each 1 at least: floats as an array, of numpy too.
 
     A probability is rounded to a whole multiple of 2^-62 times the power of two above the greatest one. Raises
     ValueError where there is none above 0, or one that is negative or not finite.
@@ -130,8 +136,9 @@ def counts_of(probabilities: array[float]) -> array[int]:
     numpy = _numpy_for(probabilities)
     if numpy is not None:
         counts = room("Q", len(probabilities))
-        table = numpy.rint(numpy.ldexp(numpy.frombuffer(probabilities, dtype="float64"), shift))
-        numpy.copyto(numpy.frombuffer(counts, dtype="uint64"), numpy.maximum(table, 1.0, out=table), casting="unsafe")
+        table = numpy.ldexp(_seen(numpy, probabilities), shift)
+        numpy.maximum(numpy.rint(table, out=table), 1.0, out=table)
+        numpy.copyto(numpy.frombuffer(counts, dtype="uint64"), table, casting="unsafe")
         return counts
     return array("Q", [round(ldexp(it, shift)) or 1 for it in probabilities])
 
@@ -150,15 +157,33 @@ def counts_of_rows(table: Any) -> array[int] | None:
     return counts
 
 
-def counts_of_wholes(counts: list[int]) -> array[int]:
+def _counts_of_table(table: Any) -> array[int] | None:
+    """What ``counts_of_wholes`` makes, of an array of numpy; None where there is a fault."""
+    numpy = numpy_module()
+    if not table.size or int(table.min()) < 0:
+        return None
+    bits = int(table.max()).bit_length()
+    if not bits:
+        return None
+    counts = room("Q", table.size)
+    seen = numpy.frombuffer(counts, dtype="uint64")
+    numpy.copyto(seen, table, casting="unsafe")
+    numpy.left_shift(seen, numpy.uint64(max(_COUNT_BITS - bits, 0)), out=seen)
+    numpy.maximum(seen, numpy.uint64(1), out=seen)
+    return counts
+
+
+def counts_of_wholes(counts: Any) -> array[int]:
     """Counts as they are, but that 0 counts as the least share that there is, and that from 2^64 on the greatest
     gets 62 bits.
 
-    Raises ValueError where there is none above 0, or one that is negative.
+    They come as a list or as an array of numpy. Raises ValueError where there is none above 0, or one that is negative.
     """
-    for place, count in enumerate(counts):
-        if count < 0:
-            raise ValueError(f"probability {place} is {count}, and has to be at least 0")
+    if not isinstance(counts, list):
+        return _counts_of_table(counts) or counts_of_wholes(counts.tolist())
+    if min(counts, default=0) < 0:
+        place, count = next((i, it) for i, it in enumerate(counts) if it < 0)
+        raise ValueError(f"probability {place} is {count}, and has to be at least 0")
     bits = max(counts, default=0).bit_length()
     if not bits:
         raise ValueError("no probability is above 0")

@@ -8,7 +8,7 @@ from typing import Any
 
 from ..._buffers import WORD, List, Reals, listed, room
 from ..._library import call
-from ..._numbers import floats_of, is_one, listed_of, rows_of, sequence_of, table_of, words_of
+from ..._numbers import is_one, plain_of, reals_of, rows_of, sequence_of, table_of, words_of
 from ..._units import counts_of, counts_of_rows, counts_of_wholes
 from ...errors import WrongWeightsError
 from ._base import ROW, Model, sized
@@ -117,7 +117,7 @@ class Categorical(Rows):
             raise TypeError(f"a list of probabilities is wanted, and not a {type(numbers).__name__}")
         given = sequence_of(numbers)
         sized(len(given))
-        counts = counts_of_wholes(listed_of(given)) if _are_whole(given) else counts_of(floats_of(given))
+        counts = counts_of_wholes(plain_of(given)) if _are_whole(given) else counts_of(reals_of(given))
         weights = room(WORD, len(counts))
         call("weights_of_counts", *listed(counts), *listed(weights))
         return weights
@@ -150,4 +150,6 @@ def _are_whole(numbers: Any) -> bool:
         return getattr(kind, "kind", "") in "iub" and getattr(numbers, "ndim", 0) == 1
     if isinstance(numbers, (array, memoryview)):
         return (numbers.typecode if isinstance(numbers, array) else numbers.format) in _WHOLE_FORMATS
-    return isinstance(numbers, (list, tuple, range)) and all(hasattr(it, "__index__") for it in set(map(type, numbers)))
+    if not isinstance(numbers, (list, tuple, range)) or len(numbers) and not hasattr(type(numbers[0]), "__index__"):
+        return False
+    return all(hasattr(it, "__index__") for it in set(map(type, numbers)))
