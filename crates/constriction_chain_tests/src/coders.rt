@@ -1,21 +1,17 @@
-//! The coders that tests begin with, and the tables.
+//! Scripts at concrete types: each call of the interpreter stands here once.
 
 ghost use Rattle.constriction_chain.specs.Chain.{IsSized};
+ghost use Rattle.std.specs.Prelude.{◌≤◌};
 
-use constriction_base::backends::{ReadWords, Stack};
-use constriction_base::weights::{TableError, WeightTable};
-use constriction_chain::ChainCoder;
+use crate::acts::follow;
+use constriction_base::weights::WeightTable;
+use constriction_chain::{ChainCoder, ChainCoderHeads};
+use constriction_scripts::answers::MEMORY;
+use constriction_scripts::numbers::Number;
+use constriction_scripts::script::Script;
 use constriction_words::{BitArray, WordOf};
-use std::alloc::{AllocError, Global};
-
-/// A coder over vectors of some heaps.
-pub type Over<Word, State, A, B, const PRECISION: usize> = ChainCoder<
-    Word,
-    State,
-    Vec<Word, A>,
-    Vec<Word, B>,
-    PRECISION,
->;
+use std::alloc::Global;
+use std::test::Fail;
 
 /// A coder over vectors.
 pub type Whole<Word, State, const PRECISION: usize> = ChainCoder<
@@ -26,117 +22,92 @@ pub type Whole<Word, State, const PRECISION: usize> = ChainCoder<
     PRECISION,
 >;
 
-/// A coder of bytes over vectors, with a number of the remainders of two bytes.
-pub type Bytes<const PRECISION: usize> = Whole<u8, u16, PRECISION>;
+/// A coder of bytes, with a number of the remainders of two bytes, at 8 bits of precision.
+pub type Fine = Whole<u8, u16, 8>;
 
-/// The weights of the table at 8 bits of precision.
-pub const WEIGHTS: [u8; 2] = [16, 240];
+/// The same at 4 bits of precision.
+pub type Coarse = Whole<u8, u16, 4>;
 
-/// A table of 8 bits. Where memory is refused, it is asked for once more.
-pub fn table_of(alloc: Global, weights: &[u8]) -> Result<WeightTable<u8, 8>, TableError> {
-    match WeightTable::new(alloc, weights) {
-        Err(TableError::Memory) => WeightTable::new(alloc, weights),
-        answer => answer,
+/// A table of 8 bits.
+pub type Table = WeightTable<u8, 8>;
+
+/// The weights of most tables of 8 bits.
+pub const WEIGHTS: &[u8] = &[16, 240];
+
+/// Weights of a table, and a script.
+pub type Part<'a, Probability> = (&'a [Probability], &'static str);
+
+/// What a script came to, as a test says it: by the first act that failed.
+pub fn said(failed: Option<&'static str>) -> Result<(), Fail> {
+    match failed {
+        Some(act) => Err(Fail::from(act)),
+        None => Ok(()),
     }
 }
 
-/// A table of 4 bits.
-pub fn coarse_table_of(alloc: Global, weights: &[u8]) -> Result<WeightTable<u8, 4>, TableError> {
-    WeightTable::new(alloc, weights)
-}
-
-/// The coder that compressed words stand for, if there is one.
-pub fn of_words<Word, State, C, const PRECISION: usize>(
+/// The coder of no words, with no bits left over and this number of the remainders, if it has one.
+pub fn empty<Word, State, const PRECISION: usize>(
     alloc: Global,
-    words: C,
-) -> Option<ChainCoder<Word, State, C, Vec<Word>, PRECISION>>
-where
-    Word: WordOf<State>,
-    State: BitArray,
-    C: ReadWords<Word, Stack> + Drop,
-    C::ReadError: Drop,
-    requires { IsSized Word.BITS State.BITS PRECISION }
-{
-    ChainCoder::from_compressed(alloc, words).ok()
-}
-
-/// The same in the binary form.
-pub fn of_binary<Word, State, C, const PRECISION: usize>(
-    alloc: Global,
-    words: C,
-) -> Option<ChainCoder<Word, State, C, Vec<Word>, PRECISION>>
-where
-    Word: WordOf<State>,
-    State: BitArray,
-    C: ReadWords<Word, Stack> + Drop,
-    C::ReadError: Drop,
-    requires { IsSized Word.BITS State.BITS PRECISION }
-{
-    ChainCoder::from_binary(alloc, words).ok()
-}
-
-/// The coder that remainders stand for, if there is one.
-pub fn of_remainders<Word, State, R, const PRECISION: usize>(
-    alloc: Global,
-    remainders: R,
-) -> Option<ChainCoder<Word, State, Vec<Word>, R, PRECISION>>
-where
-    Word: WordOf<State>,
-    State: BitArray,
-    R: ReadWords<Word, Stack> + Drop,
-    R::ReadError: Drop,
-    requires { IsSized Word.BITS State.BITS PRECISION }
-{
-    ChainCoder::from_remainders(alloc, remainders).ok()
-}
-
-/// Of which words a coder is made.
-#[derive(Clone, Copy)]
-pub enum Form {
-    /// Compressed words.
-    Words,
-    /// Compressed words in the binary form.
-    Binary,
-    /// Remainders.
-    Remainders,
-}
-
-/// The coder over vectors that a list of words stands for, if there is one.
-fn made_of<Word, State, const PRECISION: usize>(
-    alloc: Global,
-    form: Form,
-    words: Vec<Word>,
+    number: State,
 ) -> Option<Whole<Word, State, PRECISION>>
 where
     Word: WordOf<State>,
     State: BitArray,
     requires { IsSized Word.BITS State.BITS PRECISION }
 {
-    match form {
-        Form::Words => of_words(alloc, words),
-        Form::Binary => of_binary(alloc, words),
-        Form::Remainders => of_remainders(alloc, words),
+    match ChainCoderHeads::new(Word::unit(), number) {
+        Some(heads) => Some(ChainCoder::from_raw_parts(Vec::new(alloc), Vec::new(alloc), heads)),
+        None => None,
     }
 }
 
-/// The same of a copy of some words.
-pub fn made<Word, State, const PRECISION: usize>(
+/// Goes through scripts with a coder of this number, each by a table of its own.
+pub fn go<Word, State, Probability, const PRECISION: usize>(
     alloc: Global,
-    form: Form,
-    words: &[Word],
-) -> Option<Whole<Word, State, PRECISION>>
+    number: State,
+    parts: &[Part<'_, Probability>],
+) -> Option<&'static str>
 where
-    Word: WordOf<State>,
-    State: BitArray,
-    requires { IsSized Word.BITS State.BITS PRECISION }
+    Word: WordOf<State> + Number,
+    State: BitArray + Number,
+    Probability: WordOf<Word>,
+    requires sized { IsSized Word.BITS State.BITS PRECISION }
+    requires precision { (1 ≤ PRECISION) × (PRECISION ≤ Probability.BITS) }
 {
-    match words.to_vec(alloc) {
-        Ok(words) => made_of(alloc, form, words),
-        Err(AllocError) => None,
+    let Some(mut coder) = empty::<Word, State, PRECISION>(alloc, number) else {
+        return Some("no coder");
+    };
+    for part in parts {
+        let Ok(table) = WeightTable::<Probability, PRECISION>::new(alloc, part.0) else {
+            return Some(MEMORY);
+        };
+        let Ok(script) = Script::read(alloc, part.1) else {
+            return Some(MEMORY);
+        };
+        let failed = follow(alloc, &mut coder, &table, &script);
+        if failed.is_some() {
+            return failed;
+        }
     }
+    None
 }
 
-/// The coder of some compressed words at 8 bits of precision, if there is one.
-pub fn fine_of(alloc: Global, words: &[u8]) -> Option<Bytes<8>> {
-    made(alloc, Form::Words, words)
+/// Words of 8 bits, and a number of 16, at 8 bits of precision.
+pub fn fine(alloc: Global, text: &'static str) -> Result<(), Fail> {
+    said(go::<u8, u16, u8, 8>(alloc, 1, &[(WEIGHTS, text)]))
+}
+
+/// The same at 4 bits of precision.
+pub fn coarse(alloc: Global, parts: &[Part<'_, u8>]) -> Result<(), Fail> {
+    said(go::<u8, u16, u8, 4>(alloc, 16, parts))
+}
+
+/// Words of 16 bits, and a number of 32, at 12 bits of precision.
+pub fn small(alloc: Global, weights: &[u16], text: &'static str) -> Result<(), Fail> {
+    said(go::<u16, u32, u16, 12>(alloc, 16, &[(weights, text)]))
+}
+
+/// Words of 32 bits, and a number of 64, at 24 bits of precision.
+pub fn wide(alloc: Global, weights: &[u32], text: &'static str) -> Result<(), Fail> {
+    said(go::<u32, u64, u32, 24>(alloc, 256, &[(weights, text)]))
 }

@@ -1,195 +1,130 @@
-//! Worked values: words, the symbols that they stand for, and what is left of them.
+//! The worked rows.
 
-use crate::cases::coarse_bytes_do;
-use crate::coders::{Form, WEIGHTS, made, table_of};
-use crate::faults::Fault;
-use crate::script::Act;
-use crate::take::{Taken, take};
-use crate::widths::{returns, splits};
-use constriction_base::errors::CoderError;
+use crate::changes::{Either, Tables, decrease, follow_changes};
+use crate::coders::{Coarse, Part, WEIGHTS, coarse, empty, fine, said, small, wide};
 use constriction_base::weights::WeightTable;
-use constriction_chain::{ChainCoder, DefaultChainCoder, EncoderFrontendError};
-use std::alloc::Global;
+use constriction_chain::{ChainCoder, DefaultChainCoder};
+use constriction_scripts::script::Script;
+use std::test::Fail;
 
-/// A table of the default coder.
-type DefaultTable = WeightTable<u32, 24>;
-
-/// The default coder of some words, if there is one.
-fn default_of(alloc: Global, words: &[u32]) -> Option<DefaultChainCoder> {
-    made(alloc, Form::Words, words)
-}
-
-/// Whether symbols are taken of the default coder of some words, and leave these two lists.
-fn default_splits(
-    alloc: Global,
-    (words, weights): (&[u32], &[u32]),
-    symbols: &[usize],
-    prefix: &[u32],
-    suffix: &[u32],
-) -> bool {
-    match DefaultTable::new(alloc, weights) {
-        Ok(table) => splits(default_of(alloc, words), &table, symbols, prefix, suffix),
-        Err(_) => false,
-    }
-}
-
-/// Whether the words end after one symbol, and this leaves two lists.
-fn ends_after_one(
-    alloc: Global,
-    table: &DefaultTable,
-    words: &[u32],
-    prefix: &[u32],
-    suffix: &[u32],
-) -> bool {
-    match default_of(alloc, words) {
-        Some(mut coder) => {
-            let is_taken = matches!(take(&mut coder, table), Taken::Symbol(1));
-            let is_end = matches!(take(&mut coder, table), Taken::OutOfData);
-            is_taken & is_end & splits(Some(coder), table, &[], prefix, suffix)
-        }
-        None => false,
-    }
-}
-
-/// The same of two words, by a table of these weights.
-fn words_end(alloc: Global, (words, weights): (&[u32], &[u32])) -> bool {
-    match DefaultTable::new(alloc, weights) {
-        Ok(table) => ends_after_one(alloc, &table, words, &[], &[0x100, 0x111]),
-        Err(_) => false,
-    }
-}
-
-/// Whether the default coder of some words finds no word for a precision of 16 bits.
-fn cannot_decrease(alloc: Global, words: &[u32]) -> bool {
-    match default_of(alloc, words) {
-        Some(coder) => is_short(coder),
-        None => false,
-    }
-}
-
-/// The same of a coder.
-fn is_short(coder: DefaultChainCoder) -> bool {
-    let lower: Result<ChainCoder<u32, u64, Vec<u32>, Vec<u32>, 16>, _> = coder.decrease_precision();
-    matches!(
-        lower,
-        Err(CoderError::Frontend(EncoderFrontendError::OutOfRemainders))
+/// The quantile of the first symbol is 2241348, whose weight is 1.
+#[test]
+fn chain_default(rt: HostRuntime) -> Result<(), Fail> {
+    let words = [287454020u32, 256].to_vec(rt.alloc())?;
+    let Ok(coder): Result<DefaultChainCoder, _> = ChainCoder::from_compressed(rt.alloc(), words)
+    else {
+        return Err(Fail::from("import"));
+    };
+    assert!(rt; matches!(decrease::<u32, u64, 24, 16>(&coder), Err("ended")));
+    wide(
+        rt.alloc(),
+        &[2241348, 1, 14535867],
+        "import 287454020 256 heads 1 256
+         take 1 heads 273 256 compressed remainders
+         next!ended heads 273 256 compressed remainders",
     )
 }
 
-/// The quantile of the first symbol is 0x223344, whose weight is 1.
 #[test]
-fn chain_default(rt: HostRuntime) {
-    let alloc = rt.alloc();
-    let words = [0x11223344u32, 0x100];
-    let weights = [0x223344u32, 1, 0xddccbb];
-    let both = (words.as_slice(), weights.as_slice());
-    assert!(rt;
-        default_splits(alloc, both, &[], &[0x11223344], &[0x100, 1])
-            & default_splits(alloc, both, &[1], &[], &[0x100, 0x111])
-            & words_end(alloc, both)
-            & cannot_decrease(alloc, &words)
-    );
+fn chain_split(rt: HostRuntime) -> Result<(), Fail> {
+    wide(
+        rt.alloc(),
+        &[8388608, 8388608],
+        "import 287454020 256 take 0 prefix suffix 2149724996 273",
+    )
 }
 
 #[test]
-fn chain_split(rt: HostRuntime) {
-    let both: (&[u32], &[u32]) = (&[287454020, 256], &[8388608, 8388608]);
-    assert!(rt; default_splits(rt.alloc(), both, &[0], &[], &[2149724996, 273]));
-}
-
-/// Whether symbols are taken of words at 8 bits of precision, and leave these two lists.
-fn bytes_split(
-    alloc: Global,
-    (form, words): (Form, &[u8]),
-    symbols: &[usize],
-    prefix: &[u8],
-    suffix: &[u8],
-) -> bool {
-    match table_of(alloc, &WEIGHTS) {
-        Ok(table) => splits::<u8, u16, 8>(
-            made(alloc, form, words),
-            &table,
-            symbols,
-            prefix,
-            suffix,
-        ),
-        Err(_) => false,
-    }
-}
-
-/// Whether symbols are put back to remainders, and give these words.
-fn bytes_return(
-    alloc: Global,
-    remainders: &[u8],
-    symbols: &[usize],
-    (form, words): (Form, &[u8]),
-) -> bool {
-    match table_of(alloc, &WEIGHTS) {
-        Ok(table) => {
-            returns::<u8, u16, 8>(
-                made(alloc, Form::Remainders, remainders),
-                &table,
-                symbols,
-                form,
-                words,
-            )
-        }
-        Err(_) => false,
-    }
+fn chain_there_and_back(rt: HostRuntime) -> Result<(), Fail> {
+    fine(
+        rt.alloc(),
+        "import 10 20 30
+         take 1 heads 1 28
+         prefix 10 suffix 36 28 1
+         import-remainders 36 28 1
+         put 1
+         rest export 20 30",
+    )
 }
 
 #[test]
-fn chain_there_and_back(rt: HostRuntime) {
-    let alloc = rt.alloc();
-    let words = [10u8, 20, 30];
-    assert!(rt;
-        bytes_split(alloc, (Form::Words, &words), &[], &[10, 20], &[30, 1])
-            & bytes_split(alloc, (Form::Words, &words), &[1], &[10], &[36, 28, 1])
-            & bytes_return(alloc, &[36, 28, 1], &[1], (Form::Words, &[20, 30]))
-    );
+fn chain_binary(rt: HostRuntime) -> Result<(), Fail> {
+    fine(
+        rt.alloc(),
+        "import-binary 10 20 30
+         take 1 heads 1 254
+         prefix 10 20 suffix 254 1
+         import-remainders 254 1
+         put 1
+         export-binary 30",
+    )
 }
 
+/// The quantiles are 11 and 10, whatever the first model. The last table's symbol 1 has the quantile 10 alone.
 #[test]
-fn chain_binary(rt: HostRuntime) {
-    let alloc = rt.alloc();
-    assert!(rt;
-        bytes_split(
-            alloc,
-            (Form::Binary, &[10, 20, 30]),
-            &[1],
-            &[10, 20],
-            &[254, 1]
-        ) & bytes_return(alloc, &[254, 1], &[1], (Form::Binary, &[30]))
-    );
-}
-
-/// The words 0xab and 0x12, by one table for the first symbol and another for the second.
-fn both_given(alloc: Global, first: &[u8], symbol: usize) -> bool {
-    let end = [
-        Act::Whole(false),
-        Act::Gives(&[1]),
-        Act::Whole(true),
-        Act::GivesNone(Fault::OutOfData),
+fn chain_isolation(rt: HostRuntime) -> Result<(), Fail> {
+    coarse(
+        rt.alloc(),
+        &[(
+            &[5, 11],
+            "import 171 18
+             take 1 heads 26 204
+             take 1 heads 1 2249 whole
+             next!ended heads 1 2249",
+        )],
+    )?;
+    let others: [Part<'_, u8>; 3] = [
+        (&[11, 1, 4], "import 171 18 take 1"),
+        (&[12, 4], "import 171 18 take 0"),
+        (&[1, 15], "import 171 18 take 1"),
     ];
-    coarse_bytes_do(
-        alloc,
-        &[0xab, 0x12],
-        (first, &[Act::Gives(&[symbol])]),
-        (&[10, 1, 5], &end),
-    )
+    for first in others {
+        coarse(
+            rt.alloc(),
+            &[first, (&[10, 1, 5], "take 1 whole next!ended")],
+        )?;
+    }
+    Ok(())
 }
 
-/// The quantiles are 11 and 10, whatever the first model.
+/// The number 2249 is the number 8 above the word 201. It is in the window of 4 bits of precision, and 8 in that of 8
+/// bits. The number 18 is in both.
 #[test]
-fn chain_isolation(rt: HostRuntime) {
-    let alloc = rt.alloc();
-    let begin = [Act::Gives(&[1]), Act::Is(&[], &[204, 26])];
-    let end = [Act::Gives(&[1]), Act::Is(&[], &[201, 8, 1])];
-    assert!(rt;
-        coarse_bytes_do(alloc, &[0xab, 0x12], (&[5, 11], &begin), (&[5, 11], &end))
-            & both_given(alloc, &[11, 1, 4], 1)
-            & both_given(alloc, &[5, 11], 1)
-            & both_given(alloc, &[12, 4], 0)
-            & both_given(alloc, &[1, 15], 1)
-    );
+fn chain_precision_changes(rt: HostRuntime) -> Result<(), Fail> {
+    let tables = Tables {
+        coarse: WeightTable::new(rt.alloc(), &[5, 11])?,
+        fine: WeightTable::new(rt.alloc(), WEIGHTS)?,
+    };
+    let script = Script::read(
+        rt.alloc(),
+        "import 171 18 take 1 1 heads 1 2249
+         increase heads 1 8 remainders 201
+         decrease heads 1 2249 remainders
+         change-none heads 1 2249 remainders
+         change heads 1 8 remainders 201
+         change heads 1 2249 remainders
+         import 171 18 increase heads 1 18 remainders",
+    )?;
+    let Some(coder): Option<Coarse> = empty(rt.alloc(), 16) else {
+        return Err(Fail::from("no coder"));
+    };
+    said(follow_changes(rt.alloc(), &mut Either::Coarse(coder), &tables, &script))
+}
+
+/// The window of 12 bits of precision begins at 16.
+#[test]
+fn chain_too_short(rt: HostRuntime) -> Result<(), Fail> {
+    small(
+        rt.alloc(),
+        &[4096],
+        "import!leaves-none
+         import-binary!leaves-none
+         import!leaves-one 7 0
+         import!leaves-none 15
+         import 16 heads 1 16
+         import-remainders!leaves-two 7 5 0
+         import-remainders!leaves-one 7 0 5
+         import-remainders!leaves-none 15 5
+         import-remainders 16 5 heads 5 16",
+    )
 }

@@ -1,0 +1,44 @@
+//! Lists that are put back from the last symbol to the first, by the coder's own calls.
+
+use crate::coders::Whole;
+use constriction_base::weights::WeightTable;
+use constriction_scripts::answers::{OTHER, answer_of};
+use constriction_scripts::script::{Act, error_at};
+use constriction_words::{BitArray, WordOf};
+
+/// An item of a list: the error, if there is one, or a symbol with its table.
+fn item_of<'a, M>(
+    error: Option<u8>,
+    symbol: &'a usize,
+    table: &'a M,
+) -> Result<(&'a usize, &'a M), u8> {
+    match error {
+        Some(error) => Err(error),
+        None => Ok((symbol, table)),
+    }
+}
+
+/// Puts symbols back from the last to the first: `back` a list by one table, `pairs-back` two pairs, `items-back` two
+/// items, of which the first may be `bad7`.
+pub fn back_by<Word, State, Probability, const PRECISION: usize>(
+    coder: &mut Whole<Word, State, PRECISION>,
+    table: &WeightTable<Probability, PRECISION>,
+    act: &Act<'_>,
+) -> &'static str
+where
+    Word: WordOf<State>,
+    State: BitArray,
+    Probability: WordOf<Word>,
+{
+    match (act.verb, act.symbols) {
+        ("back", symbols) => answer_of(coder.encode_iid_symbols_reverse(symbols, table)),
+        ("pairs-back", [first, second]) => {
+            answer_of(coder.encode_symbols_reverse([(first, table), (second, table)]))
+        }
+        ("items-back", [first, second]) => {
+            let first = item_of(error_at(act.numbers, 0), first, table);
+            answer_of(coder.try_encode_symbols_reverse([first, Ok((second, table))]))
+        }
+        _ => OTHER,
+    }
+}
