@@ -138,7 +138,7 @@ def counts_of(probabilities: Any) -> array[int]:
         counts = room("Q", len(probabilities))
         table = numpy.ldexp(_seen(numpy, probabilities), shift)
         numpy.maximum(numpy.rint(table, out=table), 1.0, out=table)
-        numpy.copyto(numpy.frombuffer(counts, dtype="uint64"), table, casting="unsafe")
+        numpy.frombuffer(counts, dtype="uint64")[...] = table
         return counts
     return array("Q", [round(ldexp(it, shift)) or 1 for it in probabilities])
 
