@@ -61,10 +61,10 @@ where
     }
 }
 
-/// Goes through scripts with a coder of this number, each by a table of its own.
+/// Goes through scripts with a coder, each by a table of its own.
 pub fn go<Word, State, Probability, const PRECISION: usize>(
     alloc: Global,
-    number: State,
+    found: Option<Whole<Word, State, PRECISION>>,
     parts: &[Part<'_, Probability>],
 ) -> Option<&'static str>
 where
@@ -74,7 +74,7 @@ where
     requires sized { IsSized Word.BITS State.BITS PRECISION }
     requires precision { (1 ≤ PRECISION) × (PRECISION ≤ Probability.BITS) }
 {
-    let Some(mut coder) = empty::<Word, State, PRECISION>(alloc, number) else {
+    let Some(mut coder) = found else {
         return Some("no coder");
     };
     for part in parts {
@@ -94,20 +94,20 @@ where
 
 /// Words of 8 bits, and a number of 16, at 8 bits of precision.
 pub fn fine(alloc: Global, text: &'static str) -> Result<(), Fail> {
-    said(go::<u8, u16, u8, 8>(alloc, 1, &[(WEIGHTS, text)]))
+    said(go::<u8, u16, u8, 8>(alloc, empty(alloc, 1), &[(WEIGHTS, text)]))
 }
 
 /// The same at 4 bits of precision.
 pub fn coarse(alloc: Global, parts: &[Part<'_, u8>]) -> Result<(), Fail> {
-    said(go::<u8, u16, u8, 4>(alloc, 16, parts))
+    said(go::<u8, u16, u8, 4>(alloc, empty(alloc, 16), parts))
 }
 
 /// Words of 16 bits, and a number of 32, at 12 bits of precision.
 pub fn small(alloc: Global, weights: &[u16], text: &'static str) -> Result<(), Fail> {
-    said(go::<u16, u32, u16, 12>(alloc, 16, &[(weights, text)]))
+    said(go::<u16, u32, u16, 12>(alloc, empty(alloc, 16), &[(weights, text)]))
 }
 
 /// Words of 32 bits, and a number of 64, at 24 bits of precision.
 pub fn wide(alloc: Global, weights: &[u32], text: &'static str) -> Result<(), Fail> {
-    said(go::<u32, u64, u32, 24>(alloc, 256, &[(weights, text)]))
+    said(go::<u32, u64, u32, 24>(alloc, empty(alloc, 256), &[(weights, text)]))
 }
