@@ -105,6 +105,8 @@ fn small(rt: &impl Print, alloc: Global) -> Result<()> {
     coder.encode_symbol(&1, &table)?;
     let symbol = coder.decode_symbol(&table)?;
     println!(rt; "{symbol} {} {}", coder.num_words(), coder.num_bits())?; // 1 0 0
+    let symbol = coder.into_seekable_decoder().decode_symbol(&table)?;
+    println!(rt; "{symbol}")?; // 0, since an empty coder gives symbols too
     Ok(())
 }
 
