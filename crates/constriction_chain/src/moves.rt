@@ -52,8 +52,13 @@ pub fn begin_window<Word: WordOf<State>, State: BitArray, B: ReadWords<Word, Sta
     }
 }
 
-/// Asks a backend for room for both heads and writes them: the words of the remainders head, lowest first and without
-/// leading zeros, then the compressed head.
+/// Writes both heads to a backend, after asking it for room.
+///
+/// The words of the remainders head come first, lowest first and without leading zeros. The compressed head follows.
+///
+/// # Errors
+///
+/// The backend's error if it has no room for these words, or refuses to write one.
 pub fn append_heads<Word: WordOf<State>, State: BitArray, B: WriteWords<Word>>(
     backend: &mut B,
     h: Word,

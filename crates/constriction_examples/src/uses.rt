@@ -98,7 +98,7 @@ pub fn before_a_position(
 
 /// Encodes three symbols, and prints them as they come back.
 pub fn run(rt: &impl Print, alloc: Global) -> Result<()> {
-    // Symbols 0, 1 and 2, of which the third is by far the likeliest.
+    // Symbols 0, 1 and 2. Symbol 2 is by far the likeliest.
     let table = WeightTable::<u32, 24>::new(alloc, &[3, 2, 16777211])?;
 
     // What is encoded last is decoded first.

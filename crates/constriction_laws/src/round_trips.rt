@@ -1,4 +1,4 @@
-//! Lists of symbols from any decoder, by its own iterator, as vectors.
+//! Decoding a list of symbols from any decoder into a vector.
 
 ghost use Rattle.std.specs.Prelude.{◌≡◌, length, Ok, IfOk, IfErr};
 ghost use Rattle.std.specs.List.{zip};
@@ -13,11 +13,12 @@ use constriction_stream::decoding::Decode;
 use constriction_words::WordOf;
 use std::alloc::Global;
 
-/// Takes a symbol for each of the models, as [`Decode::decode_symbols`] gives them.
+/// Decodes one symbol for each model, with [`Decode::decode_symbols`].
 ///
 /// # Errors
-/// - `(count, Refused(error))`: the decoder gave so many symbols, and answered this error to the next step.
-/// - `(0, NoMemory)`: memory for the symbols was refused.
+///
+/// - `(count, Refused(error))`: the decoder returned `count` symbols, and this error for the next one.
+/// - `(0, NoMemory)`: there was no memory for the symbols.
 pub fn decode_by_models<C, M, const PRECISION: usize>(
     alloc: Global,
     decoder: &mut C,

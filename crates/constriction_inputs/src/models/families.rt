@@ -87,7 +87,7 @@ impl<'a, P: WordOf<u32>, const PRECISION: usize> Models<P, PRECISION> for Famili
 }
 
 impl<'a> Families<'a> {
-    /// Creates a value of these numbers and lists. The type has an example.
+    /// Creates the models of a family, by its number, for the symbols from `min` to `max`.
     #[inline]
     pub fn new(family: u32, min: i32, max: i32, locations: &'a [i64], scales: &'a [u32]) -> Self
         ensures numbers { (result.family ≡ family) × (result.min ≡ min) × (result.max ≡ max) }

@@ -1,4 +1,4 @@
-//! Words that are known to be few, from the public contracts of the coders and the bounds alone.
+//! Bounds on words, from the public contracts of the coders and the laws on bounds alone.
 
 ghost use Rattle.std.specs.Prelude.{◌≡◌, ◌-◌, ◌<◌, ◌≤◌, ◌^◌, ◌⊎◌, [], ◌∷◌, IfOk, IfErr, MatchBool};
 ghost use Rattle.constriction_base.specs.Steps.{Step, IsSizes};
@@ -20,7 +20,7 @@ use constriction_stream::decoding::Decode;
 use constriction_stream::encoding::Encode;
 use constriction_words::{BitArray, WordOf};
 
-/// Whether a head is low, so that a word moves in below it where one is left.
+/// Returns whether a head is so low that a word moves in below it, if one is left.
 fn is_low<Word: WordOf<State>, State: BitArray>(head: State) -> bool
     requires { IsSizes Word.BITS State.BITS }
     ensures { MatchBool result (State.number head < 2 ^ (State.BITS - Word.BITS))
@@ -29,24 +29,26 @@ fn is_low<Word: WordOf<State>, State: BitArray>(head: State) -> bool
     head.shifted_right(State::BITS - Word::BITS).is_nothing()
 }
 
-/// Why a symbol wasn't exchanged for another.
+/// The error of an exchange of symbols.
 #[derive(Debug, Clone, Copy, PartialEq, Eq)]
 pub enum ExchangeError {
-    /// The head is low before, or after the symbol was taken off.
+    /// The head is low before the exchange, or after the first symbol was decoded.
     LowHead,
-    /// The other model has no entry for the symbol that is put on.
+    /// The other model has no entry for the symbol to encode.
     ImpossibleSymbol,
     /// The backend refused a word.
     Refused,
 }
 
-/// Takes a symbol off a coder and puts another one on, as bits-back coding does, where neither head is low. What the
-/// two symbols cost, net, is then bounded.
+/// Decodes a symbol and encodes another one, as bits-back coding does.
+///
+/// If neither head is low, the net cost of the two symbols is bounded.
 ///
 /// # Errors
-/// - `LowHead`: the head is low, and the coder is as before; or it is low behind the symbol that was taken off.
-/// - `ImpossibleSymbol`: the other model has no entry for the symbol. A symbol was taken off.
-/// - `Refused`: a backend refused a word. The state is as before, or as behind the symbol that was taken off.
+///
+/// - `LowHead`: the head is low before, and the coder is unchanged; or it is low after the first symbol was decoded.
+/// - `ImpossibleSymbol`: the other model has no entry for the symbol to encode. The first symbol was decoded.
+/// - `Refused`: the backend refused a word. The state is unchanged, or the first symbol was decoded.
 pub fn exchange<
     Word: WordOf<State>,
     State: BitArray,

@@ -1,4 +1,4 @@
-//! Symbols under two models in one stream, which change behind a flag.
+//! Two models in one stream, separated by a flag symbol.
 
 ghost use Rattle.std.specs.Prelude.{◌≡◌, ◌++◌, ℕ, List, length, IfOk, IfErr, MatchResult};
 ghost use Rattle.constriction_base.specs.Models.{Model, IsModel};
@@ -20,7 +20,7 @@ use constriction_queue::{DecoderFrontendError, FlagSwitch};
 use constriction_words::{BitArray, WordOf};
 use std::alloc::Global;
 
-/// Words are read as one list of so many symbols with a flag among them.
+/// Words are read as exactly one list of a given number of symbols with a flag among them.
 pub fn one_list_of_flagged_symbols()
     ensures { (w s flag : ℕ) (first second : Model ℕ) (words symbols others : List ℕ) (old new last : Run) →
         IsModel w first → IsModel w second → length others ≡ length symbols →
@@ -29,7 +29,7 @@ pub fn one_list_of_flagged_symbols()
         (others ≡ symbols) × (last ≡ new) }
 {}
 
-/// Symbols with a flag among them that a new encoder was given come back from the words, whatever words follow.
+/// Symbols with a flag among them come back from a new encoder's words, whatever words follow.
 pub fn flagged_symbols_come_back()
     ensures { (w s flag : ℕ) (first second : Model ℕ) (symbols words rest : List ℕ) (last : Run) → IsSizes w s →
         IsModel w first → IsModel w second → AreWords w rest →
@@ -39,16 +39,18 @@ pub fn flagged_symbols_come_back()
     symbols_come_back_whatever_follows::<usize>()
 }
 
-/// Takes so many symbols from a switch: `next_symbol`. They are read under the models that the switch stands at and
-/// that the flag leads to.
+/// Decodes `amt` symbols from a switch, with the models before and after the flag.
+///
+/// Calls `next_symbol`.
 ///
 /// # Errors
-/// - `Refused(error)`: the switch answered this error. It is `InvalidData` only where the words hold no list of so
-///   many symbols.
-/// - `NoMemory`: memory for the symbols was refused.
 ///
-/// The switch then stands behind the symbols that it gave, where the words are known, and has switched where the flag
-/// was among them.
+/// After an error, the switch stands behind the symbols that it returned if the backend knows its words. It has
+/// switched if the flag was among them.
+///
+/// - `Refused(error)`: the switch returned this error. It is `InvalidData` only if the words don't encode `amt`
+///   symbols.
+/// - `NoMemory`: there was no memory for the symbols.
 pub fn decode_flagged<
     Word: WordOf<State>,
     State: BitArray,

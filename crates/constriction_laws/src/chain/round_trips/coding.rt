@@ -17,11 +17,12 @@ use constriction_stream::encoding::{Encode, EncodeReverse};
 use constriction_words::{BitArray, WordOf};
 use std::alloc::Global;
 
-/// Takes a symbol out of a coder for each of the models.
+/// Decodes one symbol for each model.
 ///
 /// # Errors
-/// - `OutOfData(count)`: after so many symbols a word is needed, and no compressed word is left.
-/// - `Refused`: a read, a write or memory was refused.
+///
+/// - `OutOfData(count)`: after `count` symbols a word is needed, and no compressed word is left.
+/// - `Refused`: a read or a write failed, or there was no memory.
 pub fn decode_pairs<
     Word: WordOf<State>,
     State: BitArray,
@@ -59,9 +60,10 @@ where
     }
 }
 
-/// Puts symbols back to a coder, each by its own model and the last one first.
+/// Encodes symbols from last to first, each with its own model.
 ///
 /// # Errors
+///
 /// - `Frontend(ImpossibleSymbol)`: a model has no entry for its symbol.
 /// - `Frontend(OutOfRemainders)`: a word of the remainders is needed, and none is left.
 /// - `Backend(error)`: a backend refused a word.

@@ -1,5 +1,6 @@
-//! Isolation through the calls: where other models replace those of some symbols, all others stay. The law
-//! [`symbols_are_isolated`] says the same of runs that change the precision.
+//! Isolation through the calls: other models for some symbols don't change the other symbols.
+//!
+//! The law [`symbols_are_isolated`] says the same of runs that change the precision.
 
 ghost use Rattle.std.specs.Prelude.{◌≡◌, ◌⊎◌, length, IfErr, IfOk};
 ghost use Rattle.constriction_base.specs.Models.{pairs_of};
@@ -19,15 +20,17 @@ use constriction_stream::decoding::Decode;
 use constriction_words::{BitArray, WordOf};
 use std::alloc::Global;
 
-/// Takes symbols out of two coders over the same words, by a list of models each, which may be of two types:
-/// `decode_symbols`. Wherever the tables at a place are equal, so are the symbols there, whatever the other tables are.
+/// Decodes from two coders over the same words, each with its own list of models.
+///
+/// Calls `decode_symbols`. Wherever the tables at a place are equal, the symbols there are equal, whatever the other
+/// tables are. The two lists may have models of different types.
 ///
 /// # Errors
-/// - `OutOfData(count)`: after so many symbols one of the coders needs a word, and none is left.
-/// - `Refused`: a read, a write or memory was refused.
 ///
-/// Where it is the first coder that stops, the other one is as before. Where it is the other one, the first has given
-/// all its symbols.
+/// If the first coder stops, the other one is unchanged. If the other one stops, the first has decoded all its symbols.
+///
+/// - `OutOfData(count)`: after `count` symbols one of the coders needs a word, and none is left.
+/// - `Refused`: a read or a write failed, or there was no memory.
 pub fn decode_by_two<
     Word: WordOf<State>,
     State: BitArray,

@@ -1,4 +1,4 @@
-//! The two halves of the way of words through the remainders.
+//! The two halves of the round trip of words through the remainders.
 //!
 //! The law [`words_come_back`](crate::chain::words::words_come_back) joins their states.
 
@@ -20,12 +20,14 @@ use constriction_chain::{ChainCoder, EncoderFrontendError};
 use constriction_words::{BitArray, WordOf};
 use std::alloc::Global;
 
-/// Takes a symbol out of a coder for each of the models, and returns the words that are left: those of the compressed
-/// words, and the remainders with both heads. The calls: `decode_symbols`, `into_remainders`.
+/// Decodes one symbol for each model, and returns the remaining compressed words and the remainders with both heads.
+///
+/// Calls `decode_symbols` and `into_remainders`.
 ///
 /// # Errors
-/// - `OutOfData(count)`: after so many symbols a word is needed, and no compressed word is left.
-/// - `Refused`: memory was refused.
+///
+/// - `OutOfData(count)`: after `count` symbols a word is needed, and no compressed word is left.
+/// - `Refused`: there was no memory.
 pub fn take_pairs<
     Word: WordOf<State>,
     State: BitArray,
@@ -56,12 +58,13 @@ where
     }
 }
 
-/// Returns the coder of remainders with symbols put back, each by its own model and the last one first:
-/// `from_remainders`, `encode_symbols_reverse`. There have to be as many models as symbols.
+/// Makes a coder from remainders, and encodes symbols back, from last to first, each with its own model.
+///
+/// Calls `from_remainders` and `encode_symbols_reverse`. There have to be as many models as symbols.
 ///
 /// # Errors
 ///
-/// Each case of [`PutBackError`]. All but `NoMemory` come for no other reason than they tell.
+/// Each case of [`PutBackError`]. Each but `NoMemory` comes only in its own case.
 pub fn put_back_pairs<
     Word: WordOf<State>,
     State: BitArray,

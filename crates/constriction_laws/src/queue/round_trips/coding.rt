@@ -20,14 +20,15 @@ use constriction_stream::encoding::Encode;
 use constriction_words::{BitArray, WordOf};
 use std::alloc::Global;
 
-/// Symbols that are put behind the others, each by a model of its own.
+/// Encodes symbols in order, each with its own model.
 ///
-/// It leads to the run of an encode of each of them, one after the other.
+/// The encoder then stands for its run, narrowed by each symbol in turn.
 ///
 /// # Errors
-/// - `ImpossibleSymbol`: a model has no entry for its symbol. The symbols before it are coded.
-/// - `TooManySymbols`: the encoder doesn't count so many more symbols. None is coded.
-/// - `Refused`: the backend refused a word. The symbols before it are coded.
+///
+/// - `ImpossibleSymbol`: a model has no entry for its symbol. The symbols before it are encoded.
+/// - `TooManySymbols`: the encoder can't count that many more symbols. No symbol is encoded.
+/// - `Refused`: the backend refused a word. The symbols before it are encoded.
 pub fn encode_pairs<
     Word: WordOf<State>,
     State: BitArray,
@@ -60,14 +61,15 @@ where
     }
 }
 
-/// A symbol that is taken for each of the models.
+/// Decodes one symbol for each model.
 ///
-/// From where the decoder stands it leads to the run of a decode of each symbol, one after the other. Where
-/// these words are those of as many symbols under these models, the symbols come back, the first one first.
+/// The decoder then stands for its run, narrowed by each symbol in turn. If the words encode that many symbols with
+/// these models, the symbols come back in order.
 ///
 /// # Errors
-/// - `InvalidData`: the words hold no list of symbols of the models from there on.
-/// - `Refused`: a read or memory was refused.
+///
+/// - `InvalidData`: from there on, the words don't encode symbols of these models.
+/// - `Refused`: a read failed, or there was no memory.
 pub fn decode_pairs<
     Word: WordOf<State>,
     State: BitArray,
@@ -102,8 +104,9 @@ where
     }
 }
 
-/// Whether the backend and the decoder say that the words may have ended, as `maybe_exhausted` of the decoder does.
-/// They do, where these may end at the run at which the decoder stands, as those of a seal at the end of its run.
+/// Returns whether the words may have ended, as the decoder's `maybe_exhausted` does.
+///
+/// Sealed words may end after the last symbol of their run.
 pub fn has_ended<
     Word: WordOf<State>,
     State: BitArray,

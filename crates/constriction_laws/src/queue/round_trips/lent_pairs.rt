@@ -1,8 +1,8 @@
-//! Symbols that have a model each, from the words that an encoder lends.
+//! Symbols, each with its own model, from the words that an encoder lends.
 //!
-//! No caller decodes through [`RangeEncoder::decoder`]: the contract of that call says that its decoder stands at the
-//! start of the words that the encoder would export, and
-//! [`symbols_come_back`](crate::queue::lists::symbols_come_back) what is read there.
+//! No caller decodes through [`RangeEncoder::decoder`]. The contract of that call says that the decoder stands at the
+//! start of the words that the encoder would export. The law
+//! [`symbols_come_back`](crate::queue::lists::symbols_come_back) says which symbols it decodes there.
 
 ghost use Rattle.std.specs.Prelude.{◌≡◌, List, length, IfOk, IfErr};
 ghost use Rattle.constriction_base.specs.Models.{pairs_of};
@@ -21,13 +21,15 @@ use constriction_queue::{RangeDecoder, RangeEncoder};
 use constriction_words::{BitArray, WordOf};
 use std::alloc::{Allocator, Global};
 
-/// Takes a symbol for each of the models from the words that an encoder lends: `get_compressed`, `from_compressed`,
-/// `decode_symbols`. The symbols that were put on it since it was new come back. The encoder is as before in every
-/// case.
+/// Decodes one symbol for each model from the words that an encoder lends.
+///
+/// Calls `get_compressed`, `from_compressed` and `decode_symbols`. The symbols that the encoder has encoded since it
+/// was new come back. The encoder is unchanged in every case.
 ///
 /// # Errors
-/// - `InvalidData`: the words that the encoder would export hold no list of symbols of the models.
-/// - `Refused`: memory was refused.
+///
+/// - `InvalidData`: the words that the encoder would export don't encode symbols of these models.
+/// - `Refused`: there was no memory.
 pub fn decode_lent_words_by_models<
     Word: WordOf<State>,
     State: BitArray,

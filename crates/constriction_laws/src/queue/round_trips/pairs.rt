@@ -29,12 +29,14 @@ use constriction_queue::{RangeDecoder, RangeEncoder};
 use constriction_words::{BitArray, WordOf};
 use std::alloc::Global;
 
-/// Codes symbols, each by its own model, and returns the words that the encoder then exports: `encode_symbols`,
-/// `into_compressed`. How many words a new encoder gives at most is bounded by the models.
+/// Encodes symbols, each with its own model, and returns the words that the encoder then exports.
+///
+/// Calls `encode_symbols` and `into_compressed`. The models bound the number of words of a new encoder.
 ///
 /// # Errors
+///
 /// - `ImpossibleSymbol`: a model has no entry for its symbol.
-/// - `TooManySymbols`: the symbols are more than the encoder counts.
+/// - `TooManySymbols`: there are more symbols than the encoder can count.
 /// - `Refused`: the backend refused a word.
 pub fn compressed_words_of_pairs<
     Word: WordOf<State>,
@@ -73,12 +75,14 @@ where
     }
 }
 
-/// Takes a symbol for each of the models from any words by a new decoder, and whether it then says that it may be
-/// exhausted: `from_compressed`, `decode_symbols`, `maybe_exhausted`.
+/// Decodes one symbol for each model from any words, and returns whether the decoder may be exhausted then.
+///
+/// Calls `from_compressed`, `decode_symbols` and `maybe_exhausted`.
 ///
 /// # Errors
-/// - `InvalidData`: the words hold no list of symbols of the models.
-/// - `Refused`: a read or memory was refused.
+///
+/// - `InvalidData`: the words don't encode symbols of these models.
+/// - `Refused`: a read failed, or there was no memory.
 pub fn pairs_from_words<
     Word: WordOf<State>,
     State: BitArray,

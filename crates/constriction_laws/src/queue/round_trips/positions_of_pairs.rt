@@ -21,12 +21,15 @@ use constriction_queue::{RangeCoderState, RangeDecoder};
 use constriction_words::{BitArray, WordOf};
 use std::alloc::Global;
 
-/// Takes a symbol for each of the models from a position in words: `from_compressed`, `seek`, `decode_symbols`.
+/// Decodes one symbol for each model, from a position in words.
+///
+/// Calls `from_compressed`, `seek` and `decode_symbols`.
 ///
 /// # Errors
+///
 /// - `NoSuchPlace`: the words end before the position.
-/// - `InvalidData`: the words hold no list of symbols of the models there.
-/// - `NoMemory`: memory was refused.
+/// - `InvalidData`: from there on, the words don't encode symbols of these models.
+/// - `NoMemory`: there was no memory.
 pub fn pairs_from_position<
     Word: WordOf<State>,
     State: BitArray,

@@ -20,11 +20,13 @@ use constriction_stack::coder::AnsCoder;
 use constriction_words::{BitArray, WordOf};
 use std::alloc::Global;
 
-/// Takes a symbol for each of the models from any words, and returns the coder that is left too: `from_binary`,
-/// `decode_symbols`.
+/// Decodes one symbol for each model from any words, and returns the symbols and the coder.
+///
+/// Calls `from_binary` and `decode_symbols`.
 ///
 /// # Errors
-/// - `Refused`: a read or memory was refused.
+///
+/// - `Refused`: a read failed, or there was no memory.
 pub fn pairs_from_binary_words<
     Word: WordOf<State>,
     State: BitArray,
@@ -53,12 +55,14 @@ where
     Ok((symbols, coder))
 }
 
-/// Puts symbols back on a coder, each by its own model and the last one first, and returns its words in binary form:
-/// `encode_symbols_reverse`, `into_binary`. Any words from which these symbols were decoded come back.
+/// Encodes symbols from last to first, each with its own model, and returns the coder's words in binary form.
+///
+/// Calls `encode_symbols_reverse` and `into_binary`. The words from which these symbols were decoded come back.
 ///
 /// # Errors
+///
 /// - `ImpossibleSymbol`: a model has no entry for its symbol.
-/// - `InvalidData`: the head that is left isn't a power of two to whole words, so the state has no binary form.
+/// - `InvalidData`: the head isn't a 1 above whole words, so the state has no binary form.
 /// - `Refused`: the backend refused a word.
 pub fn binary_words_with_pairs<
     Word: WordOf<State>,

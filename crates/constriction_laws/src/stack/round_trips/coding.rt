@@ -17,9 +17,10 @@ use constriction_stream::encoding::{Encode, EncodeReverse};
 use constriction_words::{BitArray, WordOf};
 use std::alloc::Global;
 
-/// Puts symbols on a coder, each by its own model and the last one first.
+/// Encodes symbols from last to first, each with its own model.
 ///
 /// # Errors
+///
 /// - `ImpossibleSymbol`: a model has no entry for its symbol.
 /// - `Refused`: the backend refused a word.
 pub fn encode_pairs_reverse<
@@ -49,10 +50,11 @@ where
     }
 }
 
-/// Takes a symbol off a coder for each of the models. The coder itself refuses no step.
+/// Decodes one symbol for each model. The coder itself refuses no step.
 ///
 /// # Errors
-/// - `Refused`: a read or memory was refused.
+///
+/// - `Refused`: a read failed, or there was no memory.
 pub fn decode_pairs<
     Word: WordOf<State>,
     State: BitArray,

@@ -16,12 +16,15 @@ use constriction_stack::coder::AnsCoder;
 use constriction_words::{BitArray, WordOf};
 use std::alloc::{Allocator, Global};
 
-/// Takes a symbol for each of the models from the words that a coder lends: `get_compressed`, `from_compressed_slice`,
-/// `decode_symbols`. The symbols that were put on it come back. The coder's state is as before in every case.
+/// Decodes one symbol for each model from the words that a coder lends.
+///
+/// Calls `get_compressed`, `from_compressed_slice` and `decode_symbols`. The symbols that the coder has encoded come
+/// back. The coder's state is unchanged in every case.
 ///
 /// # Errors
-/// - `InvalidData`: the words that the coder would export end with a zero word, as those of no valid state do.
-/// - `Refused`: memory was refused.
+///
+/// - `InvalidData`: the words that the coder would export end with a zero word. No valid state has such words.
+/// - `Refused`: there was no memory.
 pub fn decode_lent_words<
     Word: WordOf<State>,
     State: BitArray,

@@ -21,10 +21,12 @@ use constriction_stack::coder::AnsCoder;
 use constriction_words::{BitArray, WordOf};
 use std::alloc::Global;
 
-/// Puts symbols on a coder, each by its own model and the last one first, and returns the words that it then exports:
-/// `encode_symbols_reverse`, `into_compressed`. How many words an empty coder gives at most is bounded by the models.
+/// Encodes symbols from last to first, each with its own model, and returns the words that the coder then exports.
+///
+/// Calls `encode_symbols_reverse` and `into_compressed`. The models bound the number of words of an empty coder.
 ///
 /// # Errors
+///
 /// - `ImpossibleSymbol`: a model has no entry for its symbol.
 /// - `Refused`: the backend refused a word.
 pub fn words_with_pairs<
@@ -62,13 +64,15 @@ where
     }
 }
 
-/// Takes a symbol for each of the models from words, and returns the coder that is left too: `from_compressed`,
-/// `decode_symbols`. Where the words are those of a coder on which as many symbols were put by these models, from the
-/// last to the first, the symbols come back in order, and the state before.
+/// Decodes one symbol for each model from words, and returns the symbols and the coder.
+///
+/// Calls `from_compressed` and `decode_symbols`. If a coder encoded that many symbols with these models, from last to
+/// first, and exported the words, then the symbols come back in order, and so does the state before them.
 ///
 /// # Errors
-/// - `InvalidData`: the words aren't imported, because the last one is zero or a read is refused.
-/// - `Refused`: a read or memory was refused.
+///
+/// - `InvalidData`: the import failed, because the last word is zero or a read failed.
+/// - `Refused`: a later read failed, or there was no memory.
 pub fn pairs_from_words<
     Word: WordOf<State>,
     State: BitArray,

@@ -15,13 +15,15 @@ use constriction_stack::coder::AnsCoder;
 use constriction_words::{BitArray, WordOf};
 use std::alloc::Global;
 
-/// Takes a symbol for each of the models from a decoder of a coder's words that goes to a position:
-/// `as_seekable_decoder`, `seek`, `decode_symbols`. The symbols that were put on before the position was recorded come
-/// back where the coder only wrote words afterwards.
+/// Decodes one symbol for each model, from a recorded position of a coder.
+///
+/// Calls `as_seekable_decoder`, `seek` and `decode_symbols`. The symbols encoded before the position was recorded come
+/// back if the coder has only written words since then.
 ///
 /// # Errors
-/// - `InvalidData`: the coder holds fewer words below its head than the position says.
-/// - `Refused`: memory was refused.
+///
+/// - `InvalidData`: the coder holds fewer words below its head than the position requires.
+/// - `Refused`: there was no memory.
 pub fn pairs_at_position<
     Word: WordOf<State>,
     State: BitArray,

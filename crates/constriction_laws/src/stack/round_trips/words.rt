@@ -25,12 +25,14 @@ use constriction_stack::coder::AnsCoder;
 use constriction_words::{BitArray, WordOf};
 use std::alloc::Global;
 
-/// Takes a symbol for each of the models from words that stand the other way round, the one that is read first in
-/// front: `from_reversed_compressed`, `decode_symbols`.
+/// Decodes one symbol for each model from words in reverse order.
+///
+/// Calls `from_reversed_compressed` and `decode_symbols`.
 ///
 /// # Errors
+///
 /// - `InvalidData`: the first word is zero.
-/// - `Refused`: memory was refused.
+/// - `Refused`: there was no memory.
 pub fn pairs_from_reversed_words<
     Word: WordOf<State>,
     State: BitArray,
@@ -62,12 +64,14 @@ where
     decode_pairs(alloc, &mut decoder, models)
 }
 
-/// Takes a symbol for each of the models from words that an iterator gives, the one that is read first in front:
-/// `from_reversed_compressed_iter`, `decode_symbols`.
+/// Decodes one symbol for each model from an iterator over words in reverse order.
+///
+/// Calls `from_reversed_compressed_iter` and `decode_symbols`.
 ///
 /// # Errors
-/// - `InvalidData`: the words aren't imported, because the first is zero or an item that was taken is an error.
-/// - `Refused`: an item was an error among the symbols, or memory was refused.
+///
+/// - `InvalidData`: the import failed, because the first word is zero or an item is an error.
+/// - `Refused`: a later item is an error, or there was no memory.
 pub fn pairs_from_items<
     Word: WordOf<State>,
     State: BitArray,

@@ -1,7 +1,7 @@
-//! Symbols that have a codebook each, so that codebooks are mixed in one stream.
+//! Symbols, each with its own codebook, in one stream.
 //!
-//! What the words of the bits are is said by the coders' `into_compressed` and `from_compressed`, and
-//! [`one_stack_of_words`](crate::symbol::words::one_stack_of_words) says that they are those of no other bits.
+//! The contracts of `into_compressed` and `from_compressed` say which words the bits have. The law
+//! [`one_stack_of_words`](crate::symbol::words::one_stack_of_words) says that no other bits have these words.
 
 ghost use Rattle.constriction_symbol.specs.Lists.{AreCodewordsBy, AreSameBy, ReadsPairs, of_pair};
 ghost use Rattle.constriction_base.specs.Backends.{IsWrite};
@@ -22,13 +22,15 @@ use constriction_symbol::writing::WriteBitStream;
 use constriction_words::BitArray;
 use std::alloc::{AllocError, Global};
 
-/// Writes symbols to a stream, each by its own codebook, from the first to the last: `encode_symbols`. Their codewords
-/// stand behind the bits before, in this order.
+/// Encodes symbols in order, each with its own codebook, behind the bits of a stream.
+///
+/// Calls `encode_symbols`.
 ///
 /// # Errors
+///
 /// - `Frontend(ImpossibleSymbol)`: a codebook has no codeword for its symbol. The codewords before it are written.
-/// - `Backend(error)`: the backend refused a word, or memory was refused. The codewords before are written, and of this
-///   one the bits before the refused one.
+/// - `Backend(error)`: the backend refused a word, or there was no memory. The codewords before it are written, and the
+///   bits of this codeword before the refused one.
 pub fn encode_pairs<W: WriteBitStream<Queue>, C: EncoderCodebook>(
     stream: &mut W,
     symbols: &[C::Symbol],
@@ -45,13 +47,16 @@ pub fn encode_pairs<W: WriteBitStream<Queue>, C: EncoderCodebook>(
     WriteBitStream::<Queue>::encode_symbols(stream, symbols.iter().zip(codebooks.iter()))
 }
 
-/// Writes symbols to a stack, each by its own codebook, from the last to the first: `encode_symbols_reverse`. Read from
-/// the end, the bits are the codewords in the order of the list, and then the bits before.
+/// Encodes symbols from last to first, each with its own codebook, onto a stack.
+///
+/// Calls `encode_symbols_reverse`. Read from the end, the bits are the codewords in the order of the list, and then the
+/// bits before.
 ///
 /// # Errors
+///
 /// - `Frontend(ImpossibleSymbol)`: a codebook has no codeword for its symbol. The codewords behind it are written.
-/// - `Backend(error)`: the backend refused a word, or memory was refused. The codewords behind are written, and of this
-///   one the bits before the refused one.
+/// - `Backend(error)`: the backend refused a word, or there was no memory. The codewords behind it are written, and the
+///   bits of this codeword before the refused one.
 pub fn encode_pairs_reverse<Word: BitArray, B: WriteWords<Word>, C: EncoderCodebook>(
     coder: &mut StackCoder<Word, B>,
     symbols: &[C::Symbol],
@@ -71,12 +76,14 @@ where
     coder.encode_symbols_reverse(symbols.iter().zip(codebooks.iter()))
 }
 
-/// Reads a symbol for each of the codebooks, as [`ReadBitStream::decode_symbols`] gives them. Where the codewords of as
-/// many symbols begin the bits, the symbols come back, and exactly their codewords are read.
+/// Decodes one symbol for each codebook, with [`ReadBitStream::decode_symbols`].
+///
+/// If the codewords of that many symbols begin the bits, the symbols come back, and exactly their codewords are read.
 ///
 /// # Errors
-/// - `Refused(error)`: fewer symbols were given, and then the read of one answered this error.
-/// - `NoMemory`: memory for the symbols was refused.
+///
+/// - `Refused(error)`: after fewer symbols, a decode returned this error.
+/// - `NoMemory`: there was no memory for the symbols.
 pub fn decode_pairs<S: Semantics, R: ReadBitStream<S>, C: DecoderCodebook>(
     alloc: Global,
     stream: &mut R,
