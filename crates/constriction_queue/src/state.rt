@@ -17,8 +17,8 @@ use std::marker::PhantomData;
 /// # Examples
 ///
 /// ```
-/// RangeCoderState::<u8, u16>::new(0, 256) // Ok: 256 is two to the 8
-/// RangeCoderState::<u8, u16>::new(0, 255) // Err(())
+/// RangeCoderState::<u8, u16>::new(7, 256) // Ok: 256 is two to the 8
+/// RangeCoderState::<u8, u16>::new(7, 255) // Err(())
 /// ```
 #[derive(Drop, Copy, Debug, PartialEq, Eq, Hash)]
 pub struct RangeCoderState<Word: WordOf<State>, State: BitArray> {

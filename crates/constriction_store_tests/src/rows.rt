@@ -50,7 +50,7 @@ fn some_symbols(alloc: Global, count: usize, first: u32) -> Result<Vec<usize>, A
     Ok(symbols)
 }
 
-/// A hundred chunks of up to a hundred symbols.
+/// At most 100 symbols in each of 100 chunks.
 fn a_hundred(alloc: Global) -> Result<Vec<Vec<usize>>, AllocError> {
     let mut chunks = Vec::new(alloc);
     let mut number = 7u32;
