@@ -142,7 +142,7 @@ def following(page):
     number, words = sealed(low, length, moves, 32)
     room, zeros = low + length - number * 2**24, zero_words(low, length, 32)
     page.has(f"So `c = {number}`, and `A + R` is {low + length}, which is `c * q + {room}`")
-    page.has(f"one needs {2**24 // 256} of them, two need {2**24 // 256**2}. There are {room}, so `t` is {zeros}")
+    page.has(f"With one zero word it needs {2**24 // 256}, with two {2**24 // 256**2}. It holds {room}, so `t` is {zeros}")
     longer = digits(number, moves + 1) + [0] * zeros
     page.has(f"the words are `{listed(longer)}`, where `into_compressed` gives `{listed(words)}`")
     others, within = words + [255, 255], words + [0, 255]
