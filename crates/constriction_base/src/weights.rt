@@ -100,9 +100,9 @@ impl<Probability: BitArray, const PRECISION: usize> WeightTable<Probability, PRE
     /// Creates the table of these weights, for encoding and decoding.
     ///
     /// If the precision is all bits of `Probability`, the total doesn't fit a single weight, so at least two
-    /// weights are above 0. The table keeps the start of each symbol up to the last of a weight above 0, and at most
-    /// four hints for each of these symbols and one more, in `alloc`. At a precision of at most 63 bits it also keeps
-    /// a reciprocal of each weight (24 bytes a symbol), so that encoders that divide by weights need no division.
+    /// weights are above 0. The table keeps the start of each symbol up to the last one of a weight above 0, in
+    /// `alloc`. For `n` such symbols it also keeps at most `4 * n + 1` hints. At a precision of at most 63 bits it also
+    /// keeps a reciprocal of each weight (24 bytes a symbol), so that encoders that divide by weights need no division.
     /// [`for_decoding`](WeightTable::for_decoding) creates a table without reciprocals in less time.
     ///
     /// # Errors

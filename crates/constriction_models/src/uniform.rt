@@ -16,7 +16,7 @@ use std::marker::PhantomData;
 
 /// A model of the symbols `0`, `1`, .. with equal weights: each weight is `2 ^ PRECISION / count`, rounded down.
 ///
-/// The last symbol also gets what is left over.
+/// The last symbol also gets the remainder.
 ///
 /// # Examples
 ///

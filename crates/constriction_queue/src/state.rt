@@ -11,8 +11,8 @@ use std::marker::PhantomData;
 
 /// An interval of numbers, by its lower end and its length.
 ///
-/// The length is at least 2 to the power of (bits of `State` - bits of `Word`). Contracts see it by `lower_of` and
-/// `range_of`.
+/// The length is at least 2 to the power of (bits of `State` - bits of `Word`). Contracts refer to the two numbers as
+/// `lower_of` and `range_of`.
 ///
 /// # Examples
 ///

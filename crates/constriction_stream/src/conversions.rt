@@ -9,8 +9,8 @@ use crate::encoding::Encode;
 
 /// An encoder that turns into a decoder of the data that it holds.
 ///
-/// An implementor chooses freely which decoders and which errors may come of an encoder, and proves that
-/// `into_decoder` returns one of these.
+/// An implementor chooses what `becomes` and `fails` allow, and proves that `into_decoder` returns a decoder or an
+/// error that they allow.
 pub trait IntoDecoder<const PRECISION: usize>: Encode<PRECISION> {
     /// The type of the decoder.
     type IntoDecoder: Decode<PRECISION, Word = Self::Word, State = Self::State> + Drop;

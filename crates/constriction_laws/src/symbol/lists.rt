@@ -13,9 +13,10 @@ use constriction_base::backends::Semantics;
 use constriction_symbol::codebooks::DecoderCodebook;
 use constriction_symbol::reading::ReadBitStream;
 
-/// Symbols come back from a stream that knows its bits, if these begin with their concatenated codewords.
+/// Symbols come back from a stream whose bits begin with the symbols' codewords.
 ///
-/// As many reads by the codebook return the symbols, and read exactly their codewords.
+/// The stream has to know its bits (`is_list`). One read for each symbol, by the same codebook, returns the symbol and
+/// reads exactly its codeword.
 pub fn symbols_come_back<S: Semantics, R: ReadBitStream<S>, C: DecoderCodebook>()
     requires { R.is_list }
     ensures { (codebook : C) (symbols again : List C.Symbol) (code rest : List Bool) (old new : R) →
