@@ -71,7 +71,7 @@ def main(arguments: list[str]) -> None:
     data, size = bytes(letters), encoder.num_bits()
     others = [len(it(data)) * 8 for it in (zlib.compress, bz2.compress, lzma.compress)]
     print(
-        f"{size / COUNT:.2f} bits a letter, entropy {entropy(letters):.2f}, fewer than zlib, bz2 and lzma: {size < min(others)}"
+        f"{size / COUNT:.2f} bits a letter, conditional entropy {entropy(letters):.2f}, fewer than zlib, bz2 and lzma: {size < min(others)}"
     )
     draw(lambda axes: axes.plot(range(100, COUNT + 1, 100), costs[99::100]), arguments)
 

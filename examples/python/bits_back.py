@@ -49,7 +49,7 @@ def main(arguments: list[str]) -> None:
     bound = sum(2 * log2(TOTAL) - log2(CHANCES[number + 50]) for number in numbers)
     back = found[::-1] == numbers and receiver.get_binary() == words
     print(
-        f"{sizes[-1] / COUNT:.3f} net bits a number, by the mixture {bound / COUNT:.3f}; numbers and words come back: {back}"
+        f"{sizes[-1] / COUNT:.3f} net bits a number, information content {bound / COUNT:.3f}; numbers and words come back: {back}"
     )
     draw(lambda axes: axes.plot(sizes), arguments)
 

@@ -55,7 +55,7 @@ def main(arguments: list[str]) -> None:
     plain = RangeEncoder()
     plain.encode([image[y][x] for x, y in places], QuantizedGaussian(0, 255, 140.0, 55.0))
     bits, unguessed = encoder.num_bits() / SIDE**2, plain.num_bits() / SIDE**2
-    print(f"it comes back: {found == image}, {bits:.2f} bits a pixel, without neighbours {unguessed:.2f}")
+    print(f"the image comes back: {found == image}; {bits:.2f} bits a pixel, {unguessed:.2f} without neighbours")
 
     def plot(axes: object) -> None:
         axes.imshow(image, cmap="gray")  # type: ignore[attr-defined]
