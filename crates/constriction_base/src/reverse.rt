@@ -15,8 +15,8 @@ use std::convert::Infallible;
 
 /// A backend whose queue and stack are swapped.
 ///
-/// `Reverse` over a cursor reads, as a stack, the words from the cursor's position on. The word at the position comes
-/// first. As a queue, it reads the words before the position. The word right before the position comes first. A
+/// Over a cursor, the stack consists of the words from the cursor's position on, and the word at the position is read
+/// first. The queue consists of the words before the position, and the word right before the position is read first. A
 /// position of `Reverse` is the position of the cursor.
 ///
 /// # Examples

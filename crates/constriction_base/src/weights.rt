@@ -104,8 +104,8 @@ impl<Probability: BitArray, const PRECISION: usize> WeightTable<Probability, PRE
     /// If `PRECISION` is `Probability::BITS`, a single weight can't hold the total, so at least two weights have to be
     /// above 0.
     ///
-    /// The table allocates in `alloc`. Let `n` be the number of symbols up to the last one of a weight above 0. The
-    /// table keeps:
+    /// The table allocates in `alloc`. Let `n` be the number of symbols up to the last symbol with a weight above 0.
+    /// The table keeps:
     ///
     /// - The starts of `n` intervals.
     /// - At most `4 * n + 1` hints.

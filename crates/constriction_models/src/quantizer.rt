@@ -95,9 +95,9 @@ impl<Probability: WordOf<u32>, const PRECISION: usize> LeakyQuantizer<Probabilit
 /// A distribution cut halfway between symbols: a model in which every symbol of a range has an interval.
 ///
 /// At a precision of `P` bits, each of the `n` symbols gets 1 of the `2^P` quantiles, and the distribution shares out
-/// the rest. The first symbol has `k = 0`, the next symbol `k = 1`. The interval of a symbol begins at `floor((2^P - n)
-/// * F / 2^32) + k`. Here `F` is how much of `2^32` lies below the edge between the symbol and the symbol before it.
-/// For the first symbol, `F` is 0. At the end of the last interval, `k` is `n` and `F` is `2^32`.
+/// the rest. The first symbol has `k = 0`, the next symbol `k = 1`. The interval of a symbol begins at
+/// `floor((2^P - n) * F / 2^32) + k`. Here `F` is how much of `2^32` lies below the edge between the symbol and the
+/// symbol before it. For the first symbol, `F` is 0. At the end of the last interval, `k` is `n` and `F` is `2^32`.
 ///
 /// # Examples
 ///

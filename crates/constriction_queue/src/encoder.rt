@@ -144,8 +144,8 @@ impl<Word: WordOf<State>, State: BitArray, Backend: Holds<Word, Stack>> RangeEnc
 
     /// Returns whether an interval and a situation fit together, as [`RangeEncoder::from_raw_parts`] requires.
     ///
-    /// If no words are pending, they fit if the interval doesn't pass the greatest number of `State`. If words are
-    /// pending, they fit if all of these hold:
+    /// If no words are pending, the parts fit if the interval doesn't pass the greatest number of `State`. If words are
+    /// pending, the parts fit if all of these hold:
     ///
     /// - The interval passes the greatest number of `State`.
     /// - The first pending word isn't all ones.

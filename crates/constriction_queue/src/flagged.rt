@@ -74,7 +74,7 @@ impl<
     const P1: usize,
     const P2: usize,
 > FlagSwitch<Word, State, Backend, P1, P2> {
-    /// Makes a switch whose flag hasn't been decoded yet.
+    /// Makes a switch over a decoder. The flag hasn't been decoded yet.
     pub fn new(decoder: RangeDecoder<Word, State, Backend>, flag: usize) -> Self
         ensures { result ≡ record { decoder = decoder; flag = flag; switched = false } }
     {

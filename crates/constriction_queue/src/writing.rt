@@ -122,7 +122,7 @@ fn write_parts<Word: BitArray, Backend: WriteWords<Word>>(
 
 /// Writes released words, then `top`, then `last`, then the words of `behind`, each if there is one.
 ///
-/// If there is any word to write, it first asks for room for all of them.
+/// If there is any word to write, the call first asks for room for all of them.
 pub fn write_owed_behind<Word: BitArray, Backend: WriteWords<Word>>(
     bulk: &mut Backend,
     held: Option<HeldWords<Word>>,
@@ -151,7 +151,7 @@ pub fn write_owed_behind<Word: BitArray, Backend: WriteWords<Word>>(
 
 /// Writes released words, then `top`, then `last`, each if there is one.
 ///
-/// If there is any word to write, it first asks for room for all of them.
+/// If there is any word to write, the call first asks for room for all of them.
 pub fn write_owed<Word: BitArray, Backend: WriteWords<Word>>(
     bulk: &mut Backend,
     held: Option<HeldWords<Word>>,

@@ -27,7 +27,7 @@ pub trait IntoDecoder<const PRECISION: usize>: Encode<PRECISION> {
     /// An implementor chooses this relation freely. It never holds if every encoder turns into a decoder.
     ghost fails: { Self → Self.Error → Type 0 };
 
-    /// Turns into a decoder of the data that the encoder holds.
+    /// Turns the encoder into a decoder of the data that it holds.
     ///
     /// # Errors
     ///

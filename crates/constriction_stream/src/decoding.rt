@@ -29,7 +29,7 @@ pub trait Decode<const PRECISION: usize>: Code {
     /// The error of a step that the backend refuses.
     type BackendError;
 
-    /// Relates the coder before a step, the step, its answer, and the coder after it.
+    /// Relates the coder before a step, the step, what the step returns, and the coder after it.
     ///
     /// This is where an implementor states what its coder does.
     ghost decodes: { Self → Step → Result (Unit {0}) (CoderError Self.FrontendError Self.BackendError)
@@ -40,12 +40,12 @@ pub trait Decode<const PRECISION: usize>: Code {
     /// An implementor chooses this relation freely. It never holds if every call uses the model.
     ghost halts: { Self → CoderError Self.FrontendError Self.BackendError → Self → Type 0 };
 
-    /// The property of the coder that `maybe_exhausted` guarantees by `false`. An implementor chooses it freely.
+    /// The property that the coder has whenever `maybe_exhausted` returns `false`. An implementor chooses it freely.
     ghost has_data: { Self → Type 0 };
 
     /// Holds for each error that means that the data ended. An implementor chooses these errors freely.
     ///
-    /// If the coder continues past the end of its data, it holds for no error.
+    /// A coder that continues past the end of its data has none of these errors.
     ghost is_end_of_data: { CoderError Self.FrontendError Self.BackendError → Type 0 };
 
     /// Decodes a symbol under a model.

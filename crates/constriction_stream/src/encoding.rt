@@ -51,7 +51,7 @@ pub trait Encode<const PRECISION: usize>: Code {
     /// The error of a step that the backend refuses.
     type BackendError;
 
-    /// Relates the coder before a step, the step, its answer, and the coder after it.
+    /// Relates the coder before a step, the step, what the step returns, and the coder after it.
     ///
     /// This is where an implementor states what its coder does.
     ghost encodes: { Self → Step → Result (Unit {0}) (CoderError Self.FrontendError Self.BackendError)
@@ -62,7 +62,7 @@ pub trait Encode<const PRECISION: usize>: Code {
     /// An implementor chooses these errors freely among those that no step returns (`never_impossible`).
     ghost is_impossible_symbol: { Self.FrontendError → Type 0 };
 
-    /// Holds if the coder may be asked to encode only `symbols_left` more symbols.
+    /// Holds if `symbols_left` limits the number of symbols that the coder may be asked to encode.
     ///
     /// An implementor chooses it freely. If it doesn't hold, no caller has to prove that symbols are left.
     ghost counts_symbols: { Type 0 };

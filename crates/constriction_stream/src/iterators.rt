@@ -1,6 +1,6 @@
 //! Iterators over the symbols that a decoder returns.
 //!
-//! The iterators are lazy: they decode a symbol only when `next` is called. They return one answer for each model, and
+//! The iterators are lazy: they decode a symbol only when `next` is called. They return one result for each model, and
 //! continue after an error. After an iterator is dropped, its decoder is positioned after the symbols returned so far.
 //! The fields are public, because contracts name the decoder and the models that are left. The methods of `Decode` that
 //! return the iterators are `final`: as plain default methods they would make every implementation of `Decode` fail.

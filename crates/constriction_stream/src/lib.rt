@@ -9,6 +9,8 @@
 //! - An encoder refuses an impossible symbol.
 //! - A call that encodes a list makes one step for each item, and stops at the first error.
 //!
+//! The modules:
+//!
 //! - [`coder`]: `Code`, the words and the state that every coder has.
 //! - [`encoding`]: `Encode`, single steps and lists of symbols; `EncodeReverse`, lists from the last symbol to the
 //!   first.

@@ -1,4 +1,4 @@
-//! `Reciprocal`: exact division by a fixed number, by a product instead of a division.
+//! `Reciprocal`: exact division by a fixed number, with a product instead of a division instruction.
 //!
 //! Let `k` be the place of the highest set bit of the divisor `p`, and let `q` and `r` be the quotient and the
 //! remainder of `2^(64+k) - 1` by `p`. The shift is `k`. If `r < 2^k`, multiplier and addend are both `q`. Otherwise
@@ -10,7 +10,7 @@
 
 ghost use Rattle.std.specs.Prelude.{◌≡◌, ◌+◌, ◌*◌, ◌/◌, ◌<◌, ℕ};
 
-/// The reciprocal of a number above 0, which divides every number below 2^64 exactly, rounded down.
+/// The reciprocal of a number above 0, which gives the quotient, rounded down, of every number below 2^64.
 ///
 /// It consists of a multiplier, an addend and a shift. It pays off where many numbers are divided by the same number,
 /// as coder states are divided by a symbol's weight. It is made once, and each quotient then takes one 128-bit product

@@ -13,7 +13,8 @@ use crate::backends::writing::WriteWords;
 
 /// A backend that holds the same words as a stack and as a queue, in opposite orders.
 ///
-/// The stack reads the word written last first. The queue reads the word written first.
+/// As a stack, it returns the words in the reverse of the order in which they were written. As a queue, it returns them
+/// in the order in which they were written.
 ///
 /// A coder requires this trait of a backend that it writes to as a stack and hands on as a queue. Vectors and slices
 /// implement the trait. A cursor doesn't, because its position separates the words of its stack from those of its

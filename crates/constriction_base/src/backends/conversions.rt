@@ -20,7 +20,7 @@ pub trait IntoReadWords<Word, S: Semantics>: Holds<Word, S> {
     /// Relates the value to the backend that it turns into.
     ghost becomes: { Self → Self.IntoReadWords → Type 0 };
 
-    /// Turns into a backend that reads the same words.
+    /// Turns the value into a backend that reads the same words.
     fn into_read_words(self) -> Self::IntoReadWords
         ensures words { ⟦<Self::IntoReadWords as Holds<Word, S>>⟧.words result ≡ Self.words self }
         ensures place { becomes self result };
@@ -52,7 +52,7 @@ pub trait IntoSeekReadWords<Word, S: Semantics>: Holds<Word, S> {
     /// Relates the value to the backend that it turns into.
     ghost becomes: { Self → Self.IntoSeekReadWords → Type 0 };
 
-    /// Turns into a backend that reads the same words and can seek.
+    /// Turns the value into a backend that reads the same words and can seek.
     fn into_seek_read_words(self) -> Self::IntoSeekReadWords
         ensures words { ⟦<Self::IntoSeekReadWords as Holds<Word, S>>⟧.words result ≡ Self.words self }
         ensures place { becomes self result };

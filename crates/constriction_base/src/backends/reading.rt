@@ -23,9 +23,9 @@ pub trait Holds<Word, S: Semantics> {
 ///
 /// A `Stack` reads the word that was written last. A `Queue` reads the word that was written first.
 ///
-/// An implementor chooses which answers a read may return, which backend the read leaves, and when the backend seems
-/// exhausted. It then proves that every read obeys these choices. Where `is_list` holds, it also proves that a read
-/// takes the first word of the list.
+/// An implementor chooses what a read may return, which backend the read leaves, and when the backend seems exhausted.
+/// It then proves that every read obeys these choices. Where `is_list` holds, it also proves that a read takes the
+/// first word of the list.
 ///
 /// # Examples
 ///
@@ -39,10 +39,10 @@ pub trait ReadWords<Word, S: Semantics>: Holds<Word, S> {
     /// It is `Infallible` for vectors and cursors, and the iterator's own error type for `FallibleIteratorReadWords`.
     type ReadError;
 
-    /// Relates the backend before a read, the answer, and the backend after it.
+    /// Relates the backend before a read, what the read returns, and the backend after it.
     ghost reads: { Self → Result (Option Word) Self.ReadError → Self → Type 0 };
 
-    /// The answer of `maybe_exhausted`.
+    /// The value that `maybe_exhausted` returns.
     ghost seems_exhausted: { Self → Bool };
 
     /// Takes the next word and returns it, or returns `Ok(None)` if no word is left.

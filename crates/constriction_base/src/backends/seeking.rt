@@ -1,8 +1,8 @@
 //! Positions in a backend or in a coder.
 //!
 //! For vectors and cursors, `can_seek` and `seek_fails` exclude each other: a seek succeeds exactly if `can_seek`
-//! holds. A refused seek changes nothing. A coder that reads after its backend's seek, or that has two backends, may
-//! allow both at the same position. `stays` states what its refused seek leaves.
+//! holds, and a refused seek changes nothing. A coder that reads after its backend's seek, or that has two backends,
+//! may allow both at the same position. `stays` states what its refused seek leaves.
 
 ghost use Rattle.std.specs.Prelude.{◌≡◌, ℕ, length, IsOk, OnOk, OnErr};
 

@@ -38,7 +38,7 @@ pub trait WriteWords<Word>: Holds<Word, Stack> {
     /// The error of a write and of `prepare`: lack of memory for a vector, lack of room for a cursor.
     type WriteError;
 
-    /// Relates the backend before a write, the word, the answer, and the backend after the write.
+    /// Relates the backend before a write, the word, what the write returns, and the backend after it.
     ///
     /// The relation includes state that `words` and `room` don't capture, such as a cursor's position and a vector's
     /// capacity. Contracts of calls that write several words chain it: each write starts from the backend that the
@@ -60,10 +60,10 @@ pub trait WriteWords<Word>: Holds<Word, Stack> {
     /// Holds for each error that means that the backend is full, as opposed to a lack of memory.
     ghost is_lack_of_room: { Self.WriteError → Type 0 };
 
-    /// The answer of `maybe_full`.
+    /// The value that `maybe_full` returns.
     ghost seems_full: { Self → Bool };
 
-    /// Writes a word. The next read, as from a stack, returns this word.
+    /// Writes a word onto the stack, so that the next read returns this word.
     ///
     /// # Errors
     ///

@@ -1,6 +1,7 @@
 //! Writing to a cursor: each write replaces the word at the position, until the buffer ends.
 //!
-//! `write` has clauses beyond those of the trait: one word and the position change, and every other word stays.
+//! The contract of `write` says more than the trait: one word and the position change, and all other words stay the
+//! same.
 
 ghost use Rattle.std.specs.Prelude.{◌≡◌, ◌+◌, ◌-◌, ◌∷◌, ◌<◌, ◌≤◌, ◌==◌, Result, Ok, Err, length, reverse, IsOk, OnOk};
 ghost use Rattle.std.specs.Prelude.{OnErr, IfErr, slice_set, take};

@@ -10,7 +10,7 @@ ghost use Rattle.constriction_base.specs.Hints.{AreHints};
 use constriction_words::BitArray;
 use std::alloc::{AllocError, Global};
 
-/// Returns how many low bits of a quantile its bucket leaves out, in a table of this many symbols.
+/// Returns how many low bits of a quantile its bucket leaves out, in a table of `symbols` symbols.
 ///
 /// There are more than two and at most four buckets for each symbol. There may be fewer in two cases: each bucket is a
 /// single quantile, or the number of buckets is 2^63.

@@ -59,7 +59,7 @@ impl<Word: WordOf<State>, State: BitArray, Backend: ReadWords<Word, Queue>> Rang
     ///
     /// # Errors
     ///
-    /// Returns the error of a read. Reads from a cursor have no errors.
+    /// Returns the error of a read. Reads from a cursor never fail.
     ///
     /// # Examples
     ///
@@ -88,7 +88,7 @@ impl<Word: WordOf<State>, State: BitArray, Backend: ReadWords<Word, Queue>> Rang
     ///
     /// # Errors
     ///
-    /// Returns the error of a read. Reads from a cursor have no errors.
+    /// Returns the error of a read. Reads from a cursor never fail.
     ///
     /// # Examples
     ///

@@ -17,7 +17,7 @@ impl<Word: WordOf<State>, State: BitArray, Backend: WriteWords<Word>> RangeEncod
     State,
     Backend,
 > {
-    /// Returns the encoder's words: the words written, the pending words, and a seal.
+    /// Returns the backend with the encoder's words: the words written, the pending words, and a seal.
     ///
     /// If no symbol was encoded, there is no seal. The encoder first asks the backend for room for all words that it
     /// still has to write.
@@ -55,11 +55,11 @@ impl<Word: WordOf<State>, State: BitArray, Backend: WriteWords<Word>> RangeEncod
         self.bulk.maybe_full()
     }
 
-    /// Returns the encoder's words with a seal that any words may follow.
+    /// Returns the backend with the encoder's words and a seal that any words may follow.
     ///
     /// The seal is self-delimiting: every list that begins with the returned words decodes to the encoded symbols. The
-    /// seal is one word, followed by the least number of zero words for which this holds, at most `State::BITS /
-    /// Word::BITS - 1`. If no symbol was encoded, there is no seal.
+    /// seal is one word, followed by the least number of zero words for which this holds. There are at most
+    /// `State::BITS / Word::BITS - 1` zero words. If no symbol was encoded, there is no seal.
     ///
     /// If a state is two words wide, the words are those of [`RangeEncoder::into_compressed`]. For wider states, the
     /// words of `into_compressed` are sure to decode to the symbols only if no word follows them.
@@ -203,8 +203,8 @@ impl<Word: WordOf<State>, State: BitArray, Backend: Holds<Word, Stack> + Words<W
     /// Returns an iterator over the words that [`RangeEncoder::into_compressed`] would return.
     ///
     /// The encoder is unchanged. The iterator returns the words that the backend lends, then the pending words and the
-    /// seal. These are the exported words if the backend lends its words in the order in which they were written
-    /// ([`crate::as_written::LendsAsWritten`]), as vectors and slices do.
+    /// seal. These are the words of `into_compressed` if the backend lends its words in the order in which they were
+    /// written ([`crate::as_written::LendsAsWritten`]), as vectors and slices do.
     pub fn iter_compressed(&self) -> RangeCompressedIter<'_, Word>
         // The words that the backend lends, and then what the sealed words have behind those written.
         ensures lent { result ≡ map Word.number (Backend.lent self.now.bulk)

@@ -182,7 +182,9 @@ impl<
         }
     }
 
-    /// Returns whether the head is 0. After all symbols encoded onto an empty coder are decoded, it is 0.
+    /// Returns whether the head is 0.
+    ///
+    /// The head is 0 after all symbols that were encoded onto an empty coder are decoded.
     #[inline]
     fn maybe_exhausted(&self) -> bool
         ensures value { IsTrue result ↔ (self.now.state.head ≡ 0) }

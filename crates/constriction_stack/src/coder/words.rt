@@ -101,7 +101,7 @@ impl<Word: WordOf<State>, State: BitArray, Backend: WriteWords<Word>> AnsCoder<
     State,
     Backend,
 > {
-    /// Returns the coder's words, on its backend.
+    /// Returns the backend, with all words of the coder on it.
     ///
     /// These are the words below the head, then the words of the head, lowest first, without leading zero words. The
     /// coder first asks the backend for room for the head's words. If the head is 0, the backend is returned unchanged.
