@@ -1,8 +1,8 @@
 //! Backends: where a coder keeps its words.
 //!
 //! Contracts describe a backend by the list of words that its next reads return, the next word first. A read takes the
-//! first word of the list. A write puts a word in front, because writing is always onto a stack: the word written last
-//! is read first.
+//! first word off the list. A write puts a word in front of the list. Writes always go onto a stack: the word written
+//! last is read first.
 //!
 //! - `semantics`: the two reading orders.
 //! - `reading`: reading words, and how many are left.

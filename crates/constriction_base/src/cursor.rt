@@ -16,10 +16,10 @@ mod writing;
 
 /// A buffer of words with a position, which separates the words of a stack from those of a queue.
 ///
-/// As a stack, the cursor holds the words before the position and reads the one right before it first. As a queue, it
-/// holds the words from the position on and reads the one at the position first. A write replaces the word at the
-/// position and moves past it. At the end of the buffer, a write is refused. Contracts see the buffer and the
-/// position, which never exceeds the buffer's length.
+/// As a stack, the cursor holds the words before the position, and the word right before the position is read first. As
+/// a queue, it holds the words from the position on, and the word at the position is read first. A write replaces the
+/// word at the position and moves past it. At the end of the buffer, a write is refused. Contracts describe a cursor by
+/// its buffer and its position. The position never exceeds the buffer's length.
 ///
 /// # Examples
 ///
@@ -66,7 +66,7 @@ impl<Word: BitArray, Buf: Words<Word> + Drop> Cursor<Word, Buf> {
         }
     }
 
-    /// Creates a cursor behind the last word: a stack of all words of the buffer, or an empty queue.
+    /// Creates a cursor after the last word: a stack of all words of the buffer, or an empty queue.
     ///
     /// # Examples
     ///
@@ -85,7 +85,7 @@ impl<Word: BitArray, Buf: Words<Word> + Drop> Cursor<Word, Buf> {
         }
     }
 
-    /// Returns the buffer. The cursor's position is at most its length.
+    /// Returns the buffer. The cursor's position is at most the buffer's length.
     pub fn buf(&self) -> &Buf
         ensures buffer { result.now ≡ self.now.buf }
         ensures within { self.now.pos ≤ length (Buf.lent self.now.buf) }

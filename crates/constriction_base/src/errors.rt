@@ -10,8 +10,9 @@ use thiserror::Error;
 
 /// The error of a coder: either its frontend or its backend refused the call.
 ///
-/// The frontend knows symbols and their models. The backend reads and writes words. The `?` operator turns a backend's
-/// error into a `CoderError`. It never does so for a frontend's error, which is written `CoderError::Frontend(error)`.
+/// The frontend is the part of the coder that handles symbols and their models. The backend reads and writes words. The
+/// `?` operator turns a backend's error into `CoderError::Backend`. It doesn't convert a frontend's error, which code
+/// writes as `CoderError::Frontend(error)`.
 ///
 /// # Examples
 ///
@@ -48,12 +49,12 @@ impl<F, B> From<B> for CoderError<F, B> {
 /// ```
 #[derive(Debug, Clone, Copy, PartialEq, Eq, Hash, Error)]
 pub enum DefaultEncoderFrontendError {
-    /// The model doesn't know the symbol: the symbol has no interval.
+    /// The model has no interval for the symbol, so the symbol can't be encoded.
     #[error("Impossible symbol.")]
     ImpossibleSymbol,
 }
 
-/// The error of an encoder whose backend's writes return `E`.
+/// The error of an encoder whose backend has the write error `E`.
 pub type DefaultEncoderError<E> = CoderError<DefaultEncoderFrontendError, E>;
 
 /// The error of a call that both reads from a backend and writes to it.
@@ -76,7 +77,7 @@ pub enum ReadWriteError<R, W> {
     Write(W),
 }
 
-/// The error of a write to a backend that has an end.
+/// The error of a write to a backend that can't grow, such as a cursor.
 ///
 /// # Examples
 ///
@@ -87,12 +88,13 @@ pub enum ReadWriteError<R, W> {
 /// ```
 #[derive(Debug, Clone, Copy, PartialEq, Eq, Hash, Error)]
 pub enum BoundedWriteError {
-    /// The buffer ends at the position of the write.
+    /// The position of the write is the end of the buffer.
     #[error("out of space")]
     OutOfSpace,
-    /// There was no memory.
+    /// There is no memory.
     ///
-    /// A `Cursor` never returns this error. It serves coders over a cursor that need memory of their own.
+    /// A `Cursor` never returns this error. A coder over a cursor returns it if the coder itself asks for memory and
+    /// gets none.
     #[error("out of memory")]
     Memory,
 }

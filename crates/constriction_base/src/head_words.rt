@@ -1,8 +1,8 @@
 //! Words that move between a coder's head and a backend. The head is the number that a coder keeps above its words.
 //!
-//! If there are no words to write, `append_words` doesn't call the backend. A refused write returns how many words
-//! were written before it, because the stack coder's guard takes these off again, and generic code can't count them on
-//! the backend.
+//! If there are no words to write, `append_words` doesn't call the backend. A call that stops at a refused write
+//! returns how many words it wrote before. The stack coder's guard takes these words off again, and generic code can't
+//! count them on the backend.
 
 ghost use Rattle.std.specs.Prelude.{Err, IfErr, IfNone, IfOk, IfSome, MatchResult, Ok, drop, ℕ, ◌+◌, ◌<◌};
 ghost use Rattle.std.specs.Prelude.{true, ◌^◌, ◌≡◌, ◌≤◌, ◌⊎◌};
@@ -16,7 +16,7 @@ use crate::backends::semantics::Stack;
 use crate::backends::writing::WriteWords;
 use constriction_words::{BitArray, WordOf};
 
-/// Returns how many words a head has, leading zero words not counted.
+/// Returns the number of words of a head, without leading zero words.
 #[inline]
 pub fn count_of_words<Word: WordOf<State>, State: BitArray>(head: State) -> usize
     requires { IsSizes Word.BITS State.BITS }
@@ -31,7 +31,7 @@ pub fn count_of_words<Word: WordOf<State>, State: BitArray>(head: State) -> usiz
     count
 }
 
-/// Returns the number of words below the leading one of a head, or `None` if these bits aren't whole words.
+/// Returns the number of words below the leading set bit of a head, or `None` if the bits aren't whole words.
 ///
 /// It also returns `None` for the head 0.
 pub fn words_below_one<Word: WordOf<State>, State: BitArray>(head: State) -> Option<usize>
@@ -49,11 +49,11 @@ pub fn words_below_one<Word: WordOf<State>, State: BitArray>(head: State) -> Opt
     Some((bits / Word::BITS) as usize)
 }
 
-/// Writes the lowest `count` words of a head to a backend, the lowest word first, without a request for room.
+/// Writes the lowest `count` words of a head to a backend, the lowest word first, without asking for room.
 ///
 /// # Errors
 ///
-/// The error of a write, together with the number of words that were written before it. These words stay.
+/// Returns the error of the refused write, and the number of words written before it. These words stay on the backend.
 pub fn write_words<Word: WordOf<State>, State: BitArray, Backend: WriteWords<Word>>(
     bulk: &mut Backend,
     head: State,
@@ -84,12 +84,12 @@ pub fn write_words<Word: WordOf<State>, State: BitArray, Backend: WriteWords<Wor
 
 /// Asks for room for the lowest `count` words of a head and writes them to a backend, the lowest word first.
 ///
-/// Where `count` is 0, the backend isn't called.
+/// If `count` is 0, the backend isn't called.
 ///
 /// # Errors
 ///
-/// The error of `prepare` or of a write, together with the number of words that were written before it. These words
-/// stay.
+/// Returns the error of the refused `prepare` or write, and the number of words written before it. These words stay on
+/// the backend.
 pub fn append_words<Word: WordOf<State>, State: BitArray, Backend: WriteWords<Word>>(
     bulk: &mut Backend,
     head: State,
@@ -119,15 +119,15 @@ pub fn append_words<Word: WordOf<State>, State: BitArray, Backend: WriteWords<Wo
     write_words(bulk, head, count)
 }
 
-/// Reads words into a head until it reaches `2 ^ bits` or no word is left.
+/// Reads words into a head until the head reaches `2 ^ bits` or no word is left.
 ///
-/// Returns the new head, and whether it reached `2 ^ bits`. Each word becomes the lowest word of the head. Where the
-/// head is that large already, the backend isn't called. The caller proves that the head is above 0, and that a state
+/// Returns the new head, and whether it reached `2 ^ bits`. Each word becomes the lowest word of the head. If the head
+/// is at least `2 ^ bits` already, the call reads no word. The caller proves that the head is above 0, and that a state
 /// has room for `bits` bits and one more word.
 ///
 /// # Errors
 ///
-/// The error of a read. The words that were read before it are lost.
+/// Returns the error of the refused read. The words that were read before it are lost.
 pub fn fill<Word: WordOf<State>, State: BitArray, Backend: ReadWords<Word, Stack>>(
     bulk: &mut Backend,
     head: State,

@@ -9,11 +9,11 @@ use crate::backends::{Holds, ReadWords, Semantics};
 use std::iter::Fuse;
 use std::marker::Model;
 
-/// A backend that reads the words that an iterator returns, in their order.
+/// A backend whose reads return the words of an iterator, in the iterator's order.
 ///
-/// Both as a stack and as a queue, it reads the iterator's first item first. An item `Err(error)` is the error of that
-/// read, and the next read continues with the item behind it. Once the iterator has ended, it is not called again.
-/// Contracts see the iterator, and whether it has ended.
+/// Both as a stack and as a queue, it reads the iterator's first item first. A read of an item `Err(error)` returns
+/// this error, and the next read continues with the next item. Once the iterator has returned `None`, it is not called
+/// again. Contracts describe the backend by the iterator and whether it has ended.
 ///
 /// # Examples
 ///
@@ -46,7 +46,7 @@ impl<Word, ReadError, Iter: Iterator<Item = Result<Word, ReadError>>> FallibleIt
 > {
     /// Creates a backend over an iterator.
     ///
-    /// The results that its reads can give are exactly those that the iterator can give. The caller proves that the
+    /// The reads of the backend can return exactly the results that the iterator can return. The caller proves that the
     /// iterator's `next` may be called.
     ///
     /// # Examples
@@ -75,7 +75,7 @@ impl<Iter: Iterator> IntoIterator for FallibleIteratorReadWords<Iter> {
     ghost into_iter_gives = { λ backend rest. (fuse_source rest ≡ backend.0) × (fuse_done rest ≡ backend.1)
         × (fuse_done rest ≡ false → Iter.can_next (fuse_source rest)) };
 
-    /// Returns the iterator as the reads left it. Once it has ended, it returns only `None`.
+    /// Returns the iterator with the items that no read took. Once it has ended, it returns only `None`.
     fn into_iter(self) -> Fuse<Iter> {
         let FallibleIteratorReadWords { inner } = self;
         inner

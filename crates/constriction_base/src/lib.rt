@@ -1,8 +1,8 @@
 //! What every entropy coder builds on: backends that hold its words, and models that hold its probabilities.
 //!
-//! A coder knows two things of the outside world. Its backend is a list of words: a read takes the first word, a write
-//! puts one in front. Its model is a table: each symbol has an interval, and the intervals partition the numbers below
-//! `2 ^ PRECISION`. The contracts of the crates above speak only of such lists and tables.
+//! A coder depends on two things. Its backend is a list of words: a read takes the first word off, and a write puts a
+//! word in front. Its model is a table: each symbol has an interval, and the intervals partition the numbers below
+//! `2 ^ PRECISION`. The contracts of the crates above this one describe backends and models only as lists and tables.
 //!
 //! - [`backends`]: the backend traits (`ReadWords`, `WriteWords` and others) and the two reading orders, `Stack` and
 //!   `Queue`.

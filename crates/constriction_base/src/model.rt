@@ -1,9 +1,9 @@
 //! Model traits: which interval of the quantiles stands for a symbol.
 //!
-//! A model of a given precision (in bits) partitions its quantiles, the numbers below `2 ^ PRECISION`, into intervals,
-//! one for each symbol that it knows. [`EncoderModel`] finds the interval of a symbol. [`DecoderModel`] finds the
-//! interval that holds a quantile. Both require [`EntropyModel`], whose laws say that the intervals are a table. A
-//! `&M` is a model wherever `M` is one.
+//! A model of a given precision (in bits) partitions its quantiles, the numbers below `2 ^ PRECISION`, into intervals.
+//! Each symbol that the model can code has one interval. [`EncoderModel`] finds the interval of a symbol.
+//! [`DecoderModel`] finds the interval that holds a quantile. Both require [`EntropyModel`], whose laws say that the
+//! intervals are a table. If `M` is a model, `&M` is a model too.
 
 ghost use Rattle.std.specs.Prelude.{◌≡◌, ℕ, ◌^◌, ◌<◌, ◌≤◌, List, length, IfSome, IfNone};
 ghost use Rattle.constriction_base.specs.Tables.{Has, Impossible, IsTable, Covers};
@@ -43,7 +43,8 @@ pub trait EntropyModel<const PRECISION: usize>: Drop {
 
 /// A model that an encoder can use.
 ///
-/// An implementor proves that each call returns the entry of the symbol in the table, or `None` if the table has none.
+/// An implementor proves that each call returns the symbol's entry in the table, or `None` if the table has no entry
+/// for the symbol.
 ///
 /// # Examples
 ///
@@ -52,7 +53,7 @@ pub trait EntropyModel<const PRECISION: usize>: Drop {
 /// table.left_cumulative_and_probability(&1) // Some((255, 1))
 /// ```
 pub trait EncoderModel<const PRECISION: usize>: EntropyModel<PRECISION> {
-    /// Returns the start and the length of the symbol's interval, or `None` if the model doesn't know the symbol.
+    /// Returns the start and the length of the symbol's interval, or `None` for an impossible symbol.
     fn left_cumulative_and_probability(
         &self,
         symbol: &Self::Symbol,
@@ -64,9 +65,8 @@ pub trait EncoderModel<const PRECISION: usize>: EntropyModel<PRECISION> {
 
     /// Returns the start and the length of the symbol's interval, and the length's reciprocal where the model has one.
     ///
-    /// An encoder that divides by the length then takes a product instead of a division. A model without reciprocals
-    /// needs no such method of its own: the default returns none. Returns `None` if the model doesn't know the
-    /// symbol.
+    /// Returns `None` for an impossible symbol. With a reciprocal, an encoder multiplies where it would divide by the
+    /// length. A model without reciprocals keeps the default method, which returns no reciprocal.
     fn left_cumulative_and_reciprocal(
         &self,
         symbol: &Self::Symbol,
@@ -93,7 +93,7 @@ pub trait EncoderModel<const PRECISION: usize>: EntropyModel<PRECISION> {
 
 /// A model that a decoder can use.
 ///
-/// An implementor proves that each call returns an entry of the table, and that its interval holds the quantile.
+/// An implementor proves that each call returns the entry of the table whose interval holds the quantile.
 ///
 /// # Examples
 ///

@@ -1,8 +1,8 @@
 //! `Reverse`: a cursor whose stack and queue are swapped.
 //!
-//! `Reverse(Cursor::new_at_write_beginning(words))` reads as a stack the words of a buffer that lists them in the
-//! order of reading, for example of a file that is written from its end. The impls are for cursors alone: a generic
-//! impl can be proved, but its callers can't.
+//! `Reverse(Cursor::new_at_write_beginning(words))` is a stack that reads the buffer `words` from its first word on. It
+//! serves buffers that list words in reading order, for example a file that is written from its end. The impls are for
+//! cursors alone: a generic impl can be proved, but its callers can't.
 
 ghost use Rattle.constriction_base.specs.laws.Room.{within};
 
@@ -15,8 +15,9 @@ use std::convert::Infallible;
 
 /// A backend whose queue and stack are swapped.
 ///
-/// As a stack, it reads the words from the position on, the one at the position first. As a queue, it reads the words
-/// before the position, the one right before it first. Positions are those of the cursor.
+/// Over a cursor, the stack consists of the words from the cursor's position on, and the word at the position is read
+/// first. The queue consists of the words before the position, and the word right before the position is read first. A
+/// position of `Reverse` is the position of the cursor.
 ///
 /// # Examples
 ///

@@ -1,6 +1,7 @@
 //! Borrowed words as a buffer, and as a value that turns into a cursor.
 //!
-//! The cursor stands at the end of the words as a stack, and at their beginning as a queue.
+//! A cursor that is read as a stack starts at the end of the words. A cursor that is read as a queue starts at their
+//! beginning.
 
 ghost use Rattle.std.specs.Prelude.{◌≡◌, length, reverse};
 ghost use Rattle.std.proofs.Common.{sym};

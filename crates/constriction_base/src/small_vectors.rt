@@ -1,8 +1,8 @@
-//! A small vector of words as a stack, whose first word lies in the value itself.
+//! `SmallVec` as a stack of words, whose first word is stored in the value itself.
 //!
-//! It holds one reversed codeword and asks for memory only when it grows past its first word. Only then may a write or
-//! `prepare` return lack of memory, which is their only error. Reading never fails, takes no memory and keeps the
-//! capacity. The impls hold for every allocator.
+//! The vector asks for memory only when it grows past its first word. Only then may a write or `prepare` return lack of
+//! memory, and they return no other error. Reads never fail, take no memory and keep the capacity. A bit stack over a
+//! small vector holds one codeword while the codeword is reversed. The impls hold for every allocator.
 
 ghost use Rattle.std.specs.Prelude.{◌≡◌, ◌+◌, ◌-◌, false, ◌<◌, ◌≤◌, ◌==◌, Option, Result, Ok, Err, length, reverse};
 ghost use Rattle.constriction_base.specs.Backends.{Reads, Writes};
@@ -77,7 +77,9 @@ impl<A: Allocator + Copy> WriteWords<usize> for SmallVec<usize, 1, A> {
         false
     }
 
-    /// Asks for room for `count` further words. This needs no memory where the words held and these are at most one.
+    /// Asks for room for `count` further words.
+    ///
+    /// The call needs no memory if the words held and the further words are at most one word together.
     fn prepare(&mut self, count: usize) -> Result<(), AllocError> {
         // The capacity is at least one, and at least the number of words.
         let _inline = self.capacity();

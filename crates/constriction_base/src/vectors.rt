@@ -1,7 +1,7 @@
-//! A vector of words as a stack, which reads its last word first.
+//! `Vec` as a stack of words: the last word of the vector is read first.
 //!
-//! The only error of its writes and of `prepare` is lack of memory. Reading never fails, takes no memory and keeps the
-//! capacity. The impls hold for every allocator.
+//! Reads never fail, take no memory and keep the capacity. Writes and `prepare` fail only for lack of memory. The impls
+//! hold for every allocator.
 
 ghost use Rattle.std.specs.Prelude.{◌≡◌, ◌+◌, ◌-◌, false, ◌<◌, ◌≤◌, ◌==◌, Option, Result, Ok, Err, reverse, vec_len};
 ghost use Rattle.std.specs.Prelude.{vec_capacity, take};

@@ -1,13 +1,13 @@
 //! `WeightTable`: a model made from the weights of its symbols.
 //!
-//! Weights of 0 at the end of the list are cut off, so that the start of each remaining symbol fits `Probability`.
-//! Starts and hints are one allocation each. Contracts see a table by `entries` of `specs/`, because a law of a trait
-//! ranges over all values of a model.
+//! The table cuts off weights of 0 at the end of the list, so that the start of each remaining symbol fits
+//! `Probability`. Starts and hints take one allocation each. Contracts describe a table by `entries`, defined in
+//! `specs/`, because a law of a trait ranges over all values of a model.
 //!
-//! Each reciprocal takes one 128-bit division, 33 to 41 ns in a prototype, where the rest of a table takes 10.4 to
-//! 10.8 ns a symbol. Two 64-bit divisions would take 19 to 29 ns, but only serve weights below 2^32, so the simpler
-//! form stands here. An encode with a table of `for_decoding` divides, on a path that an encode with a table of `new`
-//! never takes.
+//! A reciprocal takes one 128-bit division, 33 to 41 ns in a prototype. The rest of a table takes 10.4 to 10.8 ns a
+//! symbol. Two 64-bit divisions would take 19 to 29 ns, but they serve only weights below 2^32, so the table uses the
+//! simpler form. An encode with a table of `for_decoding` divides. At a precision of at most 63 bits, an encode with a
+//! table of `new` never takes that path.
 
 mod hints;
 pub mod starts;
@@ -42,7 +42,7 @@ pub enum TableError {
     /// The weights don't add up to `2 ^ PRECISION`.
     #[error("wrong total")]
     WrongTotal,
-    /// There was no memory for the table.
+    /// There is no memory for the table.
     #[error("out of memory")]
     Memory,
 }
@@ -57,11 +57,13 @@ impl From<AllocError> for TableError {
 
 /// A model of the symbols `0`, `1`, .. by their weights, which add up to `2 ^ PRECISION`.
 ///
-/// The intervals lie in the order of the list, and each is as long as its symbol's weight. A symbol of weight 0 and a
-/// number past the end of the list have no interval: they are impossible symbols.
+/// A table is made from a list of weights, where entry `i` is the weight of symbol `i`. The intervals lie in the order
+/// of the symbols, and the length of each interval is its symbol's weight. A symbol of weight 0 has no interval, and
+/// neither has a number past the end of the list. Both are impossible symbols.
 ///
-/// A decoder finds a quantile's symbol in two steps. The quantile's high bits, its bucket, name the few symbols that
-/// it can be. A binary search among these, usually of no step at all, finds the symbol.
+/// A decoder finds a quantile's symbol in two steps. The quantile's high bits, its bucket, select the few symbols whose
+/// intervals meet the bucket. A binary search then finds the symbol among them. Usually only one symbol is left, and
+/// the search takes no step.
 ///
 /// # Examples
 ///
@@ -75,7 +77,7 @@ impl From<AllocError> for TableError {
 pub struct WeightTable<Probability: BitArray, const PRECISION: usize> {
     /// The start of each symbol's interval, up to the last symbol of a weight above 0.
     starts: Vec<Probability>,
-    /// For each bucket the symbol of its first quantile, and behind these the last symbol.
+    /// The symbol of each bucket's first quantile, and after these the last symbol.
     hints: Vec<usize>,
     /// The number of low bits of a quantile that its bucket leaves out.
     shift: u32,
@@ -99,15 +101,22 @@ impl<Probability: BitArray, const PRECISION: usize> WeightTable<Probability, PRE
 
     /// Creates the table of these weights, for encoding and decoding.
     ///
-    /// If the precision is all bits of `Probability`, the total doesn't fit a single weight, so at least two
-    /// weights are above 0. The table keeps the start of each symbol up to the last one of a weight above 0, in
-    /// `alloc`. For `n` such symbols it also keeps at most `4 * n + 1` hints. At a precision of at most 63 bits it also
-    /// keeps a reciprocal of each weight (24 bytes a symbol), so that encoders that divide by weights need no division.
+    /// If `PRECISION` is `Probability::BITS`, a single weight can't hold the total, so at least two weights have to be
+    /// above 0.
+    ///
+    /// The table allocates in `alloc`. Let `n` be the number of symbols up to the last symbol with a weight above 0.
+    /// The table keeps:
+    ///
+    /// - The starts of `n` intervals.
+    /// - At most `4 * n + 1` hints.
+    /// - At a precision of at most 63 bits, `n` reciprocals of 24 bytes each. With them, an encoder that would divide
+    ///   by a weight multiplies instead.
+    ///
     /// [`for_decoding`](WeightTable::for_decoding) creates a table without reciprocals in less time.
     ///
     /// # Errors
     ///
-    /// Checked in this order:
+    /// The checks come in this order:
     ///
     /// - `Empty`: the list is empty.
     /// - `WrongTotal`: the weights don't add up to `2 ^ PRECISION`. The sum is exact, whatever the width of
@@ -139,13 +148,13 @@ impl<Probability: BitArray, const PRECISION: usize> WeightTable<Probability, PRE
 
     /// Creates the table of these weights without reciprocals, for decoding.
     ///
-    /// It also serves encoders that don't divide by weights, such as the range coder's. It has the same entries as the
-    /// table of [`new`](WeightTable::new) and takes less time and memory. Encoders that divide by weights accept it
-    /// too, but run slower.
+    /// The table has the same entries as the table of [`new`](WeightTable::new), and takes less time and memory. It
+    /// also serves encoders that don't divide by weights, such as the range coder's. Encoders that divide by weights
+    /// accept it too, but run slower.
     ///
     /// # Errors
     ///
-    /// Those of [`new`](WeightTable::new).
+    /// Returns the errors of [`new`](WeightTable::new), in the same cases and order.
     ///
     /// # Examples
     ///

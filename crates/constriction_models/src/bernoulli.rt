@@ -10,7 +10,7 @@ use constriction_base::model::{DecoderModel, EncoderModel, EntropyModel};
 use constriction_words::{BitArray, WordOf};
 use std::marker::PhantomData;
 
-/// A model of the symbols `false` and `true`, in this order.
+/// A model of the symbols `false` and `true`, whose intervals lie in this order.
 ///
 /// # Examples
 ///
@@ -32,7 +32,7 @@ pub struct BernoulliModel<Probability: WordOf<u32>, const PRECISION: usize> {
 }
 
 impl<Probability: WordOf<u32>, const PRECISION: usize> BernoulliModel<Probability, PRECISION> {
-    /// Creates the model in which `true` has this weight and `false` has the rest of `2 ^ PRECISION`.
+    /// Creates the model in which `true` has the weight `weight`, and `false` has the rest of `2 ^ PRECISION`.
     ///
     /// Returns `None` if either weight would be 0.
     ///

@@ -1,8 +1,8 @@
-//! The error where a number of symbols makes no model.
+//! The error for a model with too few symbols, or too many for its precision.
 
 use thiserror::Error;
 
-/// The error where a number of symbols makes no model of a precision.
+/// The error for a model with too few symbols, or too many for its precision.
 ///
 /// # Examples
 ///

@@ -17,7 +17,9 @@ use crate::location_scale::{LocationScale, StandardDistribution};
 #[derive(Clone, Copy)]
 pub struct StandardLaplace;
 
-/// The Laplace distribution of a location and a scale. Its density is proportional to `exp(-|x - location| / scale)`.
+/// The Laplace distribution of a location and a scale.
+///
+/// Its density is proportional to `exp(-|x - location| / scale)`.
 ///
 /// # Examples
 ///

@@ -7,14 +7,14 @@
 //!   it never falls.
 //! - [`quantizer`]: `LeakyQuantizer`, which cuts such a function halfway between symbols, and the models that it
 //!   makes: `LeakilyQuantizedDistribution`, and `IndexedDistribution`, whose symbols are indices of type `usize`.
-//! - [`location_scale`]: `LocationScale`, a distribution from the table of a standard one, a location and a scale.
+//! - [`location_scale`]: `LocationScale`, a standard distribution moved to a location and stretched by a scale.
 //! - [`gaussian`], [`laplace`], [`logistic`]: the distributions `Gaussian`, `Laplace` and `Logistic`.
 //! - [`families`]: `Family`, one of these three, chosen at run time.
 //! - [`uniform`], [`bernoulli`]: `UniformModel`, whose symbols have equal weights, and `BernoulliModel`, which has two
 //!   symbols.
 //! - [`counts`]: `weights_of_counts`, weights in proportion to counts.
-//! - [`lookup`]: `ContiguousLookupDecoderModel`, a model with a list of each quantile's symbol.
-//! - [`errors`]: `SupportError`, the error where the number of symbols makes no model.
+//! - [`lookup`]: `ContiguousLookupDecoderModel`, a model that lists the symbol of each quantile.
+//! - [`errors`]: `SupportError`, the error for too few symbols, or too many for the precision.
 #![tactic(auto)]
 
 pub mod bernoulli;

@@ -11,10 +11,11 @@ use std::marker::PhantomData;
 
 /// The standard distribution of a family, with location 0 and scale 1, as a table of its distribution function.
 ///
-/// The table has the values at 2049 evenly spaced places, from half its width below 0 to half its width above 0.
-/// Whatever lies farther out counts as nothing.
+/// The table has the values at 2049 evenly spaced places, from half its width below 0 to half its width above 0. Below
+/// the first place, the distribution function is 0. From the last place on, it is `2^32`.
 ///
-/// An implementor proves that `table` returns the values and that `guesses` has 1025 numbers, together with two laws:
+/// An implementor proves that `table` returns the values and that `guesses` returns 1025 numbers. It also proves two
+/// laws:
 ///
 /// - `are_values`: there are 2049 values, they never fall, and the last is `2^32`.
 /// - `width_law`: the table is at least 1 and at most 64 scales wide.
@@ -25,7 +26,7 @@ pub trait StandardDistribution: Copy {
     // The width, as contracts see it.
     ghost WIDTH: { ℕ };
 
-    /// The width of the table in scales.
+    /// The width of the table, as a multiple of the scale.
     const WIDTH: u64;
 
     // There are 2049 values, they never fall, and the last is 2 ^ 32.
@@ -34,20 +35,20 @@ pub trait StandardDistribution: Copy {
     // The table is at least 1 and at most 64 scales wide.
     ghost width_law: { (1 ≤ WIDTH) × (WIDTH ≤ 64) };
 
-    /// Returns the values.
+    /// Returns the 2049 values, in parts of `2^32`.
     fn table() -> &'static [u64]
         ensures { result.now ≡ values };
 
-    /// Returns about where each multiple of `2^22` is reached, in 65536ths of a step.
+    /// Returns about where the function reaches each multiple of `2^22`, in 65536ths of a step of the table.
     ///
-    /// Every list of that length is correct; a close one makes decoding fast.
+    /// Every list of 1025 numbers is allowed. A close list makes decoding fast.
     fn guesses() -> &'static [u32]
         ensures { length result.now ≡ 1025 };
 }
 
 /// The distribution of a family with a location and a scale, both multiples of `2^-16`.
 ///
-/// Its values are those of the family's table, interpolated linearly.
+/// Its distribution function is the family's table, interpolated linearly.
 ///
 /// # Examples
 ///

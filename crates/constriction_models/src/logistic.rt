@@ -17,7 +17,9 @@ use crate::logistic::table::{GUESSES, VALUES};
 #[derive(Clone, Copy)]
 pub struct StandardLogistic;
 
-/// The logistic distribution of a location and a scale: `1 / (1 + exp(-(x - location) / scale))` lies below `x`.
+/// The logistic distribution of a location and a scale.
+///
+/// Its distribution function is `1 / (1 + exp(-(x - location) / scale))`.
 ///
 /// # Examples
 ///

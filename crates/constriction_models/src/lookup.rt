@@ -1,7 +1,7 @@
-//! `ContiguousLookupDecoderModel`: a model with a list of each quantile's symbol.
+//! `ContiguousLookupDecoderModel`: a model that lists the symbol of each quantile.
 //!
-//! It lists the symbols of any model and asks that model for the interval, so it needs no sums. Each symbol takes 16
-//! bits in the list: at 16 bits of precision, a list of `usize` would take half a megabyte.
+//! It is made from any other model, and takes the interval of a symbol from that model, so it needs no sums. Each
+//! symbol takes 16 bits in the list. At 16 bits of precision, a list of `usize` would take half a megabyte.
 
 ghost use Rattle.std.specs.Prelude.{◌≡◌, ◌^◌, ◌≤◌, IfOk, IsErrOf};
 ghost use Rattle.constriction_models.specs.Lookup.{AreFound, HasHighSymbol, HasLowSymbols};
@@ -11,7 +11,7 @@ use constriction_words::{BitArray, WordOf};
 use std::alloc::Global;
 use thiserror::Error;
 
-/// The error where a model makes no lookup table.
+/// The error of making a lookup table from a model.
 ///
 /// # Examples
 ///
@@ -24,15 +24,15 @@ use thiserror::Error;
 /// ```
 #[derive(Debug, Clone, Copy, PartialEq, Eq, Hash, Error)]
 pub enum LookupError {
-    /// The model knows a symbol above 65535.
+    /// The model has a symbol above 65535, which the list can't hold.
     #[error("a symbol above 65535")]
     Symbol,
-    /// There was no memory for the list.
+    /// There is no memory for the list.
     #[error("out of memory")]
     Memory,
 }
 
-/// A model of the symbols `0`, `1`, .. that lists the symbol of each quantile, so that a decoder finds it in one step.
+/// A model of the symbols `0`, `1`, .. that lists the symbol of each quantile, so that a decode takes one step.
 ///
 /// It has the same table as the model that it is made from. The list takes two bytes for each quantile: 8 KiB at a
 /// precision of 12 bits, and 128 KiB at 16 bits.
@@ -93,7 +93,7 @@ where
     ///
     /// # Errors
     ///
-    /// - `Symbol`: the model knows a symbol above 65535.
+    /// - `Symbol`: the model has a symbol above 65535.
     /// - `Memory`: there is no memory for the list.
     pub fn new(alloc: Global, model: M) -> Result<Self, LookupError>
         requires { PRECISION ≤ 16 }

@@ -15,10 +15,10 @@ use constriction_words::{BitArray, WordOf};
 pub use indexed::IndexedDistribution;
 use std::marker::PhantomData;
 
-/// A range of symbols, which cuts distributions halfway between neighbouring symbols.
+/// A quantizer that cuts distributions halfway between the neighbouring symbols of a range.
 ///
-/// Every symbol of the range gets a weight above 0, however unlikely it is (the cut leaks to all of them). No other
-/// symbol has a weight.
+/// Every symbol of the range gets a weight above 0, however unlikely it is: the cut leaks to all symbols. Symbols
+/// outside the range are impossible.
 ///
 /// # Examples
 ///
@@ -92,11 +92,12 @@ impl<Probability: WordOf<u32>, const PRECISION: usize> LeakyQuantizer<Probabilit
     }
 }
 
-/// A distribution cut halfway between symbols: a model that knows every symbol of a range.
+/// A distribution cut halfway between symbols: a model in which every symbol of a range has an interval.
 ///
-/// Each of the `n` symbols gets 1 of the `2^P`, and the distribution shares out the rest. The interval of the `k`th
-/// symbol begins at `floor((2^P - n) * F / 2^32) + k`. Here `F` is how much of `2^32` lies below the edge between this
-/// symbol and the one before it: 0 for the first symbol (`k` is 0), and `2^32` for the end (`k` is `n`).
+/// At a precision of `P` bits, each of the `n` symbols gets 1 of the `2^P` quantiles, and the distribution shares out
+/// the rest. The first symbol has `k = 0`, the next symbol `k = 1`. The interval of a symbol begins at
+/// `floor((2^P - n) * F / 2^32) + k`. Here `F` is how much of `2^32` lies below the edge between the symbol and the
+/// symbol before it. For the first symbol, `F` is 0. At the end of the last interval, `k` is `n` and `F` is `2^32`.
 ///
 /// # Examples
 ///

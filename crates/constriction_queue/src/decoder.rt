@@ -1,7 +1,7 @@
 //! The decoder of the range coder.
 //!
 //! - [`symbols`]: the step, `decode_symbol`.
-//! - [`words`]: making a decoder from words, and its parts.
+//! - [`words`]: making a decoder from words or from its parts, and splitting it into its parts.
 //! - [`seeking`]: seeking to positions.
 
 pub mod seeking;
@@ -16,13 +16,13 @@ use std::marker::Model;
 
 /// A queue of symbols, decoded from words of type `Word` with an interval of numbers of type `State`.
 ///
-/// `State` has a whole number of words, at least two. The decoder narrows the same intervals as the encoder. The
-/// words that it has read say which part of the interval holds the next symbol. Past the last word it reads zero
-/// words.
+/// `State` has the bits of a whole number of words, at least two. The decoder narrows the same intervals as the
+/// encoder. The words that it has read determine which part of the interval belongs to the next symbol. After the last
+/// word, the decoder uses zero words.
 ///
-/// The decoder stores the distance of the point from the lower end of the interval, modulo 2 to the bits of `State`.
-/// Contracts see a `Decoder`: the backend, the remaining words, the interval, and the point, which is the number that
-/// the last words read stand for.
+/// The point is the number that the last words read stand for, as many words as a state has. The decoder stores the
+/// distance of the point from the lower end of the interval, modulo 2 to the power of `State::BITS`. Contracts describe
+/// a decoder by a `Decoder`: the backend, the remaining words, the interval, and the point.
 ///
 /// # Examples
 ///

@@ -32,12 +32,12 @@ use std::marker::Model;
 
 /// A queue of symbols over words of type `Word`, with an interval of numbers of type `State`.
 ///
-/// `State` has a whole number of words, at least two. Each symbol narrows the interval, and the encoder writes the
-/// words that all numbers of the interval have in common. While the interval passes the greatest number of `State`,
-/// a carry may still change these words, so the encoder keeps them pending.
+/// `State` has the bits of a whole number of words, at least two. Each symbol narrows the interval, and the encoder
+/// writes the words that all numbers of the interval have in common. While the interval passes the greatest number of
+/// `State`, a carry may still change these words, so the encoder keeps them pending.
 ///
-/// Contracts see an `Encoder`: the backend, the words written and pending, and the interval. Its run (`run_by`) is
-/// one growing whole number, without pending words and without carries.
+/// Contracts describe an encoder by an `Encoder`: the backend, the words written and pending, and the interval. The run
+/// of an encoder (`run_by`) describes it by one growing whole number, without pending words and without carries.
 ///
 /// # Examples
 ///
@@ -83,7 +83,7 @@ impl<Word: WordOf<State>, State: BitArray, Backend: Holds<Word, Stack>> Model
 impl<Word: WordOf<State>, State: BitArray> RangeEncoder<Word, State, Vec<Word>> {
     /// Makes an encoder without symbols.
     ///
-    /// This allocates nothing. The encoder takes memory for its words from `alloc` later.
+    /// The call allocates nothing. The encoder takes memory for its words from `alloc` later.
     #[inline]
     pub fn new(alloc: Global) -> Self
         requires { IsSizes Word.BITS State.BITS }
@@ -98,8 +98,9 @@ impl<Word: WordOf<State>, State: BitArray> RangeEncoder<Word, State, Vec<Word>> 
 impl<Word: WordOf<State>, State: BitArray, A: Allocator> RangeEncoder<Word, State, Vec<Word, A>> {
     /// Removes all symbols and pending words, and keeps the allocated memory.
     ///
-    /// Pending words that stayed would spoil the next export: with 8-bit words and weights 127, 1, 127, 1, encoding
-    /// symbol 1 leaves 126 pending, and symbol 0 after a `clear` seals to `[0]` and not to `[126, 0]`.
+    /// Pending words have to go too, because they would spoil the next export. For example, take 8-bit words and the
+    /// weights 127, 1, 127, 1. Encoding symbol 1 leaves the word 126 pending. After a `clear`, encoding symbol 0
+    /// exports `[0]`. If the word stayed pending, it would export `[126, 0]`.
     pub fn clear(&mut self)
         ensures run { run_by Word.BITS State.BITS self.new ≡ initial State.BITS }
         ensures held { self.new.held ≡ [] }
@@ -116,9 +117,10 @@ impl<Word: WordOf<State>, State: BitArray, Backend: Holds<Word, Stack>> RangeEnc
     State,
     Backend,
 > {
-    /// Makes an encoder without symbols that writes behind the words of a backend.
+    /// Makes an encoder without symbols that writes after the words of a backend.
     ///
-    /// The backend's words stay in front of the encoder's own. Over an empty backend this is the same as a new encoder.
+    /// The backend's words stay before the encoder's own words. Over an empty backend, the encoder is the same as a new
+    /// encoder.
     ///
     /// # Examples
     ///
@@ -142,9 +144,13 @@ impl<Word: WordOf<State>, State: BitArray, Backend: Holds<Word, Stack>> RangeEnc
 
     /// Returns whether an interval and a situation fit together, as [`RangeEncoder::from_raw_parts`] requires.
     ///
-    /// They do if words are pending exactly while the interval passes the greatest number of `State`. If words are
-    /// pending, the first of them isn't all ones, the interval isn't that of an encoder without symbols, and a `usize`
-    /// can count the pending words and a seal.
+    /// If no words are pending, the parts fit if the interval doesn't pass the greatest number of `State`. If words are
+    /// pending, the parts fit if all of these hold:
+    ///
+    /// - The interval passes the greatest number of `State`.
+    /// - The first pending word isn't all ones.
+    /// - The interval isn't the interval of an encoder without symbols.
+    /// - A `usize` can count the pending words together with a seal.
     pub fn parts_fit(state: RangeCoderState<Word, State>, situation: EncoderSituation<Word>) -> bool
         ensures { IsTrue result
             ↔ PartsFit Word.number Word.BITS State.BITS situation (lower_of state) (range_of state) }
@@ -164,7 +170,9 @@ impl<Word: WordOf<State>, State: BitArray, Backend: Holds<Word, Stack>> RangeEnc
         }
     }
 
-    /// Makes an encoder from a backend, an interval, and the words that are pending behind the backend's words.
+    /// Makes an encoder from a backend, an interval, and the words that are pending after the backend's words.
+    ///
+    /// The caller proves that the interval and the pending words fit together, as [`RangeEncoder::parts_fit`] tests.
     ///
     /// # Examples
     ///
@@ -235,7 +243,7 @@ impl<Word: WordOf<State>, State: BitArray, Backend: Holds<Word, Stack> + Clone> 
     ///
     /// # Errors
     ///
-    /// `AllocError` only if cloning the backend fails.
+    /// Returns `AllocError` only if cloning the backend fails.
     fn clone(&self) -> Result<Self, AllocError> {
         let bulk = self.bulk.clone()?;
         Ok(RangeEncoder {

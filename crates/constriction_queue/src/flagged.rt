@@ -1,6 +1,6 @@
-//! Two models in one stream: the first up to and including a flag symbol, the second behind it.
+//! Two models in one stream: the first up to and including a flag symbol, the second after it.
 //!
-//! A flag is a symbol like any other. Behind the first flag, a symbol that equals the flag has no special meaning.
+//! A flag is a symbol like any other. After the first flag, a symbol that equals the flag has no special meaning.
 //!
 //! ```
 //! let first = WeightTable::<u8, 8>::new(alloc, &[128, 64, 64])?;
@@ -34,10 +34,10 @@ use constriction_stream::encoding::Encode;
 use constriction_words::{BitArray, WordOf};
 use std::marker::Model;
 
-/// A decoder that uses a model of `P1` bits up to and including a flag symbol, and one of `P2` bits after it.
+/// A decoder that uses a model of `P1` bits up to and including a flag symbol, and a model of `P2` bits after it.
 ///
-/// [`FlagSwitch::new`] makes it; the module has an example. Contracts see a `Switch`: the decoder, the flag, and
-/// whether the flag has come.
+/// The module has an example. Contracts describe it by a `Switch`: the decoder, the flag, and whether the flag was
+/// decoded.
 #[derive(Debug, Drop)]
 pub struct FlagSwitch<
     Word: WordOf<State>,
@@ -74,7 +74,7 @@ impl<
     const P1: usize,
     const P2: usize,
 > FlagSwitch<Word, State, Backend, P1, P2> {
-    /// Makes a switch whose flag hasn't come yet.
+    /// Makes a switch over a decoder. The flag hasn't been decoded yet.
     pub fn new(decoder: RangeDecoder<Word, State, Backend>, flag: usize) -> Self
         ensures { result ≡ record { decoder = decoder; flag = flag; switched = false } }
     {
@@ -85,14 +85,14 @@ impl<
         }
     }
 
-    /// Returns whether the flag has come.
+    /// Returns whether the flag was decoded.
     pub fn switched(&self) -> bool
         ensures { result ≡ self.now.switched }
     {
         self.switched
     }
 
-    /// Returns the decoder, behind the symbols decoded so far.
+    /// Returns the decoder, positioned after the symbols decoded so far.
     pub fn into_inner(self) -> RangeDecoder<Word, State, Backend>
         ensures { result ≡ self.decoder }
     {
@@ -112,16 +112,16 @@ impl<
     const P1: usize,
     const P2: usize,
 > FlagSwitch<Word, State, Backend, P1, P2> {
-    /// Decodes the next symbol, with `first` until the flag has come and with `second` after it.
+    /// Decodes the next symbol, with `first` up to and including the flag, and with `second` after it.
     ///
     /// The flag itself is returned as a symbol.
     ///
     /// # Errors
     ///
-    /// - `Frontend(InvalidData)` exactly if the words don't encode a symbol of any model with the precision in use. The
-    ///   switch is unchanged.
-    /// - `Backend(error)` only if a word had to be read and the read returned that error. The flag's state is
-    ///   unchanged, and the decoder is as `decode_symbol` leaves it.
+    /// - `Frontend(InvalidData)`: returned exactly if the words don't encode a symbol of any model with the precision
+    ///   in use. The switch is unchanged.
+    /// - `Backend(error)`: returned only if a word had to be read and the read returned `error`. What `switched`
+    ///   returns is unchanged. The decoder is as `decode_symbol` leaves it.
     pub fn next_symbol<M1, M2>(
         &mut self,
         first: M1,
@@ -155,13 +155,14 @@ impl<
     }
 }
 
-/// Encodes symbols: those up to and including the first flag with `first`, and those behind it with `second`.
+/// Encodes symbols with `first` up to and including the first flag, and with `second` after it.
 ///
-/// The list may have at most as many symbols as the encoder's `symbols_left`.
+/// The caller proves that the list has at most `symbols_left` symbols.
 ///
 /// # Errors
 ///
-/// The error of the first `encode_symbol` that fails. The encoder has encoded exactly the symbols before that one.
+/// Returns the error of the first `encode_symbol` that fails. Exactly the symbols before the refused symbol are
+/// encoded.
 pub fn encode_flagged<
     Word: WordOf<State>,
     State: BitArray,

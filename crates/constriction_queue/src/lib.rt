@@ -1,9 +1,9 @@
 //! The range coder: a queue of symbols.
 //!
-//! A [`encoder::RangeEncoder`] narrows an interval of numbers with each symbol, and writes the words that all
-//! numbers of the interval have in common. A [`decoder::RangeDecoder`] decodes the symbols from such words, in the
-//! order in which they were encoded. Each symbol may have its own model and precision, as long as the decoder gets
-//! the same models in the same order.
+//! A [`encoder::RangeEncoder`] narrows an interval of numbers with each symbol, and writes the words that all numbers
+//! of the interval have in common. A [`decoder::RangeDecoder`] decodes the symbols from these words, in the order in
+//! which they were encoded. Each symbol may have its own model and precision, as long as the decoder gets the same
+//! models in the same order.
 //!
 //! ```
 //! let table = WeightTable::<u32, 24>::new(alloc, &[16777211, 5])?;
@@ -29,9 +29,9 @@
 //! - `writing`: writing words to a backend.
 //!
 //! Contracts cite the definitions of `specs/Range.antt` (runs, seals and reading) and of `specs/Calls.antt` (the
-//! possible results of a call over a backend). A run is one whole number, without pending words and carries.
-//! `specs/Encoder.antt` and `specs/Decoder.antt` relate coders to runs, and `specs/Flagged.antt` says which of two
-//! models each symbol has.
+//! possible results of a call over a backend). A run describes an encoder by one growing whole number, without pending
+//! words and carries. `specs/Encoder.antt` and `specs/Decoder.antt` relate coders to runs. `specs/Flagged.antt` states
+//! which of two models each symbol has.
 #![tactic(auto)]
 
 pub mod as_written;

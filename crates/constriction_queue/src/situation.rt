@@ -8,8 +8,8 @@ use std::num::NonZeroUsize;
 
 /// The pending words of an encoder.
 ///
-/// Words are pending while the interval passes the greatest number of `State`, because a later symbol may still add
-/// one to them.
+/// Words are pending while the interval passes the greatest number of `State`, because a later symbol may still add 1
+/// to them (a carry).
 ///
 /// # Examples
 ///
@@ -21,7 +21,7 @@ use std::num::NonZeroUsize;
 pub enum EncoderSituation<Word> {
     /// No word is pending.
     Normal,
-    /// The number of pending words and the first of them. The others are all ones.
+    /// The number of pending words, and the first of them. All bits of the other pending words are ones.
     Inverted(NonZeroUsize, Word),
 }
 
@@ -34,7 +34,7 @@ impl<Word> Default for EncoderSituation<Word> {
     }
 }
 
-/// Pending words that are released: their number, the first of them, and the value of all others.
+/// Pending words that can be written: their number, the first of them, and the value of all other words.
 #[derive(Drop, Debug, Clone, Copy)]
 pub struct HeldWords<Word> {
     pub count: NonZeroUsize,

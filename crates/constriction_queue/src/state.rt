@@ -1,7 +1,8 @@
 //! The interval of a range coder.
 //!
-//! A struct keeps the length as a `State` with an invariant; `range()` returns it as a nonzero number. `new` takes a
-//! plain `State` and refuses 0 like every other length that is too short.
+//! `RangeCoderState` keeps the length as a `State`, and an invariant states that it is long enough. `range()` returns
+//! the length as a nonzero number. `new` takes a plain `State`, and refuses 0 like every other length that is too
+//! short.
 
 ghost use Rattle.std.specs.Prelude.{◌≡◌, ◌↔◌, ◌+◌, ◌-◌, ◌*◌, ◌<◌, ◌≤◌, ◌^◌, IfOk, IsOk};
 
@@ -67,11 +68,11 @@ impl<Word: WordOf<State>, State: BitArray> RangeCoderState<Word, State> {
 
     /// Makes the interval of `range` numbers from `lower` on.
     ///
-    /// Any `lower` is allowed: an interval that passes the greatest number continues at 0.
+    /// Any `lower` is allowed: an interval that passes the greatest number of `State` continues at 0.
     ///
     /// # Errors
     ///
-    /// `Err(())` exactly if `range` is below 2 to the power of (bits of `State` - bits of `Word`).
+    /// Returns `Err(())` exactly if `range` is below 2 to the power of (bits of `State` - bits of `Word`).
     pub fn new(lower: State, range: State) -> Result<Self, ()>
         ensures variant { IsOk result ↔ (2 ^ (State.BITS - Word.BITS) ≤ State.number range) }
         ensures lower { IfOk result (λ state. lower_of state ≡ State.number lower) }

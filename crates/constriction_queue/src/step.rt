@@ -178,7 +178,7 @@ pub fn grow<Word: WordOf<State>, State: BitArray>(
     }
 }
 
-/// Takes an encoder's step: writes its words, and returns the new interval and situation.
+/// Makes an encoder's step: writes its words, and returns the new interval and situation.
 #[inline(always)]
 pub fn step_onto<Word: WordOf<State>, State: BitArray, Backend: WriteWords<Word>>(
     bulk: &mut Backend,

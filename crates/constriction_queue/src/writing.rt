@@ -120,7 +120,9 @@ fn write_parts<Word: BitArray, Backend: WriteWords<Word>>(
     write_word(bulk, last)
 }
 
-/// Writes released words, then one, then another, then others. If there are any, it first asks for room for all.
+/// Writes released words, then `top`, then `last`, then the words of `behind`, each if there is one.
+///
+/// If there is any word to write, the call first asks for room for all of them.
 pub fn write_owed_behind<Word: BitArray, Backend: WriteWords<Word>>(
     bulk: &mut Backend,
     held: Option<HeldWords<Word>>,
@@ -147,7 +149,9 @@ pub fn write_owed_behind<Word: BitArray, Backend: WriteWords<Word>>(
     write_released(bulk, behind)
 }
 
-/// Writes released words, then one, then another. If there are any, it first asks for room for all.
+/// Writes released words, then `top`, then `last`, each if there is one.
+///
+/// If there is any word to write, the call first asks for room for all of them.
 pub fn write_owed<Word: BitArray, Backend: WriteWords<Word>>(
     bulk: &mut Backend,
     held: Option<HeldWords<Word>>,
@@ -212,7 +216,7 @@ fn write_several<Word: BitArray, Backend: WriteWords<Word>>(
     write_owed(bulk, Some(held), top, None)
 }
 
-/// Writes the words of a step: the released words, and then another if there is one. Usually this is at most one.
+/// Writes the words of a step: the released words, and then `top` if there is one. Usually this is at most one word.
 #[inline(always)]
 pub fn write_step<Word: BitArray, Backend: WriteWords<Word>>(
     bulk: &mut Backend,

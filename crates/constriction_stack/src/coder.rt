@@ -23,10 +23,10 @@ use std::marker::{Model, PhantomData};
 
 /// A stack of symbols: a head (the state `x` of rANS) of type `State` above a backend of words of type `Word`.
 ///
-/// `State` has a whole number of words, at least two. The backend holds the words below the head, the top word
-/// last. [`AnsCoder::new`] makes an empty coder.
+/// `State` has the bits of a whole number of words, at least two. The backend holds the words below the head. The word
+/// written last is the top word, which is read first. [`AnsCoder::new`] makes an empty coder.
 ///
-/// Contracts see an `AnsValue`: the state (the head and the words below it) and the backend.
+/// Contracts describe a coder by its `AnsValue`: the state (the head and the words below it) and the backend.
 ///
 /// # Examples
 ///
@@ -61,7 +61,7 @@ impl<Word: WordOf<State>, State: BitArray, Backend: Holds<Word, Stack>> Model
 impl<Word: WordOf<State>, State: BitArray> AnsCoder<Word, State, Vec<Word>> {
     /// Makes an empty coder: head 0 and no words.
     ///
-    /// This allocates nothing. The coder takes memory for its words from `alloc` later.
+    /// The call allocates nothing. The coder takes memory for its words from `alloc` later.
     ///
     /// # Examples
     ///
@@ -99,10 +99,10 @@ impl<Word: WordOf<State>, State: BitArray, Backend: Holds<Word, Stack>> AnsCoder
     State,
     Backend,
 > {
-    /// Returns whether the head is 0.
+    /// Returns whether the coder is empty: whether its head is 0.
     ///
-    /// A new coder is empty, and so is one from which all symbols were decoded. Encoding a symbol whose interval
-    /// begins at 0 onto an empty coder leaves it empty; decoding still returns that symbol.
+    /// A new coder is empty, and it is empty again after all symbols encoded onto it are decoded. Encoding a symbol
+    /// whose interval begins at 0 leaves an empty coder empty. Decoding still returns that symbol.
     #[inline]
     pub fn is_empty(&self) -> bool
         ensures { IsTrue result ↔ (self.now.state.head ≡ 0) }
@@ -118,9 +118,9 @@ impl<Word: WordOf<State>, State: BitArray, Backend: Holds<Word, Stack>> AnsCoder
 > {
     /// Makes a coder from a backend and a head.
     ///
-    /// The head may be any number. If the backend has words and the head is below 2 to the power of (bits of
-    /// `State` - bits of `Word`), the state isn't normalized: decoding works as usual, but decoding a symbol encoded
-    /// onto this state need not restore it.
+    /// The head may be any number. If the backend has words and the head is below 2 to the power of (bits of `State` -
+    /// bits of `Word`), the state isn't normalized. Decoding from it works as usual. But if a symbol is encoded onto
+    /// it, decoding that symbol need not restore the state.
     ///
     /// # Examples
     ///
@@ -174,6 +174,8 @@ impl<Word: WordOf<State>, State: BitArray, Backend: WriteWords<Word>> AnsCoder<
 > {
     /// Makes an empty coder over an empty backend: head 0 and no words.
     ///
+    /// The caller proves that the backend holds no words.
+    ///
     /// # Examples
     ///
     /// ```
@@ -203,7 +205,7 @@ impl<Word: WordOf<State>, State: BitArray, Backend: Holds<Word, Stack> + Clone> 
     ///
     /// # Errors
     ///
-    /// `AllocError` only if cloning the backend fails.
+    /// Returns `AllocError` only if cloning the backend fails.
     fn clone(&self) -> Result<Self, AllocError> {
         let bulk = self.bulk.clone()?;
         Ok(AnsCoder {

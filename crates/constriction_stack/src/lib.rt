@@ -26,9 +26,9 @@
 //! - [`coder`]: the coder, its steps, its words and its positions.
 //! - `steps`: the arithmetic of a step on the head.
 //!
-//! Contracts cite the definitions of `specs/Ans.antt`: states, pop and push, the words of a state, and the
-//! possible results of a step over a backend. They describe words and heads as natural numbers, and the words
-//! below the head as the list in which they would be read, top word first.
+//! Contracts cite the definitions of `specs/Ans.antt`: states, pop and push, the words of a state, and the possible
+//! results of a step over a backend. They describe words and heads as natural numbers, and the words below the head as
+//! a list in reading order, top word first.
 #![tactic(auto)]
 
 pub mod coder;

@@ -1,10 +1,10 @@
-//! `Code`: what every coder has.
+//! `Code`: the word type and the state of a coder.
 
 use constriction_words::BitArray;
 
 /// A coder over words, with a state.
 ///
-/// An implementor chooses freely what `state` may show of the coder, and proves that `state` shows it.
+/// An implementor chooses what `shows` allows, and proves that `state` returns a value that `shows` allows.
 pub trait Code {
     /// The word type of the compressed data.
     type Word: BitArray;
@@ -12,7 +12,7 @@ pub trait Code {
     /// The type of what the coder holds besides compressed data.
     type State: Drop;
 
-    /// Relates the coder to a state that `state` may return. An implementor chooses it freely.
+    /// Relates the coder to each value that `state` may return. An implementor chooses this relation freely.
     ghost shows: { Self → Self.State → Type 0 };
 
     /// Returns what the coder holds besides its compressed data.

@@ -1,6 +1,7 @@
 //! Conversions from encoders to decoders.
 //!
-//! `State` and the decoders of `IntoDecoder` and `AsDecoder` are `Drop`, so that generic code can drop them.
+//! The decoders of `IntoDecoder` and `AsDecoder` and the type `Code::State` are `Drop`, so that generic code can drop
+//! them.
 
 ghost use Rattle.std.specs.Prelude.{IfOk, IfErr};
 
@@ -15,36 +16,36 @@ pub trait IntoDecoder<const PRECISION: usize>: Encode<PRECISION> {
     /// The type of the decoder.
     type IntoDecoder: Decode<PRECISION, Word = Self::Word, State = Self::State> + Drop;
 
-    /// The error where the encoder can't turn into a decoder.
+    /// The error if the encoder can't turn into a decoder.
     type Error;
 
-    /// Relates the encoder to the decoder that it may turn into. An implementor chooses it freely.
+    /// Relates the encoder to each decoder that it may turn into. An implementor chooses this relation freely.
     ghost becomes: { Self → Self.IntoDecoder → Type 0 };
 
-    /// Relates the encoder to the error that may come instead. An implementor chooses it freely.
+    /// Relates the encoder to each error that `into_decoder` may return instead.
     ///
-    /// It never holds where each encoder turns into a decoder.
+    /// An implementor chooses this relation freely. It never holds if every encoder turns into a decoder.
     ghost fails: { Self → Self.Error → Type 0 };
 
-    /// Turns into a decoder of the data that the encoder holds.
+    /// Turns the encoder into a decoder of the data that it holds.
     ///
     /// # Errors
     ///
-    /// The errors that `fails` allows.
+    /// Returns an error that `fails` allows.
     fn into_decoder(self) -> Result<Self::IntoDecoder, Self::Error>
         ensures ok { IfOk result (λ decoder. becomes self decoder) }
         ensures err { IfErr result (λ e. fails self e) };
 }
 
-/// An encoder that lends its content to a decoder.
+/// An encoder that lends the data that it holds to a decoder.
 ///
-/// An implementor chooses freely which decoders an encoder may lend its content to, and proves that `as_decoder`
-/// returns one of these. The encoder keeps its content.
+/// The encoder keeps its data. An implementor chooses what `reads` allows, and proves that `as_decoder` returns a
+/// decoder that `reads` allows.
 pub trait AsDecoder<'a, const PRECISION: usize>: Encode<PRECISION> {
     /// The type of the decoder, which borrows the data that it reads.
     type AsDecoder: Decode<PRECISION, Word = Self::Word, State = Self::State> + Drop;
 
-    /// Relates the encoder to the decoder that may read its content. An implementor chooses it freely.
+    /// Relates the encoder to each decoder that may read its data. An implementor chooses this relation freely.
     ghost reads: { Self → Self.AsDecoder → Type 0 };
 
     /// Returns a decoder of the data that the encoder holds and keeps.

@@ -12,14 +12,16 @@ use constriction_base::errors::CoderError;
 use constriction_base::model::{DecoderModel, EntropyModel};
 use constriction_words::WordOf;
 
-/// A coder that returns symbols, under models of `PRECISION` bits.
+/// A coder that decodes symbols under models of `PRECISION` bits.
 ///
 /// The models guarantee that `PRECISION` is at least 1 and at most the number of bits of a word.
 ///
-/// An implementor chooses the ghost members freely and proves two things: `decode_symbol` makes the step of one entry
-/// of the model's table or refuses as `decodes` and `halts` allow, and `maybe_exhausted` returns `false` only where
-/// `has_data` holds and the next step isn't refused for want of data. Generic code knows only these clauses. A caller
-/// that needs more names the coder.
+/// An implementor chooses the ghost members and proves two facts:
+///
+/// - `decode_symbol` makes the step of one entry of the model's table, or refuses as `decodes` and `halts` allow.
+/// - `maybe_exhausted` returns `false` only if `has_data` holds and the next step isn't refused because the data ended.
+///
+/// Generic code can rely only on these clauses. A caller that needs more names the type of the coder.
 pub trait Decode<const PRECISION: usize>: Code {
     /// The error of a step that the coder itself refuses, for example because its data ended or is invalid.
     type FrontendError;
@@ -27,23 +29,23 @@ pub trait Decode<const PRECISION: usize>: Code {
     /// The error of a step that the backend refuses.
     type BackendError;
 
-    /// Relates the coder before a step, the step, its answer, and the coder after it.
+    /// Relates the coder before a step, the step, what the step returns, and the coder after it.
     ///
     /// This is where an implementor states what its coder does.
     ghost decodes: { Self → Step → Result (Unit {0}) (CoderError Self.FrontendError Self.BackendError)
         → Self → Type 0 };
 
-    /// Relates the coder, an error that comes before the model is asked, and the coder after it.
+    /// Relates the coder, an error that is returned before the model is used, and the coder after it.
     ///
-    /// It never holds where the model is always asked. An implementor chooses it freely.
+    /// An implementor chooses this relation freely. It never holds if every call uses the model.
     ghost halts: { Self → CoderError Self.FrontendError Self.BackendError → Self → Type 0 };
 
-    /// What holds of the coder where `maybe_exhausted` returns `false`. An implementor chooses it freely.
+    /// The property that the coder has whenever `maybe_exhausted` returns `false`. An implementor chooses it freely.
     ghost has_data: { Self → Type 0 };
 
-    /// Holds of the errors that say that the data ended. An implementor chooses it freely.
+    /// Holds for each error that means that the data ended. An implementor chooses these errors freely.
     ///
-    /// A coder that continues past the end of its data has no such error.
+    /// A coder that continues past the end of its data has none of these errors.
     ghost is_end_of_data: { CoderError Self.FrontendError Self.BackendError → Type 0 };
 
     /// Decodes a symbol under a model.
@@ -52,8 +54,8 @@ pub trait Decode<const PRECISION: usize>: Code {
     ///
     /// # Errors
     ///
-    /// - `Frontend(error)` or `Backend(error)` as `halts` allows, before the model is asked.
-    /// - `Frontend(error)` or `Backend(error)` as `decodes` allows, after the model is asked.
+    /// - `Frontend(error)` or `Backend(error)`, as `halts` allows: the coder refuses before it uses the model.
+    /// - `Frontend(error)` or `Backend(error)`, as `decodes` allows: the coder refuses the step of the model's entry.
     ///
     /// # Examples
     ///
@@ -71,7 +73,7 @@ pub trait Decode<const PRECISION: usize>: Code {
 
     /// Returns an iterator that decodes one symbol for each of the models.
     ///
-    /// It decodes a symbol only when it is asked for the next item, and it continues after an error.
+    /// The iterator is lazy: it decodes a symbol only when `next` is called. It continues after an error.
     ///
     /// # Examples
     ///
@@ -97,10 +99,10 @@ pub trait Decode<const PRECISION: usize>: Code {
         }
     }
 
-    /// Returns an iterator that decodes one symbol for each of the models, where an item may be an error instead.
+    /// Returns an iterator that decodes one symbol for each model, where an item may be an error instead of a model.
     ///
-    /// For such an item it returns `InvalidEntropyModel` and leaves the decoder unchanged. Otherwise it is as
-    /// [`decode_symbols`](Decode::decode_symbols).
+    /// For an item `Err(error)`, the iterator returns `InvalidEntropyModel(error)` and leaves the decoder unchanged.
+    /// For a model it decodes as the iterator of [`decode_symbols`](Decode::decode_symbols) does.
     final fn try_decode_symbols<I>(
         &mut self,
         models: I,
@@ -120,7 +122,7 @@ pub trait Decode<const PRECISION: usize>: Code {
 
     /// Returns an iterator that decodes `amt` symbols, all under one model.
     ///
-    /// It decodes a symbol only when it is asked for the next item, and it continues after an error.
+    /// The iterator is lazy: it decodes a symbol only when `next` is called. It continues after an error.
     ///
     /// # Examples
     ///
@@ -152,7 +154,7 @@ pub trait Decode<const PRECISION: usize>: Code {
 
     /// Returns whether all encoded symbols may have been decoded.
     ///
-    /// `false` guarantees that `has_data` holds and that the next step is not refused because the data ended.
+    /// If it returns `false`, `has_data` holds, and the next step isn't refused because the data ended.
     fn maybe_exhausted(&self) -> bool
         ensures data { OnFalse result (has_data self.now) }
         ensures goes_on { OnFalse result (GoesOn decodes halts is_end_of_data self.now) }

@@ -17,14 +17,14 @@ use constriction_base::model::{EncoderModel, EntropyModel};
 use constriction_words::WordOf;
 pub use reverse::EncodeReverse;
 
-/// A value that lends a symbol, such as `&Symbol`. List calls take symbols in this form.
+/// A value that lends a symbol, such as `&Symbol`. Calls that encode lists take symbols in this form.
 ///
-/// An implementor chooses freely which symbol it lends and proves that `lend` returns that symbol.
+/// An implementor chooses which symbol the value lends (`lent`), and proves that `lend` returns this symbol.
 pub trait Lent<Symbol> {
     /// The symbol that the value lends.
     ghost lent: { Self → Symbol };
 
-    /// Returns the symbol.
+    /// Returns the symbol that the value lends.
     fn lend(&self) -> &Symbol
         ensures { result.now ≡ lent self.now };
 }
@@ -37,65 +37,65 @@ impl<Symbol> Lent<Symbol> for &Symbol {
     }
 }
 
-/// A coder that takes symbols, under models of `PRECISION` bits.
+/// A coder that encodes symbols under models of `PRECISION` bits.
 ///
 /// The models guarantee that `PRECISION` is at least 1 and at most the number of bits of a word.
 ///
-/// An implementor chooses the ghost members freely and proves that each call obeys them, together with two laws: no
-/// step returns the error of an impossible symbol, and that error isn't lack of room. Generic code knows only these
-/// clauses and laws. A caller that needs more names the coder.
+/// An implementor chooses the ghost members and proves that each call obeys them. It also proves two laws: no step
+/// returns the error of an impossible symbol, and this error doesn't mean lack of room. Generic code can rely only on
+/// these clauses and laws. A caller that needs more names the type of the coder.
 pub trait Encode<const PRECISION: usize>: Code {
-    /// The error of a step that the coder itself refuses, for example because the model doesn't know the symbol.
+    /// The error of a step that the coder itself refuses, for example because the symbol is impossible.
     type FrontendError;
 
     /// The error of a step that the backend refuses.
     type BackendError;
 
-    /// Relates the coder before a step, the step, its answer, and the coder after it.
+    /// Relates the coder before a step, the step, what the step returns, and the coder after it.
     ///
     /// This is where an implementor states what its coder does.
     ghost encodes: { Self → Step → Result (Unit {0}) (CoderError Self.FrontendError Self.BackendError)
         → Self → Type 0 };
 
-    /// Holds of the errors that say that the model doesn't know the symbol.
+    /// Holds for each error that means an impossible symbol.
     ///
-    /// An implementor chooses it freely among the errors that no step returns (`never_impossible`).
+    /// An implementor chooses these errors freely among those that no step returns (`never_impossible`).
     ghost is_impossible_symbol: { Self.FrontendError → Type 0 };
 
-    /// Holds where the coder counts symbols and can be asked to encode only as many as `symbols_left`.
+    /// Holds if `symbols_left` limits the number of symbols that the coder may be asked to encode.
     ///
-    /// An implementor chooses it freely. If it fails, no call requires room for symbols.
+    /// An implementor chooses it freely. If it doesn't hold, no caller has to prove that symbols are left.
     ghost counts_symbols: { Type 0 };
 
-    /// The number of symbols that the coder can still be asked to encode.
+    /// The number of symbols that the coder may still be asked to encode.
     ///
-    /// An implementor chooses it freely, but `encode_symbol` lowers it by at most 1.
+    /// An implementor chooses the number freely, but `encode_symbol` lowers it by at most 1.
     ghost symbols_left: { Self → ℕ };
 
-    /// Holds of the errors that say that the coder is full.
+    /// Holds for each error that means that the coder is full.
     ///
-    /// An implementor chooses it freely among the errors that no impossible symbol has (`never_full`). If it holds
-    /// of no error, `maybe_full` guarantees nothing.
+    /// An implementor chooses these errors freely, but the error of an impossible symbol is none of them
+    /// (`never_full`). If there are none, `maybe_full` guarantees nothing.
     ghost is_lack_of_room: { CoderError Self.FrontendError Self.BackendError → Type 0 };
 
-    /// Holds where `maybe_full` can tell whether there is room. An implementor chooses it freely.
+    /// Holds if `maybe_full` can determine whether there is room. An implementor chooses it freely.
     ///
-    /// If it fails, `maybe_full` guarantees nothing.
+    /// Where `tells_room` doesn't hold, `maybe_full` guarantees nothing.
     ghost tells_room: { Self → Type 0 };
 
-    /// Returns the number of symbols that the coder can still be asked to encode.
+    /// Returns the number of symbols that the coder may still be asked to encode.
     ///
-    /// A step lowers it by at most 1. Coders without such a limit return `usize::MAX`.
+    /// A step lowers this number by at most 1. Coders without a limit return `usize::MAX`.
     fn symbols_left(&self) -> usize
         ensures { result ≡ symbols_left self.now };
 
     /// Encodes a symbol under a model.
     ///
-    /// The caller of a coder that counts symbols proves that at least one symbol is left.
+    /// Where `counts_symbols` holds, the caller proves that `symbols_left` is at least 1.
     ///
     /// # Errors
     ///
-    /// - `Frontend(error)`: the model doesn't know the symbol. The coder is unchanged.
+    /// - `Frontend(error)`: the symbol is impossible under the model. The coder is unchanged.
     /// - `Frontend(error)` or `Backend(error)`: the coder refuses the step, as `encodes` allows.
     ///
     /// # Examples
@@ -118,12 +118,12 @@ pub trait Encode<const PRECISION: usize>: Code {
 
     /// Encodes symbols in order, each under its own model, and stops at the first error.
     ///
-    /// The caller of a coder that counts symbols proves that as many symbols are left as there are items.
+    /// Where `counts_symbols` holds, the caller proves that `symbols_left` is at least the number of items.
     ///
     /// # Errors
     ///
-    /// The error of the first step that is refused. Exactly the symbols before it are encoded, and the items behind it
-    /// are not taken from the iterator.
+    /// Returns the error of the first refused step. Exactly the symbols before the refused symbol are encoded. The
+    /// items after it are not taken from the iterator.
     ///
     /// # Examples
     ///
@@ -158,14 +158,14 @@ pub trait Encode<const PRECISION: usize>: Code {
 
     /// Encodes symbols in order, each under its own model, where an item may be an error instead.
     ///
-    /// The caller of a coder that counts symbols proves that as many symbols are left as there are items.
+    /// Where `counts_symbols` holds, the caller proves that `symbols_left` is at least the number of items.
     ///
     /// # Errors
     ///
-    /// After either error, exactly the symbols before the item are encoded.
+    /// The call stops at the first error. Exactly the symbols of the items before it are encoded.
     ///
-    /// - `InvalidEntropyModel(error)`: the item is an error. It changes nothing of the coder.
-    /// - `CodingError(error)`: the step is refused.
+    /// - `InvalidEntropyModel(error)`: the item is `Err(error)`. The item doesn't change the coder.
+    /// - `CodingError(error)`: the coder refuses the step of the item.
     fn try_encode_symbols<S, M, E, I>(
         &mut self,
         symbols_and_models: I,
@@ -198,12 +198,12 @@ pub trait Encode<const PRECISION: usize>: Code {
 
     /// Encodes symbols in order, all under one model, and stops at the first error.
     ///
-    /// The caller of a coder that counts symbols proves that as many symbols are left as there are items.
+    /// Where `counts_symbols` holds, the caller proves that `symbols_left` is at least the number of symbols.
     ///
     /// # Errors
     ///
-    /// The error of the first step that is refused. Exactly the symbols before it are encoded, and the symbols behind
-    /// it are not taken from the iterator.
+    /// Returns the error of the first refused step. Exactly the symbols before the refused symbol are encoded. The
+    /// symbols after it are not taken from the iterator.
     ///
     /// # Examples
     ///
@@ -241,7 +241,7 @@ pub trait Encode<const PRECISION: usize>: Code {
 
     /// Returns whether the next step may be refused for lack of room.
     ///
-    /// Where `tells_room` holds, `false` guarantees that it is not.
+    /// If it returns `false` and `tells_room` holds, the next step isn't refused for lack of room.
     fn maybe_full(&self) -> bool
         ensures room { OnFalse result (tells_room self.now → HasRoom encodes is_lack_of_room self.now) }
     {

@@ -1,4 +1,4 @@
-//! Errors of calls that take models or symbols which may be errors themselves.
+//! The error of calls that take models or symbols as `Result`s.
 
 ghost use Rattle.std.specs.Prelude.{◌≡◌};
 ghost use Rattle.constriction_stream.specs.declared.errors.TryCodingError.TheVariants as try_coding;
@@ -6,7 +6,7 @@ ghost use Rattle.constriction_stream.specs.declared.errors.TryCodingError.TheVar
 use std::fmt::Display;
 use thiserror::Error;
 
-/// The error of a call whose items may be errors: either an item was one, or the coder refused the step.
+/// The error of a call that takes `Result`s: either an item is an error, or the coder refuses a step.
 ///
 /// The `?` operator turns a coder's error into a `CodingError`.
 ///
@@ -22,10 +22,10 @@ use thiserror::Error;
 #[derive(Debug, PartialEq, Eq, Hash, Drop, Error)]
 #[error_bound(C: Display, E: Display)]
 pub enum TryCodingError<C, E> {
-    /// The item was an error instead of a model, or of a symbol and its model.
+    /// An item is an error instead of a model, or instead of a symbol with its model.
     #[error("Error while constructing entropy model or data: {0}")]
     InvalidEntropyModel(E),
-    /// The coder refused the step.
+    /// The coder refuses a step.
     #[error("Error while entropy coding: {0}")]
     CodingError(C),
 }

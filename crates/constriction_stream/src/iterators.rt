@@ -1,12 +1,12 @@
 //! Iterators over the symbols that a decoder returns.
 //!
-//! Each decodes a symbol only when it is asked for the next item, returns one answer for each model, and continues
-//! after an error. After an iterator is dropped, its decoder stands behind the symbols that were taken. The fields are
-//! public, because contracts name the decoder and the models that are left. The calls that make the iterators are
-//! `final`: as plain default methods they would make every implementation of `Decode` fail.
+//! The iterators are lazy: they decode a symbol only when `next` is called. They return one result for each model, and
+//! continue after an error. After an iterator is dropped, its decoder is positioned after the symbols returned so far.
+//! The fields are public, because contracts name the decoder and the models that are left. The methods of `Decode` that
+//! return the iterators are `final`: as plain default methods they would make every implementation of `Decode` fail.
 //!
-//! - [`decode_symbols`]: one symbol for each of the models.
-//! - [`try_decode_symbols`]: one symbol for each of the models, where an item may be an error instead.
+//! - [`decode_symbols`]: one symbol for each model.
+//! - [`try_decode_symbols`]: one symbol for each model, where an item may be an error instead of a model.
 //! - [`decode_iid_symbols`]: a given number of symbols under one model.
 
 pub mod decode_iid_symbols;

@@ -1,10 +1,15 @@
-//! The coder traits: code that encodes and decodes symbols is written against them, for any coder.
+//! The coder traits: generic code uses them to encode and decode symbols with any coder.
 //!
-//! An encoder takes symbols, each with the model that states its probability. A decoder returns them under the same
-//! models. In each step, a coder gets only an interval of the numbers below `2 ^ PRECISION`: its start and its length.
-//! What a coder does with the interval is its own (`Encode::encodes`, `Decode::decodes`). The traits state what is
-//! common to all coders: the interval is the one of the model for this symbol, an impossible symbol is refused, and
-//! list calls make one step for each item and stop at the first error.
+//! An encoder takes symbols, each with the model that states its probability. A decoder with the same models returns
+//! the symbols. In each step, a coder gets only an interval of the numbers below `2 ^ PRECISION`: its start and its
+//! length. Each coder states in `Encode::encodes` or `Decode::decodes` what it does with the interval. The traits state
+//! what all coders have in common:
+//!
+//! - The interval of a step is the symbol's interval in the model's table.
+//! - An encoder refuses an impossible symbol.
+//! - A call that encodes a list makes one step for each item, and stops at the first error.
+//!
+//! The modules:
 //!
 //! - [`coder`]: `Code`, the words and the state that every coder has.
 //! - [`encoding`]: `Encode`, single steps and lists of symbols; `EncodeReverse`, lists from the last symbol to the
@@ -12,9 +17,9 @@
 //! - [`decoding`]: `Decode`, single steps and iterators of symbols.
 //! - [`iterators`]: the iterators.
 //! - [`conversions`]: `IntoDecoder` and `AsDecoder`, from an encoder to a decoder.
-//! - [`errors`]: the error of calls whose models may be errors.
+//! - [`errors`]: the error of calls that take models or symbols as `Result`s.
 //!
-//! Code that works with any coder states what it needs:
+//! Code that works with any coder states what it requires of the coder:
 //!
 //! ```
 //! fn send<C: Encode<24>, M: EncoderModel<24>>(

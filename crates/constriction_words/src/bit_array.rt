@@ -1,7 +1,7 @@
 //! `BitArray`: unsigned integers of a fixed number of bits, with exact arithmetic.
 //!
-//! The six impls are written out, one file each, because the gate refuses impls that a macro of this repository
-//! writes. The impls call the traits of `num_traits`; the methods of `BitArray` have other names than theirs.
+//! The six impls are written out, one file each, because the gate refuses impls that a macro of this repository writes.
+//! The impls call methods of `num_traits`, so the methods of `BitArray` have other names.
 
 ghost use Rattle.std.specs.Prelude.{◌≡◌, ◌↔◌, ◌+◌, ◌-◌, ◌*◌, ◌/◌, ◌%◌, ◌^◌, ◌<◌, ◌≤◌, ℕ, IsTrue, MatchOption};
 ghost use Rattle.constriction_words.specs.Reciprocals.{IsReciprocalOf};
@@ -17,9 +17,9 @@ mod of_usize;
 
 /// A word: an unsigned integer of `BITS` bits. `u8`, `u16`, `u32`, `u64`, `u128` and `usize` are words.
 ///
-/// Contracts see a word as a natural number, `number`, and describe each method by what it does to these numbers.
-/// Nothing wraps or is cut off unless the method's name says so. Generic code may rely on `number word < 2 ^ BITS` for
-/// every word, with no condition of its own, because `number_law` holds for every value.
+/// Contracts describe a word by a natural number, `number`, and each method by what it does to these numbers. Nothing
+/// wraps or is cut off unless the method's name says so. By `number_law`, `number word < 2 ^ BITS` holds for every
+/// word. Generic code may rely on it without a condition of its own.
 ///
 /// Some methods have a condition, for example that a sum fits the type. The caller proves it. Compiled code inlines
 /// each method as one or a few machine operations. The exceptions are quotients and remainders of `u128`, for which
@@ -28,7 +28,7 @@ mod of_usize;
 /// An implementor proves the contract of each method and three laws: every word is below `2 ^ BITS`, every `NonZero`
 /// is above 0, and `BITS` is between 8 and 128.
 ///
-/// No method shares its name with a method of `num_traits`. Code that needs both asks for both, as in
+/// No method shares its name with a method of `num_traits`. Code that needs both traits writes both bounds, as in
 /// `Word: BitArray + PrimInt`, and calls every method by its bare name.
 ///
 /// # Examples
@@ -88,15 +88,15 @@ pub trait BitArray: Copy + Drop {
         requires { number self * number other < 2 ^ BITS }
         ensures { number result ≡ number self * number other };
 
-    /// Returns the quotient, rounded down. The caller proves that `other` is above 0.
+    /// Returns the quotient by `other`, rounded down. The caller proves that `other` is above 0.
     fn quotient(self, other: Self) -> Self
         requires { 0 < number other }
         ensures { number result ≡ number self / number other };
 
     /// Returns the quotient by `other`, rounded down, computed from the reciprocal of `other`.
     ///
-    /// All words of this crate but `u128` take a product and a shift instead of a division. An implementation without
-    /// this method divides.
+    /// The caller proves that `reciprocal` is the reciprocal of `other`. The words of this crate compute a product and
+    /// a shift instead of a division, except `u128`. The default method divides.
     fn quotient_by(self, other: Self, reciprocal: Reciprocal) -> Self
         requires { IsReciprocalOf reciprocal (number other) }
         ensures { number result ≡ number self / number other }
@@ -117,7 +117,7 @@ pub trait BitArray: Copy + Drop {
         requires fits { number self * 2 ^ by < 2 ^ BITS }
         ensures { number result ≡ number self * 2 ^ by };
 
-    /// Returns the number without its lowest `by` bits. The caller proves that `by` is below `BITS`.
+    /// Returns the number divided by `2 ^ by`, rounded down. The caller proves that `by` is below `BITS`.
     fn shifted_right(self, by: u32) -> Self
         requires { by < BITS }
         ensures { number result ≡ number self / 2 ^ by };
@@ -137,7 +137,7 @@ pub trait BitArray: Copy + Drop {
     fn wrapping_plus(self, other: Self) -> Self
         ensures { number result ≡ (number self + number other) % 2 ^ BITS };
 
-    /// Returns the difference modulo `2 ^ BITS`: where `other` is greater, `2 ^ BITS` is added.
+    /// Returns the difference modulo `2 ^ BITS`: if `other` is greater, `2 ^ BITS` is added.
     fn wrapping_minus(self, other: Self) -> Self
         ensures value { number result ≡ (number self + 2 ^ BITS - number other) % 2 ^ BITS }
         ensures back { (number result + number other) % 2 ^ BITS ≡ number self };

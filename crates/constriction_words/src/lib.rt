@@ -6,9 +6,14 @@
 //! - [`word_of`]: `WordOf<T>`, which widens a word to a `T` and narrows a `T` to a word, and its eighteen impls.
 //!
 //! Each coder is written once, generic over its word types, and each of its steps is proved once for all of them.
-//! Contracts see a word as the natural number that it stands for. Generic code can rely on three laws without asking
-//! its callers: a word's number is below `2 ^ BITS`, a nonzero number is above 0, and the word of a `WordOf<T>` is no
-//! wider than `T`. For example, the mean of two words, computed without their sum, has a contract and no condition:
+//! Contracts describe a word by the natural number that it stands for. Generic code may rely on three laws, which its
+//! callers don't have to prove:
+//!
+//! - A word's number is below `2 ^ BITS`.
+//! - A nonzero number is above 0.
+//! - A word that is `WordOf<T>` is no wider than `T`.
+//!
+//! For example, this function computes the mean of two words without their sum, and its contract has no condition:
 //!
 //! ```
 //! fn mean<Word: BitArray>(first: Word, second: Word) -> Word

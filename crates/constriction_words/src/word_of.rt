@@ -10,8 +10,12 @@ use crate::bit_array::BitArray;
 /// Each word type is `WordOf` itself. In addition, `u8` is `WordOf` every other word type; `u16` is `WordOf` `u32`,
 /// `u64`, `u128` and `usize`; `u32` is `WordOf` `u64` and `u128`; and `u64` is `WordOf` `u128`.
 ///
-/// An implementor proves that `widen` keeps the number, that `narrow` keeps the lowest `BITS` bits, and `width_law`:
-/// the word's `BITS` is at most that of `T`. Generic code may rely on `width_law` without a condition of its own.
+/// An implementor proves three facts:
+///
+/// - `widen` keeps the number.
+/// - `narrow` keeps the lowest `BITS` bits.
+/// - `width_law`: the word's `BITS` is at most `T::BITS`. Generic code may rely on this law without a condition of its
+///   own.
 ///
 /// # Examples
 ///

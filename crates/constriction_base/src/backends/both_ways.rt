@@ -1,8 +1,8 @@
 //! The same words, read from either end.
 //!
-//! The law of `BothWays` could not be a law of `Holds`: it is false for a cursor, whose position separates its stack
-//! from its queue. A coder that only lends its words to a decoder needs no `BothWays`, because the lent words are
-//! those of `Holds<Word, Queue>`.
+//! The law of `BothWays` is no law of `Holds`, because it is false for a cursor. A cursor's position separates its
+//! stack from its queue. A coder that only lends its words to a decoder needs no `BothWays`. The lent words are those
+//! of `Holds<Word, Queue>`.
 
 ghost use Rattle.std.specs.Prelude.{◌≡◌, reverse};
 
@@ -11,10 +11,14 @@ use crate::backends::reading::Holds;
 use crate::backends::semantics::{Queue, Stack};
 use crate::backends::writing::WriteWords;
 
-/// A backend that holds the same words as a stack and as a queue: the queue reads first what was written first.
+/// A backend that holds the same words as a stack and as a queue, in opposite orders.
 ///
-/// A coder needs it of a backend that it writes to as a stack and hands on as a queue. `Vec` and slices have it. A
-/// cursor doesn't, because its position separates the words of its stack from those of its queue.
+/// As a stack, it returns the words in the reverse of the order in which they were written. As a queue, it returns them
+/// in the order in which they were written.
+///
+/// A coder requires this trait of a backend that it writes to as a stack and hands on as a queue. Vectors and slices
+/// implement the trait. A cursor doesn't, because its position separates the words of its stack from those of its
+/// queue.
 ///
 /// An implementor proves one law: the list of the queue is the reverse of the list of the stack.
 pub trait BothWays<Word>: Holds<Word, Stack> + Holds<Word, Queue> {

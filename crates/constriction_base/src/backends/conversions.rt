@@ -1,8 +1,8 @@
 //! Traits of values that turn into a backend for reading, or lend one.
 //!
-//! The new backend holds the same words. Equal words alone are not enough for recorded positions: with a word put in
-//! front and the cursor behind it, they would lead elsewhere. Therefore `becomes` also states the buffer of the new
-//! backend and where it stands.
+//! The new backend holds the same words. That alone doesn't keep recorded positions valid. For example, the new buffer
+//! could begin with an extra word, and the cursor could stand after it. The words would be equal, but recorded
+//! positions would lead to other words. Therefore `becomes` also states the buffer and the position of the new backend.
 
 ghost use Rattle.std.specs.Prelude.{◌≡◌};
 
@@ -10,23 +10,23 @@ use crate::backends::reading::{Holds, ReadWords};
 use crate::backends::seeking::Seek;
 use crate::backends::semantics::{Semantics, Stack};
 
-/// Turns into a backend for reading.
+/// A value that turns into a backend for reading.
 ///
-/// An implementor chooses `becomes` freely and proves that the new backend holds the same words. Vectors and slices
-/// state in `becomes` the buffer and the position of the cursor that they turn into.
+/// An implementor chooses `becomes` freely and proves that the new backend holds the same words. For vectors and
+/// slices, `becomes` states the buffer and the position of the cursor that they turn into.
 pub trait IntoReadWords<Word, S: Semantics>: Holds<Word, S> {
     type IntoReadWords: ReadWords<Word, S> + Drop;
 
     /// Relates the value to the backend that it turns into.
     ghost becomes: { Self → Self.IntoReadWords → Type 0 };
 
-    /// Turns into a backend that reads the same words.
+    /// Turns the value into a backend that reads the same words.
     fn into_read_words(self) -> Self::IntoReadWords
         ensures words { ⟦<Self::IntoReadWords as Holds<Word, S>>⟧.words result ≡ Self.words self }
         ensures place { becomes self result };
 }
 
-/// Lends a backend for reading.
+/// A value that lends a backend for reading.
 ///
 /// An implementor chooses `becomes` freely and proves that the lent backend holds the same words, as for
 /// [`IntoReadWords`].
@@ -42,7 +42,7 @@ pub trait AsReadWords<'a, Word, S: Semantics>: Holds<Word, S> {
         ensures place { becomes self.now result };
 }
 
-/// Turns into a backend for reading that can also seek.
+/// A value that turns into a backend for reading that can also seek.
 ///
 /// An implementor chooses `becomes` freely and proves that the new backend holds the same words, as for
 /// [`IntoReadWords`].
@@ -52,13 +52,13 @@ pub trait IntoSeekReadWords<Word, S: Semantics>: Holds<Word, S> {
     /// Relates the value to the backend that it turns into.
     ghost becomes: { Self → Self.IntoSeekReadWords → Type 0 };
 
-    /// Turns into a backend that reads the same words and can seek.
+    /// Turns the value into a backend that reads the same words and can seek.
     fn into_seek_read_words(self) -> Self::IntoSeekReadWords
         ensures words { ⟦<Self::IntoSeekReadWords as Holds<Word, S>>⟧.words result ≡ Self.words self }
         ensures place { becomes self result };
 }
 
-/// Lends a backend for reading that can also seek.
+/// A value that lends a backend for reading that can also seek.
 ///
 /// An implementor chooses `becomes` freely and proves that the lent backend holds the same words, as for
 /// [`IntoReadWords`].
@@ -74,17 +74,17 @@ pub trait AsSeekReadWords<'a, Word, S: Semantics>: Holds<Word, S> {
         ensures place { becomes self.now result };
 }
 
-/// Reverses its buffer in place and still holds the same stack.
+/// A value that can reverse its buffer in place and still hold the same stack.
 ///
-/// An implementor chooses `turns` freely and proves that the new value holds the same stack. Cursors state in `turns`
-/// the buffer and the position.
+/// An implementor chooses `turns` freely and proves that the new value holds the same stack. For cursors, `turns`
+/// states the buffer and the position.
 pub trait IntoReversed<Word>: Holds<Word, Stack> {
     type IntoReversed: Holds<Word, Stack> + Drop;
 
-    /// Relates the value to the one over the reversed buffer.
+    /// Relates the value to the new value over the reversed buffer.
     ghost turns: { Self → Self.IntoReversed → Type 0 };
 
-    /// Returns the same stack over the reversed buffer.
+    /// Reverses the buffer and returns the same stack over it.
     fn into_reversed_stack(self) -> Self::IntoReversed
         ensures stack { ⟦<Self::IntoReversed as Holds<Word, Stack>>⟧.words result ≡ Self.words self }
         ensures turned { turns self result };

@@ -14,7 +14,7 @@ pub trait Words<Word> {
         ensures { result.now ≡ lent self.now };
 }
 
-/// A buffer whose words can be changed, while their number stays the same.
+/// A buffer whose words can be replaced and reversed. The number of words stays the same.
 ///
 /// An implementor proves what each call does to the lent words: `set_word` replaces one of them, and `reverse_words`
 /// reverses their order.

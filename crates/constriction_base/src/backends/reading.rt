@@ -9,13 +9,13 @@ use crate::backends::semantics::Semantics;
 ///
 /// A type that is both a stack and a queue has one list for each order.
 ///
-/// An implementor chooses the list freely. Where `is_list` holds, the clauses of the traits for reading and writing
-/// tie the list to their calls.
+/// An implementor chooses the list freely. Where `is_list` holds, the contracts of reading and writing state how each
+/// call changes the list.
 pub trait Holds<Word, S: Semantics> {
-    /// The words that the next reads return, in order. The list means nothing where `is_list` fails.
+    /// The words that the next reads return, in order. Where `is_list` doesn't hold, the list has no meaning.
     ghost words: { Self → List Word };
 
-    /// Holds where the type knows the words that it holds.
+    /// Holds if `words` is the list of words that the next reads return.
     ghost is_list: { Type 0 };
 }
 
@@ -23,9 +23,9 @@ pub trait Holds<Word, S: Semantics> {
 ///
 /// A `Stack` reads the word that was written last. A `Queue` reads the word that was written first.
 ///
-/// An implementor chooses freely which answers a read may return, what it leaves, and when the backend seems
-/// exhausted. It then proves that every read obeys these choices and, where the backend knows its words, that a read
-/// takes the first of them.
+/// An implementor chooses what a read may return, which backend the read leaves, and when the backend seems exhausted.
+/// It then proves that every read obeys these choices. Where `is_list` holds, it also proves that a read takes the
+/// first word of the list.
 ///
 /// # Examples
 ///
@@ -39,35 +39,36 @@ pub trait ReadWords<Word, S: Semantics>: Holds<Word, S> {
     /// It is `Infallible` for vectors and cursors, and the iterator's own error type for `FallibleIteratorReadWords`.
     type ReadError;
 
-    /// Relates the backend before a read, the answer, and the backend after it.
+    /// Relates the backend before a read, what the read returns, and the backend after it.
     ghost reads: { Self → Result (Option Word) Self.ReadError → Self → Type 0 };
 
-    /// The answer of `maybe_exhausted`.
+    /// The value that `maybe_exhausted` returns.
     ghost seems_exhausted: { Self → Bool };
 
-    /// Takes the next word. Returns `Ok(None)` where no word is left.
+    /// Takes the next word and returns it, or returns `Ok(None)` if no word is left.
     ///
-    /// Of a backend that knows its words, only a read that returns a word changes them.
+    /// Where `is_list` holds, only a read that returns a word changes the list of words.
     ///
     /// # Errors
     ///
-    /// The errors that `reads` allows. They leave the words of a backend that knows them unchanged.
+    /// Returns an error that `reads` allows. Where `is_list` holds, a read that fails leaves the list of words
+    /// unchanged.
     fn read(&mut self) -> Result<Option<Word>, Self::ReadError>
         ensures reads { reads self.old result self.new }
         ensures words { Self.is_list → Reads (Self.words self.old) result (Self.words self.new) };
 
-    /// Returns whether the backend may be exhausted, so that the next read may return `Ok(None)`.
+    /// Returns whether the backend may be exhausted.
     ///
-    /// `false` guarantees that the next read doesn't return `Ok(None)`.
+    /// If it returns `false`, the next read doesn't return `Ok(None)`. If it returns `true`, a word may still be left.
     fn maybe_exhausted(&self) -> bool
         ensures value { result ≡ seems_exhausted self.now }
         ensures exhausted { Self.is_list → Self.words self.now ≡ [] → IsTrue result }
         ensures ended { (after : Self) → reads self.now (Ok None) after → IsTrue result };
 }
 
-/// A backend that knows how many words are left.
+/// A backend that can count the words that are left.
 ///
-/// An implementor proves that the backend knows its words and that `remaining` is their number.
+/// An implementor proves that `is_list` holds and that `remaining` returns the length of the list.
 pub trait BoundedReadWords<Word, S: Semantics>: ReadWords<Word, S> {
     /// Returns the number of words left in the reading order `S`.
     fn remaining(&self) -> usize

@@ -1,7 +1,7 @@
 //! Positions in a backend or in a coder.
 //!
-//! Over vectors and cursors, `can_seek` and `seek_fails` exclude each other, so a seek succeeds exactly if it can,
-//! and a refused seek changes nothing. A coder that reads after its backend's seek, or that stands on two backends,
+//! For vectors and cursors, `can_seek` and `seek_fails` exclude each other: a seek succeeds exactly if `can_seek`
+//! holds, and a refused seek changes nothing. A coder that reads after its backend's seek, or that has two backends,
 //! may allow both at the same position. `stays` states what its refused seek leaves.
 
 ghost use Rattle.std.specs.Prelude.{◌≡◌, ℕ, length, IsOk, OnOk, OnErr};
@@ -16,28 +16,32 @@ pub trait PosSeek {
 
 /// A value whose position can be recorded.
 ///
-/// An implementor chooses freely where a value stands and when its position can be told, and proves that `pos` returns
-/// a position where it stands. `stands_at` is a relation, because a position may hold more than an index: a coder's
-/// position includes its head.
+/// An implementor chooses `stands_at` and `can_tell` freely, and proves that `pos` returns a position that `stands_at`
+/// allows. `stands_at` is a relation, because a position may hold more than an index. For example, a coder's position
+/// includes its head.
 pub trait Pos: PosSeek {
-    /// Holds where the value stands at the position.
+    /// Holds if the position is the current position of the value.
     ghost stands_at: { Self → Self.Position → Type 0 };
 
-    /// Holds where the position can be told, for example because a count of words fits its type.
+    /// Holds if `pos` can return the current position, for example because a count of words fits its type.
     ///
     /// It always holds for vectors and cursors.
     ghost can_tell: { Self → Type 0 };
 
-    /// Returns the current position. The caller proves that it can be told.
+    /// Returns the current position. The caller proves `can_tell`.
     fn pos(&self) -> Self::Position
         requires { can_tell self.now }
         ensures { stands_at self.now result };
 }
 
-/// A backend whose position is the number of words on its stack and can always be told.
+/// A backend whose position is the number of words on its stack.
 ///
-/// An implementor proves two laws, which tie [`Pos`] to [`Holds`]: every position where the value stands is its number
-/// of words, and `can_tell` always holds. A caller therefore knows that there is one position, and how large it is.
+/// An implementor proves two laws, which tie [`Pos`] to [`Holds`]:
+///
+/// - Every position that `stands_at` allows is the number of words on the stack.
+/// - `can_tell` always holds, so `pos` may always be called.
+///
+/// A caller therefore knows that there is exactly one current position, and which number it is.
 pub trait CountsWords<Word>: Pos<Position = usize> + Holds<Word, Stack> {
     // The position is the number of words on the stack.
     ghost count_law: { (b : Self) (place : ℕ) → Self.stands_at b place → place ≡ length (Self.words b) };
@@ -48,14 +52,14 @@ pub trait CountsWords<Word>: Pos<Position = usize> + Holds<Word, Stack> {
 
 /// A value that can go to a position.
 ///
-/// An implementor chooses freely when a seek may succeed, when it may be refused, and what either leaves, and proves
-/// that `seek` obeys these choices. Both may be possible at one position where a read decides. Where `can_seek` and
-/// `seek_fails` exclude each other, as for vectors and cursors, `seek` succeeds exactly if it can.
+/// An implementor chooses `can_seek`, `seek_fails`, `sought` and `stays` freely, and proves that `seek` obeys them.
+/// `can_seek` and `seek_fails` may both hold at one position if a read decides between success and refusal. Where they
+/// exclude each other, as for vectors and cursors, a seek succeeds exactly if `can_seek` holds.
 pub trait Seek: PosSeek {
-    /// Holds where a seek to the position may succeed. A seek to any other position is refused.
+    /// Holds if a seek to the position may succeed. A seek to any other position is refused.
     ghost can_seek: { Self → Self.Position → Type 0 };
 
-    /// Holds where a seek to the position may be refused. A seek to any other position succeeds.
+    /// Holds if a seek to the position may be refused. A seek to any other position succeeds.
     ghost seek_fails: { Self → Self.Position → Type 0 };
 
     /// Relates the value before a successful seek, the position, and the value after it.
@@ -68,8 +72,8 @@ pub trait Seek: PosSeek {
     ///
     /// # Errors
     ///
-    /// `Err(())` where `seek_fails` allows it, for example where words were taken off after the position was recorded.
-    /// A refused seek leaves a vector or a cursor unchanged.
+    /// Returns `Err(())` if the seek is refused. A seek is refused only where `seek_fails` holds, for example because
+    /// words were taken off after the position was recorded. A refused seek leaves a vector or a cursor unchanged.
     fn seek(&mut self, position: Self::Position) -> Result<(), ()>
         ensures variant { IsOk result → can_seek self.old position }
         ensures err { OnErr result (seek_fails self.old position) }
@@ -77,11 +81,11 @@ pub trait Seek: PosSeek {
         ensures kept { OnErr result (stays self.old position self.new) };
 }
 
-/// A value that can go to the position where it stands.
+/// A value that can seek to its current position.
 ///
-/// An implementor proves two laws, which tie [`Pos`] to [`Seek`]: a seek to the current position may succeed, and it
-/// is never refused. This is a trait of its own, because a coder may have `pos` over one backend and `seek` over
-/// another.
+/// An implementor proves two laws, which tie [`Pos`] to [`Seek`]: a seek to the current position may succeed, and it is
+/// never refused. The laws are a separate trait, because a coder may implement [`Pos`] over one backend and [`Seek`]
+/// over another.
 pub trait SeeksBack: Pos + Seek {
     // A seek to the current position may succeed.
     ghost reach_law: { (b : Self) (position : Self.Position) → Self.stands_at b position → Self.can_seek b position };

@@ -7,10 +7,10 @@ use crate::backends::reading::ReadWords;
 use crate::backends::semantics::Stack;
 use crate::backends::writing::WriteWords;
 
-/// Takes `count` words off the backend, and stops where a read is refused.
+/// Takes `count` words off the backend, or fewer if a read is refused.
 ///
-/// If no read is ever refused, exactly the first `count` words go, or all where there are fewer. A guard takes off
-/// in this way the words that it wrote onto a backend.
+/// If no read is ever refused, the call takes exactly the first `count` words, or all words if there are fewer. A guard
+/// calls it to take off the words that it wrote onto a backend.
 pub fn take_back<Word, Backend>(bulk: &mut Backend, count: usize)
 where
     Word: Drop,

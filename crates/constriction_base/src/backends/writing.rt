@@ -1,9 +1,9 @@
 //! Writing words to a backend.
 //!
-//! A refused `prepare` leaves the room that there was, so that a caller can put back the words that it took. `writes`
-//! has no default, because a default that holds for every backend would be vacuous: vectors state their items and that
-//! the capacity doesn't shrink, cursors their buffer and position. The answer of `maybe_full` is a ghost member, so
-//! that an implementation with a constant body is refused.
+//! A refused `prepare` doesn't reduce the room, so that a caller can write back the words that it took off. `writes`
+//! has no default, because a default that holds for every backend would be vacuous. Vectors state in it their items,
+//! and that the capacity doesn't shrink. Cursors state their buffer and position. The answer of `maybe_full` is the
+//! ghost member `seems_full`, so that the prover refuses a body that returns anything else.
 
 ghost use Rattle.std.specs.Prelude.{◌≡◌, ◌+◌, ℕ, Bool, false, ◌∷◌, ◌<◌, ◌≤◌, Result, OnOk, OnErr, IfErr};
 
@@ -12,12 +12,19 @@ use crate::backends::semantics::Stack;
 
 /// A backend that words can be written to, as onto a stack.
 ///
-/// Which errors a call may return depends only on the backend at the moment of the call.
+/// The errors that a call may return depend only on the backend before the call and, for `prepare`, on the number of
+/// words.
 ///
-/// An implementor chooses freely what a write leaves, which errors writes and `prepare` may return, how many writes
-/// are sure to succeed (possibly none), whether `prepare` makes room, which errors are lack of room, and when the
-/// backend seems full. It then proves that the calls obey these choices, and the laws that tie the choices to one
-/// another.
+/// An implementor chooses:
+///
+/// - `writes`: which backend a write leaves.
+/// - `write_fails` and `prepare_fails`: which errors the calls may return.
+/// - `room`: how many writes are sure to succeed, possibly none.
+/// - `makes_room`: whether `prepare` makes room.
+/// - `is_lack_of_room`: which errors mean lack of room.
+/// - `seems_full`: when the backend seems full.
+///
+/// It then proves that the calls obey these choices, and proves the laws that relate the choices to one another.
 ///
 /// # Examples
 ///
@@ -28,39 +35,39 @@ use crate::backends::semantics::Stack;
 /// words.write(9)?; // neither write grows the vector
 /// ```
 pub trait WriteWords<Word>: Holds<Word, Stack> {
-    /// The error of a write: lack of memory for a vector, lack of room for a cursor.
+    /// The error of a write and of `prepare`: lack of memory for a vector, lack of room for a cursor.
     type WriteError;
 
-    /// Relates the backend before a write, the word, the answer, and the backend after the write.
+    /// Relates the backend before a write, the word, what the write returns, and the backend after it.
     ///
     /// The relation includes state that `words` and `room` don't capture, such as a cursor's position and a vector's
     /// capacity. Contracts of calls that write several words chain it: each write starts from the backend that the
     /// previous one left.
     ghost writes: { Self → Word → Result (Unit {0}) Self.WriteError → Self → Type 0 };
 
-    /// Holds of the errors that the next write may return.
+    /// Holds for each error that the next write may return.
     ghost write_fails: { Self → Self.WriteError → Type 0 };
 
-    /// Holds of the errors that the next call of `prepare` for this number of words may return.
+    /// Holds for each error that a call of `prepare` for this number of words may return.
     ghost prepare_fails: { Self → ℕ → Self.WriteError → Type 0 };
 
     /// The number of writes that are sure to succeed.
     ghost room: { Self → ℕ };
 
-    /// Holds where a successful `prepare` makes room.
+    /// Holds if a successful `prepare` makes room for the words that it was asked for.
     ghost makes_room: { Type 0 };
 
-    /// Holds of the errors that mean that the backend is full, as opposed to a lack of memory.
+    /// Holds for each error that means that the backend is full, as opposed to a lack of memory.
     ghost is_lack_of_room: { Self.WriteError → Type 0 };
 
-    /// The answer of `maybe_full`.
+    /// The value that `maybe_full` returns.
     ghost seems_full: { Self → Bool };
 
-    /// Writes a word, which is then the first to be read.
+    /// Writes a word onto the stack, so that the next read returns this word.
     ///
     /// # Errors
     ///
-    /// One of the errors that `write_fails` allows for the backend before the call. The words stay unchanged.
+    /// Returns an error that `write_fails` allows for the backend before the call. The words then stay unchanged.
     fn write(&mut self, word: Word) -> Result<(), Self::WriteError>
         ensures writes { writes self.old word result self.new }
         ensures ok { OnOk result (Self.words self.new ≡ word ∷ Self.words self.old) }
@@ -78,12 +85,13 @@ pub trait WriteWords<Word>: Holds<Word, Stack> {
 
     /// Asks for room for `count` further words. No word changes.
     ///
-    /// After `Ok` over a vector, the next `count` writes succeed. Over a cursor, `Ok` guarantees nothing. A call of
-    /// `prepare` never adds an error to those that the next write may return.
+    /// For a vector, `Ok` guarantees that the next `count` writes succeed. For a cursor, `Ok` guarantees nothing. Every
+    /// error that the next write may return after the call was also possible before the call.
     ///
     /// # Errors
     ///
-    /// One of the errors that `prepare_fails` allows for the backend before the call. The room does not shrink.
+    /// Returns an error that `prepare_fails` allows for `count` and the backend before the call. The room doesn't
+    /// shrink.
     fn prepare(&mut self, count: usize) -> Result<(), Self::WriteError>
         ensures words { Self.words self.new ≡ Self.words self.old }
         ensures room { OnOk result (room self.old ≤ room self.new) }

@@ -30,9 +30,9 @@ impl<Word: BitArray, Buf: WordsMut<Word> + Drop> Cursor<Word, Buf> {
         }
     }
 
-    /// Returns the same stack and the same queue over the reversed buffer.
+    /// Reverses the buffer, and returns the same stack and the same queue over it.
     ///
-    /// Words that were written as a stack then lie in the buffer in the order in which the stack reads them.
+    /// Words written as a stack then lie in the buffer in the order in which the stack reads them.
     ///
     /// # Examples
     ///
@@ -54,7 +54,9 @@ impl<Word: BitArray, Buf: WordsMut<Word> + Drop> Cursor<Word, Buf> {
 }
 
 impl<Word: BitArray, Buf: WordsMut<Word> + Drop> Reverse<Cursor<Word, Buf>> {
-    /// Reverses the buffer, as a plain cursor. The words that it holds as a stack and as a queue stay the same.
+    /// Reverses the buffer and returns a plain cursor over it.
+    ///
+    /// The words that it holds as a stack and as a queue stay the same.
     pub fn into_reversed(self) -> Cursor<Word, Buf>
         ensures stack { ⟦<Cursor<Word, Buf> as Holds<Word, Stack>>⟧.words result
             ≡ ⟦<Reverse<Cursor<Word, Buf>> as Holds<Word, Stack>>⟧.words self }

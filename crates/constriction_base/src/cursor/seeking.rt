@@ -1,4 +1,4 @@
-//! The positions of a cursor: each is the number of words of the buffer before it.
+//! Positions of a cursor. A position is the number of words before it in the buffer.
 
 ghost use Rattle.std.specs.Prelude.{◌≡◌, ◌+◌, ◌-◌, ◌<◌, ◌≤◌, Result, Ok, Err, length};
 ghost use Rattle.constriction_base.specs.laws.Room.{within, words_before};

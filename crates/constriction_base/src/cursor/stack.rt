@@ -1,4 +1,4 @@
-//! A cursor as a stack: it reads the words before the position, the one right before it first.
+//! A cursor as a stack: it reads the words before its position, backward to the start of the buffer.
 
 ghost use Rattle.std.specs.Prelude.{◌≡◌, ◌+◌, ◌-◌, ◌<◌, ◌==◌, Option, Result, Ok, None, reverse, take};
 ghost use Rattle.constriction_base.specs.Backends.{Reads};

@@ -1,6 +1,7 @@
-//! Writing to a cursor, at its position, until the buffer ends.
+//! Writing to a cursor: each write replaces the word at the position, until the buffer ends.
 //!
-//! `write` has clauses beyond those of the trait: one word and the position change, and every other word stays.
+//! The contract of `write` says more than the trait: one word and the position change, and all other words stay the
+//! same.
 
 ghost use Rattle.std.specs.Prelude.{◌≡◌, ◌+◌, ◌-◌, ◌∷◌, ◌<◌, ◌≤◌, ◌==◌, Result, Ok, Err, length, reverse, IsOk, OnOk};
 ghost use Rattle.std.specs.Prelude.{OnErr, IfErr, slice_set, take};
@@ -34,7 +35,7 @@ impl<Word: BitArray, Buf: WordsMut<Word> + Drop> WriteWords<Word> for Cursor<Wor
     ///
     /// # Errors
     ///
-    /// `OutOfSpace` at the end of the buffer. The cursor is then unchanged.
+    /// Returns `OutOfSpace` if the position is the end of the buffer. The cursor is then unchanged.
     #[tactic(auto, using(crate::proofs::Ends::reverse_push))]
     fn write(&mut self, word: Word) -> Result<(), BoundedWriteError>
         ensures ok { OnOk result (reverse (take self.new.pos (Buf.lent self.new.buf))
@@ -60,7 +61,7 @@ impl<Word: BitArray, Buf: WordsMut<Word> + Drop> WriteWords<Word> for Cursor<Wor
         self.pos == self.buf.words().len()
     }
 
-    /// Returns `Ok` and changes nothing. This guarantees no room.
+    /// Returns `Ok` and changes nothing. `Ok` doesn't guarantee room.
     fn prepare(&mut self, _count: usize) -> Result<(), BoundedWriteError>
         ensures variant { IsOk result }
         ensures unchanged { self.new ≡ self.old }

@@ -1,6 +1,6 @@
 //! Mutably borrowed words as a buffer that can be written to.
 //!
-//! The buffer reverses its words itself, so `into_reversed` of a cursor is a single pass.
+//! `reverse_words` reverses the slice in place, so `into_reversed` of a cursor takes a single pass over the words.
 
 ghost use Rattle.std.specs.Prelude.{◌<◌, reverse};
 

@@ -10,10 +10,10 @@ ghost use Rattle.constriction_base.specs.Hints.{AreHints};
 use constriction_words::BitArray;
 use std::alloc::{AllocError, Global};
 
-/// Returns the number of low bits of a quantile that its bucket leaves out, for this number of symbols.
+/// Returns how many low bits of a quantile its bucket leaves out, in a table of `symbols` symbols.
 ///
-/// There are more than two and at most four buckets for each symbol. Fewer than that are possible only if the
-/// precision has no more bits, or where the number of buckets would exceed 2^63.
+/// There are more than two and at most four buckets for each symbol. There may be fewer in two cases: each bucket is a
+/// single quantile, or the number of buckets is 2^63.
 pub fn shift_for(symbols: usize, precision: usize) -> u32
     requires some { 0 < symbols }
     requires within { (1 ≤ precision) × (precision ≤ 128) }
@@ -47,7 +47,7 @@ fn symbol_from<Probability: BitArray>(
     symbol
 }
 
-/// Returns for each bucket the symbol of its first quantile, and behind these the last symbol.
+/// Returns the symbol of each bucket's first quantile, and after these the last symbol.
 pub fn hints_of<Probability: BitArray, const PRECISION: usize>(
     alloc: Global,
     starts: &[Probability],

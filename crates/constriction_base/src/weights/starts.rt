@@ -14,7 +14,7 @@ pub fn ones<Word: BitArray>(count: usize) -> Word
     Word::greatest().shifted_right(Word::BITS - count as u32)
 }
 
-/// Returns the number of symbols up to the last of a weight above 0, or `None` if the total isn't `2 ^ PRECISION`.
+/// Returns the number of symbols up to the last weight above 0, or `None` if the total isn't `2 ^ PRECISION`.
 pub fn known_symbols<Probability: BitArray, const PRECISION: usize>(
     weights: &[Probability],
 ) -> Option<usize>
@@ -47,7 +47,7 @@ pub fn known_symbols<Probability: BitArray, const PRECISION: usize>(
     if known > 0 { Some(known) } else { None }
 }
 
-/// Returns the start of each weight's interval, and behind these the sum of all weights.
+/// Returns the start of each weight's interval, and after these the sum of all weights.
 pub fn starts_of<Probability: BitArray>(
     alloc: Global,
     weights: &[Probability],

@@ -13,7 +13,7 @@ use std::marker::PhantomData;
 
 /// A distribution cut halfway between symbols, as a model of indices: 0 is the first symbol of the range, 1 the next.
 ///
-/// It serves where symbols have to be of type `usize`, like those of weight tables and of
+/// It serves callers whose symbols have to be of type `usize`, as in weight tables and in
 /// [`crate::lookup::ContiguousLookupDecoderModel`].
 ///
 /// # Examples

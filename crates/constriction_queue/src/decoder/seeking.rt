@@ -1,7 +1,7 @@
 //! Seeking a decoder to a position: a number of words and an interval.
 //!
-//! A decoder has no `pos`: encoders record positions. A seek reads the words of a point, so a read can fail after the
-//! backend has moved. The interval and the point stay then (`stays`).
+//! A decoder has no `pos`, because encoders record positions. A seek reads the words of a point, so a read can fail
+//! after the backend has moved. The interval and the point are then unchanged (`stays`).
 
 ghost use Rattle.std.specs.Prelude.{◌≡◌, ◌⊎◌, ◌/◌, ◌^◌, ℕ};
 ghost use Rattle.constriction_queue.specs.States.{lower_of, range_of};
@@ -43,14 +43,14 @@ where
         ⊎ ((moved : Backend) × (e : Backend.ReadError) × Backend.sought old.bulk position.0 moved
         × RefusesPoint Word.number Backend.ReadWords.own Word.BITS State.BITS moved e new.bulk)) };
 
-    /// Goes to a position that an encoder recorded: the recorded interval, over the backend's words at its position.
+    /// Goes to a position that an encoder recorded: seeks in the backend, and takes the recorded interval.
     ///
-    /// Reads as many words there as a state has.
+    /// The decoder reads as many words at the position as a state has.
     ///
     /// # Errors
     ///
-    /// `Err(())` if the backend can't seek to its position, or refuses a read. The interval and the point are
-    /// unchanged.
+    /// Returns `Err(())` if the backend refuses to seek to its position, or refuses a read. The interval and the point
+    /// are unchanged.
     ///
     /// # Examples
     ///

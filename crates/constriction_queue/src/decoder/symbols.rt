@@ -21,10 +21,10 @@ use constriction_stream::decoding::Decode;
 use constriction_words::{BitArray, WordOf};
 use thiserror::Error;
 
-/// The error of a decoding step that isn't the backend's.
+/// The error of a decoding step that the decoder itself refuses.
 #[derive(Debug, Clone, Copy, PartialEq, Eq, Error)]
 pub enum DecoderFrontendError {
-    /// The words don't encode any symbol of a model with this precision.
+    /// The words don't encode a symbol of any model with this precision.
     #[error("Tried to decode from compressed data that is invalid for the employed entropy model.")]
     InvalidData,
 }
@@ -65,16 +65,17 @@ impl<
 
     ghost is_end_of_data = { λ _. ⊥ };
 
-    /// Decodes the next symbol with a model of `PRECISION` bits, at most the bits of a word.
+    /// Decodes the next symbol with a model of `PRECISION` bits.
     ///
-    /// The decoder reads at most one word. If no word is left, it uses a zero word.
+    /// `PRECISION` is at most the number of bits of a word. The decoder reads at most one word. If no word is left, it
+    /// uses a zero word.
     ///
     /// # Errors
     ///
-    /// - `Frontend(InvalidData)` exactly if the words don't encode a symbol of any model with this precision. The
-    ///   decoder is unchanged.
-    /// - `Backend(error)` only if a word had to be read and the read returned that error. The interval and the point
-    ///   are unchanged, and so are the words if the backend knows its words.
+    /// - `Frontend(InvalidData)`: returned exactly if the words don't encode a symbol of any model with this precision.
+    ///   The decoder is unchanged.
+    /// - `Backend(error)`: returned only if a word had to be read and the read returned `error`. The interval and the
+    ///   point are unchanged. If `is_list` holds for the backend, the words are unchanged too.
     #[inline]
     fn decode_symbol<M>(
         &mut self,
@@ -117,9 +118,9 @@ impl<
         }
     }
 
-    /// Returns whether the words may have ended.
+    /// Returns whether all encoded symbols may have been decoded.
     ///
-    /// They may have if the backend knows of no further word, and either the point lies where a seal puts it, or no
+    /// It returns `true` exactly if the backend may be exhausted, and either the point lies where a seal puts it or no
     /// symbol was decoded.
     #[inline]
     fn maybe_exhausted(&self) -> bool

@@ -1,4 +1,4 @@
-//! Making a decoder from words, and its parts.
+//! Making a decoder from words or from its parts, and splitting it into its parts.
 
 ghost use Rattle.std.specs.Prelude.{◌≡◌, ◌↔◌, ◌+◌, ◌-◌, ◌%◌, ◌<◌, ◌^◌, map, IfOk, IfErr, IsOk, IsTrue};
 ghost use Rattle.constriction_base.specs.Steps.{IsSizes};
@@ -21,12 +21,12 @@ impl<Word: WordOf<State>, State: BitArray, Backend: ReadWords<Word, Queue>> Rang
 > {
     /// Makes a decoder over a backend, and reads as many words as a state has.
     ///
-    /// If the backend has fewer words, the decoder stops at the first read that finds none, and uses zero words for
-    /// the missing ones.
+    /// If the backend has fewer words, the decoder stops at the first read that finds no word, and uses zero words for
+    /// the missing words.
     ///
     /// # Errors
     ///
-    /// The error of a read. The backend is consumed.
+    /// Returns the error of a read. The backend is consumed.
     ///
     /// # Examples
     ///
@@ -55,11 +55,11 @@ impl<Word: WordOf<State>, State: BitArray, Backend: ReadWords<Word, Queue>> Rang
         }
     }
 
-    /// Makes a decoder from words, such as those that [`crate::RangeEncoder::into_compressed`] returns.
+    /// Makes a decoder from words, for example the words that [`crate::RangeEncoder::into_compressed`] returns.
     ///
     /// # Errors
     ///
-    /// The error of a read. Cursors have none.
+    /// Returns the error of a read. Reads from a cursor never fail.
     ///
     /// # Examples
     ///
@@ -88,7 +88,7 @@ impl<Word: WordOf<State>, State: BitArray, Backend: ReadWords<Word, Queue>> Rang
     ///
     /// # Errors
     ///
-    /// The error of a read. Cursors have none.
+    /// Returns the error of a read. Reads from a cursor never fail.
     ///
     /// # Examples
     ///
@@ -112,7 +112,9 @@ impl<Word: WordOf<State>, State: BitArray, Backend: ReadWords<Word, Queue>> Rang
         Self::with_backend(compressed.as_read_words())
     }
 
-    /// Returns whether the words may have ended, as `maybe_exhausted` of the trait `Decode` does at every precision.
+    /// Returns whether all encoded symbols may have been decoded, as `maybe_exhausted` of the trait `Decode` does.
+    ///
+    /// The answer is the same at every precision.
     #[inline]
     pub fn maybe_exhausted(&self) -> bool
         ensures { IsTrue result ↔ MayBeExhausted Word.BITS State.BITS Backend.seems_exhausted self.now }
@@ -202,7 +204,7 @@ impl<Word: WordOf<State>, State: BitArray, Backend: Holds<Word, Queue> + Clone> 
     ///
     /// # Errors
     ///
-    /// `AllocError` only if cloning the backend fails.
+    /// Returns `AllocError` only if cloning the backend fails.
     fn clone(&self) -> Result<Self, AllocError> {
         let bulk = self.bulk.clone()?;
         Ok(RangeDecoder {

@@ -17,13 +17,15 @@ impl<Word: WordOf<State>, State: BitArray, Backend: WriteWords<Word>> RangeEncod
     State,
     Backend,
 > {
-    /// Returns the encoder's words: those written, those pending, and a seal. Without symbols there is no seal.
+    /// Returns the backend with the encoder's words: the words written, the pending words, and a seal.
     ///
-    /// The encoder first asks the backend for room for all words that it still has to write.
+    /// If no symbol was encoded, there is no seal. The encoder first asks the backend for room for all words that it
+    /// still has to write.
     ///
     /// # Errors
     ///
-    /// The backend's error if it has no room for these words, or refuses to write one. The encoder is consumed.
+    /// Returns the backend's error if the backend has no room for these words, or refuses to write a word. The encoder
+    /// is consumed.
     pub fn into_compressed(self) -> Result<Backend, Backend::WriteError>
     where
         Backend: Drop,
@@ -53,18 +55,21 @@ impl<Word: WordOf<State>, State: BitArray, Backend: WriteWords<Word>> RangeEncod
         self.bulk.maybe_full()
     }
 
-    /// Returns the encoder's words with a seal that any words may follow.
+    /// Returns the backend with the encoder's words and a seal that any words may follow.
     ///
-    /// The seal is one word and then the least number of zero words, at most `State::BITS / Word::BITS - 1`, with which
-    /// every list that begins with the encoder's words decodes to the same symbols. Without symbols there is no seal.
-    /// If a state is two words wide, the result is that of [`RangeEncoder::into_compressed`]. For wider states, the
-    /// words of `into_compressed` decode to the symbols only if nothing follows them.
+    /// The seal is self-delimiting: every list that begins with the returned words decodes to the encoded symbols. The
+    /// seal is one word, followed by the least number of zero words for which this holds. There are at most
+    /// `State::BITS / Word::BITS - 1` zero words. If no symbol was encoded, there is no seal.
     ///
-    /// The encoder asks the backend for room for all words that it still has to write before it writes any.
+    /// If a state is two words wide, the words are those of [`RangeEncoder::into_compressed`]. For wider states, the
+    /// words of `into_compressed` are sure to decode to the symbols only if no word follows them.
+    ///
+    /// Before it writes any word, the encoder asks the backend for room for all words that it still has to write.
     ///
     /// # Errors
     ///
-    /// The backend's error if it has no room for these words, or refuses to write one. The encoder is consumed.
+    /// Returns the backend's error if the backend has no room for these words, or refuses to write a word. The encoder
+    /// is consumed.
     ///
     /// # Examples
     ///
@@ -142,7 +147,8 @@ impl<Word: WordOf<State>, State: BitArray, Backend: BoundedReadWords<Word, Stack
 
 /// An iterator over an encoder's words in the order of [`RangeEncoder::into_compressed`].
 ///
-/// [`RangeEncoder::iter_compressed`] makes it. Contracts see the numbers of the remaining words.
+/// [`RangeEncoder::iter_compressed`] returns it. Contracts describe the iterator by the numbers of the words that are
+/// left.
 ///
 /// # Examples
 ///
@@ -196,9 +202,9 @@ impl<Word: WordOf<State>, State: BitArray, Backend: Holds<Word, Stack> + Words<W
 > {
     /// Returns an iterator over the words that [`RangeEncoder::into_compressed`] would return.
     ///
-    /// The encoder is unchanged. Over any backend these are the lent words, then the pending words and the seal. They
-    /// are the exported words if the backend lends its words in writing order ([`crate::as_written::LendsAsWritten`]),
-    /// as vectors and slices do.
+    /// The encoder is unchanged. The iterator returns the words that the backend lends, then the pending words and the
+    /// seal. These are the words of `into_compressed` if the backend lends its words in the order in which they were
+    /// written ([`crate::as_written::LendsAsWritten`]), as vectors and slices do.
     pub fn iter_compressed(&self) -> RangeCompressedIter<'_, Word>
         // The words that the backend lends, and then what the sealed words have behind those written.
         ensures lent { result ≡ map Word.number (Backend.lent self.now.bulk)

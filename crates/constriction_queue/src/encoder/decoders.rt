@@ -26,8 +26,9 @@ impl<
     ///
     /// Every error consumes the encoder.
     ///
-    /// - `Write(error)` if the backend has no room for the words that are still to be written, or refuses one.
-    /// - `Read(error)` if a read of the first words fails.
+    /// - `Write(error)`: the backend has no room for the words that are still to be written, or refuses to write a
+    ///   word.
+    /// - `Read(error)`: a read of the decoder's first words fails.
     pub fn into_decoder(
         self,
     ) -> Result<
@@ -83,7 +84,7 @@ impl<
         Backend.becomes (queue_reads ⟦<Backend::IntoReadWords as ReadWords<Word, Queue>>⟧)
         Word.BITS State.BITS encoder error };
 
-    /// Turns the encoder into a decoder of its sealed words.
+    /// Turns the encoder into a decoder, as the method [`RangeEncoder::into_decoder`] does.
     fn into_decoder(
         self,
     ) -> Result<

@@ -14,10 +14,10 @@ use constriction_words::{BitArray, WordOf};
 use std::alloc::{AllocError, Allocator, Global};
 use std::fmt;
 
-/// A guard over an encoder whose pending words and seal stand in its vector until the guard is dropped.
+/// A guard that keeps an encoder's pending words and seal in the encoder's vector until the guard is dropped.
 ///
-/// [`RangeEncoder::get_compressed`] makes it, and has an example. The drop takes no memory. A forgotten guard leaves
-/// its words in the vector.
+/// [`RangeEncoder::get_compressed`] returns it, and has an example. The drop takes no memory. If a guard is forgotten
+/// instead of dropped, its words stay in the vector.
 pub struct EncoderGuard<'a, Word: WordOf<State>, State: BitArray, A: Allocator = Global> {
     pub(crate) inner: &'a mut RangeEncoder<Word, State, Vec<Word, A>>,
     pub(crate) count: usize,
@@ -60,8 +60,9 @@ impl<Word: WordOf<State> + fmt::Debug, State: BitArray, A: Allocator> fmt::Debug
 }
 
 impl<Word: WordOf<State>, State: BitArray, A: Allocator> RangeEncoder<Word, State, Vec<Word, A>> {
-    /// Writes the pending words and the seal onto the vector, and returns how many it wrote. The interval and the
-    /// situation stay.
+    /// Writes the pending words and the seal onto the vector, and returns how many words it wrote.
+    ///
+    /// The interval and the situation are unchanged.
     pub(crate) fn put_seal(&mut self) -> Result<usize, AllocError>
         ensures shows { OnOk result (reverse self.new.words ≡ sealed_by Word.BITS State.BITS self.old) }
         ensures back { IfOk result (λ count. drop count self.new.words ≡ self.old.words) }
@@ -91,7 +92,7 @@ impl<Word: WordOf<State>, State: BitArray, A: Allocator> RangeEncoder<Word, Stat
     ///
     /// # Errors
     ///
-    /// `AllocError` if the vector had to grow and there was no memory. The encoder is unchanged.
+    /// Returns `AllocError` if the vector has to grow and there is no memory. The encoder is unchanged.
     ///
     /// # Examples
     ///

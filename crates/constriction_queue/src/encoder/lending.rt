@@ -1,7 +1,7 @@
 //! Lending an encoder's compressed words to a function.
 //!
-//! The function gets words and makes its own decoder, because the language has no bound for a closure that takes a
-//! decoder over a borrowed slice.
+//! The function gets words instead of a decoder, because the language has no bound for a closure that takes a decoder
+//! over a borrowed slice. The function can make a decoder from the words.
 
 ghost use Rattle.std.specs.Prelude.{◌≡◌, ◌+◌, ◌<◌, List, length, map, IfOk, OnErr};
 ghost use Rattle.std.specs.Fn.{FnOnceReturnsAt, FnOnceTakesAt};
@@ -14,16 +14,17 @@ use constriction_words::{BitArray, WordOf};
 use std::alloc::{AllocError, Allocator};
 
 impl<Word: WordOf<State>, State: BitArray, A: Allocator> RangeEncoder<Word, State, Vec<Word, A>> {
-    /// Lends a function the words that [`RangeEncoder::into_compressed`] would return, and returns its result.
+    /// Calls a function on the words that [`RangeEncoder::into_compressed`] would return, and returns its result.
     ///
-    /// The encoder is unchanged afterwards. [`RangeDecoder::from_compressed`] makes a decoder of the words.
+    /// The encoder is unchanged after the call. In the function, [`RangeDecoder::from_compressed`] makes a decoder from
+    /// the words.
     ///
     /// [`RangeDecoder::from_compressed`]: crate::RangeDecoder::from_compressed
     ///
     /// # Errors
     ///
-    /// `AllocError` if the vector had to grow and there was no memory. The function isn't called, and the encoder is
-    /// unchanged.
+    /// Returns `AllocError` if the vector has to grow and there is no memory. The function isn't called, and the
+    /// encoder is unchanged.
     ///
     /// # Examples
     ///

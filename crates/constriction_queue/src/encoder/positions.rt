@@ -27,8 +27,8 @@ impl<Word: WordOf<State>, State: BitArray, Backend: CountsWords<Word>> Pos
 
     /// Returns the number of words written and pending, and the interval.
     ///
-    /// A decoder of the words that the encoder exports later can seek to this position. The number of these words has
-    /// to fit a `usize`, see [`RangeEncoder::pos_fits`].
+    /// A decoder of the words that the encoder exports later can seek to this position. The caller proves that the
+    /// number of words written and pending fits a `usize`. [`RangeEncoder::pos_fits`] tests this.
     fn pos(&self) -> (usize, RangeCoderState<Word, State>) {
         (self.bulk.pos() + self.held(), self.state)
     }

@@ -64,8 +64,8 @@ impl<
 
     /// Returns how many more symbols the encoder can encode.
     ///
-    /// The limit keeps the number of pending words, which grows by at most one a step, and of the at most 16 words of a
-    /// seal within a `usize`.
+    /// The number of pending words and the at most 16 words of a seal have to fit a `usize` together. A step adds at
+    /// most one pending word.
     #[inline]
     fn symbols_left(&self) -> usize {
         match self.situation {
@@ -74,17 +74,19 @@ impl<
         }
     }
 
-    /// Encodes a symbol behind the others, with a model of `PRECISION` bits, at most the bits of a word.
+    /// Encodes the next symbol with a model of `PRECISION` bits.
     ///
-    /// If words have to be written, the encoder first asks the backend for room for all of them, then writes them, and
-    /// updates its interval last.
+    /// `PRECISION` is at most the number of bits of a word. If words have to be written, the encoder first asks the
+    /// backend for room for all of them. It then writes the words, and updates its interval last. The caller proves
+    /// that `symbols_left` is at least 1.
     ///
     /// # Errors
     ///
-    /// - `Frontend(ImpossibleSymbol)` exactly if the model doesn't contain the symbol. The encoder is unchanged.
-    /// - `Backend(error)` only if words had to be written, and the backend refused room for them or one of the writes.
-    ///   The interval and the pending words are unchanged. The backend has taken the first few of the words; a vector
-    ///   is unchanged.
+    /// - `Frontend(ImpossibleSymbol)`: returned exactly if the symbol is impossible under the model. The encoder is
+    ///   unchanged.
+    /// - `Backend(error)`: returned only if words had to be written, and the backend refused room for them or refused a
+    ///   write. The interval and the pending words are unchanged. The backend keeps the words that it took before it
+    ///   refused. A vector is unchanged.
     #[inline]
     fn encode_symbol<M>(
         &mut self,
@@ -127,8 +129,8 @@ impl<
 
     /// Returns whether the backend may be full.
     ///
-    /// If no words are pending and this returns `false`, the next step doesn't fail for lack of room: it writes at most
-    /// one word.
+    /// If no words are pending and it returns `false`, the next step doesn't fail for lack of room, because it writes
+    /// at most one word.
     #[inline]
     fn maybe_full(&self) -> bool
         ensures value { result ≡ Backend.seems_full self.now.bulk }

@@ -99,12 +99,12 @@ impl<Word: WordOf<State>, State: BitArray, A: Allocator> RangeEncoder<Word, Stat
 
     /// Returns a decoder of the words that [`RangeEncoder::into_compressed`] would return, through a guard.
     ///
-    /// Dropping the decoder restores the encoder. No clause of this call says so, nor what an error leaves; tests show
-    /// both. The contract of [`RangeEncoder::with_compressed`] has both.
+    /// Dropping the decoder restores the encoder, and an error leaves the encoder unchanged. The contract of this call
+    /// states neither; tests check both. The contract of [`RangeEncoder::with_compressed`] states both for that call.
     ///
     /// # Errors
     ///
-    /// `AllocError` if the vector had to grow and there was no memory. The encoder is unchanged.
+    /// Returns `AllocError` if the vector has to grow and there is no memory. The encoder is unchanged.
     ///
     /// # Examples
     ///

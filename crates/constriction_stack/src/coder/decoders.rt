@@ -1,7 +1,7 @@
 //! Coders for reading: over other backends, over borrowed words, over words in reading order, and with seeking.
 //!
-//! `into_reversed` goes through the trait `IntoReversed`: separate methods for cursors and reversed cursors have no
-//! proved callers.
+//! `into_reversed` goes through the trait `IntoReversed`, because separate methods for cursors and for reversed cursors
+//! have no proved callers.
 
 ghost use Rattle.constriction_base.specs.Readings.{BeginsHigh};
 ghost use Rattle.constriction_base.specs.Iterators.{FusedRead};
@@ -42,7 +42,7 @@ impl<
 
     ghost fails = { λ _ _. ⊥ };
 
-    /// Moves the state to a backend for reading. This never fails.
+    /// Turns the coder into a decoder with the same state, over a backend for reading. This never fails.
     fn into_decoder(self) -> Result<AnsCoder<Word, State, Backend::IntoReadWords>, Infallible> {
         Ok(self.into_decoder())
     }
@@ -75,7 +75,7 @@ impl<Word: WordOf<State>, State: BitArray, Backend: IntoReadWords<Word, Stack>> 
     State,
     Backend,
 > {
-    /// Moves the state to a backend for reading.
+    /// Turns the coder into a decoder with the same state, over a backend for reading.
     pub fn into_decoder(self) -> AnsCoder<Word, State, Backend::IntoReadWords>
         ensures state { result.state ≡ self.state }
         ensures place { Backend.becomes self.backend result.backend }
@@ -118,11 +118,11 @@ impl<'a, Word: WordOf<State> + 'a, State: BitArray> AnsCoder<
 > {
     /// Makes a coder that borrows words in the form that [`AnsCoder::into_compressed`] returns.
     ///
-    /// From no words this makes an empty coder.
+    /// If there are no words, the coder is empty.
     ///
     /// # Errors
     ///
-    /// `CompressedDataEndsWithZeroWord` exactly if the last word is zero.
+    /// Returns `CompressedDataEndsWithZeroWord` exactly if the last word is zero.
     ///
     /// # Examples
     ///
@@ -174,9 +174,9 @@ impl<Word: WordOf<State>, State: BitArray, Buf: Words<Word> + Drop> AnsCoder<
     State,
     Reverse<Cursor<Word, Buf>>,
 > {
-    /// Makes a coder from words in the reverse of the order in which [`AnsCoder::into_compressed`] returns them.
+    /// Makes a coder from the words that [`AnsCoder::into_compressed`] returns, in reverse order.
     ///
-    /// From no words this makes an empty coder.
+    /// If there are no words, the coder is empty.
     ///
     /// # Errors
     ///
@@ -207,9 +207,7 @@ impl<Word: WordOf<State>, State: BitArray, Buf: Words<Word> + Drop> AnsCoder<
         }
     }
 
-    /// Makes a coder from arbitrary words in reverse order.
-    ///
-    /// [`AnsCoder::into_binary`] returns these words in the reverse of this order.
+    /// Makes a coder from arbitrary words, in the reverse of the order of [`AnsCoder::into_binary`].
     ///
     /// # Examples
     ///
@@ -238,15 +236,17 @@ impl<
     ReadError: Drop,
     Iter: Iterator<Item = Result<Word, ReadError>>,
 > AnsCoder<Word, State, FallibleIteratorReadWords<Iter>> {
-    /// Makes a coder from an iterator over compressed words in reverse order.
+    /// Makes a coder from an iterator over the words that [`AnsCoder::into_compressed`] returns, in reverse order.
     ///
-    /// [`AnsCoder::into_compressed`] returns the words in the reverse of this order. Takes words into the head until it
-    /// is full. Decoding takes the other words when it needs them.
+    /// The call takes words into the head until the head is full. Decoding takes the other words when it needs them.
+    /// The caller proves that the iterator's `next` may be called.
     ///
     /// # Errors
     ///
-    /// Returns the iterator as the reads left it, exactly if the first word is zero or an item that was taken is
-    /// an error.
+    /// Returns the iterator as the reads left it, in exactly two cases:
+    ///
+    /// - The first word is zero.
+    /// - An item that the call took is an error.
     ///
     /// # Examples
     ///
@@ -272,14 +272,14 @@ impl<
         }
     }
 
-    /// Makes a coder from an iterator over arbitrary words in reverse order.
+    /// Makes a coder from an iterator over arbitrary words, in the reverse of the order of [`AnsCoder::into_binary`].
     ///
-    /// [`AnsCoder::into_binary`] returns the words in the reverse of this order. Takes words into the head until it is
-    /// full. Decoding takes the other words when it needs them.
+    /// The call takes words into the head until the head is full. Decoding takes the other words when it needs them.
+    /// The caller proves that the iterator's `next` may be called.
     ///
     /// # Errors
     ///
-    /// The error of an item that was taken. The iterator is consumed.
+    /// Returns the error of an item that the call took. The iterator is consumed.
     pub fn from_reversed_binary_iter(binary: Iter) -> Result<Self, ReadError>
         requires sizes { IsSizes Word.BITS State.BITS }
         requires can { Iter.can_next binary }
@@ -302,8 +302,9 @@ impl<Word: WordOf<State>, State: BitArray, Backend: IntoReversed<Word>> AnsCoder
 > {
     /// Reverses the buffer below the head and keeps the state.
     ///
-    /// This converts between a cursor, where the words below the head stand before the position and the next word
-    /// to read is the last of them, and a reversed cursor, where they stand behind the position in reading order.
+    /// This converts between a cursor and a reversed cursor. In a cursor, the words below the head stand before the
+    /// position, and the last of them is read first. In a reversed cursor, they stand from the position on, in reading
+    /// order.
     pub fn into_reversed(self) -> AnsCoder<Word, State, Backend::IntoReversed>
         ensures state { result.state ≡ self.state }
         ensures turned { Backend.turns self.backend result.backend }
@@ -320,7 +321,7 @@ impl<Word: WordOf<State>, State: BitArray, Backend: IntoSeekReadWords<Word, Stac
     State,
     Backend,
 > {
-    /// Moves the state to a backend for reading that can seek.
+    /// Turns the coder into a decoder with the same state, over a backend for reading and seeking.
     pub fn into_seekable_decoder(self) -> AnsCoder<Word, State, Backend::IntoSeekReadWords>
         ensures state { result.state ≡ self.state }
         ensures place { Backend.becomes self.backend result.backend }
@@ -401,12 +402,12 @@ impl<Word: WordOf<State>, State: BitArray, Backend: Holds<Word, Stack> + Seek> S
         × (new.state ≡ state_of Word.number Backend.Holds old.state.head new.backend)
         × (new.backend ≡ old.backend → new ≡ old) };
 
-    /// Goes to a recorded position: the recorded head, over the words that the backend holds at its position.
+    /// Goes to a recorded position: seeks in the backend, and takes the recorded head.
     ///
     /// # Errors
     ///
-    /// `Err(())` if the backend refuses to seek to its position. The head is unchanged; the coder is unchanged if
-    /// the backend is.
+    /// Returns `Err(())` if the backend refuses to seek to its position. The head is unchanged. If the backend is
+    /// unchanged, so is the coder.
     ///
     /// # Examples
     ///

@@ -1,8 +1,8 @@
 //! Guards that lend a coder's compressed words: a guard writes them onto the backend, and its drop removes them.
 //!
-//! Contracts name the borrowed coder and the number of written words by `lender` and `written` of `specs/Guarded.antt`,
-//! because a model of the guard's own couldn't pass on the ghost name of the coder. `backend` says that the backend
-//! holds the coder's words, so a caller who decodes lent words needs no other contract.
+//! Contracts name the borrowed coder by `lender` and the number of written words by `written`, both of
+//! `specs/Guarded.antt`. A model of the guard's own couldn't pass on the ghost name of the coder. The contract of
+//! `backend` says that the backend holds the coder's words, so a caller who decodes lent words needs no other contract.
 
 ghost use Rattle.constriction_base.specs.Readings.{NeverRefused};
 ghost use Rattle.std.specs.Prelude.{◌≡◌, ◌↔◌, ◌^◌, ◌++◌, ℕ, drop, map, Ok, Err, IfOk, IfErr, OnOk};
@@ -23,13 +23,13 @@ use constriction_base::head_words::{append_words, count_of_words, words_below_on
 use constriction_words::{BitArray, WordOf};
 use std::fmt;
 
-/// A guard over a coder whose head's words stand on the backend until the guard is dropped.
+/// A guard that keeps the words of a coder's head on the coder's backend until the guard is dropped.
 ///
-/// [`AnsCoder::get_compressed`] makes it with `SEALED` 0, and [`AnsCoder::get_binary`] with `SEALED` 1; the
-/// first has an example.
+/// [`AnsCoder::get_compressed`] returns a guard with `SEALED` 0, and has an example. [`AnsCoder::get_binary`] returns a
+/// guard with `SEALED` 1.
 ///
-/// The drop reads back as many words as were written, so it takes no memory. It stops at a read that fails. A
-/// forgotten guard leaves its words on the backend, below the head.
+/// The drop reads back as many words as the guard wrote, so it takes no memory. It stops at a read that fails. If a
+/// guard is forgotten instead of dropped, its words stay on the backend, below the head.
 pub struct CoderGuard<'a, Word: WordOf<State>, State: BitArray, Backend, const SEALED: usize>
 where
     Backend: WriteWords<Word> + ReadWords<Word, Stack>,
@@ -150,14 +150,14 @@ where
 
     /// Returns a guard that lends the words that [`AnsCoder::into_compressed`] would return.
     ///
-    /// While the guard lives, its backend holds the words below the head and then the words of the head, lowest
-    /// first, without leading zero words. The coder first asks the backend for room for the head's words; if the
-    /// head is 0, there are none. Dropping the guard restores the coder.
+    /// While the guard lives, the backend holds the words below the head and then the words of the head, lowest first,
+    /// without leading zero words. The coder first asks the backend for room for the head's words. A head of 0 has no
+    /// words. Dropping the guard restores the coder.
     ///
     /// # Errors
     ///
-    /// The backend's error if it has no room for all words of the head, or refuses to write one of them. The
-    /// coder removes the words that it wrote before, unless a read fails.
+    /// Returns the backend's error if the backend has no room for all words of the head, or refuses to write a word.
+    /// The coder then removes the words that it wrote, unless a read fails.
     ///
     /// # Examples
     ///
@@ -190,16 +190,16 @@ where
 
     /// Returns a guard that lends the words that [`AnsCoder::into_binary`] would return.
     ///
-    /// While the guard lives, its backend holds the words below the head and then the head's words below its
-    /// leading 1, lowest first, zero words at the top included. The coder first asks the backend for room for the
-    /// head's words; if the head is 1, there are none. Dropping the guard restores the coder.
+    /// While the guard lives, the backend holds the words below the head and then the head's words below its leading 1,
+    /// lowest first. Zero words at the top are included. The coder first asks the backend for room for the head's
+    /// words. A head of 1 has no words below its leading 1. Dropping the guard restores the coder.
     ///
     /// # Errors
     ///
-    /// - `Frontend(())` exactly if the head is 0, or if its bit length minus one isn't a multiple of the bits of a
-    ///   word. The coder is unchanged.
-    /// - `Backend(error)` if the backend has no room for all words of the head, or refuses to write one of them.
-    ///   The coder removes the words that it wrote before, unless a read fails.
+    /// - `Frontend(())`: returned exactly if the head is 0, or if its bit length minus one isn't a multiple of the bits
+    ///   of a word. The coder is unchanged.
+    /// - `Backend(error)`: the backend has no room for all words of the head, or refuses to write a word. The coder
+    ///   then removes the words that it wrote, unless a read fails.
     pub fn get_binary(
         &mut self,
     ) -> Result<CoderGuard<'_, Word, State, Backend, 1>, CoderError<(), Backend::WriteError>>

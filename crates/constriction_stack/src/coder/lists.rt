@@ -1,7 +1,7 @@
 //! Encoding lists of symbols from last to first, as methods of the coder, so that no trait has to be in scope.
 //!
-//! The contracts speak of the iterator's `next_back`, so a caller doesn't have to know `Rev`. They ask that the
-//! iterator ends and can be asked from the back.
+//! The contracts refer to the iterator's `next_back`, so that a caller doesn't have to know `Rev`. They require that
+//! the iterator ends and that its `next_back` may be called.
 
 ghost use Rattle.constriction_stream.specs.Lists.{GivesAtMost, LowersByItems, StepsUntilFault, TriesItem};
 ghost use Rattle.constriction_stream.specs.Symbols.{EncodesPair, EncodesSymbol};
@@ -25,8 +25,8 @@ impl<Word: WordOf<State>, State: BitArray, Backend: WriteWords<Word>> AnsCoder<
     ///
     /// # Errors
     ///
-    /// The error of the first step that fails. The coder has encoded exactly the symbols behind that one, and
-    /// doesn't ask the iterator for the items before it.
+    /// Returns the error of the first refused step. Exactly the symbols after the refused symbol in the list are
+    /// encoded. The items before it are not taken from the iterator.
     pub fn encode_symbols_reverse<S, M, I, const PRECISION: usize>(
         &mut self,
         symbols_and_models: I,
@@ -54,10 +54,10 @@ impl<Word: WordOf<State>, State: BitArray, Backend: WriteWords<Word>> AnsCoder<
     ///
     /// # Errors
     ///
-    /// After each error, the coder has encoded exactly the symbols behind the item in question.
+    /// The call stops at the first error. Exactly the symbols of the items after it in the list are encoded.
     ///
-    /// - `InvalidEntropyModel(error)` if the item is an error. The item doesn't change the coder.
-    /// - `CodingError(error)` if a step fails.
+    /// - `InvalidEntropyModel(error)`: the item is `Err(error)`. The item doesn't change the coder.
+    /// - `CodingError(error)`: the coder refuses the step of the item.
     pub fn try_encode_symbols_reverse<S, M, E, I, const PRECISION: usize>(
         &mut self,
         symbols_and_models: I,
@@ -88,8 +88,8 @@ impl<Word: WordOf<State>, State: BitArray, Backend: WriteWords<Word>> AnsCoder<
     ///
     /// # Errors
     ///
-    /// The error of the first step that fails. The coder has encoded exactly the symbols behind that one, and
-    /// doesn't ask the iterator for those before it.
+    /// Returns the error of the first refused step. Exactly the symbols after the refused symbol in the list are
+    /// encoded. The symbols before it are not taken from the iterator.
     ///
     /// # Examples
     ///

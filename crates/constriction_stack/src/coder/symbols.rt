@@ -68,16 +68,17 @@ impl<
         usize::MAX
     }
 
-    /// Encodes a symbol with a model of `PRECISION` bits, at most the bits of a word.
+    /// Encodes a symbol with a model of `PRECISION` bits.
     ///
-    /// The coder writes at most one word (the renormalization of rANS). It asks the backend for room for one word
-    /// only if it has to write one.
+    /// `PRECISION` is at most the number of bits of a word. The coder writes at most one word (the renormalization of
+    /// rANS). It asks the backend for room for one word only if it has to write a word.
     ///
     /// # Errors
     ///
-    /// - `Frontend(ImpossibleSymbol)` exactly if the model doesn't contain the symbol. The coder is unchanged.
-    /// - `Backend(error)` only if a word had to be written, and the backend refused room for it or the write
-    ///   itself. The head and the words are unchanged.
+    /// - `Frontend(ImpossibleSymbol)`: returned exactly if the symbol is impossible under the model. The coder is
+    ///   unchanged.
+    /// - `Backend(error)`: returned only if a word had to be written, and the backend refused room for it or refused
+    ///   the write. The head and the words are unchanged.
     #[inline]
     fn encode_symbol<M>(
         &mut self,
@@ -144,14 +145,15 @@ impl<
 
     ghost is_end_of_data = { λ _. ⊥ };
 
-    /// Decodes a symbol with a model of `PRECISION` bits, at most the bits of a word.
+    /// Decodes a symbol with a model of `PRECISION` bits.
     ///
-    /// The coder reads at most one word. It never runs out: an empty coder decodes symbols without end.
+    /// `PRECISION` is at most the number of bits of a word. The coder reads at most one word. It never runs out of
+    /// data: an empty coder decodes symbols without end.
     ///
     /// # Errors
     ///
-    /// `Backend(error)` only if a word had to be read and the read returned that error. The head is unchanged, and
-    /// so are the words if the backend knows its words.
+    /// Returns `Backend(error)` only if a word had to be read and the read returned `error`. The head is unchanged. If
+    /// `is_list` holds for the backend, the words are unchanged too.
     #[inline]
     fn decode_symbol<M>(
         &mut self,
@@ -180,7 +182,9 @@ impl<
         }
     }
 
-    /// Returns whether the head is 0, as it is after all symbols were decoded.
+    /// Returns whether the head is 0.
+    ///
+    /// The head is 0 after all symbols that were encoded onto an empty coder are decoded.
     #[inline]
     fn maybe_exhausted(&self) -> bool
         ensures value { IsTrue result ↔ (self.now.state.head ≡ 0) }

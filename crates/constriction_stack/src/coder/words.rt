@@ -37,13 +37,15 @@ impl<Word: WordOf<State>, State: BitArray, Backend: ReadWords<Word, Stack>> AnsC
 > {
     /// Makes a coder from words in the form that [`AnsCoder::into_compressed`] returns.
     ///
-    /// Reads words into the head until it is full (two words if `State` has twice the bits of `Word`) or until
-    /// no word is left. With no words to read, the coder is empty.
+    /// The call reads words into the head until the head is full or no word is left. If `State` has twice the bits of
+    /// `Word`, two words fill the head. If there are no words, the coder is empty.
     ///
     /// # Errors
     ///
-    /// Returns the backend as the reads left it, in exactly two cases: the last word is zero (it has been read), or a
-    /// read returned an error.
+    /// Returns the backend as the reads left it, in exactly two cases:
+    ///
+    /// - The word that is read first, the last of the compressed words, is zero.
+    /// - A read returned an error.
     ///
     /// # Examples
     ///
@@ -99,16 +101,15 @@ impl<Word: WordOf<State>, State: BitArray, Backend: WriteWords<Word>> AnsCoder<
     State,
     Backend,
 > {
-    /// Returns the coder's words.
+    /// Returns the backend, with all words of the coder on it.
     ///
-    /// These are the words below the head, then the words of the head, lowest first, without leading zero words.
-    /// The coder first asks the backend for room for the head's words. If the head is 0, the backend is returned
-    /// unchanged.
+    /// These are the words below the head, then the words of the head, lowest first, without leading zero words. The
+    /// coder first asks the backend for room for the head's words. If the head is 0, the backend is returned unchanged.
     ///
     /// # Errors
     ///
-    /// The backend's error if it has no room for all words of the head, or refuses to write one of them. The
-    /// coder is consumed.
+    /// Returns the backend's error if the backend has no room for all words of the head, or refuses to write a word.
+    /// The coder is consumed.
     pub fn into_compressed(self) -> Result<Backend, Backend::WriteError>
     where
         Backend: Drop,
@@ -138,14 +139,14 @@ impl<Word: WordOf<State>, State: BitArray, Backend: ReadWords<Word, Stack>> AnsC
 > {
     /// Makes a coder from arbitrary words.
     ///
-    /// [`AnsCoder::into_binary`] returns the same words, zero words at the top included.
+    /// [`AnsCoder::into_binary`] turns the coder back into these words, including zero words at the top.
     ///
-    /// Reads words into the head, below a leading 1, until it is full (one word if `State` has twice the bits of
-    /// `Word`) or until no word is left. From no words this makes a coder with head 1.
+    /// The call reads words into the head, below a leading 1, until the head is full or no word is left. If `State` has
+    /// twice the bits of `Word`, one word fills the head. If there are no words, the coder has the head 1.
     ///
     /// # Errors
     ///
-    /// The error of a read. The backend is consumed.
+    /// Returns the error of a read. The backend is consumed.
     ///
     /// # Examples
     ///
@@ -186,17 +187,17 @@ impl<Word: WordOf<State>, State: BitArray, Backend: WriteWords<Word>> AnsCoder<
 > {
     /// Returns the words of a coder whose head is a 1 above whole words.
     ///
-    /// These are the words below the head, then the head's words below its leading 1, lowest first, zero words at
-    /// the top included.
-    /// The coder first asks the backend for room for the head's words. If the head is 1, the backend is returned
-    /// unchanged.
+    /// These are the words below the head, then the head's words below its leading 1, lowest first. Zero words at the
+    /// top are included. The coder first asks the backend for room for the head's words. If the head is 1, the backend
+    /// is returned unchanged.
     ///
     /// # Errors
     ///
     /// Every error consumes the coder.
     ///
-    /// - `None` exactly if the head is 0, or if its bit length minus one isn't a multiple of the bits of a word.
-    /// - `Some(error)` if the backend has no room for all words of the head, or refuses to write one of them.
+    /// - `None`: returned exactly if the head is 0, or if its bit length minus one isn't a multiple of the bits of a
+    ///   word.
+    /// - `Some(error)`: the backend has no room for all words of the head, or refuses to write a word.
     pub fn into_binary(self) -> Result<Backend, Option<Backend::WriteError>>
     where
         Backend: Drop,
@@ -261,8 +262,8 @@ impl<Word: WordOf<State>, State: BitArray, Backend: BoundedReadWords<Word, Stack
 
     /// Returns the number of bits that carry information.
     ///
-    /// These are the bits of the words below the head, and the bits of the head below its leading 1. For a new coder
-    /// this is 0.
+    /// These are the bits of the words below the head, and the bits of the head below its leading 1. A new coder has
+    /// none.
     pub fn num_valid_bits(&self) -> usize
         requires { SizesFit Word.BITS self.now.state }
         ensures { result ≡ valid_bit_count Word.BITS self.now.state }
@@ -274,7 +275,7 @@ impl<Word: WordOf<State>, State: BitArray, Backend: BoundedReadWords<Word, Stack
 
 /// An iterator over a coder's words in the order of [`AnsCoder::into_compressed`], top word last.
 ///
-/// [`AnsCoder::iter_compressed`] makes it. Contracts see the numbers of the remaining words.
+/// [`AnsCoder::iter_compressed`] returns it. Contracts describe the iterator by the numbers of the words that are left.
 ///
 /// # Examples
 ///

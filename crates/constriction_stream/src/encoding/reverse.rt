@@ -11,18 +11,18 @@ use constriction_words::WordOf;
 
 /// An encoder that is a stack: the symbol encoded last is decoded first.
 ///
-/// Lists that it encodes from the last symbol to the first are decoded in order. The trait has no members to implement
-/// and no laws, so a coder that is a stack implements it in one line.
+/// If a list is encoded from the last symbol to the first, decoding returns the list in order. The trait has no members
+/// to implement and no laws, so a coder that is a stack implements it in one line.
 pub trait EncodeReverse<const PRECISION: usize>: Encode<PRECISION> {
     /// Encodes symbols from the last to the first, each under its own model, and stops at the first error.
     ///
-    /// A decoder of a stack then returns them in the order of the list. The caller of a coder that counts symbols
-    /// proves that as many symbols are left as there are items.
+    /// Decoding then returns the symbols in the order of the list. Where `counts_symbols` holds, the caller proves that
+    /// `symbols_left` is at least the number of items.
     ///
     /// # Errors
     ///
-    /// The error of the first step that is refused. Exactly the symbols behind it in the list are encoded, and the
-    /// items before it are not taken from the iterator.
+    /// Returns the error of the first refused step. Exactly the symbols after the refused symbol in the list are
+    /// encoded. The items before it are not taken from the iterator.
     ///
     /// # Examples
     ///
@@ -58,14 +58,14 @@ pub trait EncodeReverse<const PRECISION: usize>: Encode<PRECISION> {
 
     /// Encodes symbols from the last to the first, each under its own model, where an item may be an error instead.
     ///
-    /// The caller of a coder that counts symbols proves that as many symbols are left as there are items.
+    /// Where `counts_symbols` holds, the caller proves that `symbols_left` is at least the number of items.
     ///
     /// # Errors
     ///
-    /// After either error, exactly the symbols behind the item in the list are encoded.
+    /// The call stops at the first error. Exactly the symbols of the items after it in the list are encoded.
     ///
-    /// - `InvalidEntropyModel(error)`: the item is an error. It changes nothing of the coder.
-    /// - `CodingError(error)`: the step is refused.
+    /// - `InvalidEntropyModel(error)`: the item is `Err(error)`. The item doesn't change the coder.
+    /// - `CodingError(error)`: the coder refuses the step of the item.
     final fn try_encode_symbols_reverse<S, M, E, I>(
         &mut self,
         symbols_and_models: I,
@@ -99,13 +99,13 @@ pub trait EncodeReverse<const PRECISION: usize>: Encode<PRECISION> {
 
     /// Encodes symbols from the last to the first, all under one model, and stops at the first error.
     ///
-    /// A decoder of a stack then returns them in the order of the list. The caller of a coder that counts symbols
-    /// proves that as many symbols are left as there are items.
+    /// Decoding then returns the symbols in the order of the list. Where `counts_symbols` holds, the caller proves that
+    /// `symbols_left` is at least the number of symbols.
     ///
     /// # Errors
     ///
-    /// The error of the first step that is refused. Exactly the symbols behind it in the list are encoded, and the
-    /// symbols before it are not taken from the iterator.
+    /// Returns the error of the first refused step. Exactly the symbols after the refused symbol in the list are
+    /// encoded. The symbols before it are not taken from the iterator.
     ///
     /// # Examples
     ///

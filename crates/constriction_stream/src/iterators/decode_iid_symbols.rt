@@ -24,11 +24,11 @@ use constriction_words::WordOf;
 /// ```
 #[derive(Debug, Drop)]
 pub struct DecodeIidSymbols<'a, Decoder, M, const PRECISION: usize> {
-    /// The decoder, which stands behind the symbols that were taken.
+    /// The decoder, positioned after the symbols returned so far.
     pub decoder: &'a mut Decoder,
     /// The model of all symbols.
     pub model: M,
-    /// The number of symbols that are left.
+    /// The number of symbols that are left to decode.
     pub amt: usize,
 }
 

@@ -23,9 +23,9 @@ use constriction_words::WordOf;
 /// ```
 #[derive(Debug, Drop)]
 pub struct DecodeSymbols<'a, Decoder, Models, const PRECISION: usize> {
-    /// The decoder, which stands behind the symbols that were taken.
+    /// The decoder, positioned after the symbols returned so far.
     pub decoder: &'a mut Decoder,
-    /// The models that are left.
+    /// The models of the symbols that are left to decode.
     pub models: Models,
 }
 

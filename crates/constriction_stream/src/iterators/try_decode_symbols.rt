@@ -1,4 +1,4 @@
-//! `TryDecodeSymbols`: one symbol for each model, where an item may be an error instead.
+//! `TryDecodeSymbols`: one symbol for each model, where an item may be an error instead of a model.
 
 ghost use Rattle.std.specs.Prelude.{◌≡◌};
 ghost use Rattle.constriction_stream.specs.Symbols.{DecodesByModel};
@@ -10,7 +10,7 @@ use constriction_base::errors::CoderError;
 use constriction_base::model::{DecoderModel, EntropyModel};
 use constriction_words::WordOf;
 
-/// An iterator that decodes one symbol for each of the models, where an item may be an error instead.
+/// An iterator that decodes one symbol for each model, where an item may be an error instead of a model.
 ///
 /// It is returned by [`Decode::try_decode_symbols`](crate::decoding::Decode::try_decode_symbols).
 ///
@@ -23,9 +23,9 @@ use constriction_words::WordOf;
 /// ```
 #[derive(Debug, Drop)]
 pub struct TryDecodeSymbols<'a, Decoder, Models, const PRECISION: usize> {
-    /// The decoder, which stands behind the symbols that were taken.
+    /// The decoder, positioned after the symbols returned so far.
     pub decoder: &'a mut Decoder,
-    /// The models that are left.
+    /// The models of the symbols that are left to decode, or errors instead.
     pub models: Models,
 }
 
