@@ -24,7 +24,8 @@ pub fn huffman_knows_its_symbols()
 
 /// The codewords of a Huffman tree cost at most what any prefix-free codewords cost, one for each weight.
 ///
-/// `codebook` says so of the codewords of a prefix-free codebook, and `tree` of the trees that both makers ensure.
+/// The clause `codewords` compares with any prefix-free list of codewords, the clause `codebook` with the codewords of
+/// a prefix-free codebook. The clause `tree` is about a tree as the contracts of both constructors ensure it.
 pub fn least_cost()
     ensures codewords { (weights : List ℕ) (codewords others : List (List Bool)) →
         length codewords ≡ length weights → AreCodewordsOf (huffman weights) codewords →
