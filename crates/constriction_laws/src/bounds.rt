@@ -1,9 +1,8 @@
 //! Upper bounds on the number of words, for any list of steps with any precisions.
 //!
-//! The bounds are inequalities of products of whole numbers. They use `k = s - w - P`, the bits of a state beyond a
-//! The bounds are inequalities of products of whole numbers. They use `k = s - w - P`, the bits of a state beyond a
-//! word and a table of `P` bits. In logarithms, a step of probability `p / 2^P` costs at most its information content
-//! `log2(2^P / p)`, plus `log2(1 + 2^-k)` for rounding.
+//! The bounds are inequalities of products of whole numbers. `w` and `s` are the bits of a word and of a state.
+//! `k = s - w - P` is the number of bits that a state has beyond a word and a table of `P` bits. In logarithms, a step
+//! of probability `p / 2^P` costs at most its information content `log2(2^P / p)`, plus `log2(1 + 2^-k)` for rounding.
 
 pub mod following;
 pub mod words;

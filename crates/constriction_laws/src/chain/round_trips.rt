@@ -2,8 +2,8 @@
 //!
 //! Each function is one half of a round trip. Its contract says what the calls that it names do together, in the
 //! definitions of the laws. The errors are [`RoundTripError`](crate::errors::RoundTripError) and
-//! [`PutBackError`](crate::chain::errors::PutBackError). Each case is returned only for the reason that it names,
-//! except lack of memory and refused words.
+//! [`PutBackError`](crate::chain::errors::PutBackError). A case other than `Refused` and `NoMemory` is returned only
+//! for the reason that it names.
 //!
 //! - [`isolation`]: symbols of two coders over the same words.
 //! - [`words`]: symbols decoded from words, and encoded back to the words.

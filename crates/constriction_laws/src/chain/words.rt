@@ -11,7 +11,7 @@ ghost use Rattle.constriction_chain.specs.Symbols.{AreModelsAt, TakesOffAll, Put
 ghost use Rattle.constriction_base.specs.Writing.{IsOneAbove};
 ghost use Rattle.constriction_chain.specs.Words.{remainder_words};
 
-/// Importing words leads to at most one coder: as compressed words, in binary form, and as remainders.
+/// Importing words leads to at most one coder, whether as compressed words, in binary form, or as remainders.
 ///
 /// A number has at most one binary form.
 pub fn one_coder()

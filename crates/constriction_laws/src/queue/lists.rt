@@ -1,7 +1,7 @@
 //! Lists of symbols on the range coder. Decoding returns the first symbol first.
 //!
-//! Each symbol has its own table, with any allowed precision. The laws follow from those of one step by [`lists_undo`].
-//! Its steps take encodes back, from the last to the first.
+//! Each symbol has its own table, with any allowed precision. The laws follow from the laws of one step by
+//! [`lists_undo`]. The steps of that law take encodes back, from the last to the first.
 
 ghost use Rattle.std.specs.Prelude.{◌≡◌, ◌↔◌, ◌∷◌, ℕ, List};
 ghost use Rattle.constriction_base.specs.Models.{Item, IsModel, models, AreModels, AreKnown};
@@ -13,7 +13,7 @@ ghost use Rattle.constriction_laws.specs.queue.Undone.{Reading, TakesBack, read_
 use crate::lists::{StepsUndo, lists_undo};
 use std::marker::PhantomData;
 
-/// The use of a coder whose steps take encodes back, from the last one. The inverse steps are decodes.
+/// An implementor of [`StepsUndo`]. Its steps take encodes of symbols back, and its inverse steps are decodes.
 pub struct Encoding<Symbol> {
     symbols: PhantomData<Symbol>,
 }

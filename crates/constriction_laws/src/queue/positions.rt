@@ -16,7 +16,7 @@ use constriction_base::backends::{Holds, WriteWords};
 use constriction_queue::RangeEncoder;
 use constriction_words::{BitArray, WordOf};
 
-/// Seeking to the position of a run leads a decoder to that moment of reading.
+/// Seeking to the position of a run leads a decoder to the moment of reading of that run.
 ///
 /// The decoder reads as many words from the position as a state has.
 pub fn position_leads_there()
@@ -28,7 +28,7 @@ pub fn position_leads_there()
 
 /// Decoding from a position returns the symbols encoded since then, in the order of encoding.
 ///
-/// The decoder may have any words that the encoder exports later, until the encoder is cleared. The clause `anywhere`
+/// The decoder may read any words that the encoder exports later, until the encoder is cleared. The clause `anywhere`
 /// says that only the interval of the position matters, not the words written before it.
 pub fn symbols_after_a_position<Symbol>()
     ensures decoded { (w s : ℕ) (before since : List (Item Symbol)) (middle last : Run) → IsSizes w s →

@@ -1,7 +1,7 @@
 //! Binary forms of the stack coder's states.
 //!
 //! In binary form any words are allowed, also with zeros at the top. In the state, a leading 1 of the head stands above
-//! these words. It isn't written.
+//! these words. This 1 isn't written.
 
 ghost use Rattle.std.specs.Prelude.{◌≡◌, ◌≤◌, ℕ, List, reverse};
 ghost use Rattle.constriction_base.specs.Steps.{IsSizes, AreWords};

@@ -13,7 +13,7 @@ ghost use Rattle.constriction_laws.specs.stack.Undone.{Sizes, decode_back, encod
 use crate::lists::{StepsUndo, lists_undo};
 use std::marker::PhantomData;
 
-/// The use of a coder whose steps are encodes of symbols. The inverse steps are decodes.
+/// An implementor of [`StepsUndo`]. Its steps are encodes of symbols, and its inverse steps are decodes.
 pub struct Encoding<Symbol> {
     symbols: PhantomData<Symbol>,
 }
@@ -37,7 +37,7 @@ impl<Symbol> StepsUndo for Encoding<Symbol> {
         (decode_back sizes.w sizes.s item.model item.symbol old new does, tt) };
 }
 
-/// The use of a coder whose steps are decodes of symbols, from valid states. The inverse steps are encodes.
+/// An implementor of [`StepsUndo`]. Its steps are decodes of symbols from valid states. Its inverse steps are encodes.
 pub struct Decoding<Symbol> {
     symbols: PhantomData<Symbol>,
 }

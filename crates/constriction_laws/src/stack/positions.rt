@@ -1,7 +1,7 @@
 //! Positions of the stack coder. A position leads back to the state at which it was recorded.
 //!
 //! A position is the number of words below the head, and the head. While the coder only encodes, the words of a
-//! recorded position stay below those that it writes.
+//! recorded position stay below the words that it writes.
 
 ghost use Rattle.std.specs.Prelude.{◌≡◌, ◌≤◌, ◌⊎◌, ℕ, ◌%◌, ◌^◌, ◌∷◌, List, length, reverse};
 ghost use Rattle.constriction_base.specs.Steps.{Step, IsSizes, IsStep};

@@ -18,8 +18,9 @@ use std::convert::Infallible;
 
 /// Makes the Huffman tree of weights for encoding, which costs at most as much as any other codebook.
 ///
-/// The cost of the tree is that of the symbols `0`, `1`, .., one for each weight. The other codebook may have any type
-/// of symbols. Its cost is that of equally many symbols, no two of which mean the same.
+/// The cost of the tree is the cost of the codewords of the symbols `0`, `1`, .., one for each weight. The other
+/// codebook may have any type of symbols. Its cost is the cost of the codewords of equally many symbols, no two of
+/// which mean the same.
 ///
 /// # Errors
 ///
