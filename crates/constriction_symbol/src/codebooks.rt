@@ -227,7 +227,7 @@ pub trait DecoderCodebook: Codebook {
 
     /// Looks up the codeword at the beginning of the `count` highest bits of a word. The first bit is the highest.
     ///
-    /// Returns the codeword's symbol and length, only if the length is below `count`. A coder then drops these bits
+    /// Returns the codeword's symbol and length, but only if the length is below `count`. A coder then drops these bits
     /// with one shift. The default returns `None`. Bits for which the call returns `None` may still begin with a
     /// codeword.
     #[inline]

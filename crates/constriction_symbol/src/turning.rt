@@ -52,7 +52,7 @@ fn turned_to<Word: BitArray>(word: Word, done: Word, from: u32, to: u32) -> Word
     turned
 }
 
-/// Converts a number to another word type. The caller proves that it fits that type.
+/// Converts a number to another word type. The caller proves that the number fits that type.
 #[inline]
 pub fn same_number<From: BitArray, To: BitArray>(number: From) -> To
     requires { From.number number < 2 ^ To.BITS }

@@ -142,7 +142,7 @@ impl<
     /// Encodes a symbol with a model of the coder's precision. This is the inverse of decoding it.
     ///
     /// The coder reads at most one word of the remainders and writes at most one compressed word. If it has to write a
-    /// word, it first asks the compressed backend for room for it.
+    /// word, it first asks the compressed backend for room for one word.
     ///
     /// # Errors
     ///

@@ -70,7 +70,7 @@ impl Clone for DecoderHuffmanTree {
 
     /// Returns the same tree.
     ///
-    /// It isn't derived, because a derived clone would have to prove the invariant of fields that are only known to be
+    /// The clone isn't derived, because it would then have to prove the invariant of fields that are only known to be
     /// clones.
     fn clone(&self) -> Result<Self, AllocError> {
         let nodes = self.nodes.clone()?;
@@ -103,9 +103,9 @@ fn tree_of<P: BitArray, E>(
 impl DecoderHuffmanTree {
     /// Makes a tree with one symbol for each of the lent weights, in memory of `alloc`.
     ///
-    /// Each step joins the two trees of least weight, until one tree is left. Of equal weights the one with the lower
-    /// index is the lesser. The indices of symbols come first, and each join gets the next index. The lesser tree of a
-    /// join has bit 0.
+    /// Each step joins the two trees of least weight, until one tree is left. Of two trees with equal weights, the one
+    /// with the lower index is the lesser. The indices of symbols come first, and each join gets the next index. The
+    /// lesser tree of a join has bit 0.
     ///
     /// # Errors
     ///

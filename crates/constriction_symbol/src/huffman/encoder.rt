@@ -89,9 +89,9 @@ fn tree_of<P: BitArray, E>(
 impl EncoderHuffmanTree {
     /// Makes a tree with one symbol for each of the lent weights, in memory of `alloc`.
     ///
-    /// Each step joins the two trees of least weight, until one tree is left. Of equal weights the one with the lower
-    /// index is the lesser. The indices of symbols come first, and each join gets the next index. The lesser tree of a
-    /// join has bit 0.
+    /// Each step joins the two trees of least weight, until one tree is left. Of two trees with equal weights, the one
+    /// with the lower index is the lesser. The indices of symbols come first, and each join gets the next index. The
+    /// lesser tree of a join has bit 0.
     ///
     /// # Errors
     ///
