@@ -1,6 +1,6 @@
 //! Entropy coders over lists of words: lossless compression under models of the symbols' probabilities.
 //!
-//! The coders come close to the least number of bits, and what each call does is proved.
+//! The coders come close to the least number of bits. A proved contract says what each call does.
 //!
 //! This crate has no code of its own. It re-exports the items of the crates below it in one tree, so that you depend on
 //! one crate. `specs/` re-exports the definitions that their contracts cite.
@@ -30,12 +30,12 @@
 //! # At the root
 //!
 //! - [`BitArray`]: a type of unsigned numbers with a fixed number of bits, for words and heads.
-//! - [`WordOf`]: a type of words, several of which fit a type of states.
+//! - [`WordOf`]: a type of words, several of which fit a number of a type of states.
 //! - [`Reciprocal`]: divides by one number, such as a symbol's weight, with a multiplication.
 //! - [`Stack`], [`Queue`], [`Semantics`]: which word of a backend is read next, the last or the first.
 //! - [`Pos`], [`Seek`], [`PosSeek`]: positions of a backend or a coder, and returning to them.
-//! - [`CoderError`]: the error of a step, from the model's side or the backend's. [`DefaultEncoderError`] and
-//!   [`DefaultEncoderFrontendError`] are errors of an encoder, and [`ReadWriteError`] is that of a call that reads and
+//! - [`CoderError`]: the error of a step, which comes from the model or from the backend. [`DefaultEncoderError`] and
+//!   [`DefaultEncoderFrontendError`] are errors of an encoder. [`ReadWriteError`] is the error of a call that reads and
 //!   writes.
 //!
 //! # [`base`]: words, backends and models
@@ -46,16 +46,16 @@
 //! # [`backends`]: sources and sinks of words
 //!
 //! - [`backends::ReadWords`], [`backends::WriteWords`]: reading and writing a word of a backend ([`backends::Holds`]).
-//!   [`backends::BoundedReadWords`] knows how many words are left.
+//!   [`backends::BoundedReadWords`] returns how many words are left.
 //! - [`backends::IntoReadWords`], [`backends::AsReadWords`], [`backends::IntoSeekReadWords`] and
-//!   [`backends::AsSeekReadWords`]: readers made of a list of words, or over a borrowed list.
+//!   [`backends::AsSeekReadWords`]: readers made from a list of words, or over a borrowed list.
 //! - [`backends::IntoReversed`]: a cursor over reversed words, for the same stack.
 //! - [`backends::Words`], [`backends::WordsMut`]: a buffer that lends its words.
-//! - [`backends::BothWays`], [`backends::CountsWords`], [`backends::SeeksBack`]: what some calls require of a backend.
-//!   It holds the same words as a stack and as a queue; its position is the number of its words; it can seek to where
-//!   it stands.
-//! - [`backends::written_to_queue`]: turns written words into a reader from the first one. [`backends::take_back`]:
-//!   removes written words again.
+//! - [`backends::BothWays`], [`backends::CountsWords`], [`backends::SeeksBack`]: requirements of some calls on a
+//!   backend. The first says that it holds the same words as a stack and as a queue. The second says that its position
+//!   is the number of its words. The third says that it can seek to its own position.
+//! - [`backends::written_to_queue`]: turns written words into a reader that begins with the first word.
+//!   [`backends::take_back`]: removes written words again.
 //! - [`backends::Cursor`]: a buffer and a position in it. [`backends::Reverse`]: the same, read in the other direction.
 //!   [`backends::FallibleIteratorReadWords`]: the items of an iterator. `Vec` is a backend too.
 //! - [`backends::BoundedWriteError`]: the error of a full buffer. [`backends::ReadWriteError`]: the error of a call
@@ -67,7 +67,7 @@
 //!   [`stream::Lent`] is a symbol passed to a list call.
 //! - [`stream::EncodeReverse`]: encoding lists from the last symbol to the first, for code that is generic over stacks.
 //!   The stack coder and the chain coder have these calls themselves.
-//! - [`stream::IntoDecoder`], [`stream::AsDecoder`]: a decoder made of an encoder, or over a borrowed one.
+//! - [`stream::IntoDecoder`], [`stream::AsDecoder`]: a decoder made from an encoder, or over a borrowed encoder.
 //! - [`stream::DecodeSymbols`], [`stream::TryDecodeSymbols`], [`stream::DecodeIidSymbols`]: iterators over decoded
 //!   symbols.
 //! - [`stream::TryCodingError`]: the error of a list call whose items may be errors.
@@ -77,20 +77,20 @@
 //! - [`stream::model::EntropyModel`], [`stream::model::EncoderModel`], [`stream::model::DecoderModel`]: a table that
 //!   gives each symbol an interval of the numbers below `2 ^ PRECISION`.
 //! - [`stream::model::WeightTable`]: the table of a list of weights. [`stream::model::TableError`] is the error of
-//!   weights that make none.
+//!   weights that make no table.
 //! - [`stream::model::LeakyQuantizer`]: quantizes a distribution in whole numbers, with cuts at half symbols. Its table
 //!   ([`stream::model::LeakilyQuantizedDistribution`]) is the same on every machine.
 //! - [`stream::model::Gaussian`], [`stream::model::Laplace`], [`stream::model::Logistic`]: distributions with a
-//!   location and a scale ([`stream::model::LocationScale`]). You can define others with
+//!   location and a scale ([`stream::model::LocationScale`]). You can define other distributions with
 //!   [`stream::model::CumulativeDistribution`].
-//! - [`stream::model::UniformModel`], [`stream::model::BernoulliModel`]: equal symbols, and two symbols.
-//!   [`stream::model::SupportError`] is the error of a number of symbols that makes no model.
+//! - [`stream::model::UniformModel`], [`stream::model::BernoulliModel`]: models of equally probable symbols, and of two
+//!   symbols. [`stream::model::SupportError`] is the error of a number of symbols that makes no model.
 //! - [`stream::model::weights_of_counts`]: the weights of a histogram. [`stream::model::CountsError`] is the error of
-//!   counts that make none.
+//!   counts that make no weights.
 //! - [`stream::model::ContiguousLookupDecoderModel`]: a model with a list of the symbols of all quantiles.
-//!   [`stream::model::LookupError`] is the error of a model that makes none.
+//!   [`stream::model::LookupError`] is the error of making it.
 //!
-//! ## [`stream::stack`]: asymmetric numeral systems, where the last symbol comes first
+//! ## [`stream::stack`]: asymmetric numeral systems, which decode the last symbol first
 //!
 //! - [`stream::stack::AnsCoder`], with [`stream::stack::DefaultAnsCoder`] (32-bit words, 64-bit heads) and
 //!   [`stream::stack::SmallAnsCoder`] (16 and 32 bits).
@@ -98,7 +98,7 @@
 //! - [`stream::stack::CoderGuard`]: these words on the coder's own backend, until the guard is dropped.
 //! - [`stream::stack::CompressedDataEndsWithZeroWord`]: the error of words that belong to no coder.
 //!
-//! ## [`stream::queue`]: range coding, where the first symbol comes first
+//! ## [`stream::queue`]: range coding, which decodes the first symbol first
 //!
 //! - [`stream::queue::RangeEncoder`], with [`stream::queue::DefaultRangeEncoder`] (32-bit words, 64-bit states) and
 //!   [`stream::queue::SmallRangeEncoder`] (16 and 32 bits). [`stream::queue::RangeCoderState`] and
@@ -108,8 +108,7 @@
 //!   symbol has.
 //! - [`stream::queue::RangeCompressedIter`], [`stream::queue::EncoderGuard`]: the sealed words of an encoder, which
 //!   stays unchanged. [`stream::queue::LendsAsWritten`]: backends that lend their words in writing order.
-//! - [`stream::queue::encode_flagged`], [`stream::queue::FlagSwitch`]: two models in one stream, the second one behind
-//!   a flag.
+//! - [`stream::queue::encode_flagged`], [`stream::queue::FlagSwitch`]: two models in one stream, separated by a flag.
 //!
 //! ## [`stream::chain`]: symbols that don't depend on each other's models
 //!
@@ -117,13 +116,13 @@
 //!   [`stream::chain::ChainCoderHeads`] and [`stream::chain::BackendPosition`] are its heads, and the positions of its
 //!   backends.
 //! - [`stream::chain::DecoderFrontendError`], [`stream::chain::EncoderFrontendError`], [`stream::chain::BackendError`],
-//!   [`stream::chain::ChangePrecisionError`]: its errors.
+//!   [`stream::chain::ChangePrecisionError`]: the errors of its calls.
 //!
 //! # [`store`]: many lists in one list of words, each decoded alone
 //!
-//! - [`store::Store`]: chunks of symbols under one model, with an index of where each one begins. A store has at most
-//!   [`store::MOST_SYMBOLS`] symbols. [`store::BuildError`], [`store::ChunkError`] and [`store::BadIndex`] are its
-//!   errors.
+//! - [`store::Store`]: chunks of symbols under one model, with an index of where each chunk begins. A store has at most
+//!   [`store::MOST_SYMBOLS`] symbols. [`store::BuildError`], [`store::ChunkError`] and [`store::BadIndex`] are the
+//!   errors of its calls.
 //!
 //! # [`symbol`]: symbols as lists of bits
 //!
@@ -132,33 +131,34 @@
 //! - [`symbol::EncoderCodebook`], [`symbol::DecoderCodebook`]: a list of bits for each symbol.
 //!   [`symbol::exp_golomb::ExpGolomb`] is a codebook for all numbers.
 //! - [`symbol::huffman::EncoderHuffmanTree`], [`symbol::huffman::DecoderHuffmanTree`]: the Huffman codebook of weights,
-//!   for encoding and for decoding. [`symbol::huffman::HuffmanError`] is the error of weights that make none.
-//! - [`symbol::reversed_codeword`]: reverses a codeword that is found from its last bit on
-//!   ([`symbol::SuffixCodebook`]), in a [`symbol::SmallBitStack`].
+//!   for encoding and for decoding. [`symbol::huffman::HuffmanError`] is the error of weights that make no tree.
+//! - [`symbol::reversed_codeword`]: reverses a codeword that a [`symbol::SuffixCodebook`] finds from its last bit to
+//!   its first, in a [`symbol::SmallBitStack`].
 //!
-//! # [`laws`]: theorems about whole runs
+//! # [`laws`]: theorems about lists of calls
 //!
-//! Functions whose contracts are theorems, for use in your proofs. Most are laws over definitions: you call one for its
-//! contract, and the call does nothing. The functions in modules `round_trips` make the coders' calls for lists of
-//! symbols, one half of the way at a time.
+//! Functions whose contracts are theorems, for use in your proofs. Most are laws over definitions: you call a law for
+//! its contract, and the call does nothing. The functions in modules `round_trips` make the coders' calls for lists of
+//! symbols. Each of these functions either encodes or decodes.
 //!
 //! - [`laws::lists`]: if each step can be undone, so can a list of steps.
-//! - [`laws::bounds`]: upper bounds on the words of the stack coder and of the range coder for any steps, and what may
-//!   follow the words of a range coder.
+//! - [`laws::bounds`]: upper bounds on the words of the stack coder and of the range coder for any steps, and words
+//!   that may follow the words of a range coder.
 //! - [`laws::chain`]: the chain coder. [`laws::chain::isolation`] says that its symbols don't depend on each other's
 //!   models. [`laws::chain::steps`], [`laws::chain::lists`] and [`laws::chain::words`] are about one step, lists, and
-//!   words that come back through the remainders. [`laws::chain::round_trips`] decodes symbols and encodes them again.
+//!   words that are restored through the remainders. [`laws::chain::round_trips`] decodes symbols and encodes them
+//!   again.
 //! - [`laws::queue`]: the range coder. [`laws::queue::words`], [`laws::queue::lists`] and [`laws::queue::positions`]
 //!   are about sealed words, lists of symbols, and recorded positions. [`laws::queue::round_trips`] encodes and decodes
 //!   lists. Other modules are about flags, guards and room.
-//! - [`laws::store`]: chunks come back from a store in any order, and which words a look-up reads.
-//! - [`laws::symbol`]: bit coders and codebooks. Lists of symbols come back from queues and stacks, also under mixed
-//!   codebooks. No codeword of Exp-Golomb or of a Huffman tree begins another. [`laws::symbol::costs`] and
-//!   [`laws::symbol::huffman`]: a Huffman tree costs at most what any prefix-free codebook does.
+//! - [`laws::store`]: looking up the chunks of a store in any order, and the words that a look-up reads.
+//! - [`laws::symbol`]: bit coders and codebooks. Decoding queues and stacks of bits returns the encoded symbols, also
+//!   with mixed codebooks. No codeword of Exp-Golomb or of a Huffman tree begins another. [`laws::symbol::costs`] and
+//!   [`laws::symbol::huffman`]: a Huffman tree costs at most as much as any prefix-free codebook.
 //! - [`laws::stack`]: the stack coder. [`laws::stack::steps`], [`laws::stack::lists`] and [`laws::stack::words`] are
 //!   about one symbol, lists, and words that are exported and imported. [`laws::stack::round_trips`] encodes and
 //!   decodes lists. Other modules are about binary forms, guards, positions, readings and sizes.
-//! - [`laws::errors`]: why symbols weren't encoded or decoded.
+//! - [`laws::errors`]: the reasons why symbols weren't encoded or decoded.
 #![tactic(auto)]
 
 pub use constriction_base::backends::{Pos, PosSeek, Queue, Seek, Semantics, Stack};

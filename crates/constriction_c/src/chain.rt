@@ -1,6 +1,11 @@
 //! The C functions of the chain coder, `constriction_chain_..`.
 //!
-//! The caller keeps a struct of two heads, and two buffers whose first words are in use.
+//! The caller keeps a struct of two heads, and two buffers whose first words are in use. `count` is the number of
+//! compressed words in use, and `rest` is the number of remainders in use. The module [`constriction_calls::chain`] has
+//! the calls, and explains their arguments and errors.
+//!
+//! - [`large`]: with 32-bit words.
+//! - [`small`]: with 16-bit words.
 
 ghost use Rattle.std.specs.Prelude.{◌≡◌};
 ghost use Rattle.constriction_c.specs.Chains.{large_heads, small_heads};
@@ -10,7 +15,7 @@ pub mod small;
 
 use constriction_calls::chain::ChainHeads;
 
-/// The heads of a chain coder with 32-bit words: the remainders' head, and a 1 above the compressed bits left over.
+/// The two heads of a chain coder with 32-bit words, with the fields of [`ChainHeads`].
 #[repr(C)]
 #[derive(Drop, Clone, Copy)]
 pub struct ChainHeadsU32 {

@@ -8,7 +8,7 @@ ghost use Rattle.constriction_c.specs.Codes.{answer_by_code, needed_by};
 
 use constriction_inputs::refusal::Refusal;
 
-/// Returns the code of an answer. If the buffer is too short, also sets `needed` to the number of words that it needs.
+/// Returns the code of an answer. For `NoSpace`, also sets `needed` to the number of words that the buffer has to hold.
 #[inline]
 pub fn code_of(answer: Result<(), Refusal>, needed: &mut usize) -> u32
     ensures code { answer_by_code result needed.new ≡ answer }

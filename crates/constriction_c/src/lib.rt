@@ -1,8 +1,12 @@
-//! The calls of `constriction_calls` as C functions, which `include/constriction.h` describes.
+//! The calls of `constriction_calls` as C functions. `include/constriction.h` describes the functions for C.
 //!
 //! Each call comes in two sizes: with 32-bit words (64-bit states, a precision of 24 bits), and with 16-bit words
-//! (32-bit states, 12 bits). An export makes its call and returns the code of the answer (`codes::code_of`). Its
-//! contract is that of the call, for the answer that the code stands for and the number of words needed (`Told`).
+//! (32-bit states, 12 bits).
+//!
+//! A C function makes one call with its own arguments, and returns the code of the answer (`codes::code_of`). If the
+//! answer is `NoSpace`, it also sets `needed` to the number of words that the buffer has to hold. Else it leaves
+//! `needed` unchanged. The contract of the function is that of the call, for the answer that the code stands for and
+//! the number of words needed (`Told`).
 #![tactic(auto)]
 
 pub mod ans;

@@ -11,7 +11,7 @@ use constriction_inputs::quantized::intervals::intervals_of_quantized;
 use constriction_words::BitArray;
 use std::alloc::Global;
 
-/// Calls `intervals_of_quantized` with a precision of 24 bits.
+/// Writes the intervals of symbols in models of a family, with a precision of 24 bits.
 #[unsafe(no_mangle)]
 pub extern "C" fn constriction_quantized_intervals_u32(
     family: u32,
@@ -51,7 +51,7 @@ pub extern "C" fn constriction_quantized_intervals_u16(
     code_without_space(intervals_of_quantized::<u16, 12>(&models, symbols, lefts, ps))
 }
 
-/// Calls `put_weights_of_counts` for weights that add up to `2^24`.
+/// Writes weights that add up to `2^24`, in proportion to counts.
 #[unsafe(no_mangle)]
 pub extern "C" fn constriction_weights_of_counts_u32(
     alloc: Global,

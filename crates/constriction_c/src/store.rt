@@ -1,4 +1,9 @@
 //! The C functions of stores, `constriction_store_..`. The caller keeps words and an index.
+//!
+//! The module [`constriction_calls::store`] has the calls, and explains their arguments and errors.
+//!
+//! - [`large`]: with 32-bit words.
+//! - [`small`]: with 16-bit words.
 
 pub mod large;
 pub mod small;

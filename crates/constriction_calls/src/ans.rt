@@ -8,17 +8,17 @@
 //!
 //! # Errors
 //!
-//! A call that fails changes nothing. It returns the first of these that applies:
+//! A call that fails changes nothing. It returns the first of these errors that applies:
 //!
-//! - `WrongLength`: `len` is past the buffer's end, the numbers of symbols and models differ, or those of `lefts` and
-//!   `ps`.
+//! - `WrongLength`: `len` is past the buffer's end, the numbers of symbols and of models differ, or the lengths of
+//!   `lefts` and `ps` differ.
 //! - `WrongInterval`: an interval is empty or ends past `2 ^ PRECISION`, or a range has fewer than two symbols or more
 //!   than `2 ^ PRECISION`.
 //! - `WrongWeights`: weights don't add up to `2 ^ PRECISION`, a family doesn't exist, or a scale is 0.
-//! - `InvalidData`: the words or the head belong to no state.
-//! - `ImpossibleSymbol`: a model doesn't know its symbol.
-//! - `NoSpace`: the buffer is too short. The error has the number of words that the state would have.
-//! - `NoMemory`: there is no memory. This may also come if the buffer is too short.
+//! - `InvalidData`: the words or the head are those of no state.
+//! - `ImpossibleSymbol`: a model has no entry for its symbol.
+//! - `NoSpace(needed)`: the buffer is too short. `needed` is the number of words that the state would have.
+//! - `NoMemory`: there is no memory. The call may also return this if the buffer is too short.
 //!
 //! # Examples
 //!

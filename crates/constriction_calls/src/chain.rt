@@ -1,21 +1,21 @@
 //! The chain coder over a caller's buffers. Its state is two heads and the words of two buffers.
 //!
-//! The first words of each buffer, up to its number of words, are in use, last word on top. A decode reads compressed
-//! words and writes remainders. An encode does the opposite.
+//! The words in use are the first words of each buffer, last word on top. The caller passes their number. A decode
+//! reads compressed words and writes remainders. An encode does the opposite.
 //!
 //! # Errors
 //!
-//! A call that fails changes nothing. It checks for these in this order, and each but the last comes exactly in its
-//! case:
+//! A call that fails changes nothing. It checks for these errors in this order. Each except `NoMemory` is returned
+//! exactly in its case:
 //!
 //! - `WrongLength`: a number of words is past its buffer's end, or the arguments of the models don't have as many items
 //!   as there are symbols.
-//! - `WrongInterval`, `WrongWeights`: the arguments make no models, as each kind of [`constriction_inputs::models`]
-//!   says.
-//! - `InvalidData`: the heads belong to no coder.
-//! - `ImpossibleSymbol`: a model doesn't know its symbol.
+//! - `WrongInterval`, `WrongWeights`: the arguments make no models. [`constriction_inputs::models`] says when this is
+//!   so.
+//! - `InvalidData`: the heads are those of no coder.
+//! - `ImpossibleSymbol`: a model has no entry for its symbol.
 //! - `OutOfData`: the coder needs a word, and none is left.
-//! - `NoSpace`: the buffer written to is too short. The error has the number of words that it needs.
+//! - `NoSpace(needed)`: the buffer to write to is too short. `needed` is the number of words that it has to hold.
 //! - `NoMemory`: there is no memory.
 
 mod decoding;
@@ -41,6 +41,6 @@ pub use words::{
 pub struct ChainHeads<Word, State> {
     /// The head of the remainders.
     pub remainders: State,
-    /// A 1 above the bits left over of the compressed words.
+    /// The compressed head: a 1 above the bits left over from compressed words.
     pub compressed: Word,
 }

@@ -10,15 +10,15 @@
 //!
 //! # Errors
 //!
-//! A call that fails changes nothing. Each call first checks for these, in this order:
+//! A call that fails changes nothing. Each call first checks for these errors, in this order:
 //!
 //! - `WrongLength` exactly if `len`, a place or a position is past the buffer's end.
 //! - `WrongLength`, `WrongInterval` and `WrongWeights` exactly if [`constriction_inputs::models::Models::check`]
 //!   returns them.
-//! - `InvalidData` exactly if the numbers belong to no decoder, to no encoder, or to an encoder that can't count this
-//!   many further symbols.
+//! - `InvalidData` exactly if no decoder or encoder has the numbers, or if the encoder can't count that many further
+//!   symbols.
 //!
-//! Its own errors follow.
+//! The errors that a call itself documents come after these.
 
 pub mod decoding;
 pub mod encoding;

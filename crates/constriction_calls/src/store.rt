@@ -1,6 +1,6 @@
 //! Stores of chunks over a caller's buffers: words, and an index.
 //!
-//! The index is three lists: positions, and lower ends and lengths of intervals.
+//! The index is three lists: the positions of the chunks, and the lower ends and the lengths of their intervals.
 
 mod building;
 mod cutting;

@@ -1,19 +1,19 @@
 //! Encoding lists of symbols with codebooks, and decoding them, over a caller's buffers.
 //!
-//! A caller chooses the codewords by a value of [`Codes`]: `ExpGolomb` for numbers, or [`Tree`] for the Huffman tree of
-//! weights.
+//! A caller chooses the codewords with a value whose type implements [`Codes`]: `ExpGolomb` for numbers, or [`Tree`]
+//! for the Huffman tree of weights.
 //!
 //! # Errors
 //!
-//! A call that fails leaves the buffers unchanged. It returns the first of these that applies:
+//! A call that fails leaves the buffers unchanged. It returns the first of these errors that applies:
 //!
 //! - `WrongWeights`: the weights make no tree, because there are none, or their sum doesn't fit their type.
 //! - `ImpossibleSymbol`: a symbol has no codeword.
-//! - `NoSpace`: the buffer is too short. The error has the number of words.
+//! - `NoSpace(needed)`: the buffer is too short. `needed` is the number of words that it has to hold.
 //! - `OutOfData`: the words end before all symbols are read.
 //! - `InvalidData`: some bits begin with no codeword, or the last word of a stack is 0.
 //!
-//! `NoMemory` comes after `WrongWeights` and `ImpossibleSymbol`, if there is no memory.
+//! If there is no memory, the call returns `NoMemory`. The errors `WrongWeights` and `ImpossibleSymbol` come before it.
 
 mod decoding;
 mod encoding;
@@ -35,8 +35,8 @@ pub use trees::Tree;
 
 /// A caller's choice of codewords.
 ///
-/// An implementor proves that its codebooks have the codewords of `book`. It also proves which error comes when: that
-/// the weights make no tree, that a symbol has no codeword, or that there is no memory.
+/// An implementor proves that its codebooks have the codewords of `book`. It also proves when each error is returned:
+/// if the weights make no tree, if a symbol has no codeword, or if there is no memory.
 pub trait Codes {
     type Symbol: Copy + Drop;
 
@@ -57,7 +57,7 @@ pub trait Codes {
         ensures codewords { IfSome result (λ made. (s : Self.Symbol) → Self.Encoder.codeword made s
             ≡ codeword_in number (book self.now) s) };
 
-    /// Returns the error of symbols that weren't encoded. It needs no memory.
+    /// Returns the reason why `symbols` weren't encoded. The call needs no memory.
     fn refused(&self, symbols: &[Self::Symbol]) -> Refusal
         ensures { Asks {T = Unit {0}} WrongWeights (MakesCode (2 ^ 62 - 1) (book self.now)) (Asks ImpossibleSymbol
             (AllHaveCodewords (codeword_in number (book self.now)) symbols.now) (Else Memory)) (Err result) };

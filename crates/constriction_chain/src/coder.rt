@@ -22,9 +22,10 @@ use constriction_words::{BitArray, WordOf};
 use std::alloc::AllocError;
 use std::marker::Model;
 
-/// A coder that decodes each symbol from bits of the compressed words and from that symbol's model alone.
+/// A coder that decodes each symbol from its own bits of the compressed words, with that symbol's model alone.
 ///
-/// A decode moves the rest of its quantile to the remainders, and an encode takes it back from there.
+/// A decode takes a quantile from the compressed words. It moves the quantile's place in the symbol's interval to the
+/// remainders. An encode takes that place back from the remainders, and restores the quantile.
 ///
 /// Contracts see a `ChainValue`: the state (the two heads and the words of both backends) and the backends.
 ///
@@ -101,7 +102,7 @@ impl<
 > ChainCoder<Word, State, C, R, PRECISION> {
     /// Returns whether no bits are left over from the words that decodes have read.
     ///
-    /// [`ChainCoder::into_compressed`] and [`ChainCoder::into_binary`] need this.
+    /// [`ChainCoder::into_compressed`] and [`ChainCoder::into_binary`] return an error if bits are left over.
     #[inline]
     pub fn is_whole(&self) -> bool
         ensures value { IsTrue result ↔ (self.now.state.h ≡ 1) }
@@ -134,7 +135,7 @@ impl<
         }
     }
 
-    /// Splits the coder into its backends, which hold the words below the heads, and the heads.
+    /// Splits the coder into its backends and its heads. The backends hold the words below the heads.
     #[inline]
     pub fn into_raw_parts(self) -> (C, R, ChainCoderHeads<Word, State, PRECISION>)
         ensures value { self ≡ at_heads Word.number State.number C.Holds R.Holds result.2 result.0 result.1 }
@@ -167,7 +168,7 @@ impl<
 
     ghost is_infallible = { λ coder. C.is_infallible coder.compressed × R.is_infallible coder.remainders };
 
-    /// Clones the coder: the same heads over clones of the backends.
+    /// Clones the coder: both heads and both backends.
     ///
     /// # Errors
     ///

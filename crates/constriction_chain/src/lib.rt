@@ -1,10 +1,10 @@
 //! The chain coder: each symbol depends on its own model alone.
 //!
-//! A [`coder::ChainCoder`] decodes every symbol from its own bits. It takes as many bits of the compressed words as
-//! the precision says, looks up their symbol, and moves the remaining information to a second stack of words, the
-//! remainders. If one symbol's model changes, that symbol and the remainders change, and no other symbol does. Bits
-//! back coding and inference with entropy coders need this. Encoding is the inverse: it takes the information back
-//! from the remainders and restores the bits.
+//! A [`coder::ChainCoder`] decodes every symbol from bits of its own. A decode takes a quantile from the compressed
+//! words, with as many bits as the precision. It looks up the quantile's symbol, and moves the remaining information to
+//! a second stack of words, the remainders. If the model of one symbol changes, that symbol and the remainders change,
+//! and no other symbol does. Bits-back coding and inference with entropy coders need this property. Encoding is the
+//! inverse: it takes the information back from the remainders and restores the bits.
 //!
 //! ```
 //! let table = WeightTable::<u32, 24>::new(alloc, &[8388608, 8388608])?;
@@ -21,8 +21,8 @@
 //!
 //! The modules:
 //! - [`coder`]: the coder, its steps, changes of precision, its words and its positions.
-//! - [`heads`]: the two numbers above its words.
-//! - [`errors`]: the errors of its calls.
+//! - [`heads`]: the two numbers above the coder's words.
+//! - [`errors`]: the errors of the coder's calls.
 //! - `halves`: decoding in two halves, and encoding, on the heads and the backends.
 //! - `steps`: the parts of a step, each on one of the two sides.
 //! - `moves`: moving words between the heads and a backend.

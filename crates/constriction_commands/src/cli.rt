@@ -1,4 +1,4 @@
-//! Whole runs of the program: the command's name and the input bytes, to the output bytes and the exit status.
+//! Whole runs of the program: from the arguments and the input bytes to the output bytes and the exit status.
 
 ghost use Rattle.std.specs.Prelude.{◌≡◌, ◌↔◌, ◌⊎◌, ◌≤◌, ◌≢◌, ℕ, List, [], drop, map, string_bytes, IfErr, IfOk, IfSome};
 ghost use Rattle.std.specs.Prelude.{IsErr, IsOk, IsOkAnd, OnOk};
@@ -87,13 +87,16 @@ fn answer_to<R: Read, O: Write>(
     write_out(output, answer.as_slice())
 }
 
-/// Runs the command that the arguments (without the program's name) name, and returns the exit status.
+/// Runs the command that the arguments name, and returns the exit status.
 ///
-/// The status is 0 if the answer was written, 1 if one line on `faults` says what stopped the run, and 2 if the
-/// arguments aren't one known command.
+/// The arguments don't contain the program's name. The status is one of these:
 ///
-/// Only a reader or a writer knows whether it fails. So no clause says when `cannot read input`, `cannot write output`
-/// or `out of memory` comes.
+/// - 0 if the answer was written.
+/// - 1 if a fault stopped the run. One line on `faults` says which fault.
+/// - 2 if the arguments aren't exactly one known command.
+///
+/// Whether a read or a write fails depends on the reader and the writers. So no clause says when `cannot read input`,
+/// `cannot write output` or `out of memory` is written.
 pub fn run<R: Read, O: Write, E: Write>(
     alloc: Global,
     args: &[String],
@@ -125,9 +128,9 @@ pub fn run<R: Read, O: Write, E: Write>(
     }
 }
 
-/// Runs the program with the arguments that the system gives, the program's name first, and returns the exit status.
+/// Runs the program with the arguments that the system gives, and returns the exit status.
 ///
-/// The status is the one that [`run`] returns, except in two cases:
+/// The first argument is the program's name. The status is the one that [`run`] returns, except in two cases:
 ///
 /// - 1, with the line `out of memory`, if there is no memory for the arguments;
 /// - 2, if an argument isn't UTF-8.

@@ -32,7 +32,7 @@ pub enum Command {
 impl Command {
     /// Returns the command that the single argument names.
     ///
-    /// Returns `None` if it names no command, or if there isn't exactly one argument.
+    /// Returns `None` if the argument names no command, or if there isn't exactly one argument.
     pub fn parse(args: &[String]) -> Option<Command>
         ensures some { IfSome result (Names (map string_bytes args.now)) }
         ensures none { IfNone result ((command : Command) → Names (map string_bytes args.now) command → ⊥) }
@@ -57,7 +57,7 @@ impl Command {
     ///
     /// # Errors
     ///
-    /// The fault that stops the command. `specs/commands/` says which fault comes when.
+    /// The fault that stops the command. `specs/commands/` says when each fault comes.
     pub fn answer(self, alloc: Global, text: &[u8]) -> Result<Vec<u8>, Fault>
         ensures ok { IfOk result (λ answer. Answers self text.now answer.items) }
         ensures err { IfErr result (Fails self text.now) }

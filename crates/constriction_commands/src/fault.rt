@@ -1,7 +1,7 @@
 //! The faults that stop a run.
 //!
 //! The text of a fault is a line of bytes and not a `Display`, so that a contract can say which line it is. A test
-//! compares the lines of coders' errors with their texts.
+//! compares the lines of the coders' errors with the texts of these errors.
 
 ghost use Rattle.std.specs.Prelude.{◌≡◌};
 ghost use Rattle.constriction_commands.specs.Written.{fault_line};
@@ -41,9 +41,9 @@ pub enum Fault {
     NoChain,
     /// The words of a chain coder ended.
     OutOfData(chain::DecoderFrontendError),
-    /// The compressed words hold no symbol of the table.
+    /// The compressed words don't encode symbols of the table.
     InvalidData(DecoderFrontendError),
-    /// A look-up asks for a chunk past the last one.
+    /// A chunk to look up is past the last chunk.
     NoSuchChunk,
     OutOfMemory,
 }

@@ -22,7 +22,7 @@ pub fn read_all<R: Read>(alloc: Global, input: &mut R) -> Result<Vec<u8>, Fault>
     }
 }
 
-/// Returns the first line without its line feed, and the text behind it.
+/// Returns the first line without its line feed, and the text after it.
 pub fn split_line(text: &[u8]) -> (&[u8], &[u8])
     ensures first { result.0.now ≡ first_line text.now }
     ensures rest { result.1.now ≡ after_line text.now }
@@ -93,7 +93,7 @@ fn with_digit(so_far: u64, byte: u8, greatest: u64) -> Option<u64>
 ///
 /// # Errors
 ///
-/// `BadNumber` if the line is no list of numbers that fit their type. `OutOfMemory` if there is no memory.
+/// `BadNumber` if the line isn't a list of numbers that fit the type `N`. `OutOfMemory` if there is no memory.
 pub fn parse_numbers<N: Number>(alloc: Global, line: &[u8]) -> Result<Vec<N>, Fault>
     ensures ok { IfOk result (λ numbers. numbers_of N.GREATEST line.now ≡ Some (map N.number numbers.items)) }
     ensures bad { IsErrOf result BadNumber → numbers_of N.GREATEST line.now ≡ None }
@@ -124,7 +124,7 @@ pub fn parse_numbers<N: Number>(alloc: Global, line: &[u8]) -> Result<Vec<N>, Fa
 ///
 /// # Errors
 ///
-/// `BadNumber` if a line is no list of numbers that fit their type. `OutOfMemory` if there is no memory.
+/// `BadNumber` if a line isn't a list of numbers that fit the type `N`. `OutOfMemory` if there is no memory.
 pub fn parse_lines<N: Number>(alloc: Global, text: &[u8]) -> Result<Vec<Vec<N>>, Fault>
     ensures ok { IfOk result (λ lists. number_lists_of N.GREATEST text.now
         ≡ Some (map (λ list. map N.number list.items) lists.items)) }

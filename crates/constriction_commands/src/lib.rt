@@ -1,7 +1,8 @@
 //! The commands of the program `constriction`, and whole runs of it, from bytes to bytes.
 //!
-//! [`cli::run`] is a run with given arguments over any reader and writers. [`cli::start`] is a run with the arguments
-//! that the system gives. The files of `specs/commands/` say what each command answers, and when it fails.
+//! [`cli::run`] runs a command with given arguments, over any reader and writers. [`cli::start`] runs the program with
+//! the arguments that the system gives. The files of `specs/commands/` say what each command answers, and when it
+//! fails.
 #![tactic(auto)]
 
 pub mod cli;

@@ -1,4 +1,4 @@
-//! Code over any backend that has what a call asks of it, and a backend of one's own under it: [`Counted`].
+//! Code that is generic over backends, and a backend of your own for it: [`Counted`].
 
 mod counted;
 
@@ -17,8 +17,9 @@ use constriction::{Pos, Queue};
 use counted::Counted;
 use std::alloc::Global;
 
-/// Where an encoder stands: how many words it has written, and its interval. There is no place where that number is no
-/// `usize`.
+/// Returns the position of an encoder: the number of words that it has written, and its interval.
+///
+/// Returns `None` if that number doesn't fit a `usize`.
 fn place<Backend: CountsWords<u32>>(
     encoder: &RangeEncoder<u32, u64, Backend>,
 ) -> Option<(usize, RangeCoderState<u32, u64>)>
@@ -33,7 +34,7 @@ fn place<Backend: CountsWords<u32>>(
     }
 }
 
-/// The first symbol of an encoder, if no call of its backend is refused.
+/// Returns the first symbol of an encoder, or `None` if its backend refuses a call.
 fn first_symbol<Backend>(
     encoder: RangeEncoder<u32, u64, Backend>,
     table: &WeightTable<u32, 24>,
@@ -52,11 +53,11 @@ where
     }
 }
 
-/// The bits of an encoder for reading, the first one first.
+/// Returns a decoder of an encoder's bits, first bit first.
 ///
 /// # Errors
 ///
-/// What the backend answers where it refuses the word of the last bits.
+/// The backend's error if it refuses the word of the last bits.
 fn bits_of<Backend>(
     encoder: QueueEncoder<u32, Backend>,
 ) -> Result<QueueDecoder<u32, Backend::IntoReadWords>, Backend::WriteError>
@@ -66,7 +67,7 @@ where
     encoder.into_decoder()
 }
 
-/// An encoder of three symbols over a backend that counts.
+/// Makes an encoder of three symbols over a backend that counts words.
 fn encoded(
     alloc: Global,
     table: &WeightTable<u32, 24>,
@@ -77,7 +78,7 @@ fn encoded(
     Ok(encoder)
 }
 
-/// Prints where an encoder stands, how many words it writes in all, and what comes back from it.
+/// Prints an encoder's position, the number of words that it writes in all, and its first symbol.
 fn show_symbols(rt: &impl Print, alloc: Global) -> Result<()> {
     let table = WeightTable::<u32, 24>::new(alloc, &[3, 2, 16777211])?;
     let encoder = encoded(alloc, &table)?;
@@ -94,7 +95,7 @@ fn show_symbols(rt: &impl Print, alloc: Global) -> Result<()> {
     Ok(())
 }
 
-/// Prints the first of two numbers whose codewords stand in a backend that counts.
+/// Encodes two numbers over a backend that counts words, and prints the first number decoded.
 fn show_bits(rt: &impl Print, alloc: Global) -> Result<()> {
     let golomb = ExpGolomb::<u32>::new();
     let mut bits = QueueEncoder::<u32, _>::from_compressed(Counted::new(Vec::new(alloc)));
@@ -104,7 +105,7 @@ fn show_bits(rt: &impl Print, alloc: Global) -> Result<()> {
     Ok(())
 }
 
-/// Prints what comes through a backend of one's own.
+/// Encodes and decodes over the backend [`Counted`], and prints the results.
 pub fn run(rt: &impl Print, alloc: Global) -> Result<()> {
     show_symbols(rt, alloc)?;
     show_bits(rt, alloc)

@@ -1,9 +1,9 @@
-//! Bits back: how symbols of a mixture of models cost no more than their information.
+//! Bits-back coding: symbols of a mixture of models cost no more than their information.
 //!
-//! Each symbol is drawn from one of two models, and which one it was, the latent, nobody needs to
-//! know. Sending it anyway would cost a bit a symbol. Bits back gets that bit back: the latent isn't
-//! chosen, it is decoded from what the coder holds already, so that the bits which tell it come off
-//! the coder, and the receiver puts them back on.
+//! Each symbol is drawn from one of two models. The latent says which one, and the receiver doesn't need it. Sending
+//! the latent would cost one bit for each symbol. Bits-back coding gets that bit back: the sender doesn't choose the
+//! latent, but decodes it from words that the coder already holds. This removes the bits of the latent from the coder.
+//! The receiver encodes the latent, and so restores these bits.
 
 ghost use Rattle.std.specs.Prelude.{◌≡◌, ℕ, List, length, reverse, IfOk, OnOk};
 ghost use Rattle.constriction.specs.stack.Ans.{AnsState, IsValid};
@@ -18,7 +18,7 @@ use constriction::stream::stack::DefaultAnsCoder as Coder;
 use constriction::stream::{Decode, Encode};
 use std::alloc::Global;
 
-/// The bits of a quantile: weights add up to 4096.
+/// The precision in bits. Weights add up to 4096.
 const PRECISION: usize = 12;
 
 /// A table of the example.
@@ -27,15 +27,17 @@ type Table = WeightTable<u32, PRECISION>;
 /// The symbols that are sent.
 const SYMBOLS: [usize; 12] = [0, 3, 1, 0, 2, 3, 3, 0, 1, 2, 0, 3];
 
-/// What the coder holds before, as the words of an earlier message.
+/// The words that the coder holds at first, from an earlier message.
 const WORDS: [u32; 4] = [0x0123_4567, 0x89ab_cdef, 0x0bad_cafe, 0x5eed_5eed];
 
-/// The information of the symbols in thousandths of a bit. For each it is 1000 times the binary
-/// logarithm of 8192 over the sum of its two weights, as both latents are equally likely: 1608 for
-/// the symbols 0 and 3, of which there are eight, and 2541 for the four others.
+/// The information content of the symbols, in thousandths of a bit.
+///
+/// For each symbol it is 1000 times the binary logarithm of 8192 divided by the sum of the symbol's two weights,
+/// because both latents are equally likely. This is 1608 for each of the eight symbols 0 and 3, and 2541 for each of
+/// the other four symbols.
 const MILLIBITS: u64 = 8 * 1608 + 4 * 2541;
 
-/// Takes a symbol off a coder under a table.
+/// Decodes a symbol from a coder with a table.
 fn take_off(coder: &mut Coder, table: &Table) -> usize
     ensures { Decodes 32 64 (model_of table.now) result coder.old.state coder.new.state }
 {
@@ -46,7 +48,7 @@ fn take_off(coder: &mut Coder, table: &Table) -> usize
     }
 }
 
-/// Puts a symbol on a coder under a table.
+/// Encodes a symbol onto a coder with a table.
 fn put_on(coder: &mut Coder, symbol: usize, table: &Table) -> Result<()>
     ensures { IsValid 32 64 coder.old.state
         → OnOk result (Encodes 32 64 (model_of table.now) symbol coder.old.state coder.new.state) }
@@ -58,11 +60,11 @@ fn put_on(coder: &mut Coder, symbol: usize, table: &Table) -> Result<()>
 /// Two models of four symbols, one for each latent.
 #[derive(Drop)]
 struct Mixture {
-    /// How likely each latent is.
+    /// The probability of each latent.
     prior: Table,
-    /// How likely each symbol is under each latent.
+    /// The probability of each symbol, for each latent.
     symbols: [Table; 2],
-    /// How likely each latent is once the symbol is known: by the rule of Bayes, rounded.
+    /// The probability of each latent, for each symbol: by Bayes' rule, rounded.
     posteriors: [Table; 4],
 }
 
@@ -86,7 +88,7 @@ impl Mixture {
         })
     }
 
-    /// Puts a symbol on a coder. Its latent comes off first.
+    /// Encodes a symbol onto a coder. Decodes the symbol's latent first, and encodes the latent last.
     fn hide(&self, coder: &mut Coder, symbol: usize) -> Result<()>
         ensures hides { IsValid 32 64 coder.old.state
             → OnOk result (Hides self.now symbol coder.old.state coder.new.state) }
@@ -101,7 +103,7 @@ impl Mixture {
         Ok(())
     }
 
-    /// Takes a symbol off a coder: the steps of `hide` in reverse. Its latent goes back on last.
+    /// Decodes a symbol from a coder: the steps of `hide` in reverse. Encodes the symbol's latent last.
     fn reveal(&self, coder: &mut Coder) -> Result<usize>
         ensures reveals { (hidden : ℕ) (before : AnsState) → IsValid 32 64 before
             → Hides self.now hidden before coder.old.state
@@ -128,7 +130,7 @@ impl Mixture {
         Ok(())
     }
 
-    /// Reveals so many symbols. The one that was hidden last comes first.
+    /// Reveals `count` symbols. The symbol that was hidden last comes first.
     fn reveal_all(&self, alloc: Global, coder: &mut Coder, count: usize) -> Result<Vec<usize>>
         ensures reveals { (hidden : List ℕ) (before : AnsState) → length hidden ≡ count → IsValid 32 64 before
             → InTurn (Hides self.now) hidden before coder.old.state
@@ -142,7 +144,7 @@ impl Mixture {
     }
 }
 
-/// The number of bits that a coder holds.
+/// Returns the number of bits that a coder holds.
 fn bits_of(coder: &Coder) -> Result<usize> {
     if !coder.sizes_fit() {
         bail!("too many words");
@@ -150,7 +152,7 @@ fn bits_of(coder: &Coder) -> Result<usize> {
     Ok(coder.num_valid_bits())
 }
 
-/// What the symbols cost, and what came back.
+/// The cost of the symbols in bits, and the symbols decoded.
 #[derive(Drop)]
 struct Sent {
     before: usize,
@@ -190,7 +192,7 @@ fn show(rt: &impl Print, sent: &Sent) -> Result<()> {
     Ok(())
 }
 
-/// Sends the symbols over a new coder, and prints it.
+/// Sends the symbols over a new coder, and prints the results.
 fn send_and_show(rt: &impl Print, alloc: Global, mixture: &Mixture) -> Result<()> {
     let mut coder = Coder::from_binary(WORDS.to_vec(alloc)?)?;
     binary::binary_export_of_import();
@@ -201,7 +203,7 @@ fn send_and_show(rt: &impl Print, alloc: Global, mixture: &Mixture) -> Result<()
     Ok(())
 }
 
-/// Hides twelve symbols on words of an earlier message, and prints what they cost and that all comes back.
+/// Hides twelve symbols on the words of an earlier message. Prints their cost, and that everything is restored.
 pub fn run(rt: &impl Print, alloc: Global) -> Result<()> {
     let mixture = Mixture::new(alloc)?;
     send_and_show(rt, alloc, &mixture)

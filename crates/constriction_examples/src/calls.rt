@@ -1,5 +1,6 @@
-//! The calls of each coder, at concrete types, as a program makes them: a caller for each few, beside which `docs/CALLING.md`
-//! says what stands in the place of calls that have no such caller.
+//! The calls of each coder at concrete types, as a program makes them.
+//!
+//! One function makes a few calls. `docs/CALLING.md` says what stands for the calls that no function here makes.
 
 pub mod chain;
 pub mod queue;

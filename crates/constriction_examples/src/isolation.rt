@@ -1,17 +1,17 @@
-//! Isolation: which symbols change where one model is replaced.
+//! Isolation: which symbols change if one model is replaced.
 //!
-//! A stack coder decodes from one number. Each symbol takes its share out of it, as large as its model says,
-//! so that another model for the first symbol leaves another number for all that come after.
+//! A stack coder decodes from one number. Each symbol takes a share out of that number, as large as the symbol's model
+//! says. So another model for the first symbol leaves another number for all later symbols.
 //!
-//! A chain coder cuts the words into pieces of 12 bits first, one for each symbol, whatever the models are.
-//! The model then says which symbol the piece stands for, and what the piece tells beyond that goes to a
-//! pile of its own, the remainders. So another model for the first symbol changes that symbol and the
-//! remainders, and no other symbol. Where symbols are samples, as in bits-back coding, a small change of
-//! one model then stays small. The price: to encode, the remainders have to be there.
+//! A chain coder first cuts the words into pieces of 12 bits, one for each symbol, whatever the models are. The model
+//! then says which symbol the piece stands for. The rest of the piece's information goes to a second stack, the
+//! remainders. So another model for the first symbol changes that symbol and the remainders, and no other symbol. If
+//! symbols are samples, as in bits-back coding, a small change of one model then has a small effect. The price is that
+//! encoding needs the remainders.
 //!
-//! [`run`] decodes the same words four times: with both coders, under two models for the first symbol.
-//! That the later symbols of the chain coder stay is no chance: `symbols_are_isolated` of
-//! `constriction::laws::chain::isolation` says it of any words and any models.
+//! [`run`] decodes the same words four times: with both coders, under two models for the first symbol. The law
+//! `symbols_are_isolated` of `constriction::laws::chain::isolation` says that the chain coder's later symbols stay the
+//! same for any words and any models.
 
 use anyhow::{Result, bail};
 use constriction::stream::Decode;
@@ -20,21 +20,21 @@ use constriction::stream::model::WeightTable;
 use constriction::stream::stack::SmallAnsCoder;
 use std::alloc::Global;
 
-/// Weights of the symbols 0, 1, 2 .., which add up to 4096: tables of 12 bits.
+/// Tables of 12 bits: the weights of the symbols 0, 1, 2, .. add up to 4096.
 type Table = WeightTable<u16, 12>;
 
-/// The words that are decoded, eight at random. The last one is read first.
+/// The eight words to decode, chosen at random. The last word is read first.
 const WORDS: [u16; 8] = [
     0x243f, 0x6a88, 0x85a3, 0x08d3, 0x1319, 0x8a2e, 0x0370, 0x7344,
 ];
 
-/// How many symbols come after the first one.
+/// The number of symbols after the first one.
 const LATER: usize = 7;
 
-/// The first symbol, and the later ones.
+/// The first symbol, and the later symbols.
 type Symbols = (usize, Vec<usize>);
 
-/// The words decoded by a stack coder: the first symbol by a model of its own.
+/// Decodes the words with a stack coder. The first symbol has its own model.
 fn by_stack(alloc: Global, first: &Table, later: &[Table]) -> Result<Symbols> {
     let Ok(mut coder) = SmallAnsCoder::from_compressed(WORDS.to_vec(alloc)?) else {
         bail!("words that end with a zero word are no coder's");
@@ -47,7 +47,7 @@ fn by_stack(alloc: Global, first: &Table, later: &[Table]) -> Result<Symbols> {
     Ok((symbol, rest))
 }
 
-/// The words decoded by a chain coder, by the same models.
+/// Decodes the words with a chain coder, under the same models.
 fn by_chain(alloc: Global, first: &Table, later: &[Table]) -> Result<Symbols> {
     let Ok(mut coder) = SmallChainCoder::from_compressed(alloc, WORDS.to_vec(alloc)?) else {
         bail!("too few words, or a zero word at the end");
@@ -60,7 +60,7 @@ fn by_chain(alloc: Global, first: &Table, later: &[Table]) -> Result<Symbols> {
     Ok((symbol, rest))
 }
 
-/// Prints what one coder gave under each of the two models.
+/// Prints the symbols that a coder decoded under each of the two models.
 fn show(rt: &impl Print, coder: &str, one: &Symbols, other: &Symbols) -> Result<()> {
     println!(rt; "{coder}")?;
     println!(rt; "  under the one model:   {}, then {:?}", one.0, one.1)?;

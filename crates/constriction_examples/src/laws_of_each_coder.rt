@@ -1,11 +1,12 @@
-//! One law of each coder, applied in contracts that name the definitions, and their constructors, through the facade
-//! alone. Nothing here is run: what a crate needs to state and use a law has to be passed on by the facade, or this
-//! doesn't check.
+//! One law of each coder, applied in contracts that cite the definitions through the facade alone.
 //!
-//! - [`stack`]: what bits-back coding costs.
-//! - [`queue`]: sealed words are read as what they were made of.
-//! - [`chain`]: isolation across a change of the precision, and what a refused step leaves.
-//! - [`symbol`]: a Huffman tree that is written down.
+//! The program runs nothing here. These functions check that the facade re-exports what a crate needs to state and use
+//! a law.
+//!
+//! - [`stack`]: the cost of bits-back coding.
+//! - [`queue`]: sealed words are read as the steps that were encoded.
+//! - [`chain`]: isolation across a change of the precision, and the backends after a refused step.
+//! - [`symbol`]: the Huffman tree of two equal weights.
 
 pub mod chain;
 pub mod queue;

@@ -1,8 +1,15 @@
-//! Worked examples, which list the facade alone: [`uses`] for a crate whose own contracts say that symbols come back,
-//! [`bits_back`] for bits-back coding, [`isolation`] for what the chain coder is for, and [`programs`] for each other
-//! coder a small one, [`any_backend`] for backends of one's own, and [`calls`] for each call at concrete types. The program
-//! runs them in turn. [`laws_of_each_coder`] applies one law of each coder, and is not
-//! run.
+//! Worked examples that depend on the facade crate alone.
+//!
+//! The program runs these modules in order:
+//!
+//! - [`uses`]: callers whose own contracts say which symbols are decoded.
+//! - [`bits_back`]: bits-back coding.
+//! - [`isolation`]: what the chain coder is for.
+//! - [`programs`]: small programs for the other coders and for models.
+//! - [`any_backend`]: a backend of your own.
+//! - [`calls`]: the calls of each coder at concrete types.
+//!
+//! [`laws_of_each_coder`] applies one law of each coder. The program doesn't run it.
 #![tactic(auto)]
 
 mod any_backend;

@@ -1,4 +1,4 @@
-//! A small program for each other coder, and for models in whole numbers, as `docs/EXAMPLES.md` prints it.
+//! Small programs for the other coders and for models. `docs/EXAMPLES.md` shows them.
 
 pub mod bits;
 pub mod chain;

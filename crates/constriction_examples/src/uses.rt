@@ -1,5 +1,6 @@
-//! Callers of the coder that say in their own contracts which symbols come back, and a small run.
-//! `docs/CALLING.md` goes through them.
+//! Callers of the stack coder whose own contracts say which symbols are decoded, and a small program.
+//!
+//! `docs/CALLING.md` explains them.
 
 ghost use Rattle.std.specs.Prelude.{◌≡◌, ◌%◌, ◌^◌, ℕ, List, length, map, reverse, IfOk, IfErr, IfSome};
 ghost use Rattle.constriction.specs.Models.{pairs_of};
@@ -21,12 +22,14 @@ use constriction::stream::stack::DefaultAnsCoder;
 use constriction::stream::{Decode, Encode};
 use std::alloc::Global;
 
-/// Packs symbols, each by its own table, into words: `unpack` gives the symbols back. There are as many tables as
-/// symbols.
+/// Packs symbols, each with its own table, into words. [`unpack`] returns the symbols.
+///
+/// The caller proves that there are as many tables as symbols.
 ///
 /// # Errors
+///
 /// - `ImpossibleSymbol`: a table has no entry for its symbol.
-/// - `Refused`: memory was refused.
+/// - `Refused`: there was no memory.
 pub fn pack(
     alloc: Global,
     symbols: &[usize],
@@ -39,11 +42,12 @@ pub fn pack(
     words_with_pairs(DefaultAnsCoder::new(alloc), symbols, tables)
 }
 
-/// Takes a symbol for each of the tables from words.
+/// Decodes one symbol for each table from words.
 ///
 /// # Errors
-/// - `InvalidData`: the last word is zero, so no coder wrote the words.
-/// - `Refused`: memory was refused.
+///
+/// - `InvalidData`: the last word is 0, so no coder exported the words.
+/// - `Refused`: there was no memory.
 pub fn unpack(
     alloc: Global,
     words: &[u32],
@@ -61,9 +65,9 @@ pub fn unpack(
     Ok(again)
 }
 
-/// A copy of the words that a coder would export now. The coder goes on as before.
+/// Returns a copy of the words that a coder would export. The coder is unchanged.
 ///
-/// `None`: memory ran out.
+/// Returns `None` if there is no memory.
 pub fn words_so_far(alloc: Global, coder: &mut DefaultAnsCoder) -> Option<Vec<u32>>
     ensures words { IfSome result (λ words.
         map ⟦<u32 as BitArray>⟧.number (reverse words.items) ≡ exported 32 coder.old.state) }
@@ -75,12 +79,14 @@ pub fn words_so_far(alloc: Global, coder: &mut DefaultAnsCoder) -> Option<Vec<u3
     guard.backend().as_slice().to_vec(alloc).ok()
 }
 
-/// Takes a symbol for each of the tables from a coder's words at a position. The symbols that were encoded before the
-/// position was recorded come back, whatever symbols were encoded since.
+/// Decodes one symbol for each table from a position in a coder's words.
+///
+/// These are the symbols encoded before the position was recorded, whatever symbols were encoded since.
 ///
 /// # Errors
-/// - `InvalidData`: the coder holds fewer words below its head than the position says.
-/// - `Refused`: memory was refused.
+///
+/// - `InvalidData`: the coder holds fewer words below its head than the position requires.
+/// - `Refused`: there was no memory.
 pub fn before_a_position(
     alloc: Global,
     coder: &DefaultAnsCoder,
@@ -96,7 +102,7 @@ pub fn before_a_position(
     pairs_at_position(alloc, coder, position, tables)
 }
 
-/// Encodes three symbols, and prints them as they come back.
+/// Encodes three symbols, and prints the symbols decoded.
 pub fn run(rt: &impl Print, alloc: Global) -> Result<()> {
     // Symbols 0, 1 and 2. Symbol 2 is by far the likeliest.
     let table = WeightTable::<u32, 24>::new(alloc, &[3, 2, 16777211])?;

@@ -1,4 +1,4 @@
-//! Words put behind others in a caller's buffer.
+//! Appending words to the words in a caller's buffer.
 
 ghost use Rattle.std.specs.Prelude.{◌≡◌, ◌+◌, ◌<◌, ◌≤◌, ◌⊎◌, ◌^◌, length, OnOk, OnErr, IfErr};
 ghost use Rattle.constriction_inputs.specs.Buffers.{Appended};
@@ -7,11 +7,11 @@ ghost use Rattle.constriction_inputs.specs.declared.refusal.Refusal.TheVariants 
 use crate::refusal::Refusal;
 use constriction_words::BitArray;
 
-/// Checks that a buffer of `size` words has room for `count` words behind its first `len`.
+/// Checks that a buffer of `size` words has room for `count` words after its first `len` words.
 ///
 /// # Errors
 ///
-/// Those of [`append`] for `count` words.
+/// The errors of [`append`] for `count` words.
 ///
 /// # Examples
 ///
@@ -33,7 +33,7 @@ pub fn room_for(count: usize, len: usize, size: usize) -> Result<(), Refusal>
     Ok(())
 }
 
-/// Puts words behind the first `len` words of a buffer, and adds their number to `len`.
+/// Writes words after the first `len` words of a buffer, and adds their number to `len`.
 ///
 /// The caller proves that `len` is at most the length of the buffer.
 ///
@@ -41,8 +41,8 @@ pub fn room_for(count: usize, len: usize, size: usize) -> Result<(), Refusal>
 ///
 /// Nothing changes after an error.
 ///
-/// - `NoSpace`: the buffer is too short. The error contains the length that it would need, in words.
-/// - `NoMemory`: that length is no `usize`, so no buffer could have it.
+/// - `NoSpace(needed)`: the buffer is too short. `needed` is the number of words that it has to hold.
+/// - `NoMemory`: that number doesn't fit a `usize`, so no buffer can be that long.
 ///
 /// # Examples
 ///

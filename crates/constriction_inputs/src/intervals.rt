@@ -11,9 +11,9 @@ use constriction_base::weights::starts::ones;
 use constriction_words::BitArray;
 use std::alloc::{AllocError, Global};
 
-/// Returns the rows of intervals, one behind another, and a symbol 1 for each: symbol 1 of a row is the interval.
+/// Returns a row of three weights for each interval, and the symbol 1 for each row.
 ///
-/// `lefts` has the start of each interval, and `ps` its length.
+/// Symbol 1 of a row stands for the interval. `lefts` has the start of each interval, and `ps` its length.
 ///
 /// # Errors
 ///

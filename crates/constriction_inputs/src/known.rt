@@ -1,4 +1,4 @@
-//! Whether weights give an interval to the symbols that are to be coded.
+//! Whether weights give an interval to the symbols to encode.
 
 ghost use Rattle.std.specs.Prelude.{◌≡◌, ◌↔◌, ◌*◌, length, map, IsTrue};
 ghost use Rattle.constriction_base.specs.Models.{AreKnown, Knows};
@@ -6,9 +6,9 @@ ghost use Rattle.constriction_inputs.specs.Weights.{row_items, weights_model};
 
 use constriction_words::BitArray;
 
-/// Returns whether each row of `width` weights knows the symbol at its place. This takes no memory.
+/// Returns whether each row of `width` weights gives its symbol an interval. This takes no memory.
 ///
-/// The caller proves that there are `width` weights for each symbol.
+/// Each symbol has the row at its own index. The caller proves that there are `width` weights for each symbol.
 pub fn all_known_in_rows<P: BitArray, const PRECISION: usize>(
     weights: &[P],
     width: usize,

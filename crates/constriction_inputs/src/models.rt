@@ -21,9 +21,10 @@ pub use rows::Rows;
 use std::alloc::Global;
 pub use weights::Weights;
 
-/// The models of a list of symbols, one for each place in the list.
+/// The models of a list of symbols, with one model at each index of the list.
 ///
-/// An implementor lists the tables of its models and proves that `at` returns a model with the table of that place.
+/// An implementor defines the tables of its models (`tables`). It proves that `at` returns a model with the table at
+/// the same index.
 pub trait ModelList<P: BitArray, const PRECISION: usize>: Drop {
     /// The type of the models.
     type Model: EncoderModel<PRECISION, Symbol = usize, Probability = P>
@@ -32,16 +33,16 @@ pub trait ModelList<P: BitArray, const PRECISION: usize>: Drop {
     // The tables of the models, in order.
     ghost tables: { Self → List (List (ℕ × ℕ × ℕ)) };
 
-    /// Returns the model at a place. The caller proves that the list has that place.
+    /// Returns the model at index `place`. The caller proves that the list has that index.
     fn at(&self, place: usize) -> &Self::Model
         requires { place < length (tables self.now) }
         ensures { Self.Model.table result.now ≡ get_or (tables self.now) place (Self.Model.table result.now) };
 }
 
-/// What a caller hands in to state the models of a list of symbols.
+/// The data from which the models of a caller's list of symbols are made.
 ///
-/// An implementor names the form of what is handed in (`coded`), and proves that `check` refuses it in exactly the
-/// cases of that form, that `know` decides whether the models know the symbols, and that `list` returns the models.
+/// An implementor defines the form of its data (`coded`), and proves three things. `check` refuses the data in exactly
+/// the cases of that form. `know` decides whether the models have entries for the symbols. `list` returns the models.
 pub trait Models<P: BitArray, const PRECISION: usize> {
     /// The type of the list of models.
     type List: ModelList<P, PRECISION>;
@@ -49,16 +50,16 @@ pub trait Models<P: BitArray, const PRECISION: usize> {
     // The symbols, together with what their models are made from.
     ghost coded: { Self → List ℕ → Coded };
 
-    /// Checks that it makes models for these symbols. This takes no memory.
+    /// Checks that the data make models for these symbols. This takes no memory.
     ///
     /// # Errors
     ///
-    /// `WrongLength`, `WrongInterval` and `WrongWeights`, checked in this order, each exactly in its case.
+    /// `WrongLength`, `WrongInterval` and `WrongWeights`, checked in this order. Each is returned exactly in its case.
     fn check(&self, symbols: &[usize]) -> Result<(), Refusal>
         requires { (1 ≤ PRECISION) × (PRECISION ≤ P.BITS) }
         ensures { AsksFit PRECISION (coded self.now symbols.now) (Else Never) result };
 
-    /// Returns whether the models know their symbols. This takes no memory.
+    /// Returns whether each model has an entry for its symbol. This takes no memory.
     ///
     /// The caller proves that `check` would succeed.
     fn know(&self, symbols: &[usize]) -> bool

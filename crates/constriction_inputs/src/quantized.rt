@@ -1,4 +1,4 @@
-//! The numbers of models, for callers who inspect them: the intervals of a family's symbols, and weights from counts.
+//! The intervals of a family's symbols, and weights from counts, for callers that inspect models.
 
 pub mod counts;
 pub mod intervals;

@@ -2,7 +2,7 @@
 
 use thiserror::Error;
 
-/// The error of a refused call. Nothing that the caller handed in has changed.
+/// The error of a refused call. The call changed nothing that the caller passed in.
 ///
 /// # Examples
 ///
@@ -11,22 +11,22 @@ use thiserror::Error;
 /// ```
 #[derive(Debug, Clone, Copy, PartialEq, Eq, Error)]
 pub enum Refusal {
-    /// A model doesn't know its symbol.
+    /// A model has no entry for its symbol.
     #[error("impossible symbol")]
     ImpossibleSymbol,
     /// Weights don't add up to `2 ^ PRECISION`, or the caller's numbers give no weights.
     ///
-    /// The latter is the case for the number of no family, a scale of 0, and counts of which none or too many are
+    /// Numbers give no weights if no family has the number, if a scale is 0, or if no count or too many counts are
     /// above 0.
     #[error("wrong weights")]
     WrongWeights,
     /// An interval is empty or ends past `2 ^ PRECISION`, or a range has too few or too many symbols.
     #[error("wrong interval")]
     WrongInterval,
-    /// A length exceeds its buffer, or the lengths of two lists don't fit each other.
+    /// A length is past its buffer's end, or the lengths of two lists don't match.
     #[error("wrong length")]
     WrongLength,
-    /// The buffer is too short. It would need this length, in words.
+    /// The buffer is too short. It has to hold this number of words.
     #[error("no space: {0} words are needed")]
     NoSpace(usize),
     /// There is no memory.

@@ -12,10 +12,10 @@ use constriction_base::model::EntropyModel;
 use constriction_words::BitArray;
 use std::alloc::{AllocError, Global};
 
-/// A model of the symbols `0`, `1`, .. by weights that it borrows, without a copy.
+/// A model of the symbols `0`, `1`, .. that borrows their weights.
 ///
 /// The intervals lie in the order of the list, and each is as long as its symbol's weight. A symbol of weight 0 and a
-/// number past the end of the list have no interval. Each search runs over the weights from the first one on.
+/// number past the end of the list have no interval. Each look-up adds up weights from the first one on.
 ///
 /// # Examples
 ///
@@ -35,7 +35,7 @@ pub struct Row<'a, P: BitArray, const PRECISION: usize> {
 impl<'a, P: BitArray, const PRECISION: usize> Row<'a, P, PRECISION> {
     /// Creates the model of these weights, or returns `None` if they don't add up to `2 ^ PRECISION`.
     ///
-    /// The type has an example.
+    /// [`Row`] has an example.
     pub fn new(weights: &'a [P]) -> Option<Self>
         requires { (1 ≤ PRECISION) × (PRECISION ≤ P.BITS) }
         ensures ok { IfSome result
@@ -55,7 +55,7 @@ impl<'a, P: BitArray, const PRECISION: usize> Row<'a, P, PRECISION> {
 ///
 /// # Errors
 ///
-/// The allocation's error. It is the only one.
+/// `AllocError` if there is no memory.
 pub fn total_rows<'a, P: BitArray, const PRECISION: usize>(
     alloc: Global,
     weights: &'a [P],

@@ -1,8 +1,8 @@
 //! Upper bounds on the number of words, for any list of steps with any precisions.
 //!
-//! The bounds are inequalities of products of whole numbers. They use `k = s - w - P`, the bits of a state beyond a
-//! word and a table of `P` bits. In logarithms, a step of probability `p / 2^P` costs at most its information content
-//! `log2(2^P / p)`, and `log2(1 + 2^-k)` for rounding.
+//! The bounds are inequalities of products of whole numbers. `w` and `s` are the bits of a word and of a state.
+//! `k = s - w - P` is the number of bits that a state has beyond a word and a table of `P` bits. In logarithms, a step
+//! of probability `p / 2^P` costs at most its information content `log2(2^P / p)`, plus `log2(1 + 2^-k)` for rounding.
 
 pub mod following;
 pub mod words;
@@ -16,7 +16,7 @@ ghost use Rattle.constriction_queue.specs.SelfDelimiting.{SelfDelimits};
 ghost use Rattle.constriction_laws.specs.Bounds.{Act, Acts, AreAllowed, IsNetBounded, product, rounded_whole};
 ghost use Rattle.constriction_laws.specs.Bounds.{share};
 
-/// Bounds the words of a stack coder after encodes onto an empty one.
+/// Bounds the number of words of a stack coder after encodes onto an empty coder.
 pub fn stack_bound()
     ensures { (w s : ℕ) (steps : List Step) (state : AnsState) → IsSizes w s → AreSteps w steps →
         InTurn (IsPush w s) steps empty state →
@@ -24,10 +24,10 @@ pub fn stack_bound()
         ≤ 2 ^ (s - w) * product (rounded_whole w s) steps }
 {}
 
-/// Bounds the words of a stack coder after encodes that all have one precision.
+/// Bounds the number of words of a stack coder after encodes onto an empty coder, all with one precision.
 ///
 /// With one precision the spare bits `k` are the same in all steps. After `n` symbols, all words but one have at most
-/// `s - w` bits more than the information content and `n * log2(1 + 2^-k)`.
+/// as many bits as the sum of `s - w`, the information content, and `n * log2(1 + 2^-k)`.
 pub fn stack_bound_at_one_precision()
     ensures { (w s precision : ℕ) (steps : List Step) (state : AnsState) → IsSizes w s → AreSteps w steps →
         AllByRecursion (λ e. e.precision ≡ precision) steps → InTurn (IsPush w s) steps empty state →
@@ -36,16 +36,16 @@ pub fn stack_bound_at_one_precision()
         ≤ 2 ^ (s - w) * ((2 ^ precision) ^ length steps * (2 ^ (s - w - precision) + 1) ^ length steps) }
 {}
 
-/// Bounds the words of a stack coder after encodes and decodes in any order: the net cost of bits-back coding.
+/// Bounds the number of words of a stack coder after encodes and decodes in any order.
 ///
-/// The coder begins in a valid state whose head isn't low.
+/// This is the net cost of bits-back coding. The coder begins in a valid state whose head is at least `2^(s-w)`.
 pub fn stack_net_bound()
     ensures { (w s : ℕ) (acts : List Act) (old new : AnsState) → IsSizes w s → AreAllowed w acts → IsValid w s old →
         2 ^ (s - w) ≤ old.head → InTurn (Acts w s) acts old new →
         IsNetBounded w s acts old new }
 {}
 
-/// Bounds the sealed words of a new range encoder, if there are at least two.
+/// Bounds the number of sealed words of a new range encoder, if there are at least two words.
 pub fn range_bound()
     ensures { (w s : ℕ) (steps : List Step) → IsSizes w s → AreSteps w steps →
         2 ≤ length (sealed w s (run w s steps (initial s))) →
@@ -53,9 +53,9 @@ pub fn range_bound()
         < 2 ^ s * product (rounded_whole w s) steps }
 {}
 
-/// Bounds the words of a new range encoder whose seal any words may follow.
+/// Bounds the number of words of a new range encoder with a self-delimiting seal.
 ///
-/// There have to be at least as many words as a state has.
+/// The bound holds if there are at least `s / w` words, as many as a state has.
 pub fn self_delimiting_bound()
     ensures { (w s : ℕ) (steps : List Step) (words : List ℕ) → IsSizes w s → AreSteps w steps →
         SelfDelimits w s (run w s steps (initial s)) words → s / w ≤ length words →

@@ -1,11 +1,11 @@
 //! Laws of the chain coder.
 //!
-//! - [`steps`]: one step undoes the other, and one change of the precision the other.
-//! - [`errors`]: the errors of symbols that aren't encoded.
+//! - [`steps`]: encoding and decoding one symbol undo each other, and so do two changes of the precision.
+//! - [`errors`]: the reasons why symbols weren't encoded.
 //! - [`isolation`]: a symbol depends only on the compressed words, the precisions and its own table.
-//! - [`lists`]: lists of symbols are undone from the last to the first.
-//! - [`words`]: words come back through the remainders.
-//! - [`round_trips`]: functions that make the coder's calls, each for one half of the way through the remainders.
+//! - [`lists`]: encoding and decoding lists of symbols undo each other, from the last symbol to the first.
+//! - [`words`]: encoding the symbols decoded from words restores the words, through the remainders.
+//! - [`round_trips`]: functions that make the coder's calls for one half of a round trip through the remainders.
 
 pub mod errors;
 pub mod isolation;

@@ -1,27 +1,27 @@
-//! Why symbols weren't coded, or didn't come back.
+//! The reasons why symbols weren't encoded or decoded.
 
-/// Why a list of decodes ended early.
+/// The reason why a list of decodes ended early.
 #[derive(Drop)]
 pub enum Stopped<E> {
-    /// The decoder refused a step.
+    /// The decoder returned this error for a symbol.
     Refused(E),
     /// There was no memory for the symbols.
     NoMemory,
 }
 
-/// Why symbols weren't coded, or weren't taken from words.
+/// The reason why symbols weren't encoded, or weren't decoded from words.
 ///
-/// Each function says of its cases when they come. `Refused` doesn't come where there is memory and room.
+/// Each function documents when it returns each case. With enough memory and room, no function returns `Refused`.
 #[derive(Debug, Clone, Copy, PartialEq, Eq)]
 pub enum RoundTripError {
     /// The model has no entry for one of the symbols.
     ImpossibleSymbol,
-    /// The symbols are more than the encoder counts.
+    /// There are more symbols than the encoder can count.
     TooManySymbols,
-    /// The words hold no list of so many symbols.
+    /// The words don't encode that many symbols.
     InvalidData,
-    /// The words ended after so many of the symbols.
+    /// The words ended after this number of symbols.
     OutOfData(usize),
-    /// Memory was refused, or a backend refused a word.
+    /// There was no memory, or a backend refused a word.
     Refused,
 }

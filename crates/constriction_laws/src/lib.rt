@@ -1,18 +1,18 @@
-//! Laws of the coders: what holds for a whole run, over the definitions that the coders' contracts cite.
+//! Laws of the coders: theorems about lists of calls, over the definitions that the coders' contracts cite.
 //!
-//! A law is a public function whose body is empty, or calls the law from which it follows. Its `ensures` is the
-//! theorem. It is about definitions alone (numbers, lists and tables), and not about the code of a coder. The coders'
-//! contracts say which definition each call meets. A law says what follows for a whole run. Words are listed in reading
-//! order, the next one first.
+//! A law is a public function whose body is empty or calls the law from which it follows. Its `ensures` is the theorem.
+//! The theorem is about definitions alone (numbers, lists and tables), not about the code of a coder. The contract of a
+//! coder's call says which definition the call meets. A law says what follows for a list of calls. Words are listed in
+//! reading order, the next word first.
 //!
-//! The public functions of the modules `round_trips`, `costs`, `flagged` and `bounds::words` make the coders' calls,
-//! and say what these do together.
+//! The public functions of the modules `round_trips`, `costs`, `flagged` and `bounds::words` make the coders' calls.
+//! Their contracts say what these calls do together.
 //!
-//! - [`bounds`]: upper bounds on the number of words, and what may follow them.
+//! - [`bounds`]: upper bounds on the number of words; words that any words may follow.
 //! - [`chain`]: the chain coder, whose symbols are isolated.
-//! - [`errors`]: why symbols weren't encoded or decoded.
-//! - [`lists`]: if each step can be undone, so can a list, from the last step to the first. It is one law for all
-//!   coders.
+//! - [`errors`]: the reasons why symbols weren't encoded or decoded.
+//! - [`lists`]: one law for all coders: if each step can be undone, a list of steps can be undone, from the last step
+//!   to the first.
 //! - [`queue`]: the range coder.
 //! - [`stack`]: the stack coder, with asymmetric numeral systems.
 //! - [`symbol`]: bit coders and codebooks.

@@ -6,32 +6,32 @@ ghost use Rattle.constriction_base.specs.Steps.{InTurn};
 
 /// Steps of a coder, and the steps that undo them.
 ///
-/// An implementor stands for one use of a coder, such as encoding on the stack coder. It proves that one step from a
-/// valid state leads to a valid state, from which it can be undone. If a decoder reads in the order of its encoder, the
-/// steps are taken from the last to the first.
+/// An implementor stands for one use of a coder, such as encoding on the stack coder. It proves that an allowed step
+/// from a valid state leads to a valid state, from which the step can be undone. If a coder decodes symbols in the
+/// order of encoding, the implementor's steps take its encodes back, from the last to the first.
 pub trait StepsUndo {
-    /// What is the same in all steps, such as the sizes of words and states.
+    /// The data that all steps share, such as the sizes of words and states.
     ghost setting: { Type 0 };
 
-    /// What a step takes, such as a symbol and its table.
+    /// The input of a step, such as a symbol and its table.
     ghost step: { Type 0 };
 
-    /// What a step changes.
+    /// The state that a step changes.
     ghost state: { Type 0 };
 
-    /// The steps for which the law holds.
+    /// Holds for the steps that the law covers.
     ghost allowed: { setting → step → Type 0 };
 
-    /// The states for which the law holds.
+    /// Holds for the states that the law covers.
     ghost valid: { setting → state → Type 0 };
 
-    /// The step leads from the first state to the second.
+    /// Holds if the step leads from the first state to the second.
     ghost does: { setting → step → state → state → Type 0 };
 
-    /// The inverse step leads from the first state to the second.
+    /// Holds if the inverse step leads from the first state to the second.
     ghost undoes: { setting → step → state → state → Type 0 };
 
-    /// A step from a valid state leads to a valid one, from which the inverse step leads back.
+    /// An allowed step from a valid state leads to a valid state, from which the inverse step leads back.
     ghost one_undone: { (g : setting) (e : step) (old new : state) → allowed g e → valid g old →
         does g e old new →
         undoes g e new old × valid g new };

@@ -1,14 +1,14 @@
 //! Laws of the range coder.
 //!
-//! - [`words`]: the steps as which words are read.
-//! - [`lists`]: lists of symbols come back from the sealed words, first symbol first.
+//! - [`words`]: the steps that words are read as.
+//! - [`lists`]: decoding sealed words returns the encoded symbols, first symbol first.
 //! - [`positions`]: a recorded position leads to the symbols encoded after it.
 //! - [`following`]: words that any words may follow.
-//! - [`concatenated`]: the error of a list that wasn't decoded from a place in words.
-//! - [`flagged`]: symbols under two models in one stream, the second one behind a flag.
-//! - [`guards`]: a guard's words are those of the export, and its drop removes them.
+//! - [`concatenated`]: the reason why a list wasn't decoded from a position in words.
+//! - [`flagged`]: symbols of two models in one stream, separated by a flag.
+//! - [`guards`]: the drop of a guard restores the encoder.
 //! - [`refusals`]: when a step isn't refused.
-//! - [`round_trips`]: functions that make the coder's calls, each for one half of the way through the words.
+//! - [`round_trips`]: functions that make the coder's calls for one half of a round trip: encoding or decoding.
 
 pub mod concatenated;
 pub mod flagged;

@@ -1,13 +1,13 @@
 //! Laws of the stack coder.
 //!
-//! - [`steps`]: one step undoes the other, and each exists in one way.
+//! - [`steps`]: encoding and decoding one symbol undo each other, and each has exactly one result.
 //! - [`words`]: a state and its words determine each other.
-//! - [`lists`]: lists of symbols come back from the exported words, last symbol first.
-//! - [`binary`]: any words come back through their binary form.
+//! - [`lists`]: decoding exported words returns the encoded symbols, last symbol first.
+//! - [`binary`]: encoding the symbols decoded from any words restores the words, in binary form.
 //! - [`positions`]: a recorded position leads back to its state.
-//! - [`readings`]: the same over backends whose reads tell the words, such as iterators.
+//! - [`readings`]: the same laws over backends without a list of words, such as iterators.
 //! - [`guards`]: a guard's words are those of the export, and its drop removes them.
-//! - [`round_trips`]: functions that make the coder's calls, each for one half of the way through the words.
+//! - [`round_trips`]: functions that make the coder's calls for one half of a round trip: encoding or decoding.
 //! - [`sizes`]: the numbers of words and bits of a state.
 
 pub mod binary;

@@ -20,7 +20,7 @@ use constriction_words::{BitArray, WordOf};
 use std::alloc::Global;
 use thiserror::Error;
 
-/// The error of chunks that make no store.
+/// The reason why chunks make no store.
 ///
 /// # Examples
 ///
@@ -34,12 +34,12 @@ pub enum BuildError {
     /// The chunks have more than [`MOST_SYMBOLS`] symbols together.
     #[error("too many symbols")]
     TooLong,
-    /// The model doesn't know a symbol.
+    /// The model has no entry for a symbol.
     #[error("Impossible symbol.")]
     ImpossibleSymbol {
         /// The number of the chunk, from 0.
         chunk: usize,
-        /// The place of the symbol in the chunk, from 0.
+        /// The index of the symbol in the chunk, from 0.
         index: usize,
     },
     /// There is no memory for the words or the index.
@@ -154,16 +154,17 @@ where
 {
     /// Makes a store of chunks.
     ///
-    /// A new range encoder encodes them in order. Its words are then sealed so that any words may follow.
+    /// A new range encoder encodes the chunks in order. Its seal is self-delimiting, so any words may follow.
     ///
     /// # Errors
     ///
     /// - `TooLong` exactly if the chunks have more than [`MOST_SYMBOLS`] symbols together. This is checked before any
     ///   encoding.
-    /// - `ImpossibleSymbol` with the place of the first symbol that the model doesn't know.
+    /// - `ImpossibleSymbol` if the model has no entry for a symbol. It says where the first of these symbols is.
     /// - `Memory` if there is no memory for the words or the index.
     ///
-    /// The last two stop the encoding, so the first that it reaches is returned. An empty list of chunks gives neither.
+    /// `ImpossibleSymbol` and `Memory` stop the encoding, so the call returns the first error that it reaches. For an
+    /// empty list of chunks it returns neither.
     ///
     /// # Examples
     ///

@@ -1,4 +1,4 @@
-//! Laws of stores: what stands at an entry, and chunks that come back through a store's own calls, in any order.
+//! Laws of stores: the words at an entry, and functions that build a store and look up its chunks in any order.
 
 ghost use Rattle.std.specs.Prelude.{◌≡◌, ◌+◌, ◌/◌, ◌<◌, ◌≤◌, ℕ, List, map, slice_index, IfOk, IfErr, MatchResult};
 ghost use Rattle.constriction_base.specs.Models.{Model, IsModel, items_of};
@@ -14,7 +14,7 @@ use constriction_base::model::{DecoderModel, EncoderModel, EntropyModel};
 use constriction_words::{BitArray, WordOf};
 use std::alloc::Global;
 
-/// At an entry, words hold at most one list of symbols, and a list that they hold is complete.
+/// At an entry, words hold at most one chunk. If they hold one, none of its symbols is missing.
 pub fn one_chunk_at_entry()
     ensures one { (w s : ℕ) (model : Model ℕ) (words : List ℕ) (entry : Entry) (symbols others : List ℕ) →
         IsModel w model → HoldsChunk w s model words entry symbols → HoldsChunk w s model words entry others →
@@ -23,7 +23,7 @@ pub fn one_chunk_at_entry()
         IsModel w model → HoldsChunk w s model words entry symbols → HoldsNoChunk w s model words entry → ⊥ }
 {}
 
-/// A look-up depends only on the words from its entry up to a state's number of words behind its last position.
+/// A look-up depends only on the words of its chunk, and on as many words after them as a state has.
 ///
 /// All other words may differ.
 pub fn other_words_are_not_read()
@@ -34,14 +34,14 @@ pub fn other_words_are_not_read()
         FindsAll w s others (items_of model symbols) (run_at entry) last }
 {}
 
-/// Looks up the chunks at these places, in order.
+/// Looks up the chunks with the numbers `places`, in order.
 ///
-/// A store that holds chunks, such as a built one, returns these chunks. Any store returns what its words hold at each
-/// entry.
+/// If the store holds chunks, as a store from [`Store::build`] does, the call returns these chunks. Any store returns
+/// the symbols that its words encode at each entry.
 ///
 /// # Errors
 ///
-/// The error of the first look-up that fails, or `Memory` if the list has no memory for a chunk.
+/// The error of the first look-up that fails, or `Memory` if there is no memory for the list of chunks.
 pub fn look_up<
     Word: WordOf<State>,
     State: BitArray,
@@ -77,22 +77,22 @@ where
     Ok(found)
 }
 
-/// The error of a round trip through a store.
+/// The reason why a round trip through a store failed.
 #[derive(Debug, Clone, Copy, PartialEq, Eq)]
 pub enum ThroughStore {
-    /// The chunks made no store.
+    /// [`Store::build`] returned this error.
     Build(BuildError),
-    /// A look-up failed.
+    /// [`Store::chunk`] returned this error.
     LookUp(ChunkError),
 }
 
-/// Builds a store of chunks and looks up the chunks at these places. They come back, in any order.
+/// Builds a store of chunks, and looks up the chunks with the numbers `places`, in any order.
 ///
-/// Returns the store and the chunks.
+/// Returns the store and the chunks looked up. These equal the given chunks with the same numbers.
 ///
 /// # Errors
 ///
-/// The errors of [`Store::build`], and those of [`Store::chunk`] but `Invalid`, which doesn't come.
+/// The errors of [`Store::build`], and the errors of [`Store::chunk`] except `Invalid`.
 pub fn chunks_in_any_order<
     Word: WordOf<State>,
     State: BitArray,
@@ -124,14 +124,14 @@ where
     }
 }
 
-/// Builds a store, takes it apart, and looks up chunks in a store made of the parts. They come back.
+/// Builds a store, takes it apart, and looks up chunks in a store made from the parts.
 ///
-/// Calls `build`, `into_parts`, `from_parts`, and `chunk` at each of these places. Returns the store made of the parts,
-/// and the chunks.
+/// Calls `build`, `into_parts`, `from_parts`, and `chunk` for each number in `places`. Returns the store made from the
+/// parts and the chunks looked up. These equal the given chunks with the same numbers.
 ///
 /// # Errors
 ///
-/// The errors of [`Store::build`], and those of [`Store::chunk`] but `Invalid`, which doesn't come.
+/// The errors of [`Store::build`], and the errors of [`Store::chunk`] except `Invalid`.
 pub fn chunks_through_parts<
     Word: WordOf<State>,
     State: BitArray,

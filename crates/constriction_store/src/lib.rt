@@ -8,8 +8,8 @@
 //!
 //! - [`building`]: encoding chunks.
 //! - [`looking_up`]: decoding one chunk.
-//! - [`parts`]: taking a store apart, and making one of its parts.
-//! - [`laws`]: what stands at an entry, and chunks that come back in any order.
+//! - [`parts`]: taking a store apart, and making a store from parts.
+//! - [`laws`]: theorems about the words at an entry, and about looking up chunks in any order.
 #![tactic(auto)]
 
 pub mod building;
@@ -75,7 +75,9 @@ impl<
     ghost use Rattle.std.specs.Prelude.{map, length, ◌≡◌};
     ghost use Rattle.constriction_store.specs.Stores.{entry_at};
 
-    /// Returns the index: for each chunk its position (words before it, and range coder state) and its number of
+    /// Returns the index, which has an entry for each chunk.
+    ///
+    /// An entry is the number of words before the chunk, the range coder's state there, and the number of the chunk's
     /// symbols.
     pub fn index(&self) -> &[(usize, RangeCoderState<Word, State>, usize)]
         ensures { map entry_at result.now ≡ self.now.index }

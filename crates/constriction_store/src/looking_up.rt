@@ -27,7 +27,7 @@ pub enum ChunkError {
     /// The store has no chunk with this number.
     #[error("no such chunk")]
     NoSuchChunk,
-    /// The words hold no symbol of the model at this place.
+    /// At some index of the chunk, the words encode no symbol of the model.
     #[error("invalid chunk")]
     Invalid,
     /// There is no memory for the symbols.
@@ -106,13 +106,13 @@ where
     /// Decodes the symbols of chunk `i`.
     ///
     /// A new decoder seeks to the chunk's position and decodes as many symbols as the index says. It reads only the
-    /// words of the chunk, and as many words behind them as a state has.
+    /// words of the chunk, and as many words after them as a state has.
     ///
     /// # Errors
     ///
     /// - `NoSuchChunk` exactly if `i` is at least the number of chunks.
-    /// - `Invalid` if the words hold no symbol of the model at some place of the chunk. It doesn't come in a built
-    ///   store.
+    /// - `Invalid` if the words encode no symbol of the model at some index of the chunk. A store from [`Store::build`]
+    ///   never returns it.
     /// - `Memory` if there is no memory for the symbols.
     ///
     /// Decoding stops at the first `Invalid` or `Memory`.

@@ -1,4 +1,4 @@
-//! Taking a store apart, and making one from words and an index.
+//! Taking a store apart, and making a store from words and an index.
 
 ghost use Rattle.std.specs.Prelude.{◌≡◌, ◌↔◌, IsTrue, IfOk, IsOk, length, map};
 ghost use Rattle.constriction_base.specs.Steps.{IsSizes};
@@ -10,7 +10,7 @@ use constriction_queue::RangeCoderState;
 use constriction_words::{BitArray, WordOf};
 use thiserror::Error;
 
-/// The error of an index that doesn't fit its words or is too long. [`Store::from_parts`] returns it.
+/// The error of an index that doesn't fit the words or has too many symbols. [`Store::from_parts`] returns it.
 #[derive(Debug, Clone, Copy, PartialEq, Eq, Error)]
 #[error("bad index")]
 pub struct BadIndex;
@@ -38,7 +38,7 @@ impl<
     M: EncoderModel<PRECISION, Symbol = usize> + DecoderModel<PRECISION, Symbol = usize>,
     const PRECISION: usize,
 > Store<Word, State, M, PRECISION> {
-    /// Makes a store of words, an index and a model. It needs no memory.
+    /// Makes a store from words, an index and a model. It needs no memory.
     ///
     /// The parts may come from [`Store::into_parts`], or from anywhere else.
     ///
@@ -78,7 +78,7 @@ impl<
 
     /// Takes the store apart: returns its words, its index and its model.
     ///
-    /// [`Store::from_parts`] makes the same store of them.
+    /// [`Store::from_parts`] makes the same store from these parts.
     pub fn into_parts(
         self,
     ) -> (

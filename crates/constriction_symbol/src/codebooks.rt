@@ -15,35 +15,36 @@ use std::alloc::AllocError;
 use std::fmt::Display;
 use thiserror::Error;
 
-/// A codebook: a list of bits, the codeword, for each symbol that it knows.
+/// A codebook: it assigns a codeword, which is a list of bits, to each symbol that it can code.
 ///
-/// An implementor proves that the code is prefix-free: if one codeword begins another, their symbols mean the same.
-/// It chooses which symbols mean the same (as equal numbers do), and proves that these have the same codeword.
+/// An implementor proves that the code is prefix-free: if a codeword begins another codeword, their symbols mean the
+/// same. It defines which symbols mean the same (for example equal numbers), and proves that they have the same
+/// codeword.
 pub trait Codebook: Drop {
     type Symbol;
 
-    /// The codeword of a symbol in reading order (its prefix form), if the codebook knows the symbol.
+    /// The codeword of a symbol in reading order (its prefix form). It is `None` if the symbol has no codeword.
     ghost codeword: { Self → Self.Symbol → Option (List Bool) };
 
     /// Relates two symbols that mean the same.
     ghost is_same: { Self → Self.Symbol → Self.Symbol → Type 0 };
 
-    // Symbols of one meaning have one codeword.
+    // Symbols that mean the same have the same codeword.
     ghost same_law: { (c : Self) (s t : Self.Symbol) → is_same c s t → codeword c s ≡ codeword c t };
 
-    // No symbol's codeword begins another's.
+    // If a codeword begins another codeword, their symbols mean the same.
     ghost prefix_law: { (c : Self) (s t : Self.Symbol) (bits tail : List Bool) →
         codeword c s ≡ Some bits → codeword c t ≡ Some (bits ++ tail) → is_same c s t };
 }
 
-/// A codebook for encoding: it passes codewords to a function, bit by bit.
+/// A codebook for encoding. It passes the bits of a codeword to a function, one by one.
 ///
-/// An implementor proves that the emitted bits are those of the codeword. It chooses which symbols may need memory.
+/// An implementor proves that the emitted bits are the codeword. It defines for which symbols emitting may need memory.
 pub trait EncoderCodebook: Codebook {
-    /// Emitting the prefix form of the symbol may need memory.
+    /// Holds if emitting the prefix form of the symbol may need memory.
     ghost prefix_wants: { Self → Self.Symbol → Type 0 };
 
-    /// Emitting the suffix form of the symbol may need memory.
+    /// Holds if emitting the suffix form of the symbol may need memory.
     ghost suffix_wants: { Self → Self.Symbol → Type 0 };
 
     /// Emits the codeword of the symbol in reading order.
@@ -51,8 +52,9 @@ pub trait EncoderCodebook: Codebook {
     /// # Errors
     ///
     /// - `Frontend(ImpossibleSymbol)` exactly if the symbol has no codeword. Nothing was emitted.
-    /// - `Backend(error)` if `emit` returns this error after the first few bits of the codeword. Or if memory is needed
-    ///   and not available: nothing was emitted.
+    /// - `Backend(error)` if `emit` returns this error. The codeword's bits up to the refused bit were passed to
+    ///   `emit`.
+    /// - `Backend(error)`, made from an `AllocError`, if memory is needed and not available. Nothing was emitted.
     fn encode_symbol_prefix<E: From<AllocError>, F: FnMut(bool) -> Result<(), E>>(
         &self,
         symbol: &Self::Symbol,
@@ -76,9 +78,10 @@ pub trait EncoderCodebook: Codebook {
         ensures { EmitsCodeword F.FnMut (LacksMemory (suffix_wants self.now symbol.now) E.From.from_gives)
             emit.old (formed reverse (Self.codeword self.now symbol.now)) result emit.new };
 
-    /// Returns the codeword of the symbol as the lowest bits of a word, first bit highest, and its length in bits.
+    /// Returns the whole codeword of the symbol in one word, and the codeword's length in bits.
     ///
-    /// A coder writes such a codeword with one shift. The default returns `None`, which says nothing about the symbol.
+    /// The codeword is the lowest bits of the word, with its first bit as their highest. A coder writes it with one
+    /// shift. The default returns `None`. A symbol for which the call returns `None` may still have a codeword.
     #[inline]
     fn codeword_at_once<Word: BitArray>(&self, symbol: &Self::Symbol) -> Option<(Word, u32)>
         ensures { IfSome result (λ found.
@@ -90,17 +93,20 @@ pub trait EncoderCodebook: Codebook {
 
 /// The order in which a stream with these semantics writes the bits of a codeword.
 pub trait BitOrder: Semantics {
-    /// The bits of a codeword in writing order.
+    /// The bits of a codeword in writing order, given its bits in reading order.
     ghost form: { List Bool → List Bool };
 
-    /// Converts a codeword in the lowest bits of a word, first bit highest, to writing order, lowest bit first.
+    /// Converts a codeword in the lowest `count` bits of a word to writing order.
+    ///
+    /// In `bits` the codeword's first bit is the highest of the `count` bits. In the result the bit to write first is
+    /// the lowest.
     fn in_order<Word: BitArray>(bits: Word, count: u32) -> Word
         requires within { count ≤ Word.BITS }
         requires small { Word.number bits < 2 ^ count }
         ensures bits { bits_of count (Word.number result) ≡ form (reverse (bits_of count (Word.number bits))) }
         ensures small { Word.number result < 2 ^ count };
 
-    /// Chooses between a statement on the prefix form and one on the suffix form.
+    /// Chooses between two statements: the first is on the prefix form, the second on the suffix form.
     ghost chosen: { Type 0 → Type 0 → Type 0 };
 
     /// Emits the codeword of the symbol in writing order.
@@ -124,7 +130,7 @@ impl BitOrder for Queue {
 
     ghost chosen = { λ prefix suffix. prefix };
 
-    /// Returns the bits with the first bit lowest.
+    /// Reverses the `count` bits, so that the codeword's first bit is the lowest.
     #[inline]
     fn in_order<Word: BitArray>(bits: Word, count: u32) -> Word {
         first_lowest(bits, count)
@@ -146,7 +152,7 @@ impl BitOrder for Stack {
 
     ghost chosen = { λ prefix suffix. suffix };
 
-    /// Returns the bits with the last bit lowest.
+    /// Returns `bits` unchanged: the codeword's last bit is the lowest.
     #[inline]
     fn in_order<Word: BitArray>(bits: Word, count: u32) -> Word {
         bits
@@ -163,11 +169,11 @@ impl BitOrder for Stack {
     }
 }
 
-/// The error of a codebook that didn't read a symbol.
+/// The reason why a codebook read no symbol.
 #[derive(Debug, Drop, Error)]
 #[error_bound(InvalidCodeword: Display)]
 pub enum SymbolCodeError<InvalidCodeword> {
-    /// The bits ended before the codeword.
+    /// The bits ended before the codeword was complete.
     #[error("The compressed data ended before the current codeword was complete.")]
     OutOfCompressedData,
     /// No codeword begins with the bits read.
@@ -176,7 +182,7 @@ pub enum SymbolCodeError<InvalidCodeword> {
 }
 
 impl<InvalidCodeword> SymbolCodeError<InvalidCodeword> {
-    /// Wraps the error as a coder's frontend error.
+    /// Wraps the error in [`CoderError::Frontend`].
     pub fn into_coder_error<BackendError>(self) -> CoderError<Self, BackendError>
         ensures { result ≡ coder.Frontend self }
     {
@@ -186,17 +192,18 @@ impl<InvalidCodeword> SymbolCodeError<InvalidCodeword> {
 
 /// A codebook for decoding: it reads symbols from bits.
 ///
-/// An implementor chooses after which bits it reads on and which bits are invalid. It proves that it reads on only
-/// while no codeword is complete, and that no codeword begins bits that it calls invalid, whatever follows them. So if
-/// a codeword begins the bits, a decode returns its symbol and reads exactly its bits.
+/// An implementor defines after which bits the codebook reads another bit (`reads_on`), and which bits are invalid
+/// (`is_invalid`). It proves two laws. The codebook reads on only while no codeword is complete. Invalid bits, whatever
+/// bits follow them, begin with no codeword. So if the bits begin with a codeword, a decode returns its symbol and
+/// reads exactly its bits.
 pub trait DecoderCodebook: Codebook {
     /// The error for bits that begin with no codeword.
     type InvalidCodeword;
 
-    /// The codebook reads another bit after these.
+    /// Holds if the codebook reads another bit after these bits.
     ghost reads_on: { Self → List Bool → Type 0 };
 
-    /// The codebook stops after these bits, with this error.
+    /// Holds if the codebook stops after these bits with this error.
     ghost is_invalid: { Self → List Bool → Self.InvalidCodeword → Type 0 };
 
     /// Reads the bits of the next codeword, and returns its symbol.
@@ -205,7 +212,7 @@ pub trait DecoderCodebook: Codebook {
     ///
     /// After each error, the bits read so far stay read.
     ///
-    /// - `Frontend(OutOfCompressedData)` if the bits end and no codeword begins them.
+    /// - `Frontend(OutOfCompressedData)` if the bits end before a codeword is complete.
     /// - `Frontend(InvalidCodeword(error))` if no codeword begins with the bits read.
     /// - `Backend(error)` if the source returns this error in place of a bit.
     fn decode_symbol<E, I: Iterator<Item = Result<bool, E>>>(
@@ -218,10 +225,11 @@ pub trait DecoderCodebook: Codebook {
         ensures can { OnOk result (I.can_next source.new) }
         ensures finite { IsFinite (I.remaining source.old) → OnOk result (IsFinite (I.remaining source.new)) };
 
-    /// Looks up the codeword that begins the `count` highest bits of a word, first bit highest.
+    /// Looks up the codeword at the beginning of the `count` highest bits of a word. The first bit is the highest.
     ///
-    /// Returns its symbol and its length if the length is below `count`. A coder then drops these bits with one shift.
-    /// The default returns `None`, which says nothing about the bits.
+    /// Returns the codeword's symbol and length, but only if the length is below `count`. A coder then drops these bits
+    /// with one shift. The default returns `None`. Bits for which the call returns `None` may still begin with a
+    /// codeword.
     #[inline]
     fn symbol_at_once<Word: BitArray>(&self, bits: Word, count: u32) -> Option<(Self::Symbol, u32)>
         requires { count ≤ Word.BITS }
@@ -231,10 +239,10 @@ pub trait DecoderCodebook: Codebook {
         None
     }
 
-    // Where it reads on, no codeword was complete.
+    // If the codebook reads on after bits, no codeword begins them.
     ghost on_law: { (c : Self) (bits : List Bool) → reads_on c bits → NoneBegins (Self.codeword c) bits };
 
-    // No codeword begins with invalid bits, nor is one complete in them.
+    // No codeword begins invalid bits, whatever bits follow them.
     ghost invalid_law: { (c : Self) (bits : List Bool) (e : Self.InvalidCodeword) →
         is_invalid c bits e → NoneFits (Self.codeword c) bits };
 }

@@ -1,11 +1,11 @@
-//! Bit coders: lists of bits over words that grow at their end.
+//! Bit coders: lists of bits that are stored in words and grow at their end.
 //!
 //! A queue is read from its beginning, a stack from its end.
 //!
 //! - [`words`]: importing and exporting words.
-//! - [`decoders`]: the same bits for reading.
+//! - [`decoders`]: conversion of a coder to a reader of its bits.
 //! - [`equality`]: equality of coders.
-//! - [`guard`]: the compressed words while a guard lends them.
+//! - [`guard`]: guards that lend a coder's compressed words.
 
 pub mod decoders;
 mod equality;
@@ -27,9 +27,10 @@ use smallvec::SmallVec;
 use std::alloc::{AllocError, Global};
 use std::marker::{Model, PhantomData};
 
-/// A list of bits over words of type `Word`.
+/// A list of bits that is stored in words of type `Word`.
 ///
-/// Bits fill a word from its lowest place upwards. A full word goes to the backend with the next bit, and not before.
+/// Bits fill a word from its lowest bit to its highest. The coder writes a full word to the backend when the next bit
+/// is appended, not earlier.
 ///
 /// Contracts see a `BitsValue`: all bits, the bits of the word outside the backend, and the backend.
 ///
@@ -51,7 +52,7 @@ pub struct SymbolCoder<Word: BitArray, S: Semantics, B: Holds<Word, Stack> = Vec
 /// A stack of bits: the last bit written is read first.
 pub type StackCoder<Word, B = Vec<Word>> = SymbolCoder<Word, Stack, B>;
 
-/// A queue of bits, for writing. A [`QueueDecoder`](crate::queue::QueueDecoder) of its words reads the first bit first.
+/// A queue of bits, for writing. A [`QueueDecoder`](crate::queue::QueueDecoder) of its words reads them first to last.
 pub type QueueEncoder<Word, B = Vec<Word>> = SymbolCoder<Word, Queue, B>;
 
 /// A stack of bits over 32-bit words.
@@ -62,7 +63,7 @@ pub type DefaultQueueEncoder<B = Vec<u32>> = QueueEncoder<u32, B>;
 
 /// A stack of bits for one codeword.
 ///
-/// Its first two words of bits take no memory: one lies inside the backend, the other outside.
+/// The first `2 * usize::BITS` bits need no allocation: one word is stored inside the backend, and one outside it.
 pub type SmallBitStack = StackCoder<usize, SmallVec<usize, 1>>;
 
 impl<Word: BitArray, S: Semantics, B: Holds<Word, Stack>> Model for SymbolCoder<Word, S, B> {
@@ -95,7 +96,7 @@ impl<Word: BitArray, S: Semantics> SymbolCoder<Word, S, Vec<Word>> {
 }
 
 impl<Word: BitArray> StackCoder<Word, Vec<Word>> {
-    /// Makes a stack without bits, with memory for `bit_capacity` bits and the bit that ends them.
+    /// Makes a stack without bits, with memory for `bit_capacity` bits and the 1 that an export appends.
     ///
     /// # Errors
     ///
@@ -114,7 +115,7 @@ impl<Word: BitArray> StackCoder<Word, Vec<Word>> {
 }
 
 impl<Word: BitArray> QueueEncoder<Word, Vec<Word>> {
-    /// Makes a queue without bits, with memory for `bit_capacity` bits. A capacity of 0 takes no memory.
+    /// Makes a queue without bits, with memory for `bit_capacity` bits. For a capacity of 0 it allocates nothing.
     ///
     /// # Errors
     ///
@@ -135,9 +136,10 @@ impl<Word: BitArray> QueueEncoder<Word, Vec<Word>> {
 
 /// The constructor of a [`SmallBitStack`].
 ///
-/// It is a trait because an inherent `StackCoder::new` would be ambiguous beside the one of coders over vectors.
+/// It is a trait because an inherent `StackCoder::new` would be ambiguous beside `SymbolCoder::new` for vectors.
 pub trait NewSmallStack {
-    /// Makes a stack without bits. Its first `2 * usize::BITS` bits take no memory; further words come from `alloc`.
+    /// Makes a stack without bits. The first `2 * usize::BITS` bits need no memory. Further words are in memory of
+    /// `alloc`.
     fn new(alloc: Global) -> Self;
 }
 
@@ -180,11 +182,13 @@ impl<Word: BitArray, S: Semantics, B: BoundedReadWords<Word, Stack>> SymbolCoder
 }
 
 impl<Word: BitArray, S: Semantics, B: WriteWords<Word>> SymbolCoder<Word, S, B> {
-    /// Writes a bit behind the others. It writes a word to the backend only if the last word is full.
+    /// Appends a bit.
+    ///
+    /// If the last word is full before the call, the call first writes that word to the backend.
     ///
     /// # Errors
     ///
-    /// The backend's error if it refuses that word. The bits are unchanged.
+    /// The backend's error if the backend refuses that word. The bits are then unchanged.
     #[inline]
     pub fn write_bit(&mut self, bit: bool) -> Result<(), B::WriteError>
         ensures puts { PutsLast Word.BITS Word.number (IsWrite B.words B.room B.writes B.write_fails)
@@ -196,13 +200,13 @@ impl<Word: BitArray, S: Semantics, B: WriteWords<Word>> SymbolCoder<Word, S, B> 
 }
 
 impl<Word: BitArray, B: ReadWords<Word, Stack>> StackCoder<Word, B> {
-    /// Removes and returns the last bit, or returns `None` if there are no bits, which changes nothing.
+    /// Removes the last bit and returns it, or returns `None` if there are no bits.
     ///
-    /// It reads a word from the backend only if no bit of the last word is left.
+    /// If the word outside the backend has no bit left, the call first reads the next word from the backend.
     ///
     /// # Errors
     ///
-    /// The backend's error if that read fails. The bits are unchanged if the backend knows its words.
+    /// The backend's error if that read fails. If the backend's `is_list` holds, the bits are then unchanged.
     #[inline]
     pub fn read_bit(&mut self) -> Result<Option<bool>, B::ReadError>
         ensures { PopsBit Word.BITS Word.number B.is_list B.reads self.old (item_of_answer result) self.new }
@@ -211,7 +215,7 @@ impl<Word: BitArray, B: ReadWords<Word, Stack>> StackCoder<Word, B> {
     }
 }
 
-/// Iterates over the bits from last to first, and continues after an error of the backend.
+/// Iterates over the bits, from last to first. The iteration continues after an error of the backend.
 impl<Word: BitArray, B: ReadWords<Word, Stack> + Drop> Iterator for StackCoder<Word, B> {
     type Item = Result<bool, B::ReadError>;
 
@@ -238,7 +242,7 @@ impl<Word: BitArray, S: Semantics, B: Holds<Word, Stack> + Clone> Clone
 
     ghost is_infallible = { λ coder. B.is_infallible coder.backend };
 
-    /// Clones the coder: the same last bits over a clone of the backend.
+    /// Clones the coder: the bits outside the backend, and the backend itself.
     ///
     /// # Errors
     ///

@@ -15,10 +15,10 @@ use std::alloc::AllocError;
 use std::marker::PhantomData;
 use thiserror::Error;
 
-/// The Exp-Golomb codebook for the numbers of type `N`, all of which have a codeword.
+/// The Exp-Golomb codebook. Every number of type `N` has a codeword.
 ///
-/// The codeword of `n` is `n + 1` in binary, highest bit first and without leading zeros, behind zeros, one fewer than
-/// these bits. The codeword of the greatest `N` is `N::BITS` zeros, a 1, and `N::BITS` zeros again.
+/// The codeword of `n` ends with `n + 1` in binary, highest bit first, without leading zeros. Before these bits stand
+/// zeros, one fewer than there are bits. The codeword of the greatest `N` is `N::BITS` zeros, a 1, and `N::BITS` zeros.
 ///
 /// # Examples
 ///
@@ -173,11 +173,11 @@ impl<N: BitArray> DecoderCodebook for ExpGolomb<N> {
     ///
     /// # Errors
     ///
-    /// After each error, the bits read so far stay read. `B` is `N::BITS`.
+    /// After each error, the bits read so far stay read. Below, `B` is `N::BITS`.
     ///
     /// - `Frontend(InvalidCodeword(..))` exactly if `B + 1` zeros come first, or `B` zeros, a 1, and `B` bits that
     ///   aren't all 0. All of these bits were read.
-    /// - `Frontend(OutOfCompressedData)` exactly if the bits end first, within a codeword.
+    /// - `Frontend(OutOfCompressedData)` exactly if the bits end before a codeword is complete.
     /// - `Backend(error)` if the source returns this error in place of a bit.
     #[inline]
     fn decode_symbol<E, I: Iterator<Item = Result<bool, E>>>(
@@ -209,7 +209,7 @@ impl<N: BitArray> DecoderCodebook for ExpGolomb<N> {
         }
     }
 
-    /// Looks up the codeword that begins the bits.
+    /// Looks up the codeword at the beginning of the bits.
     ///
     /// Returns `None` for the greatest `N`, and for codewords of `count` bits or more.
     #[inline]

@@ -1,7 +1,7 @@
 //! Iterators over decoded symbols, and over a repeated codebook.
 //!
-//! There is no iterator of bits with a number of bits left: over an iterator backend this number is unknown, and one
-//! implementation serves all backends. A loop over `0..coder.len()` visits each bit of a coder that knows its length.
+//! The iterators over bits don't report how many bits are left. Over an iterator backend this number is unknown, and
+//! one implementation serves all backends. A loop over `0..coder.len()` visits each bit of a coder that has `len`.
 
 ghost use Rattle.constriction_stream.specs.Lists.{AnswersNext};
 ghost use Rattle.constriction_symbol.specs.Codewords.{ReadsSymbol};
@@ -17,9 +17,9 @@ use std::marker::PhantomData;
 
 /// An iterator that decodes one symbol for each codebook.
 ///
-/// It decodes a symbol when it is asked for it, and continues after an error. A dropped iterator leaves the stream
-/// behind the symbols that it returned. [`ReadBitStream::decode_symbols`] and [`ReadBitStream::decode_iid_symbols`]
-/// make it.
+/// The iterator is lazy: it decodes a symbol only when `next` is called. It continues after an error. When the iterator
+/// is dropped, the stream is positioned after the symbols returned so far. [`ReadBitStream::decode_symbols`] and
+/// [`ReadBitStream::decode_iid_symbols`] return it.
 ///
 /// # Examples
 ///
@@ -30,7 +30,7 @@ use std::marker::PhantomData;
 /// ```
 #[derive(Debug, Drop)]
 pub struct DecodeSymbols<'a, Stream, I, S: Semantics> {
-    /// The stream, positioned behind the symbols returned so far.
+    /// The stream, positioned after the symbols returned so far.
     pub bit_stream: &'a mut Stream,
     /// The codebooks of the symbols still to come.
     pub codebooks: I,
@@ -85,7 +85,7 @@ where
     }
 }
 
-/// An iterator that repeats one codebook. [`ReadBitStream::decode_iid_symbols`] makes it.
+/// An iterator that repeats one codebook. [`ReadBitStream::decode_iid_symbols`] uses it.
 #[derive(Debug, Drop)]
 pub struct RepeatCodebook<'a, C> {
     /// The codebook.

@@ -1,9 +1,8 @@
 //! Symbol codes: bits packed in words, and codebooks, which assign a list of bits to each symbol.
 //!
-//! A bit coder holds a list of bits over words. A codebook has a codeword (a list of bits) for each symbol that it
-//! knows, and no codeword begins another. Encoding a symbol appends its codeword. No marks are needed between
-//! codewords: a queue reads the symbols in the order of writing, a stack reads the last symbol first. One stream can
-//! mix codebooks.
+//! A bit coder holds a list of bits in words. A codebook assigns a codeword, which is a list of bits, to each of its
+//! symbols. No codeword begins another. Encoding a symbol appends its codeword. Codewords need no separators. A queue
+//! returns the symbols in the order of writing. A stack returns the last symbol first. One stream can mix codebooks.
 //!
 //! ```
 //! let mut encoder = DefaultQueueEncoder::new(alloc);
@@ -17,10 +16,10 @@
 //! # Modules
 //!
 //! - [`codebooks`]: the traits of codebooks, and the error of a decode.
-//! - [`coder`]: `SymbolCoder`, a queue for writing or a stack; its words and its guards.
+//! - [`coder`]: `SymbolCoder`, which is a queue for writing or a stack; import and export of words; guards.
 //! - [`queue`]: `QueueDecoder`, which reads the bits of words.
 //! - [`writing`], [`reading`]: streams of bits that encode and decode symbols, with list calls.
-//! - [`reversed`]: reversal of codewords that are found from the last bit to the first.
+//! - [`reversed`]: emits the prefix form of codewords that a codebook finds from the last bit to the first.
 //! - [`iterators`]: iterators over decoded symbols.
 //! - [`exp_golomb`]: the Exp-Golomb codebook for numbers.
 //! - [`huffman`]: Huffman trees for encoding and decoding, as cheap as any prefix-free codebook for the given weights.
@@ -29,7 +28,7 @@
 //!
 //! Contracts cite `specs/Bits.antt` (bits of words), `specs/Codewords.antt` (emitting, writing and reading codewords),
 //! `specs/Golomb.antt` (the grammar), `specs/Huffman.antt` (the tree that merging the weights gives, and its codewords)
-//! and `specs/Merging.antt` (which weights make a tree, and the error of those that don't).
+//! and `specs/Merging.antt` (which weights make a tree, and the error for other weights).
 #![tactic(auto)]
 
 pub mod codebooks;

@@ -12,9 +12,9 @@ use constriction_words::BitArray;
 use std::alloc::AllocError;
 use std::marker::Model;
 
-/// A decoder for the bits of a backend's words, those of a word from the lowest to the highest.
+/// A decoder for the bits of a backend's words. It reads each word from the lowest bit to the highest.
 ///
-/// Contracts see a `BitsValue`: the bits left, those of them that belong to the word read last, and the backend.
+/// Contracts see a `BitsValue`: the unread bits, the unread bits of the word read last, and the backend.
 ///
 /// # Examples
 ///
@@ -49,7 +49,7 @@ impl<Word: BitArray, B: Holds<Word, Queue>> Model for QueueDecoder<Word, B> {
 impl<Word: BitArray, B: ReadWords<Word, Queue>> QueueDecoder<Word, B> {
     /// Makes a decoder for all bits of a backend's words.
     ///
-    /// The zeros that complete the last word of an export are bits like any others.
+    /// The decoder also returns the zeros that complete the last word of an export.
     ///
     /// # Examples
     ///
@@ -68,13 +68,13 @@ impl<Word: BitArray, B: ReadWords<Word, Queue>> QueueDecoder<Word, B> {
         }
     }
 
-    /// Reads the first bit. Returns `None`, and changes nothing, if no bit is left.
+    /// Removes the first unread bit and returns it, or returns `None` if no bit is left.
     ///
-    /// It reads a word from the backend only when it has read all bits of the last one.
+    /// If the word read last has no bit left, the call first reads the next word from the backend.
     ///
     /// # Errors
     ///
-    /// The backend's error if it refuses that read. A backend that knows its words keeps its bits.
+    /// The backend's error if that read fails. If the backend's `is_list` holds, the unread bits are unchanged.
     #[inline]
     pub fn read_bit(&mut self) -> Result<Option<bool>, B::ReadError>
         ensures { TakesBit Word.BITS Word.number B.is_list B.reads self.old (item_of_answer result) self.new }
@@ -82,7 +82,9 @@ impl<Word: BitArray, B: ReadWords<Word, Queue>> QueueDecoder<Word, B> {
         take_first(&mut self.backend, &mut self.last)
     }
 
-    /// Returns whether the unread bits of the last word are all 0, as padding is, and the backend may be exhausted.
+    /// Returns whether the unread bits may all be padding.
+    ///
+    /// This is so if the unread bits of the word read last are all 0, and the backend may be exhausted.
     pub fn maybe_exhausted(&self) -> bool
         ensures { IsTrue result ↔ (AreZeros self.now.last × IsTrue (B.seems_exhausted self.now.backend)) }
     {
@@ -90,7 +92,7 @@ impl<Word: BitArray, B: ReadWords<Word, Queue>> QueueDecoder<Word, B> {
     }
 }
 
-/// Iterates over the bits, first to last. It continues after an error of the backend.
+/// Iterates over the bits, from first to last. The iteration continues after an error of the backend.
 impl<Word: BitArray, B: ReadWords<Word, Queue> + Drop> Iterator for QueueDecoder<Word, B> {
     type Item = Result<bool, B::ReadError>;
 
@@ -116,9 +118,11 @@ impl<Word: BitArray, B: Holds<Word, Queue> + Clone> Clone for QueueDecoder<Word,
 
     ghost is_infallible = { λ decoder. B.is_infallible decoder.backend };
 
-    /// Clones the decoder: the same unread bits over a clone of the backend.
+    /// Clones the decoder: the unread bits of the word read last, and the backend.
     ///
-    /// It fails only if the backend's clone fails.
+    /// # Errors
+    ///
+    /// `AllocError` only if cloning the backend fails.
     fn clone(&self) -> Result<Self, AllocError> {
         let backend = self.backend.clone()?;
         Ok(QueueDecoder {
@@ -139,7 +143,7 @@ impl<Word: BitArray, B: Holds<Word, Queue> + PartialEq> PartialEq for QueueDecod
     ghost laws = { and_per (on_per (λ c. c.last) (lists_per (partial_equiv_from_equiv bool_eq_equiv)))
         (on_per (λ c. c.backend) B.laws) };
 
-    /// Returns whether all parts are equal.
+    /// Returns whether the unread bits of the words read last are equal, and the backends are equal.
     fn eq(&self, other: &Self) -> bool {
         self.last == other.last && self.backend == other.backend
     }

@@ -16,26 +16,27 @@ use std::marker::PhantomData;
 
 /// A stream of bits that decodes symbols.
 ///
-/// An implementor chooses which bits `unread` lists, what a read may return and leave (`gives`), and whether the stream
-/// knows its bits (`is_list`). It proves that each call answers by these, and that a read of known bits gives the next
-/// one.
+/// An implementor defines the list of unread bits (`unread`), which answer a read may give (`gives`), and whether reads
+/// follow the list (`is_list`). It proves that each call follows these definitions. If `is_list` holds, it proves that
+/// each read returns the first unread bit, `None` if there is no such bit, or an error.
 pub trait ReadBitStream<S: Semantics> {
     type ReadError;
 
-    /// The bits that the next reads return, in order. Meaningless if `is_list` doesn't hold.
+    /// The bits that the next reads return, in order. The list has no meaning if `is_list` doesn't hold.
     ghost unread: { Self → List Bool };
 
-    /// The stream knows its bits.
+    /// Holds if `unread` is the list of bits that the next reads return.
     ghost is_list: { Type 0 };
 
-    /// What the next read of a bit may return, and what it leaves.
+    /// Relates the stream before a read, what the read returns, and the stream after it.
     ghost gives: { Self → Option (Result Bool Self.ReadError) → Self → Type 0 };
 
-    /// Reads the next bit. Returns `None` if no bit is left.
+    /// Reads the next bit, or returns `None` if no bit is left.
     ///
     /// # Errors
     ///
-    /// The stream's error if the source of the bits refuses the read. A stream that knows its bits keeps them.
+    /// The stream's error if the source of the bits refuses the read. If `is_list` holds, the unread bits are
+    /// unchanged.
     fn read_bit(&mut self) -> Result<Option<bool>, Self::ReadError>
         ensures { gives self.old (item_of_answer result) self.new };
 
@@ -45,7 +46,7 @@ pub trait ReadBitStream<S: Semantics> {
     ///
     /// After each error, the bits read so far stay read.
     ///
-    /// - `Frontend(OutOfCompressedData)` if the bits end and no codeword begins them.
+    /// - `Frontend(OutOfCompressedData)` if the bits end before a codeword is complete.
     /// - `Frontend(InvalidCodeword(error))` if no codeword begins with the bits read.
     /// - `Backend(error)` if the read of a bit fails with this error.
     fn decode_symbol<C: DecoderCodebook>(
@@ -55,7 +56,7 @@ pub trait ReadBitStream<S: Semantics> {
         ensures { ReadsSymbol gives (C.codeword codebook) (C.reads_on codebook) (C.is_invalid codebook)
             self.old result self.new };
 
-    /// Returns an iterator that decodes one symbol for each codebook. It continues after an error.
+    /// Returns a lazy iterator that decodes one symbol for each codebook. The iterator continues after an error.
     final fn decode_symbols<I>(&mut self, codebooks: I) -> DecodeSymbols<'_, Self, I::IntoIter, S>
     where
         Self: Sized,
@@ -71,7 +72,7 @@ pub trait ReadBitStream<S: Semantics> {
         }
     }
 
-    /// Returns an iterator that decodes `amt` symbols with one codebook. It continues after an error.
+    /// Returns a lazy iterator that decodes `amt` symbols with one codebook. The iterator continues after an error.
     final fn decode_iid_symbols<'a, C>(
         &'a mut self,
         amt: usize,
@@ -92,7 +93,7 @@ pub trait ReadBitStream<S: Semantics> {
         }
     }
 
-    // A read of known bits gives the next one.
+    // If `is_list` holds, a read returns the first unread bit.
     ghost list_law: { is_list → (old : Self) (item : Option (Result Bool Self.ReadError)) (new : Self) →
         gives old item new → GivesBit (unread old) item (unread new) };
 }
@@ -107,7 +108,9 @@ impl<Word: BitArray, B: ReadWords<Word, Stack> + Drop> ReadBitStream<Stack>
 
     ghost gives = { PopsBit Word.BITS Word.number B.is_list B.reads };
 
-    /// Reads the last bit. It reads a word from the backend only if no bit of the last word is left.
+    /// Reads the last bit.
+    ///
+    /// If the word outside the backend has no bit left, the call first reads the next word from the backend.
     #[inline]
     fn read_bit(&mut self) -> Result<Option<bool>, B::ReadError> {
         SymbolCoder::<Word, Stack, B>::read_bit(self)
@@ -139,7 +142,9 @@ impl<Word: BitArray, B: ReadWords<Word, Queue> + Drop> ReadBitStream<Queue>
 
     ghost gives = { TakesBit Word.BITS Word.number B.is_list B.reads };
 
-    /// Reads the first bit. It reads a word from the backend only if it has read all bits of the last one.
+    /// Reads the first bit.
+    ///
+    /// If the word read last has no bit left, the call first reads the next word from the backend.
     #[inline]
     fn read_bit(&mut self) -> Result<Option<bool>, B::ReadError> {
         QueueDecoder::<Word, B>::read_bit(self)

@@ -1,10 +1,10 @@
-//! Reversal of codewords that a codebook finds from the last bit to the first.
+//! Emits codewords in prefix form, given a codebook that finds them from the last bit to the first.
 //!
 //! A codebook that climbs from the leaf of a tree to its root finds the bits in this order. [`reversed_codeword`] emits
 //! the prefix form of its codewords.
 //!
-//! The reversal goes through a [`SmallBitStack`]. It holds two words of bits without memory: the first word is inline
-//! in its small vector, the last one is outside the backend. [`NewSmallStack`] makes it, because a second
+//! The reversal goes through a [`SmallBitStack`]. This stack holds two words of bits without allocating: the first word
+//! is inline in its small vector, the last one is outside the backend. [`NewSmallStack`] makes it, because a second
 //! `StackCoder::new` would be ambiguous.
 
 ghost use Rattle.constriction_symbol.specs.Bits.{PutsBit};
@@ -20,7 +20,7 @@ use constriction_base::errors::{CoderError, DefaultEncoderError};
 use constriction_words::BitArray;
 use std::alloc::{AllocError, Global};
 
-/// A codebook that emits codewords from the last bit to the first, without memory.
+/// A codebook that emits codewords from the last bit to the first, without allocating memory.
 ///
 /// An implementor proves that the emitted bits are the codeword of [`Codebook`], reversed.
 pub trait SuffixCodebook: Codebook {
@@ -29,7 +29,7 @@ pub trait SuffixCodebook: Codebook {
     /// # Errors
     ///
     /// - `Frontend(ImpossibleSymbol)` exactly if the symbol has no codeword. Nothing was emitted.
-    /// - `Backend(error)` if `emit` returns this error after the first few bits of the suffix form.
+    /// - `Backend(error)` if `emit` returns this error. The bits up to the refused bit were passed to `emit`.
     fn emit_suffix<E, F: FnMut(bool) -> Result<(), E>>(
         &self,
         symbol: &Self::Symbol,
@@ -111,14 +111,14 @@ fn emit_taken<E, F: FnMut(bool) -> Result<(), E>>(
     Ok(())
 }
 
-/// Emits the codeword of a symbol in reading order, from a codebook that emits its suffix form.
+/// Emits the codeword of a symbol in reading order, given a codebook that emits its suffix form.
 ///
 /// # Errors
 ///
 /// - `Frontend(ImpossibleSymbol)` exactly if the symbol has no codeword. Nothing was emitted.
-/// - `Backend(error)` if `emit` returns this error after the first few bits of the codeword. Or if the codeword has
-///   more than `2 * usize::BITS` bits, and there is no memory for them: nothing was emitted. Shorter codewords need no
-///   memory.
+/// - `Backend(error)` if `emit` returns this error. The codeword's bits up to the refused bit were passed to `emit`.
+/// - `Backend(error)`, made from an `AllocError`, if there is no memory for a codeword of more than `2 * usize::BITS`
+///   bits. Nothing was emitted. Shorter codewords need no memory.
 ///
 /// # Examples
 ///

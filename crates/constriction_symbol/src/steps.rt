@@ -36,7 +36,8 @@ pub fn put_last<Word: BitArray, B: WriteWords<Word>>(
 
 /// Appends the lowest bits of a word to the last word, lowest first.
 ///
-/// If they don't all fit, the first of them fill the last word, it is written, and the others begin the next word.
+/// If not all of them fit, the first ones fill the last word. That word is written, and the remaining bits begin the
+/// next.
 #[inline]
 pub fn put_bits<Word: BitArray, B: WriteWords<Word>>(
     backend: &mut B,

@@ -11,7 +11,7 @@ use crate::turning::doubled;
 use constriction_base::errors::CoderError;
 use constriction_words::BitArray;
 
-/// The error of a codebook that reads no symbol.
+/// The reason why a codebook read no symbol: its own error, or the error of the source of the bits.
 pub type Refusal<V, E> = CoderError<SymbolCodeError<V>, E>;
 
 /// Reads the next bit.

@@ -9,8 +9,8 @@ use std::marker::Model;
 
 /// A list of at most `Word::BITS` bits.
 ///
-/// The bits stand at the top of the word, last bit highest. The lowest `room` bits of the word mean nothing. Contracts
-/// see the list.
+/// The bits stand at the top of the word, last bit highest. The lowest `room` bits of the word are unspecified.
+/// Contracts see the list.
 #[derive(Debug, Drop)]
 pub struct TopBits<Word: BitArray> {
     word: Word,
@@ -114,7 +114,7 @@ impl<Word: BitArray> TopBits<Word> {
         }
     }
 
-    /// Returns the word with these bits at its top. The bits below them mean nothing.
+    /// Returns the word with these bits at its top. The bits below them are unspecified.
     #[inline]
     pub fn top_word(&self) -> Word
         ensures bits { bits_of (length self.now) (Word.number result / 2 ^ (Word.BITS - length self.now)) ≡ self.now }

@@ -21,7 +21,7 @@ pub fn turned<Word: BitArray>(word: Word) -> Word
     turned_to(word, most, 3 * quarter, Word::BITS)
 }
 
-/// Reverses the lowest `count` bits of a word, above which there are zeros.
+/// Reverses the lowest `count` bits of a word. The caller proves that all higher bits are 0.
 #[inline]
 pub fn first_lowest<Word: BitArray>(bits: Word, count: u32) -> Word
     requires within { count ≤ Word.BITS }
@@ -52,7 +52,7 @@ fn turned_to<Word: BitArray>(word: Word, done: Word, from: u32, to: u32) -> Word
     turned
 }
 
-/// Converts a number to another word type that has it.
+/// Converts a number to another word type. The caller proves that the number fits that type.
 #[inline]
 pub fn same_number<From: BitArray, To: BitArray>(number: From) -> To
     requires { From.number number < 2 ^ To.BITS }

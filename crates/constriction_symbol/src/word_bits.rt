@@ -8,7 +8,7 @@ use crate::turning::turned;
 use constriction_words::BitArray;
 use std::marker::Model;
 
-/// A list of at most `Word::BITS` bits, removed from the first on.
+/// A list of at most `Word::BITS` bits that are removed from the first to the last.
 ///
 /// The word is held reversed, so that the first bit is its highest. Contracts see the list.
 #[derive(Debug, Drop)]
@@ -72,7 +72,7 @@ impl<Word: BitArray> WordBits<Word> {
         self.turned.is_empty()
     }
 
-    /// Returns the word with these bits lowest, first bit highest.
+    /// Returns the word that has these bits lowest, with the first bit as their highest, and zeros above them.
     #[inline]
     pub fn turned_word(&self) -> Word
         ensures bits { reverse (bits_of (length self.now) (Word.number result)) ≡ self.now }
@@ -82,7 +82,7 @@ impl<Word: BitArray> WordBits<Word> {
         TopBits::word(&self.turned)
     }
 
-    /// Returns the word with these bits at its top, first bit highest. The bits below them mean nothing.
+    /// Returns the word that has these bits highest, with the first bit as the highest. All lower bits are unspecified.
     #[inline]
     pub fn turned_top(&self) -> Word
         ensures bits { top_bits Word.BITS (length self.now) (Word.number result) ≡ self.now }
@@ -100,7 +100,7 @@ impl<Word: BitArray> WordBits<Word> {
         self.turned.pop()
     }
 
-    /// Removes the first `count` bits, and leaves at least one.
+    /// Removes the first `count` bits. The caller proves that `count` is at least 1 and below the number of bits.
     #[inline]
     pub fn drop_first(&mut self, count: u32)
         requires some { 0 < count }

@@ -1,7 +1,8 @@
 //! Streams of bits for encoding symbols.
 //!
-//! `PutsLast`, `PutsBits`, `ClosesStack` and `ClosesQueue` of `specs/Bits.antt` name the word of each write. Their
-//! `write` is `IsWrite`: a write of this word to this backend answered so.
+//! In contracts, `PutsLast`, `PutsBits`, `ClosesStack` and `ClosesQueue` of `specs/Bits.antt` name the word of each
+//! write. Their argument `write` is `IsWrite`, which relates the backend before a write, the word, the answer, and the
+//! backend after the write.
 
 ghost use Rattle.constriction_base.specs.Backends.{IsWrite};
 ghost use Rattle.constriction_symbol.specs.Bits.{PutsBit, PutsOnto};
@@ -20,19 +21,20 @@ use constriction_stream::encoding::Lent;
 use constriction_words::BitArray;
 use std::alloc::AllocError;
 
-/// A stream of bits that encodes symbols: it grows by codewords.
+/// A stream of bits that encodes symbols. Each symbol appends its codeword.
 ///
-/// A queue gets codewords in prefix form, a stack in suffix form. A codeword is written as if bit by bit.
+/// A queue gets codewords in prefix form, a stack in suffix form. Writing a codeword has the effect of writing its bits
+/// one by one.
 ///
-/// An implementor chooses which bits the stream holds and what a write of a bit may answer and leave (`puts`). It
-/// proves that each call answers by these.
+/// An implementor defines the list of bits (`bits`) and which answer a write may give (`puts`). It proves that each
+/// call follows these definitions.
 pub trait WriteBitStream<S: BitOrder> {
     type WriteError: From<AllocError>;
 
     /// The bits, in writing order.
     ghost bits: { Self → List Bool };
 
-    /// What a write of a bit answers, and what it leaves.
+    /// Relates the stream before the write of a bit, the bit, what the write returns, and the stream after it.
     ghost puts: { Self → Bool → Result (Unit {0}) Self.WriteError → Self → Type 0 };
 
     /// Appends a bit.
@@ -49,8 +51,9 @@ pub trait WriteBitStream<S: BitOrder> {
     /// # Errors
     ///
     /// - `Frontend(ImpossibleSymbol)` exactly if the symbol has no codeword. Nothing changed.
-    /// - `Backend(error)` if the write of a bit fails with this error: exactly the codeword's bits before it were
-    ///   written. Or if the codebook needs memory for the codeword and there is none: nothing changed.
+    /// - `Backend(error)` if the write of a bit fails with this error. Exactly the codeword's bits before that bit were
+    ///   written.
+    /// - `Backend(error)`, made from an `AllocError`, if the codebook needs memory and there is none. Nothing changed.
     fn encode_symbol<C: EncoderCodebook>(
         &mut self,
         symbol: &C::Symbol,
@@ -71,8 +74,8 @@ pub trait WriteBitStream<S: BitOrder> {
     /// # Errors
     ///
     /// The error of the first symbol that fails. Exactly the codewords of the symbols before it were written, and the
-    /// part of its own codeword that [`WriteBitStream::encode_symbol`] says. The iterator isn't asked for further
-    /// items.
+    /// bits of its own codeword that [`WriteBitStream::encode_symbol`] wrote. The call takes no further item from the
+    /// iterator.
     ///
     /// # Examples
     ///
@@ -196,13 +199,17 @@ where
 
     ghost puts = { PutsOnto Word.BITS Word.number (IsWrite B.words B.room B.writes B.write_fails) };
 
-    /// Appends a bit. It writes a word to the backend only if the last word is full.
+    /// Appends a bit.
+    ///
+    /// If the last word is full before the call, the call first writes that word to the backend.
     #[inline]
     fn write_bit(&mut self, bit: bool) -> Result<(), B::WriteError> {
         SymbolCoder::<Word, S, B>::write_bit(self, bit)
     }
 
-    /// Writes the codeword of a symbol, with one shift if the codebook has the codeword at once.
+    /// Writes the codeword of a symbol.
+    ///
+    /// Uses one shift if the codebook returns the whole codeword in one word ([`EncoderCodebook::codeword_at_once`]).
     #[inline]
     fn encode_symbol<C: EncoderCodebook>(
         &mut self,
@@ -226,13 +233,13 @@ where
 {
     /// Writes the codewords of symbols from the last to the first, each with its own codebook.
     ///
-    /// The coder then returns the symbols in the order of the list.
+    /// Decoding then returns the symbols in the order of the list.
     ///
     /// # Errors
     ///
-    /// The error of the first symbol that fails. Exactly the codewords of the symbols behind it in the list were
-    /// written, and the part of its own codeword that [`WriteBitStream::encode_symbol`] says. The iterator isn't asked
-    /// for further items.
+    /// The error of the first symbol that fails, counted from the end of the list. Exactly the codewords of the symbols
+    /// after it in the list were written, and the bits of its own codeword that [`WriteBitStream::encode_symbol`]
+    /// wrote. The call takes no further item from the iterator.
     pub fn encode_symbols_reverse<L, C, I>(
         &mut self,
         symbols_and_codebooks: I,
@@ -259,7 +266,7 @@ where
 
     /// Writes the codewords of symbols from the last to the first, all with one codebook.
     ///
-    /// The coder then returns the symbols in the order of the list.
+    /// Decoding then returns the symbols in the order of the list.
     ///
     /// # Errors
     ///

@@ -182,7 +182,7 @@ pub extern "C" fn constriction_chain_encode_quantized_reverse_u32(
     code_of(answer, needed)
 }
 
-/// Encodes intervals from the last to the first.
+/// Encodes intervals from the last to the first. Interval `i` begins at `lefts[i]`, and its length is `ps[i]`.
 #[unsafe(no_mangle)]
 pub extern "C" fn constriction_chain_encode_intervals_reverse_u32(
     alloc: Global,
@@ -272,7 +272,7 @@ pub extern "C" fn constriction_chain_into_compressed_u32(
     code_of(answer, needed)
 }
 
-/// Appends the words of the remainders' head below its leading 1 to the compressed words.
+/// Appends the words of the remainders' head, without its leading 1, to the compressed words.
 #[unsafe(no_mangle)]
 pub extern "C" fn constriction_chain_into_binary_u32(
     alloc: Global,

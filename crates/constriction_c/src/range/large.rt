@@ -93,7 +93,7 @@ impl RangeDecoderU32 {
     }
 }
 
-/// Makes an encoder without symbols.
+/// Sets `encoder` to an encoder without symbols.
 #[unsafe(no_mangle)]
 pub extern "C" fn constriction_range_encoder_u32(encoder: &mut RangeEncoderU32) -> u32
     ensures done { result ≡ 0 }
@@ -108,7 +108,7 @@ pub extern "C" fn constriction_range_encoder_u32(encoder: &mut RangeEncoderU32) 
     0
 }
 
-/// Calls `encode` with one table of weights for all symbols.
+/// Encodes symbols in order, with one table of weights for all symbols.
 #[unsafe(no_mangle)]
 pub extern "C" fn constriction_range_encode_u32(
     alloc: Global,
@@ -129,7 +129,7 @@ pub extern "C" fn constriction_range_encode_u32(
     code_of(answer, needed)
 }
 
-/// Calls `encode` with a row of `width` weights for each symbol.
+/// Encodes symbols in order, with a row of `width` weights for each symbol.
 #[unsafe(no_mangle)]
 pub extern "C" fn constriction_range_encode_each_u32(
     alloc: Global,
@@ -151,7 +151,7 @@ pub extern "C" fn constriction_range_encode_each_u32(
     code_of(answer, needed)
 }
 
-/// Calls `encode_intervals`.
+/// Encodes intervals in order. Interval `i` begins at `lefts[i]`, and its length is `ps[i]`.
 #[unsafe(no_mangle)]
 pub extern "C" fn constriction_range_encode_intervals_u32(
     alloc: Global,
@@ -171,7 +171,7 @@ pub extern "C" fn constriction_range_encode_intervals_u32(
     code_of(answer, needed)
 }
 
-/// Calls `encode` with models of a family, each with its own location and scale.
+/// Encodes symbols in order, with models of a family, each with its own location and scale.
 #[unsafe(no_mangle)]
 pub extern "C" fn constriction_range_encode_quantized_u32(
     alloc: Global,
@@ -196,7 +196,7 @@ pub extern "C" fn constriction_range_encode_quantized_u32(
     code_of(answer, needed)
 }
 
-/// Calls `into_compressed`, which appends the words held back and a seal.
+/// Appends the words that the encoder holds back, and a seal, to the buffer's first `len` words.
 #[unsafe(no_mangle)]
 pub extern "C" fn constriction_range_into_compressed_u32(
     alloc: Global,
@@ -211,9 +211,9 @@ pub extern "C" fn constriction_range_into_compressed_u32(
     code_of(into_compressed(alloc, &encoder.parts(), words, len), needed)
 }
 
-/// Calls `into_self_delimited`, whose seal any words may follow.
+/// Appends the words that the encoder holds back, and a self-delimiting seal, to the buffer's first `len` words.
 ///
-/// With states of two words this is the seal of `into_compressed`.
+/// For states of two words this is the seal of `into_compressed`.
 #[unsafe(no_mangle)]
 pub extern "C" fn constriction_range_into_self_delimited_u32(
     alloc: Global,
@@ -229,7 +229,7 @@ pub extern "C" fn constriction_range_into_self_delimited_u32(
     code_of(answer, needed)
 }
 
-/// Calls `from_compressed`, which makes a decoder before its first symbol.
+/// Sets `decoder` to a decoder of sealed words, before their first symbol.
 #[unsafe(no_mangle)]
 pub extern "C" fn constriction_range_from_compressed_u32(
     words: &[u32],
@@ -242,7 +242,7 @@ pub extern "C" fn constriction_range_from_compressed_u32(
     0
 }
 
-/// Calls `decode` with one table of weights for all symbols.
+/// Decodes symbols in order, with one table of weights for all symbols.
 #[unsafe(no_mangle)]
 pub extern "C" fn constriction_range_decode_u32(
     alloc: Global,
@@ -261,7 +261,7 @@ pub extern "C" fn constriction_range_decode_u32(
     code_without_space(answer)
 }
 
-/// Calls `decode` with a row of `width` weights for each symbol.
+/// Decodes symbols in order, with a row of `width` weights for each symbol.
 #[unsafe(no_mangle)]
 pub extern "C" fn constriction_range_decode_each_u32(
     alloc: Global,
@@ -281,7 +281,7 @@ pub extern "C" fn constriction_range_decode_each_u32(
     code_without_space(answer)
 }
 
-/// Calls `decode` with models of a family, each with its own location and scale.
+/// Decodes symbols in order, with models of a family, each with its own location and scale.
 #[unsafe(no_mangle)]
 pub extern "C" fn constriction_range_decode_quantized_u32(
     alloc: Global,
@@ -304,7 +304,7 @@ pub extern "C" fn constriction_range_decode_quantized_u32(
     code_without_space(answer)
 }
 
-/// Calls `seek`, which moves a decoder to an encoder's position.
+/// Sets `decoder` to a decoder of the words at an encoder's recorded position.
 #[unsafe(no_mangle)]
 pub extern "C" fn constriction_range_seek_u32(
     decoder: &mut RangeDecoderU32,
@@ -322,7 +322,7 @@ pub extern "C" fn constriction_range_seek_u32(
     code_without_space(answer)
 }
 
-/// Calls `maybe_exhausted`, which writes 1 if the words may have ended where the decoder stands, and 0 if not.
+/// Sets `maybe` to 1 if the words may have ended at the decoder's position, and to 0 if not.
 #[unsafe(no_mangle)]
 pub extern "C" fn constriction_range_maybe_exhausted_u32(
     decoder: &RangeDecoderU32,

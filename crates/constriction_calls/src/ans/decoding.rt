@@ -16,9 +16,10 @@ use constriction_stream::decoding::Decode;
 use constriction_words::{BitArray, WordOf};
 use std::alloc::Global;
 
-/// Decodes a symbol for each place of `symbols`, each under its model.
+/// Fills `symbols` with decoded symbols, each under its own model.
 ///
-/// An empty state decodes without end.
+/// The state is `head` and the first `len` words of `words`. The call sets `head` and `len` to the state after the
+/// decodes. Decoding never runs out of words, because an empty state returns symbols too.
 ///
 /// # Errors
 ///

@@ -1,4 +1,4 @@
-//! Encoding symbols onto a caller's state, from the last to the first. Decodes return them in order.
+//! Encoding symbols onto a caller's state, from the last to the first. Decoding returns them in order.
 
 ghost use Rattle.std.specs.Prelude.{◌≡◌, ◌≤◌, [], length, map, reverse, IfSome};
 ghost use Rattle.constriction_base.specs.Models.{AreModels, pairs_of};
@@ -17,11 +17,14 @@ use constriction_stream::encoding::Encode;
 use constriction_words::{BitArray, WordOf};
 use std::alloc::Global;
 
-/// Encodes symbols from the last to the first, each under its model.
+/// Encodes symbols from the last to the first, each under its own model.
+///
+/// The state is `head` and the first `len` words of `words`. The call writes new words after these, and sets `head` and
+/// `len` to the state after the encodes.
 ///
 /// # Errors
 ///
-/// All errors of [`crate::ans`] but `InvalidData`.
+/// All errors of [`crate::ans`] except `InvalidData`.
 pub fn encode_reverse<
     Word: WordOf<State>,
     State: BitArray,
@@ -63,7 +66,7 @@ pub fn encode_reverse<
     }
 }
 
-/// Encodes intervals from the last to the first. Each begins at its number in `lefts`, and has its length in `ps`.
+/// Encodes intervals from the last to the first. Interval `i` begins at `lefts[i]`, and its length is `ps[i]`.
 ///
 /// # Errors
 ///

@@ -15,9 +15,10 @@ use constriction_stack::coder::AnsCoder;
 use constriction_words::{BitArray, WordOf};
 use std::alloc::Global;
 
-/// Imports the state that these words are the export of.
+/// Imports the state that exports these words.
 ///
-/// Sets the head, and the number of words that stay below it. [`into_compressed`] exports such words.
+/// Sets `head`, and sets `len` to the number of words that stay below the head. [`into_compressed`] exports words of
+/// this form.
 ///
 /// # Errors
 ///
@@ -41,9 +42,10 @@ pub fn from_compressed<Word: WordOf<State>, State: BitArray>(
     Ok(())
 }
 
-/// Imports the state of any words in binary form.
+/// Imports a state from any words in binary form.
 ///
-/// Sets the head, and the number of words that stay below it. [`into_binary`] exports such words.
+/// Sets `head`, and sets `len` to the number of words that stay below the head. [`into_binary`] exports words of this
+/// form.
 pub fn from_binary<Word: WordOf<State>, State: BitArray>(
     words: &[Word],
     len: &mut usize,
@@ -59,7 +61,9 @@ pub fn from_binary<Word: WordOf<State>, State: BitArray>(
     *len = cursor.into_buf_and_pos().1;
 }
 
-/// Exports the state: appends the words of its head, without leading zero words.
+/// Exports the state: writes the words of its head, without leading zero words, after the first `len` words.
+///
+/// The call adds the number of these words to `len`.
 ///
 /// # Errors
 ///
@@ -84,11 +88,13 @@ pub fn into_compressed<Word: WordOf<State>, State: BitArray>(
     }
 }
 
-/// Exports the state in binary form: appends the words of its head below the leading 1.
+/// Exports the state in binary form: writes the words of its head, without its leading 1, after the first `len` words.
+///
+/// The call adds the number of these words to `len`.
 ///
 /// # Errors
 ///
-/// The errors of [`into_compressed`], and `InvalidData` if the head isn't a 1 above whole words.
+/// The errors of [`into_compressed`], and `InvalidData` if the bits of the head below its leading 1 aren't whole words.
 pub fn into_binary<Word: WordOf<State>, State: BitArray>(
     alloc: Global,
     head: State,

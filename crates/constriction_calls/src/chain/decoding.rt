@@ -32,11 +32,13 @@ pub(crate) type Taking<'a, Word, State, const PRECISION: usize> = ChainCoder<
     PRECISION,
 >;
 
-/// Decodes a symbol for each place of `symbols`, each under its model.
+/// Fills `symbols` with decoded symbols, each under its own model.
+///
+/// The call removes compressed words and appends remainders. It sets the heads and both numbers of words.
 ///
 /// # Errors
 ///
-/// The errors of [`crate::chain`] but `ImpossibleSymbol`.
+/// The errors of [`crate::chain`] except `ImpossibleSymbol`.
 pub fn decode<
     Word: WordOf<State>,
     State: BitArray,

@@ -33,7 +33,9 @@ pub(crate) type Putting<'a, Word, State, const PRECISION: usize> = ChainCoder<
     PRECISION,
 >;
 
-/// Encodes symbols from the last to the first, each under its model.
+/// Encodes symbols from the last to the first, each under its own model.
+///
+/// The call removes remainders and appends compressed words. It sets the heads and both numbers of words.
 ///
 /// # Errors
 ///
@@ -83,12 +85,12 @@ pub fn encode_reverse<
     }
 }
 
-/// Encodes intervals from the last to the first. Each begins at its number in `lefts`, and has its length in `ps`.
+/// Encodes intervals from the last to the first. Interval `i` begins at `lefts[i]`, and its length is `ps[i]`.
 ///
 /// # Errors
 ///
-/// The errors of [`crate::chain`] but `WrongWeights` and `ImpossibleSymbol`. `WrongInterval` comes if an interval is
-/// empty, or ends past `2 ^ PRECISION`.
+/// The errors of [`crate::chain`] except `WrongWeights` and `ImpossibleSymbol`. `WrongInterval` is returned if an
+/// interval is empty, or ends past `2 ^ PRECISION`.
 pub fn encode_intervals_reverse<
     Word: WordOf<State>,
     State: BitArray,

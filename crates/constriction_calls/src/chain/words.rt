@@ -25,11 +25,11 @@ type Bare<Word, State, const PRECISION: usize> = ChainCoder<
 
 /// Imports a coder from compressed words, with no remainders.
 ///
-/// Sets the heads, and the number of words that stay below them.
+/// Sets `heads`, and sets `len` to the number of words that stay below the heads.
 ///
 /// # Errors
 ///
-/// `InvalidData` exactly if the words belong to no coder: the last one is 0, or there are too few.
+/// `InvalidData` exactly if the words are those of no coder: the last word is 0, or there are too few words.
 pub fn from_compressed<Word: WordOf<State>, State: BitArray, const PRECISION: usize>(
     alloc: Global,
     words: &[Word],
@@ -60,7 +60,7 @@ pub fn from_compressed<Word: WordOf<State>, State: BitArray, const PRECISION: us
 
 /// Imports a coder from words in binary form, with no remainders.
 ///
-/// Sets the heads, and the number of words that stay below them.
+/// Sets `heads`, and sets `len` to the number of words that stay below the heads.
 ///
 /// # Errors
 ///
@@ -95,11 +95,11 @@ pub fn from_binary<Word: WordOf<State>, State: BitArray, const PRECISION: usize>
 
 /// Imports a coder from remainders, with no compressed words.
 ///
-/// Sets the heads, and the number of words that stay below them.
+/// Sets `heads`, and sets `len` to the number of words that stay below the heads.
 ///
 /// # Errors
 ///
-/// `InvalidData` exactly if the words belong to no coder: one of the last two is 0, or there are too few.
+/// `InvalidData` exactly if the words are those of no coder: one of the last two is 0, or there are too few words.
 pub fn from_remainders<Word: WordOf<State>, State: BitArray, const PRECISION: usize>(
     alloc: Global,
     words: &[Word],
@@ -130,15 +130,16 @@ pub fn from_remainders<Word: WordOf<State>, State: BitArray, const PRECISION: us
 
 /// Appends the words of the remainders' head to the compressed words, without leading zeros.
 ///
-/// [`from_compressed`] imports the result. The remainders below the head aren't needed, and stay with the caller.
+/// The call adds the number of these words to `compressed_len`. [`from_compressed`] imports the result. The remainders
+/// below the head aren't needed, and stay with the caller.
 ///
 /// # Errors
 ///
 /// Checked in this order:
 ///
 /// - `WrongLength` exactly if `compressed_len` is past the buffer's end.
-/// - `InvalidData` exactly if the heads belong to no coder, or bits are left over.
-/// - `NoSpace` if the buffer is too short. The error has the number of the coder's words.
+/// - `InvalidData` exactly if the heads are those of no coder, or bits are left over.
+/// - `NoSpace(needed)` if the buffer is too short. `needed` is the number of words that it has to hold.
 /// - `NoMemory` if there is no memory.
 pub fn into_compressed<Word: WordOf<State>, State: BitArray, const PRECISION: usize>(
     alloc: Global,
@@ -170,13 +171,15 @@ pub fn into_compressed<Word: WordOf<State>, State: BitArray, const PRECISION: us
     }
 }
 
-/// Appends the words of the remainders' head below its leading 1 to the compressed words.
+/// Appends the words of the remainders' head, without its leading 1, to the compressed words.
 ///
-/// [`from_binary`] imports the result. The remainders below the head aren't needed, and stay with the caller.
+/// The call adds the number of these words to `compressed_len`. [`from_binary`] imports the result. The remainders
+/// below the head aren't needed, and stay with the caller.
 ///
 /// # Errors
 ///
-/// The errors of [`into_compressed`]. `InvalidData` comes also if the remainders' head isn't a 1 above whole words.
+/// The errors of [`into_compressed`]. `InvalidData` is also returned if the bits below that leading 1 aren't whole
+/// words.
 pub fn into_binary<Word: WordOf<State>, State: BitArray, const PRECISION: usize>(
     alloc: Global,
     heads: &ChainHeads<Word, State>,
@@ -209,7 +212,8 @@ pub fn into_binary<Word: WordOf<State>, State: BitArray, const PRECISION: usize>
 
 /// Appends both heads to the remainders, the words of the remainders' head first.
 ///
-/// [`from_remainders`] imports the result. The compressed words aren't needed, and stay with the caller.
+/// The call adds the number of these words to `remainders_len`. [`from_remainders`] imports the result. The compressed
+/// words aren't needed, and stay with the caller.
 ///
 /// # Errors
 ///

@@ -59,13 +59,15 @@ pub(crate) fn take_list<
     Ok((again, decoder))
 }
 
-/// Decodes a symbol for each place of `symbols`, in order, each under its model.
+/// Fills `symbols` with decoded symbols, in order, each under its own model.
+///
+/// The call sets `decoder` to the decoder after these symbols.
 ///
 /// # Errors
 ///
-/// Those of [`crate::range`], and then:
+/// The errors of [`crate::range`], and then:
 ///
-/// - `InvalidData` if the words from the decoder's place on are not those of this many symbols.
+/// - `InvalidData` if the words from the decoder's position on don't encode that many symbols.
 /// - `NoMemory` if there is no memory.
 pub fn decode<
     Word: WordOf<State>,

@@ -1,4 +1,4 @@
-//! Encoding symbols behind the words of a caller's buffer.
+//! Encoding symbols after the words in a caller's buffer.
 
 ghost use Rattle.std.specs.Prelude.{◌≡◌, ◌≤◌, List, length, map, IfSome};
 ghost use Rattle.constriction_base.specs.Models.{pairs_of};
@@ -78,14 +78,17 @@ fn put_by<
     put_list::<Word, State, P, G::List, PRECISION>(encoder, &list, symbols)
 }
 
-/// Encodes symbols in order, each under its model. New words are written behind the buffer's first `len` words.
+/// Encodes symbols in order, each under its own model.
+///
+/// The call writes new words after the buffer's first `len` words, and adds their number to `len`. It sets `encoder` to
+/// the encoder after these symbols.
 ///
 /// # Errors
 ///
-/// Those of [`crate::range`], and then:
+/// The errors of [`crate::range`], and then:
 ///
-/// - `ImpossibleSymbol` exactly if a model doesn't know its symbol.
-/// - `NoSpace` if the buffer is too short. The error has the number of words that it needs.
+/// - `ImpossibleSymbol` exactly if a model has no entry for its symbol.
+/// - `NoSpace(needed)` if the buffer is too short. `needed` is the number of words that it has to hold.
 /// - `NoMemory` if there is no memory.
 pub fn encode<
     Word: WordOf<State>,
@@ -132,12 +135,12 @@ pub fn encode<
     }
 }
 
-/// Encodes intervals in order. Each begins at its number in `lefts`, and has its length in `ps`.
+/// Encodes intervals in order. Interval `i` begins at `lefts[i]`, and its length is `ps[i]`.
 ///
 /// # Errors
 ///
-/// Those of [`encode`] but `ImpossibleSymbol`. `WrongLength` comes if the lists have different lengths, and
-/// `WrongInterval` if an interval is empty or ends past `2 ^ PRECISION`.
+/// The errors of [`encode`] except `ImpossibleSymbol`. `WrongLength` is returned if the lists have different lengths,
+/// and `WrongInterval` if an interval is empty or ends past `2 ^ PRECISION`.
 pub fn encode_intervals<
     Word: WordOf<State>,
     State: BitArray,

@@ -1,4 +1,4 @@
-//! What a caller keeps of a range coder between two calls.
+//! The numbers of a range coder that a caller keeps between two calls.
 
 ghost use Rattle.std.specs.Prelude.{◌≡◌, ◌↔◌, ◌≤◌, ◌-◌, [], length, map, IfSome, IsSome};
 ghost use Rattle.constriction_base.specs.Steps.{IsSizes};
@@ -14,8 +14,8 @@ use std::num::NonZeroUsize;
 
 /// A range encoder between two calls: its interval, and the words that it holds back.
 ///
-/// It holds `held` words: the first is `first`, and all others have only ones. If it holds none, `first` is 0. The
-/// words that it wrote are in the caller's buffer.
+/// The encoder holds back `held` words. The first of them is `first`, and in all later ones every bit is 1. If it holds
+/// back none, `first` is 0. The words that it wrote are in the caller's buffer.
 ///
 /// # Examples
 ///
@@ -33,9 +33,9 @@ pub struct EncoderParts<Word, State> {
     pub first: Word,
 }
 
-/// A range decoder between two calls: its interval, its point, and how many words of the caller's buffer it read.
+/// A range decoder between two calls: its interval, its point, and the number of words that it read from the buffer.
 ///
-/// The point is the number of the words read last, as many as a state has.
+/// The point is the number that the words read last make, as many words as a state has.
 ///
 /// # Examples
 ///
@@ -54,7 +54,7 @@ pub struct DecoderParts<State> {
 
 /// Makes an encoder with an empty backend from the caller's numbers. This takes no memory.
 ///
-/// Returns `None` exactly if the numbers belong to no encoder, or to one that can't count `count` further symbols.
+/// Returns `None` exactly if no encoder has the numbers, or if the encoder can't count `count` further symbols.
 pub fn encoder_for<Word: WordOf<State>, State: BitArray>(
     alloc: Global,
     parts: EncoderParts<Word, State>,
@@ -108,9 +108,9 @@ pub fn parts_of<Word: WordOf<State>, State: BitArray>(
 /// A decoder over borrowed words.
 pub type Reading<'a, Word, State> = RangeDecoder<Word, State, Cursor<Word, &'a [Word]>>;
 
-/// Makes a decoder of these numbers over the words from its place on.
+/// Makes a decoder with these numbers, over the words from its position on.
 ///
-/// Returns `None` exactly if the numbers belong to no decoder.
+/// Returns `None` exactly if no decoder has the numbers.
 pub fn decoder_of<'a, Word: WordOf<State>, State: BitArray>(
     words: &'a [Word],
     parts: DecoderParts<State>,

@@ -23,9 +23,9 @@ pub fn from_compressed<Word: WordOf<State>, State: BitArray>(words: &[Word]) -> 
     }
 }
 
-/// Makes a decoder of the words at an encoder's position.
+/// Sets `decoder` to a decoder of the words at an encoder's recorded position.
 ///
-/// `pos` is how many words the encoder had written and held, and `lower` and `range` are its interval.
+/// `pos` is the number of words that the encoder had written and held back. `lower` and `range` are its interval.
 ///
 /// # Errors
 ///
@@ -58,9 +58,9 @@ pub fn seek<Word: WordOf<State>, State: BitArray>(
     Ok(())
 }
 
-/// Sets `maybe` to 1 if the words may have ended where the decoder stands, and to 0 if not.
+/// Sets `maybe` to 1 if the words may have ended at the decoder's position, and to 0 if not.
 ///
-/// They may have ended if no word is left, and the point is one that a seal gives.
+/// They may have ended if no word is left, and the decoder's point is a point that a seal gives.
 ///
 /// # Errors
 ///

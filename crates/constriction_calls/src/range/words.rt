@@ -10,14 +10,16 @@ use constriction_inputs::refusal::Refusal;
 use constriction_words::{BitArray, WordOf};
 use std::alloc::Global;
 
-/// Appends the words that an encoder holds back, and a seal. A decoder reads the buffer's first `len` words.
+/// Writes the words that an encoder holds back, and a seal, after the buffer's first `len` words.
+///
+/// The call adds the number of these words to `len`. The buffer's first `len` words are then what a decoder reads.
 ///
 /// # Errors
 ///
-/// Those of [`crate::range`], and then:
+/// The errors of [`crate::range`], and then:
 ///
-/// - `NoSpace` exactly if the buffer is too short, unless the number of bits can't be counted. The error has the number
-///   of words. This is checked before the call asks for memory.
+/// - `NoSpace(needed)` exactly if the buffer is too short, and the number of bits can be counted. `needed` is the
+///   number of words that the buffer has to hold. The call checks this before it asks for memory.
 /// - `NoMemory` if there is no memory, or the number of bits of all words can't be counted.
 pub fn into_compressed<Word: WordOf<State>, State: BitArray>(
     alloc: Global,
@@ -48,12 +50,13 @@ pub fn into_compressed<Word: WordOf<State>, State: BitArray>(
     }
 }
 
-/// Appends the words that an encoder holds back, and a seal that any words may follow, for states of two words.
+/// Writes the words that an encoder holds back, and a self-delimiting seal, for states of two words.
 ///
-/// A decoder of the buffer's first `len` words, and any others behind them, returns the same symbols.
+/// The call writes them after the buffer's first `len` words, and adds their number to `len`. A decoder of the buffer's
+/// first `len` words, whatever words follow them, returns the symbols encoded.
 ///
-/// With states of two words this seal has as many words as the other one, and `num_words` counts them without memory.
-/// So the room is checked first.
+/// For states of two words this seal has as many words as the seal of [`into_compressed`], and `num_words` counts them
+/// without memory. So the call checks the room before it asks for memory.
 ///
 /// # Errors
 ///

@@ -67,18 +67,20 @@ fn stored<Word: WordOf<State>, State: BitArray, P: WordOf<Word>, const PRECISION
 
 /// Builds a store of chunks, and writes its words and its index into the caller's buffers.
 ///
-/// The words stand at the beginning of `words`, and `len` is their number. Each chunk has an item in `positions`,
-/// `lowers` and `ranges`. The symbols of all chunks stand one behind another in `symbols`.
+/// The call writes the words at the beginning of `words`, and sets `len` to their number. It writes one item for each
+/// chunk to `positions`, `lowers` and `ranges`. `symbols` has the symbols of all chunks, one chunk after another.
+/// `lengths` has the number of symbols of each chunk.
 ///
 /// # Errors
 ///
-/// The first of these that applies. Nothing changed then.
+/// The first of these errors that applies, but `NoMemory` may replace `NoSpace`. The call then changes nothing.
 ///
 /// - `WrongLength`: a list of the index isn't as long as `lengths`, or `lengths` don't add up to the number of symbols,
 ///   or there are more than 1048576 symbols.
 /// - `WrongWeights`: the weights don't add up to `2 ^ PRECISION`.
 /// - `ImpossibleSymbol`: a symbol has weight 0, or no weight.
-/// - `NoSpace`: the buffer is too short. The error has the number of words. Or `NoMemory`: there is no memory.
+/// - `NoSpace(needed)`: `words` is too short. `needed` is the number of words of the store.
+/// - `NoMemory`: there is no memory.
 pub fn build<Word: WordOf<State>, State: BitArray, P: WordOf<Word>, const PRECISION: usize>(
     alloc: Global,
     words: &mut [Word],

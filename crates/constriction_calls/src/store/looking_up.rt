@@ -40,19 +40,22 @@ fn decoder_at<'a, Word: WordOf<State>, State: BitArray>(
     }
 }
 
-/// Decodes the chunk that begins at a position, in an interval, with as many symbols as `symbols` has places.
+/// Decodes a chunk of a store, and fills `symbols` with its symbols.
 ///
-/// It reads only the words of the chunk, and as many words behind them as a state has. The words, the position and the
-/// interval may come from anywhere.
+/// `pos`, `lower` and `range` are the chunk's items of the index: its position and its interval. The length of
+/// `symbols` is the number of symbols to decode. The call reads only the words of the chunk, and as many words after
+/// them as a state has. The words, the position and the interval may come from anywhere.
 ///
 /// # Errors
 ///
-/// The first of these that applies. Nothing changed then.
+/// The first of these errors that applies, but `NoMemory` may replace `InvalidData` for the words. The call then
+/// changes nothing.
 ///
 /// - `WrongLength`: the position is past the words.
 /// - `WrongWeights`: the weights don't add up to `2 ^ PRECISION`.
-/// - `InvalidData`: the interval is too short, or the words hold no such chunk (a built store holds one at each entry).
-///   Or `NoMemory`: there is no memory.
+/// - `InvalidData`: the interval is too short, or the words don't encode that many symbols. In a built store, they do
+///   so at each entry.
+/// - `NoMemory`: there is no memory.
 pub fn chunk<Word: WordOf<State>, State: BitArray, P: WordOf<Word>, const PRECISION: usize>(
     alloc: Global,
     words: &[Word],

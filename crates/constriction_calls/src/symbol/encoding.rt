@@ -14,7 +14,9 @@ use constriction_symbol::writing::WriteBitStream;
 use constriction_words::BitArray;
 use std::alloc::Global;
 
-/// Encodes symbols as a queue of bits. Its words stand at the beginning of `words`, and `len` is their number.
+/// Encodes symbols as a queue of bits.
+///
+/// The call writes the words of the queue at the beginning of `words`, and sets `len` to their number.
 ///
 /// # Errors
 ///
@@ -35,9 +37,9 @@ pub fn encode_queue<Word: BitArray, C: Codes>(
     }
 }
 
-/// Encodes symbols as a stack of bits, which returns them in the order of the list.
+/// Encodes symbols as a stack of bits, so that decoding returns them in the order of the list.
 ///
-/// Its words stand at the beginning of `words`, and `len` is their number.
+/// The call writes the words of the stack at the beginning of `words`, and sets `len` to their number.
 ///
 /// # Errors
 ///

@@ -1,4 +1,4 @@
-//! Encoding lists of symbols from last to first, as methods of the coder, so that no trait has to be in scope.
+//! Methods of the coder that encode lists of symbols from last to first. As methods they need no trait in scope.
 
 ghost use Rattle.constriction_stream.specs.Lists.{GivesAtMost, LowersByItems, StepsUntilFault, TriesItem};
 ghost use Rattle.constriction_stream.specs.Symbols.{EncodesPair, EncodesSymbol};
@@ -24,8 +24,8 @@ impl<
     ///
     /// # Errors
     ///
-    /// The error of the first step that fails. The coder has encoded exactly the symbols behind that one, and
-    /// doesn't ask the iterator for the items before it.
+    /// The error of the first symbol that fails, counted from the end of the list. The coder has encoded exactly the
+    /// symbols after it in the list. The call takes no further item from the iterator.
     pub fn encode_symbols_reverse<S, M, I>(
         &mut self,
         symbols_and_models: I,
@@ -49,14 +49,15 @@ impl<
         EncodeReverse::<PRECISION>::encode_symbols_reverse(self, symbols_and_models)
     }
 
-    /// Encodes symbols from last to first, each with its own model, where any item may be an error instead.
+    /// Encodes symbols from last to first, each with its own model. Any item may be an error instead.
     ///
     /// # Errors
     ///
-    /// After each error, the coder has encoded exactly the symbols behind the item in question.
+    /// The call stops at the first failing item, counted from the end of the list. The coder has encoded exactly the
+    /// symbols after that item in the list.
     ///
-    /// - `InvalidEntropyModel(error)` if the item is an error. The item doesn't change the coder.
-    /// - `CodingError(error)` if a step fails.
+    /// - `InvalidEntropyModel(error)` if the item is `Err(error)`. The item doesn't change the coder.
+    /// - `CodingError(error)` if encoding the item's symbol fails with this error.
     pub fn try_encode_symbols_reverse<S, M, E, I>(
         &mut self,
         symbols_and_models: I,
@@ -87,8 +88,8 @@ impl<
     ///
     /// # Errors
     ///
-    /// The error of the first step that fails. The coder has encoded exactly the symbols behind that one, and
-    /// doesn't ask the iterator for those before it.
+    /// The error of the first symbol that fails, counted from the end of the list. The coder has encoded exactly the
+    /// symbols after it in the list. The call takes no further item from the iterator.
     ///
     /// # Examples
     ///

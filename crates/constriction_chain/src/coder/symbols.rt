@@ -2,7 +2,8 @@
 //!
 //! The trait `Encode` encodes lists of symbols in their order, and `EncodeReverse` encodes them from last to first.
 //!
-//! A decode that moves a word out without reading one doesn't ask for room first: its write is its only backend call.
+//! A decode may write a word without reading one. It then doesn't ask for room, because the write is its only backend
+//! call.
 
 ghost use Rattle.constriction_base.specs.Steps.{Step};
 ghost use Rattle.constriction_chain.specs.Steps.{DecodeCall, EncodeCall, Halted, IsEndOfData, IsLackOfRoom};
@@ -47,20 +48,22 @@ impl<
 
     /// Decodes a symbol from the compressed words, with a model of the coder's precision.
     ///
-    /// The coder reads at most one compressed word and writes at most one word to the remainders. Before it reads, it
-    /// asks the remainders for room for one word.
+    /// The coder reads at most one compressed word and writes at most one word to the remainders. A compressed word is
+    /// needed if fewer bits than the precision are left over. Before it reads that word, the coder asks the remainders
+    /// for room for one word.
     ///
     /// # Errors
     ///
-    /// After each error the heads are unchanged, and the remainders have at least as much room as before.
+    /// After each error the heads are unchanged, and the remainders have at least as much room as before the call.
     ///
-    /// - `Frontend(OutOfCompressedData)` if a word is needed, the remainders granted room for one, and no compressed
-    ///   word is left. Only that room changed.
-    /// - `Backend(Compressed(error))` if a word is needed and its read returned that error. The compressed words are
-    ///   unchanged if the backend knows its words.
-    /// - `Backend(Remainders(error))` if a word is needed and the remainders refused room for one: nothing changed. Or
-    ///   if the remainders refused to write a word: the compressed backend has lost at most one word, and nothing
-    ///   changed if the backend of the remainders grants room.
+    /// - `Frontend(OutOfCompressedData)` if a compressed word is needed and none is left. The only change is that the
+    ///   remainders granted room for one word.
+    /// - `Backend(Compressed(error))` if a compressed word is needed and its read fails with this error. If `is_list`
+    ///   of the compressed backend holds, the compressed words are unchanged.
+    /// - `Backend(Remainders(error))` if a compressed word is needed and the remainders refuse room for one word.
+    ///   Nothing changed.
+    /// - `Backend(Remainders(error))` if the remainders refuse to write a word. The compressed backend has lost at most
+    ///   one word. It has lost none if `makes_room` of the remainders' backend holds.
     #[inline]
     fn decode_symbol<M>(
         &mut self,
@@ -138,21 +141,23 @@ impl<
 
     /// Encodes a symbol with a model of the coder's precision. This is the inverse of decoding it.
     ///
-    /// The coder writes at most one compressed word, after asking for room for it, and reads at most one word of the
-    /// remainders.
+    /// The coder reads at most one word of the remainders and writes at most one compressed word. If it has to write a
+    /// word, it first asks the compressed backend for room for one word.
     ///
     /// # Errors
     ///
-    /// After each error the heads are unchanged, and the compressed words have at least as much room as before.
+    /// After each error the heads are unchanged, and the compressed words have at least as much room as before the
+    /// call.
     ///
     /// - `Frontend(ImpossibleSymbol)` exactly if the model doesn't contain the symbol. The coder is unchanged.
-    /// - `Frontend(OutOfRemainders)` if a word of the remainders is needed and none is left. Only the room that was
-    ///   asked for changed.
-    /// - `Backend(Remainders(error))` if a word of the remainders is needed and its read returned that error. The
-    ///   remainders are unchanged if the backend knows its words.
-    /// - `Backend(Compressed(error))` if a word had to be written and the backend refused room for it: nothing changed.
-    ///   Or if its write was refused, which happens only over a backend that doesn't grant room: the remainders have
-    ///   lost at most one word.
+    /// - `Frontend(OutOfRemainders)` if a word of the remainders is needed and none is left. The only change is the
+    ///   room that the compressed backend granted.
+    /// - `Backend(Remainders(error))` if a word of the remainders is needed and its read fails with this error. If
+    ///   `is_list` of the remainders' backend holds, the remainders are unchanged.
+    /// - `Backend(Compressed(error))` if a word has to be written and the compressed backend refuses room for it.
+    ///   Nothing changed.
+    /// - `Backend(Compressed(error))` if the compressed backend refuses to write that word, which happens only if
+    ///   `makes_room` of that backend doesn't hold. The remainders have lost at most one word.
     #[inline]
     fn encode_symbol<M>(
         &mut self,

@@ -58,7 +58,7 @@ fn decode<M: DecoderModel<PRECISION, Symbol = usize, Probability = u32>>(
     Ok(symbols)
 }
 
-/// Returns a line of symbols for a line of weights, and a line of a count and words.
+/// Returns a line of symbols. The input is a line of weights, and a line of a count and words.
 pub fn answer(alloc: Global, text: &[u8]) -> Result<Vec<u8>, Fault>
     ensures ok { IfOk result (λ answer. IsRangeDecoded text.now answer.items) }
     ensures err { IfErr result (RangeDecodeFails text.now) }

@@ -64,7 +64,7 @@ fn push_chunks(
 
 /// Returns the line of words and the lines of chunks.
 ///
-/// The input is a line of weights, a line of places, and a line for each chunk.
+/// The input is a line of weights, a line of the numbers of chunks to look up, and a line for each chunk.
 pub fn answer(alloc: Global, text: &[u8]) -> Result<Vec<u8>, Fault>
     ensures ok { IfOk result (λ answer. IsStored text.now answer.items) }
     ensures err { IfErr result (StoreFails text.now) }

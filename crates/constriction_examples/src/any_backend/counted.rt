@@ -1,11 +1,11 @@
-//! A backend that counts the words that are written to another one.
+//! A backend that counts the words written to another backend.
 
 ghost use Rattle.std.specs.Prelude.{◌≡◌};
 
 use constriction::backends::{BothWays, CountsWords, Holds, IntoReadWords, WriteWords};
 use constriction::{Pos, PosSeek, Queue, Semantics, Stack};
 
-/// A backend, and how many words were written to it: `u64::MAX` where there were more.
+/// A backend, and the number of words written to it. The number is `u64::MAX` if there were more words.
 #[derive(Drop)]
 pub struct Counted<B> {
     pub inner: B,
@@ -13,7 +13,7 @@ pub struct Counted<B> {
 }
 
 impl<B> Counted<B> {
-    /// The backend, to which no word has been written yet.
+    /// Wraps a backend, and counts from 0.
     pub fn new(inner: B) -> Self
         ensures inner { result.inner ≡ inner }
         ensures none { result.written ≡ 0 }

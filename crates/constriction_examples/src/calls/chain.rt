@@ -22,7 +22,7 @@ fn put_from_the_end(coder: &mut DefaultChainCoder, table: &Table) -> Result<()> 
     Ok(())
 }
 
-/// Decodes two symbols by one model, and two by a model each.
+/// Decodes two symbols with one model, and two symbols with a model each.
 fn take(rt: &impl Print, coder: &mut DefaultChainCoder, table: &Table) -> Result<()> {
     for symbol in coder.decode_iid_symbols(2, table) {
         let symbol = symbol?;
@@ -42,7 +42,7 @@ fn put_forth(coder: &mut DefaultChainCoder, table: &Table) -> Result<()> {
     Ok(())
 }
 
-/// Makes each call, and prints what comes back.
+/// Makes each call, and prints the results.
 pub fn run(rt: &impl Print, alloc: Global) -> Result<()> {
     let table = WeightTable::<u32, 24>::new(alloc, &[8388608, 4194304, 4194304])?;
     let words = [1, 2, 3, 4, 5, 6, 7, 0x9abcdef0, 0x12345678, 256].to_vec(alloc)?;

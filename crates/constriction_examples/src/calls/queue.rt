@@ -1,5 +1,7 @@
-//! The calls of the range coder at concrete types. An encoder that a function is handed may hold back so many words
-//! that a list has no room left to count them: `symbols_left` says how many symbols it takes.
+//! The calls of the range coder at concrete types.
+//!
+//! An encoder that is passed to a function may hold back so many words that it can't count the symbols of a whole list.
+//! `symbols_left` returns how many symbols it can still encode.
 
 use anyhow::{Result, bail};
 use constriction::stream::model::WeightTable;
@@ -11,7 +13,7 @@ use std::iter;
 
 type Table = WeightTable<u32, 24>;
 
-/// Encodes a list, where the encoder takes so many symbols.
+/// Encodes a list, if the encoder can take that many symbols.
 fn put(encoder: &mut DefaultRangeEncoder, symbols: &[usize], table: &Table) -> Result<()> {
     if Encode::<24>::symbols_left(encoder) < symbols.len() {
         bail!("too many words are held back");
@@ -20,7 +22,7 @@ fn put(encoder: &mut DefaultRangeEncoder, symbols: &[usize], table: &Table) -> R
     Ok(())
 }
 
-/// Encodes pairs, where the encoder takes so many symbols.
+/// Encodes pairs, if the encoder can take that many symbols.
 fn put_pairs(encoder: &mut DefaultRangeEncoder, table: &Table) -> Result<()> {
     if Encode::<24>::symbols_left(encoder) < 2 {
         bail!("too many words are held back");
@@ -29,7 +31,7 @@ fn put_pairs(encoder: &mut DefaultRangeEncoder, table: &Table) -> Result<()> {
     Ok(())
 }
 
-/// Decodes two symbols by one model, and one by a model of its own.
+/// Decodes two symbols with one model, and one symbol with its own model.
 fn take(rt: &impl Print, decoder: &mut DefaultRangeDecoder, table: &Table) -> Result<()> {
     for symbol in decoder.decode_iid_symbols(2, table) {
         let symbol = symbol?;
@@ -42,7 +44,7 @@ fn take(rt: &impl Print, decoder: &mut DefaultRangeDecoder, table: &Table) -> Re
     Ok(())
 }
 
-/// Shows the words while the encoder goes on, and reads them.
+/// Prints whether a guard lends no words, and the first symbol decoded from them. The encoder is unchanged.
 fn show(rt: &impl Print, encoder: &mut DefaultRangeEncoder, table: &Table) -> Result<()> {
     {
         let Ok(guard) = encoder.get_compressed() else {
@@ -58,7 +60,7 @@ fn show(rt: &impl Print, encoder: &mut DefaultRangeEncoder, table: &Table) -> Re
     Ok(())
 }
 
-/// Makes each call, and prints what comes back.
+/// Makes each call, and prints the results.
 pub fn run(rt: &impl Print, alloc: Global) -> Result<()> {
     let table = WeightTable::<u32, 24>::new(alloc, &[3, 2, 16777211])?;
     let mut encoder = DefaultRangeEncoder::new(alloc);

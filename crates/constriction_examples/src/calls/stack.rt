@@ -37,7 +37,7 @@ fn put_forth(coder: &mut DefaultAnsCoder, table: &Table) -> Result<()> {
     Ok(())
 }
 
-/// Decodes three symbols by one model, and two by a model each.
+/// Decodes three symbols with one model, and two symbols with a model each.
 fn take(rt: &impl Print, coder: &mut DefaultAnsCoder, table: &Table) -> Result<()> {
     for symbol in coder.decode_iid_symbols(3, table) {
         let symbol = symbol?;
@@ -50,7 +50,7 @@ fn take(rt: &impl Print, coder: &mut DefaultAnsCoder, table: &Table) -> Result<(
     Ok(())
 }
 
-/// Goes back to a position, over a copy of the words.
+/// Seeks to a recorded position in a decoder over the coder's words, and prints the symbol there.
 fn seek(rt: &impl Print, coder: &mut DefaultAnsCoder, table: &Table) -> Result<()> {
     let position = coder.pos();
     coder.encode_symbol(&1, table)?;
@@ -63,7 +63,7 @@ fn seek(rt: &impl Print, coder: &mut DefaultAnsCoder, table: &Table) -> Result<(
     Ok(())
 }
 
-/// Shows what a coder holds: the word that would be exported first, as it stands first on the backend.
+/// Prints whether a coder is empty, and compares its first exported word with the first word that a guard lends.
 fn show(rt: &impl Print, coder: &mut DefaultAnsCoder) -> Result<()> {
     let is_some = coder.state() > 0;
     println!(rt; "{is_some} {}", coder.is_empty())?; // true false
@@ -75,7 +75,7 @@ fn show(rt: &impl Print, coder: &mut DefaultAnsCoder) -> Result<()> {
     Ok(())
 }
 
-/// Hands the words on as they are, as bits, and to a decoder.
+/// Turns a coder into decoders, decodes from borrowed words, and imports and exports words in binary form.
 fn hand_on(rt: &impl Print, alloc: Global, table: &Table) -> Result<()> {
     let mut coder = DefaultAnsCoder::new(alloc);
     coder.encode_symbol(&1, table)?;
@@ -98,7 +98,7 @@ fn hand_on(rt: &impl Print, alloc: Global, table: &Table) -> Result<()> {
     Ok(())
 }
 
-/// Encodes and decodes a symbol by a coder of 16-bit words.
+/// Encodes and decodes a symbol with a coder of 16-bit words.
 fn small(rt: &impl Print, alloc: Global) -> Result<()> {
     let table = WeightTable::<u16, 12>::new(alloc, &[4000, 96])?;
     let mut coder = SmallAnsCoder::new(alloc);
@@ -110,7 +110,7 @@ fn small(rt: &impl Print, alloc: Global) -> Result<()> {
     Ok(())
 }
 
-/// Makes each call, and prints what comes back.
+/// Makes each call, and prints the results.
 pub fn run(rt: &impl Print, alloc: Global) -> Result<()> {
     let table = WeightTable::<u32, 24>::new(alloc, &[3, 2, 16777211])?;
     let mut coder = DefaultAnsCoder::new(alloc);

@@ -25,7 +25,7 @@ fn queue(rt: &impl Print, alloc: Global, golomb: &ExpGolomb<u32>) -> Result<()> 
     Ok(())
 }
 
-/// Puts numbers on a stack of bits from the last to the first, and takes them off.
+/// Encodes numbers onto a stack of bits from the last to the first, and decodes them.
 fn stack(rt: &impl Print, alloc: Global, golomb: &ExpGolomb<u32>) -> Result<()> {
     let mut coder = DefaultStackCoder::new(alloc);
     coder.encode_iid_symbols_reverse([5u32, 7].as_slice(), golomb)?;
@@ -37,7 +37,7 @@ fn stack(rt: &impl Print, alloc: Global, golomb: &ExpGolomb<u32>) -> Result<()> 
     Ok(())
 }
 
-/// Puts two chunks into a store, and looks the second one up.
+/// Builds a store of two chunks, and looks up the second chunk.
 fn store(rt: &impl Print, alloc: Global) -> Result<()> {
     let table = WeightTable::<u32, 24>::new(alloc, &[3, 2, 16777211])?;
     let chunks = [[2usize, 1].to_vec(alloc)?, [0, 2, 2].to_vec(alloc)?];
@@ -47,7 +47,7 @@ fn store(rt: &impl Print, alloc: Global) -> Result<()> {
     Ok(())
 }
 
-/// Makes each call, and prints what comes back.
+/// Makes each call, and prints the results.
 pub fn run(rt: &impl Print, alloc: Global) -> Result<()> {
     let golomb = ExpGolomb::<u32>::new();
     queue(rt, alloc, &golomb)?;

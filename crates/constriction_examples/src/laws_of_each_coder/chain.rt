@@ -1,4 +1,4 @@
-//! Laws of the chain coder, and what its refused steps leave.
+//! Laws of the chain coder, and the room of its backends after a refused step.
 
 ghost use Rattle.std.specs.Bool.{OnFalse};
 ghost use Rattle.std.specs.Prelude.{IfErr, IfNone, IfOk, IfSome, [], ◌≡◌, ◌≤◌};
@@ -12,7 +12,10 @@ use constriction::stream::model::{DecoderModel, EncoderModel, EntropyModel};
 use constriction::stream::{Decode, Encode};
 use constriction::{CoderError, Stack, WordOf};
 
-/// The symbol after a change of the precision, where models of two types may stand before it.
+/// Decodes a symbol from each of two coders, after a symbol of another model and a change of the precision.
+///
+/// If the coders begin with equal compressed heads and words, the two symbols returned are equal. The models before the
+/// change may have different types. Returns `None` if a call fails.
 pub fn isolated_across_a_change<
     A: DecoderModel<24, Symbol = usize, Probability = u32>,
     B: DecoderModel<24, Symbol = usize, Probability = u32>,
@@ -51,8 +54,10 @@ pub fn isolated_across_a_change<
     Some((symbol, again))
 }
 
-/// The next symbol, or `None` where no word is left. Over any backends a decode that gives no symbol loses no room
-/// among the remainders, and where the compressed words are known, `None` says that there are none.
+/// Decodes the next symbol, or returns `None` if no compressed word is left.
+///
+/// If `is_list` of the compressed backend holds, `None` means that there are no compressed words. If the call returns
+/// no symbol, the remainders have at least as much room as before.
 pub fn decode_to_the_end<
     C: ReadWords<u32, Stack>,
     R: WriteWords<u32>,
@@ -76,8 +81,9 @@ where
     }
 }
 
-/// Whether the symbol was put back: it wasn't where no word of the remainders is left. An encode that is refused loses
-/// no room among the compressed words.
+/// Encodes a symbol, or returns `false` if it needs a word of the remainders and none is left.
+///
+/// Returns `true` if the symbol was encoded. If it wasn't, the compressed words have at least as much room as before.
 pub fn encode_to_the_end<
     C: WriteWords<u32>,
     R: ReadWords<u32, Stack>,

@@ -7,7 +7,7 @@ ghost use Rattle.std.specs.Prelude.{[], length, ◌*◌, ◌-◌, ◌<◌, ◌^�
 
 use constriction::laws::bounds::stack_net_bound;
 
-/// The words after one decode and one encode, as a bits-back scheme makes them, are few.
+/// Bounds the number of words after one decode and one encode, as in bits-back coding.
 pub fn words_of_an_exchange()
     ensures { (taken put : Step) (old new : AnsState) → IsStep 32 taken → IsStep 32 put → IsValid 32 64 old →
         2 ^ (64 - 32) ≤ old.head → InTurn (Acts 32 64) (Decode taken ∷ Encode put ∷ []) old new →

@@ -1,11 +1,11 @@
-//! Codewords of weights, by the trees of an encoder and a decoder.
+//! Huffman coding: the trees of weights for encoding and for decoding.
 
 use anyhow::Result;
 use constriction::symbol::huffman::{DecoderHuffmanTree, EncoderHuffmanTree};
 use constriction::symbol::{DefaultQueueEncoder, ReadBitStream, WriteBitStream};
 use std::alloc::Global;
 
-/// Writes three symbols as codewords of a tree, and prints them as they come back.
+/// Encodes three symbols with a tree, and prints the symbols decoded.
 pub fn run(rt: &impl Print, alloc: Global) -> Result<()> {
     // The codewords 00, 01, 11, 100 and 101.
     let weights = [2u32, 2, 4, 1, 1];

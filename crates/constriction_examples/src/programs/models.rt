@@ -1,4 +1,4 @@
-//! A model for each symbol, in whole numbers.
+//! A model for each symbol, computed in whole numbers.
 
 use anyhow::{Result, bail};
 use constriction::stream::model::{Gaussian, LeakyQuantizer};
@@ -6,7 +6,7 @@ use constriction::stream::stack::DefaultAnsCoder;
 use constriction::stream::{Decode, Encode};
 use std::alloc::Global;
 
-/// Encodes two symbols, each under a Gaussian of its own, and prints them as they come back.
+/// Encodes two symbols, each under its own Gaussian, and prints the symbols decoded.
 pub fn run(rt: &impl Print, alloc: Global) -> Result<()> {
     let quantizer = LeakyQuantizer::<u32, 24>::new(-100, 100)?;
 

@@ -26,8 +26,8 @@ pub type FamilyModel<P, const PRECISION: usize> = IndexedDistribution<
 
 /// Models of a family: each symbol has its own location and scale, in multiples of `2^-16`.
 ///
-/// Symbols are indices in the range from `min` to `max`: 0 stands for `min`. The number of the family is 0 for
-/// `Gaussian`, 1 for `Laplace` and 2 for `Logistic`.
+/// Symbols are indices into the range from `min` to `max`. The index 0 stands for `min`. The number of the family is 0
+/// for `Gaussian`, 1 for `Laplace` and 2 for `Logistic`.
 ///
 /// # Examples
 ///
@@ -87,7 +87,7 @@ impl<'a, P: WordOf<u32>, const PRECISION: usize> Models<P, PRECISION> for Famili
 }
 
 impl<'a> Families<'a> {
-    /// Creates the models of a family, by its number, for the symbols from `min` to `max`.
+    /// Makes the models of the family with the number `family`, for the symbols from `min` to `max`.
     #[inline]
     pub fn new(family: u32, min: i32, max: i32, locations: &'a [i64], scales: &'a [u32]) -> Self
         ensures numbers { (result.family ≡ family) × (result.min ≡ min) × (result.max ≡ max) }
@@ -106,7 +106,7 @@ impl<'a> Families<'a> {
     ///
     /// # Errors
     ///
-    /// Checked in this order, each exactly in its case:
+    /// Checked in this order, and each is returned exactly in its case:
     ///
     /// - `WrongLength`: the numbers of scales and of locations differ.
     /// - `WrongInterval`: the range has fewer than two or more than `2 ^ PRECISION` symbols.

@@ -65,7 +65,7 @@ impl<'a, P: BitArray, const PRECISION: usize> Models<P, PRECISION> for Weights<'
     }
 }
 
-/// Returns the table of weights, with their reciprocals where `divides` is true.
+/// Returns the table of weights, with the reciprocals of the weights if `divides` is true.
 ///
 /// Returns `None` if the weights don't add up to `2 ^ PRECISION` or there is no memory.
 pub fn table_by<P: BitArray, const PRECISION: usize>(

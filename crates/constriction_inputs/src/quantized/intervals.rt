@@ -1,7 +1,7 @@
-//! The start and the length of each symbol's interval, in the table of its own location and scale.
+//! The start and the length of each symbol's interval, in the table of the symbol's own location and scale.
 //!
-//! With symbols in order and equal parameters, they are a whole table. A caller in another language can therefore
-//! inspect a model, or code by its intervals.
+//! If the symbols are all symbols in order, and the parameters are equal, the intervals are a whole table. So a caller
+//! in another language can inspect a model, or code with its intervals.
 
 ghost use Rattle.std.specs.Prelude.{◌≡◌, ◌<◌, ◌≤◌, Some, length, map};
 ghost use Rattle.std.specs.List.{AllByRecursion};
@@ -21,10 +21,10 @@ use constriction_words::{BitArray, WordOf};
 ///
 /// # Errors
 ///
-/// Checked in this order, each exactly in its case. Nothing changes after an error.
+/// Checked in this order, and each is returned exactly in its case. Nothing changes after an error.
 ///
-/// - `WrongLength`: `lefts` or `ps` doesn't have one place for each symbol.
-/// - The errors of the models, as those of [`Models::check`].
+/// - `WrongLength`: `lefts` or `ps` doesn't have one item for each symbol.
+/// - The errors of [`Models::check`].
 /// - `ImpossibleSymbol`: a symbol lies past the range.
 pub fn intervals_of_quantized<P: WordOf<u32>, const PRECISION: usize>(
     families: &Families<'_>,

@@ -43,7 +43,7 @@ pub fn sum_before<P: BitArray>(weights: &[P], symbol: usize) -> P
     sum
 }
 
-/// Returns whether a number is the product of two others.
+/// Returns whether a number is the product of two other numbers.
 pub fn is_product(number: usize, first: usize, second: usize) -> bool
     ensures { IsTrue result ↔ (number ≡ first * second) }
 {

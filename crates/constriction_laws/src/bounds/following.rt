@@ -1,4 +1,4 @@
-//! Words behind those of a range coder. If a state has two words, any words may follow.
+//! Words that follow the words of a range coder. If a state has two words, any words may follow.
 
 ghost use Rattle.std.specs.Prelude.{◌≡◌, ◌/◌, ◌<◌, ◌++◌, ℕ, List};
 ghost use Rattle.constriction_base.specs.Models.{Item, AreModels};
@@ -11,7 +11,7 @@ use constriction_base::backends::Holds;
 use constriction_base::model::EntropyModel;
 use constriction_words::BitArray;
 
-/// Symbols encoded by a new encoder come back from its sealed words, whatever words follow.
+/// Decoding the sealed words of a new encoder returns its symbols, if a state has two words. Any words may follow.
 pub fn symbols_come_back_before_others<Symbol>()
     ensures { (w s : ℕ) (items : List (Item Symbol)) (last : Run) (rest : List ℕ) → IsSizes w s → s / w ≡ 2 →
         AreModels w items → AreWords w rest → NarrowsAll w s items (initial s) last →

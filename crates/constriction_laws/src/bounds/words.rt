@@ -1,4 +1,4 @@
-//! Bounds on words, from the public contracts of the coders and the laws on bounds alone.
+//! Bounds on words that follow from the public contracts of the coders and the laws on bounds alone.
 
 ghost use Rattle.std.specs.Prelude.{◌≡◌, ◌-◌, ◌<◌, ◌≤◌, ◌^◌, ◌⊎◌, [], ◌∷◌, IfOk, IfErr, MatchBool};
 ghost use Rattle.constriction_base.specs.Steps.{Step, IsSizes};
@@ -29,7 +29,7 @@ fn is_low<Word: WordOf<State>, State: BitArray>(head: State) -> bool
     head.shifted_right(State::BITS - Word::BITS).is_nothing()
 }
 
-/// The error of an exchange of symbols.
+/// The reason why an exchange of symbols ended early.
 #[derive(Debug, Clone, Copy, PartialEq, Eq)]
 pub enum ExchangeError {
     /// The head is low before the exchange, or after the first symbol was decoded.
@@ -40,15 +40,16 @@ pub enum ExchangeError {
     Refused,
 }
 
-/// Decodes a symbol and encodes another one, as bits-back coding does.
+/// Decodes a symbol with the model `off`, and encodes `symbol` with the model `on`, as bits-back coding does.
 ///
-/// If neither head is low, the net cost of the two symbols is bounded.
+/// If the call succeeds, the net cost of the two symbols is bounded. A head is low if it is below `2^(s-w)`.
 ///
 /// # Errors
 ///
-/// - `LowHead`: the head is low before, and the coder is unchanged; or it is low after the first symbol was decoded.
-/// - `ImpossibleSymbol`: the other model has no entry for the symbol to encode. The first symbol was decoded.
-/// - `Refused`: the backend refused a word. The state is unchanged, or the first symbol was decoded.
+/// - `LowHead`: the head is low before the exchange, and the coder is unchanged.
+/// - `LowHead`: the head is low after the first symbol was decoded.
+/// - `ImpossibleSymbol`: the model `on` has no entry for `symbol`. The first symbol was decoded.
+/// - `Refused`: the backend refused a word. Either the state is unchanged, or the first symbol was decoded.
 pub fn exchange<
     Word: WordOf<State>,
     State: BitArray,

@@ -1,9 +1,9 @@
-//! The errors of encoding symbols on a chain coder.
+//! The reasons why symbols weren't encoded on a chain coder.
 
-/// The error of encoding symbols on a chain coder that was made of remainders.
+/// The reason why symbols weren't encoded on a chain coder that was made from remainders.
 #[derive(Debug, Clone, Copy, PartialEq, Eq)]
 pub enum PutBackError {
-    /// The remainders belong to no coder.
+    /// The remainders are those of no coder.
     InvalidRemainders,
     /// The numbers of models and of symbols differ.
     UnequalCounts,

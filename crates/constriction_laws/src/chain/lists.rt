@@ -13,7 +13,7 @@ ghost use Rattle.constriction_laws.specs.chain.Undone.{Sizes, decode_back, encod
 use crate::lists::{StepsUndo, lists_undo};
 use std::marker::PhantomData;
 
-/// Encodes of symbols, which decodes undo.
+/// An implementor of [`StepsUndo`]. Its steps are encodes of symbols, and its inverse steps are decodes.
 pub struct Encoding<Symbol> {
     symbols: PhantomData<Symbol>,
 }
@@ -37,7 +37,8 @@ impl<Symbol> StepsUndo for Encoding<Symbol> {
         (decode_back sizes.0 sizes.1 item.model item.symbol old new does, tt) };
 }
 
-/// Decodes of symbols from states of coders, which encodes undo.
+/// An implementor of [`StepsUndo`]. Its steps are decodes of symbols from states of coders. Its inverse steps are
+/// encodes.
 pub struct Decoding<Symbol> {
     symbols: PhantomData<Symbol>,
 }
@@ -73,7 +74,7 @@ pub fn decodes_undo_encodes<Symbol>()
 
 /// Encodes under the same tables undo decodes, from the last symbol to the first.
 ///
-/// There are such encodes, and they lead to the state before and to no other.
+/// These encodes exist. They lead to the state before the decodes, and to no other state.
 pub fn encodes_undo_decodes<Symbol>()
     ensures back { (w s P : ℕ) (items : List (Item Symbol)) (old new : ChainState) → IsSized w s P →
         AreModelsAt P items → IsChain w s P old →

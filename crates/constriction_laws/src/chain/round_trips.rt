@@ -1,12 +1,12 @@
-//! Callers of the chain coder: symbols through its own calls, at every size of words, numbers and tables.
+//! Callers of the chain coder, generic in the sizes of words, heads and tables.
 //!
-//! Each function is one half, and its contract says what the calls that it names do together, in the definitions of
-//! the laws. An error says why symbols weren't taken, or put back:
-//! [`RoundTripError`](crate::errors::RoundTripError), [`PutBackError`](crate::chain::errors::PutBackError). Each case
-//! comes for no other reason than it tells, but want of memory, and backends that refuse a word.
+//! Each function is one half of a round trip. Its contract says what the calls that it names do together, in the
+//! definitions of the laws. The errors are [`RoundTripError`](crate::errors::RoundTripError) and
+//! [`PutBackError`](crate::chain::errors::PutBackError). A case other than `Refused` and `NoMemory` is returned only
+//! for the reason that it names.
 //!
 //! - [`isolation`]: symbols of two coders over the same words.
-//! - [`words`]: symbols and words out of a coder, and back.
+//! - [`words`]: symbols decoded from words, and encoded back to the words.
 
 mod coding;
 pub mod isolation;

@@ -1,4 +1,4 @@
-//! Words come back from the symbols decoded from them, through the remainders.
+//! Words are restored from the symbols decoded from them, through the remainders.
 
 ghost use Rattle.std.specs.Prelude.{◌≡◌, ◌≤◌, ℕ, List, reverse, ◌++◌};
 ghost use Rattle.constriction_base.specs.Models.{Item};
@@ -11,7 +11,7 @@ ghost use Rattle.constriction_chain.specs.Symbols.{AreModelsAt, TakesOffAll, Put
 ghost use Rattle.constriction_base.specs.Writing.{IsOneAbove};
 ghost use Rattle.constriction_chain.specs.Words.{remainder_words};
 
-/// Words stand for at most one coder as compressed words, in binary form, and as remainders.
+/// Importing words leads to at most one coder, whether as compressed words, in binary form, or as remainders.
 ///
 /// A number has at most one binary form.
 pub fn one_coder()
@@ -24,12 +24,12 @@ pub fn one_coder()
     ensures form { (w m n r : ℕ) → 1 ≤ w → IsOneAbove w m r → IsOneAbove w n r → m ≡ n }
 {}
 
-/// Words come back from the symbols decoded from them.
+/// Encoding the symbols decoded from words restores the words.
 ///
-/// Import the words, decode any symbols, and export the remainders. Put other words below these, or none; the
-/// compressed words left would do. Import these remainders, encode the same symbols from the last to the first under
-/// the same tables, and export. The exported words, followed by the compressed words left, are the words. The other
-/// words are left of the remainders.
+/// Import the words, decode any symbols, and export the remainders. Put any words below these remainders, or none. For
+/// example, put the compressed words left there. Import the result, encode the same symbols from the last to the first
+/// under the same tables, and export. The exported words, followed by the compressed words left, are the original
+/// words. The remainders left are the words put below.
 pub fn words_come_back<Symbol>()
     ensures encoded { (w s P : ℕ) (below : List ℕ) (items : List (Item Symbol)) (x y : ChainState) →
         IsSized w s P → AreModelsAt P items → AreWords w below → IsWhole w s P x → TakesOffAll w s items x y →

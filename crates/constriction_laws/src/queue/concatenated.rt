@@ -1,11 +1,11 @@
-//! Errors of decoding a list from a place in words.
+//! The reasons why a list wasn't decoded from a position in words.
 
-/// The error of a list that wasn't decoded.
+/// The reason why a list of symbols wasn't decoded.
 #[derive(Debug, Clone, Copy, PartialEq, Eq)]
 pub enum DecodeError {
-    /// The place is past the words.
+    /// The words end before the position.
     NoSuchPlace,
-    /// From the place on, the words hold no list of this many symbols of the model.
+    /// From the position on, the words don't encode that many symbols of the models.
     InvalidData,
     /// There is no memory.
     NoMemory,

@@ -20,7 +20,7 @@ use constriction_queue::{DecoderFrontendError, FlagSwitch};
 use constriction_words::{BitArray, WordOf};
 use std::alloc::Global;
 
-/// Words are read as exactly one list of a given number of symbols with a flag among them.
+/// Words are read as at most one list of a given number of symbols with a flag among them.
 pub fn one_list_of_flagged_symbols()
     ensures { (w s flag : ℕ) (first second : Model ℕ) (words symbols others : List ℕ) (old new last : Run) →
         IsModel w first → IsModel w second → length others ≡ length symbols →
@@ -29,7 +29,7 @@ pub fn one_list_of_flagged_symbols()
         (others ≡ symbols) × (last ≡ new) }
 {}
 
-/// Symbols with a flag among them come back from a new encoder's words, whatever words follow.
+/// Decoding a new encoder's self-delimiting words returns its symbols, with a flag among them. Any words may follow.
 pub fn flagged_symbols_come_back()
     ensures { (w s flag : ℕ) (first second : Model ℕ) (symbols words rest : List ℕ) (last : Run) → IsSizes w s →
         IsModel w first → IsModel w second → AreWords w rest →
@@ -39,14 +39,14 @@ pub fn flagged_symbols_come_back()
     symbols_come_back_whatever_follows::<usize>()
 }
 
-/// Decodes `amt` symbols from a switch, with the models before and after the flag.
+/// Decodes `amt` symbols from a switch, with the model `first` up to the flag, and the model `second` after it.
 ///
 /// Calls `next_symbol`.
 ///
 /// # Errors
 ///
-/// After an error, the switch stands behind the symbols that it returned if the backend knows its words. It has
-/// switched if the flag was among them.
+/// After an error, the switch is positioned after the symbols returned so far, if the backend's `is_list` holds. It has
+/// switched if the flag was among these symbols.
 ///
 /// - `Refused(error)`: the switch returned this error. It is `InvalidData` only if the words don't encode `amt`
 ///   symbols.

@@ -9,10 +9,9 @@ ghost use Rattle.constriction_queue.specs.Symbols.{NarrowsAll, FindsAll, MayEnd}
 
 use crate::queue::lists::decodes_undo_encodes;
 
-/// A run has exactly one list of self-delimiting words.
+/// A run has only one list of self-delimiting words.
 ///
-/// If a state has two words, they are the sealed words. Reading them ends with
-/// the symbols.
+/// If a state has two words, these are the sealed words. After the symbols of the run, reading the words may end.
 pub fn self_delimiting_words<Symbol>()
     ensures one { (w s : ℕ) (last : Run) (words others : List ℕ) → SelfDelimits w s last words →
         SelfDelimits w s last others → others ≡ words }
@@ -25,13 +24,15 @@ pub fn self_delimiting_words<Symbol>()
         MayEnd w s words last }
 {}
 
-/// The words are read as the steps encoded, whatever words follow.
+/// Self-delimiting words are read as the steps encoded, whatever words follow.
 pub fn self_delimiting_words_are_read()
     ensures { (w s : ℕ) (steps : List Step) (words rest : List ℕ) → IsSizes w s → AreSteps w steps → AreWords w rest →
         SelfDelimits w s (run w s steps (initial s)) words → ReadAs w s (words ++ rest) steps (initial s) }
 {}
 
-/// Symbols encoded since a position, or by a new encoder, come back from the words, whatever words follow.
+/// Decoding from a position returns the symbols encoded since then, if the seal is self-delimiting.
+///
+/// Any words may follow the seal. For a new encoder the position is the start.
 pub fn symbols_come_back_whatever_follows<Symbol>()
     ensures { (w s : ℕ) (before since : List (Item Symbol)) (middle last : Run) (words rest : List ℕ) → IsSizes w s →
         AreModels w before → AreModels w since → AreWords w rest →
@@ -41,7 +42,9 @@ pub fn symbols_come_back_whatever_follows<Symbol>()
     decodes_undo_encodes::<Symbol>()
 }
 
-/// With fewer zero words behind the digits, some words may not follow: with these, the symbols don't come back.
+/// With fewer zero words after the digits, some words may not follow.
+///
+/// If those words follow, decoding doesn't return the symbols.
 pub fn fewer_zero_words_hold_less<Symbol>()
     ensures { (w s count fewer : ℕ) (first : Item Symbol) (others : List (Item Symbol)) (last : Run) → IsSizes w s →
         AreModels w (first ∷ others) → NarrowsAll w s (first ∷ others) (initial s) last →

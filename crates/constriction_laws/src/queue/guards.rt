@@ -1,15 +1,13 @@
 //! The drop of a guard restores the encoder.
 //!
-//! [`words_shown_and_given`] says of the calls that a guard's words are those of the export. The premise of the law
-//! here is what the call that makes a guard ensures: its encoder holds the words of the seal above its own, with the
-//! same heads.
-//!
-//! [`words_shown_and_given`]: crate::queue::round_trips::shown::words_shown_and_given
+//! The clause `shows` of `RangeEncoder::get_compressed` says that a guard's words are those of the export. The law here
+//! has the clauses `heads` and `back` of that call as premises: the guard's encoder holds the words of the seal above
+//! its own words, and has the same heads.
 
 ghost use Rattle.std.specs.Prelude.{◌≡◌, ℕ, drop};
 ghost use Rattle.constriction_queue.specs.Encoder.{Encoder, HasHeads, Without, run_by, sealed_by};
 
-/// Removing the words that a guard wrote restores the run of the encoder, and its exported words.
+/// Removing the words that a guard wrote restores the encoder's run and its exported words.
 pub fn shown_words_go<Backend>()
     ensures run { (w s count : ℕ) (encoder shown left : Encoder Backend) → HasHeads encoder shown →
         drop count shown.words ≡ encoder.words → Without count shown left →

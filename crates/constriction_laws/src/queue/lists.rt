@@ -1,7 +1,7 @@
-//! Lists of symbols on the range coder, which come back first symbol first.
+//! Lists of symbols on the range coder. Decoding returns the first symbol first.
 //!
-//! Each symbol has its own table, with any allowed precision. The laws follow from those of one step by [`lists_undo`],
-//! where encodes are taken back from the last to the first.
+//! Each symbol has its own table, with any allowed precision. The laws follow from the laws of one step by
+//! [`lists_undo`]. The steps of that law take encodes back, from the last to the first.
 
 ghost use Rattle.std.specs.Prelude.{◌≡◌, ◌↔◌, ◌∷◌, ℕ, List};
 ghost use Rattle.constriction_base.specs.Models.{Item, IsModel, models, AreModels, AreKnown};
@@ -13,7 +13,7 @@ ghost use Rattle.constriction_laws.specs.queue.Undone.{Reading, TakesBack, read_
 use crate::lists::{StepsUndo, lists_undo};
 use std::marker::PhantomData;
 
-/// Encodes of symbols, taken back from the last one, which decodes undo.
+/// An implementor of [`StepsUndo`]. Its steps take encodes of symbols back, and its inverse steps are decodes.
 pub struct Encoding<Symbol> {
     symbols: PhantomData<Symbol>,
 }
@@ -36,7 +36,7 @@ impl<Symbol> StepsUndo for Encoding<Symbol> {
     ghost one_undone = { λ g item new old allowed valid does. read_back g item new old allowed valid does };
 }
 
-/// Symbols that their tables know are encoded on each run in exactly one way.
+/// Symbols with entries in their tables can be encoded on each run in exactly one way.
 pub fn one_list_of_encodes<Symbol>()
     ensures exists { (w s : ℕ) (items : List (Item Symbol)) (old : Run) → AreKnown items →
         (new : Run) × NarrowsAll w s items old new }
@@ -47,7 +47,7 @@ pub fn one_list_of_encodes<Symbol>()
         NarrowsAll w s items old new → IsInterval w s new }
 {}
 
-/// Words within the final run of encodes are decoded as their symbols, and as nothing else.
+/// Decoding words within the final run of encodes returns the encoded symbols, and no others.
 pub fn decodes_undo_encodes<Symbol>()
     ensures back { (w s : ℕ) (words : List ℕ) (items : List (Item Symbol)) (old new : Run) → IsSizes w s →
         AreWords w words → AreModels w items → IsInterval w s old →
@@ -64,7 +64,7 @@ pub fn decodes_undo_encodes<Symbol>()
     lists_undo::<Encoding<Symbol>>()
 }
 
-/// A decoder over any words returns a nonempty list of symbols exactly if the words lie within its final run.
+/// A decoder over any words returns a nonempty list of symbols exactly if the words lie within the list's final run.
 pub fn symbols_of_any_words<Symbol>()
     ensures { (w s : ℕ) (words : List ℕ) (first : Item Symbol) (others : List (Item Symbol)) (last : Run) →
         IsSizes w s → AreWords w words → AreModels w (first ∷ others) →
@@ -74,9 +74,9 @@ pub fn symbols_of_any_words<Symbol>()
     decodes_undo_encodes::<Symbol>()
 }
 
-/// Symbols encoded by a new encoder come back from its sealed words, first symbol first.
+/// Decoding the sealed words of a new encoder returns its symbols, first symbol first.
 ///
-/// Encode any symbols, each under its own table. Seal. Decode from these words, followed by nothing, with the same
+/// Encode any symbols, each under its own table, and seal. Decode these words, with no words after them, with the same
 /// tables in the same order. The symbols and the run are the same, and the decoder is exhausted.
 pub fn symbols_come_back<Symbol>()
     ensures decoded { (w s : ℕ) (items : List (Item Symbol)) (last : Run) → IsSizes w s → AreModels w items →

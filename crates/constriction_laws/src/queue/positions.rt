@@ -1,7 +1,7 @@
-//! Positions of the range coder, which lead to the moment of reading at which they were recorded.
+//! Positions of the range coder. A position leads to the moment of reading at which it was recorded.
 //!
-//! A position is the number of words that were written and held, and the interval. Whatever is encoded since,
-//! the words that are exported later have that moment in them, though a carry may have changed the words held.
+//! A position is the number of words written and held, and the interval. Words that are exported later contain that
+//! moment of reading, whatever was encoded since. A carry may have changed the words held.
 
 ghost use Rattle.std.specs.Prelude.{◌≡◌, ◌/◌, ◌^◌, ℕ, List, drop};
 ghost use Rattle.constriction_base.specs.Models.{Item, models, AreModels};
@@ -16,8 +16,9 @@ use constriction_base::backends::{Holds, WriteWords};
 use constriction_queue::RangeEncoder;
 use constriction_words::{BitArray, WordOf};
 
-/// A decoder that goes to the position of a run, and reads as many words there as a state has, stands at that
-/// moment of reading.
+/// Seeking to the position of a run leads a decoder to the moment of reading of that run.
+///
+/// The decoder reads as many words from the position as a state has.
 pub fn position_leads_there()
     ensures { (w s : ℕ) (words rest : List ℕ) (there : Run) (place lower range point : ℕ) → IsSizes w s →
         AreWords w words → IsPosition s there place lower range →
@@ -25,9 +26,10 @@ pub fn position_leads_there()
         IsAt w s words there lower range point rest }
 {}
 
-/// Decoding from a position yields what the encoder was given since it recorded it, in the order of encoding. The
-/// decoder may have any words that the encoder exports afterwards, until it is cleared. Words that were written before
-/// the position don't matter (`anywhere`): its interval alone does.
+/// Decoding from a position returns the symbols encoded since then, in the order of encoding.
+///
+/// The decoder may read any words that the encoder exports later, until the encoder is cleared. The clause `anywhere`
+/// says that only the interval of the position matters, not the words written before it.
 pub fn symbols_after_a_position<Symbol>()
     ensures decoded { (w s : ℕ) (before since : List (Item Symbol)) (middle last : Run) → IsSizes w s →
         AreModels w before → AreModels w since →
@@ -45,8 +47,9 @@ pub fn symbols_after_a_position<Symbol>()
     decodes_undo_encodes::<Symbol>()
 }
 
-/// The run of any encoder is an interval, whatever words were written before: so what is encoded there comes back
-/// from there.
+/// The run of any encoder is an interval, whatever words were written before.
+///
+/// So the laws on intervals hold there: decoding from there returns the symbols encoded from there on.
 pub fn run_of_any_encoder<Word: WordOf<State>, State: BitArray, Backend: WriteWords<Word>>(
     encoder: &RangeEncoder<Word, State, Backend>,
 )

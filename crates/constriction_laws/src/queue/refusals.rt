@@ -8,7 +8,7 @@ ghost use Rattle.constriction_queue.specs.Calls.{IsRefused};
 use constriction_base::backends::{Holds, WriteWords};
 use constriction_words::{BitArray, WordOf};
 
-/// A backend with room for the words held and one more, such as a long enough cursor, refuses no step.
+/// A backend with room for the words held and one more word refuses no step. An example is a long enough cursor.
 pub fn room_is_enough<Word: WordOf<State>, State: BitArray, Backend: WriteWords<Word>>()
     ensures { (old : Encoder Backend) (step : Step) (e : Backend.WriteError) (new : Encoder Backend) →
         length old.held + 1 ≤ Backend.room old.bulk →

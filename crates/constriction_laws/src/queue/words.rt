@@ -16,7 +16,7 @@ pub fn sealed_words_are_read()
     ensures words { (w s : ℕ) (last : Run) → AreWords w (sealed w s last) }
 {}
 
-/// Any words are read as a nonempty list of steps exactly if their number lies in the final interval of the run.
+/// Words are read as a nonempty list of steps exactly if their number lies in the final interval of these steps.
 pub fn words_within_are_read()
     ensures { (w s : ℕ) (words : List ℕ) (first : Step) (others : List Step) → IsSizes w s →
         AreWords w words → AreSteps w (first ∷ others) →

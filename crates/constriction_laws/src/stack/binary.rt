@@ -1,7 +1,7 @@
 //! Binary forms of the stack coder's states.
 //!
-//! In binary form any words are allowed, also with zeros at the top. They stand below a leading 1 of the head, which
-//! isn't written.
+//! In binary form any words are allowed, also with zeros at the top. In the state, a leading 1 of the head stands above
+//! these words. This 1 isn't written.
 
 ghost use Rattle.std.specs.Prelude.{◌≡◌, ◌≤◌, ℕ, List, reverse};
 ghost use Rattle.constriction_base.specs.Steps.{IsSizes, AreWords};
@@ -13,7 +13,7 @@ ghost use Rattle.constriction_stack.specs.Symbols.{EncodesAll, DecodesAll};
 
 use crate::stack::lists::encodes_undo_decodes;
 
-/// Any words are imported as a valid state in binary form, which exports them.
+/// Importing any words in binary form leads to a valid state, which exports the same words.
 pub fn binary_export_of_import()
     ensures words { (w s : ℕ) (words : List ℕ) → IsSizes w s → AreWords w words →
         (m : ℕ) × IsOneAbove w m (binary_state w s words).head × (binary_words w m (binary_state w s words) ≡ words) }
@@ -21,7 +21,7 @@ pub fn binary_export_of_import()
         IsValid w s (binary_state w s words) }
 {}
 
-/// An import of the words of a valid state in binary form returns that state.
+/// Importing the binary form of a valid state restores that state.
 pub fn binary_import_of_export()
     ensures state { (w s m : ℕ) (state : AnsState) → IsSizes w s → IsValid w s state →
         IsOneAbove w m state.head →
@@ -36,7 +36,7 @@ pub fn one_binary_form()
         m ≡ n }
 {}
 
-/// Any words come back from the symbols decoded from them.
+/// Encoding the symbols decoded from any words restores the words.
 ///
 /// Import the words in binary form and decode any symbols. Encode the same symbols from the last to the first under the
 /// same tables, and export in binary form. The words are the same.

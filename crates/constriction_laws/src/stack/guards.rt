@@ -1,7 +1,7 @@
 //! A guard's words are those of the export, and its drop restores the coder.
 //!
-//! The premise of each law is the clause `shows` of the call that makes a guard: its coder holds the words of the
-//! export below the head.
+//! The premise of each law is the clause `shows` of the call that makes a guard: the guard's coder holds the words of
+//! the export below the head.
 
 ghost use Rattle.std.specs.Prelude.{◌≡◌, ℕ};
 ghost use Rattle.constriction_base.specs.Digits.{count_of_words};
@@ -11,7 +11,7 @@ ghost use Rattle.constriction_base.specs.Writing.{IsOneAbove};
 ghost use Rattle.constriction_stack.specs.Binary.{binary_state, binary_words};
 ghost use Rattle.constriction_stack.specs.Guards.{without};
 
-/// A guard's words are those of the export: an import of them returns the state before.
+/// A guard's words are those of the export: importing them restores the coder's state.
 pub fn shown_words_are_exported()
     ensures compressed { (w s : ℕ) (state shown : AnsState) → IsSizes w s → IsValid w s state →
         shown ≡ record { head = state.head; words = exported w state } →

@@ -1,4 +1,4 @@
-//! Lists of symbols on the stack coder, which come back last symbol first.
+//! Lists of symbols on the stack coder. Decoding returns the last symbol first.
 //!
 //! Each symbol has its own table, with any allowed precision. The laws follow from those of one step by [`lists_undo`].
 
@@ -13,7 +13,7 @@ ghost use Rattle.constriction_laws.specs.stack.Undone.{Sizes, decode_back, encod
 use crate::lists::{StepsUndo, lists_undo};
 use std::marker::PhantomData;
 
-/// Encodes of symbols, which decodes undo.
+/// An implementor of [`StepsUndo`]. Its steps are encodes of symbols, and its inverse steps are decodes.
 pub struct Encoding<Symbol> {
     symbols: PhantomData<Symbol>,
 }
@@ -37,7 +37,7 @@ impl<Symbol> StepsUndo for Encoding<Symbol> {
         (decode_back sizes.w sizes.s item.model item.symbol old new does, tt) };
 }
 
-/// Decodes of symbols from valid states, which encodes undo.
+/// An implementor of [`StepsUndo`]. Its steps are decodes of symbols from valid states. Its inverse steps are encodes.
 pub struct Decoding<Symbol> {
     symbols: PhantomData<Symbol>,
 }
@@ -63,7 +63,7 @@ impl<Symbol> StepsUndo for Decoding<Symbol> {
     ) };
 }
 
-/// Symbols that their tables know can be encoded one after another onto each valid state, in exactly one way.
+/// Symbols with entries in their tables can be encoded onto each valid state in exactly one way.
 pub fn one_list_of_encodes<Symbol>()
     ensures exists { (w s : ℕ) (items : List (Item Symbol)) (old : AnsState) →
         IsSizes w s → AreModels w items → AreKnown items → IsValid w s old →
@@ -75,7 +75,7 @@ pub fn one_list_of_encodes<Symbol>()
 
 /// Decodes under the same tables in reverse order undo encodes.
 ///
-/// They return the same symbols, last symbol first, and lead to the state before.
+/// The decodes return the same symbols, last symbol first, and lead to the state before the encodes.
 pub fn decodes_undo_encodes<Symbol>()
     ensures back { (w s : ℕ) (items : List (Item Symbol)) (old new : AnsState) → IsSizes w s →
         EncodesAll w s items old new → DecodesAll w s (reverse items) new old }
@@ -90,7 +90,7 @@ pub fn decodes_undo_encodes<Symbol>()
 
 /// Encodes under the same tables undo decodes, from the last symbol to the first.
 ///
-/// They lead to the valid state before.
+/// The encodes lead to the state before the decodes, which has to be valid.
 pub fn encodes_undo_decodes<Symbol>()
     ensures back { (w s : ℕ) (items : List (Item Symbol)) (old new : AnsState) → IsSizes w s →
         AreModels w items → IsValid w s old →
@@ -105,7 +105,7 @@ pub fn encodes_undo_decodes<Symbol>()
     lists_undo::<Decoding<Symbol>>()
 }
 
-/// Symbols encoded onto an empty coder come back from the words that it exports.
+/// Decoding the words that a coder exports returns the symbols encoded onto it, if the coder was empty before.
 ///
 /// Encode any symbols, each under its own table. Export the words, import them, and decode with the same tables in
 /// reverse order. The symbols are the same, last symbol first, and the coder is empty.
@@ -128,7 +128,7 @@ pub fn symbols_come_back<Symbol>()
     decodes_undo_encodes::<Symbol>()
 }
 
-/// Words whose first one in reading order isn't 0 come back from the symbols decoded from them.
+/// Encoding the symbols decoded from words restores the words, if the first word in reading order isn't 0.
 ///
 /// Import the words and decode any symbols. Encode the same symbols from the last to the first under the same tables,
 /// and export. The words are the same.

@@ -1,7 +1,7 @@
-//! Positions of the stack coder, which lead back to the states where they were recorded.
+//! Positions of the stack coder. A position leads back to the state at which it was recorded.
 //!
 //! A position is the number of words below the head, and the head. While the coder only encodes, the words of a
-//! recorded position stay below those that it writes.
+//! recorded position stay below the words that it writes.
 
 ghost use Rattle.std.specs.Prelude.{◌≡◌, ◌≤◌, ◌⊎◌, ℕ, ◌%◌, ◌^◌, ◌∷◌, List, length, reverse};
 ghost use Rattle.constriction_base.specs.Steps.{Step, IsSizes, IsStep};
@@ -12,14 +12,14 @@ ghost use Rattle.constriction_stack.specs.Symbols.{EncodesAll, DecodesAll};
 
 use crate::stack::lists::decodes_undo_encodes;
 
-/// A push writes the lowest word of the head before the words below it, or no word.
+/// A push writes at most one word: the lowest word of the head.
 pub fn one_word_at_most()
     ensures { (w s : ℕ) (e : Step) (old new : AnsState) → IsSizes w s → IsStep w e →
         IsPush w s e old new →
         (new.words ≡ old.words) ⊎ (new.words ≡ old.head % 2 ^ w ∷ old.words) }
 {}
 
-/// Encodes leave the words below unchanged, so a position recorded before leads back to its state.
+/// Encodes keep the words below the head, so a position recorded before them leads back to its state.
 pub fn position_leads_back<Symbol>()
     ensures grows { (w s : ℕ) (items : List (Item Symbol)) (old new : AnsState) → IsSizes w s →
         AreModels w items →
@@ -32,10 +32,11 @@ pub fn position_leads_back<Symbol>()
         EncodesAll w s items old new → sought (position_of old) new ≡ old }
 {}
 
-/// Decoding from a position undoes the encodes before it, in reverse order.
+/// Decoding from a position undoes the encodes before the position, in reverse order.
 ///
-/// The coder may have encoded more since then, but decoded nothing. The decoder may stand over the coder's own words,
-/// or over its exported ones. It ends at the state in which the coder began, such as the empty one.
+/// Since the position was recorded, the coder may have encoded symbols, but has decoded none. The decoder may read the
+/// coder's own words, or the words that the coder exports. It ends at the state in which the coder began, for example
+/// the empty state.
 pub fn symbols_before_a_position<Symbol>()
     ensures decoded { (w s : ℕ) (before since : List (Item Symbol)) (start middle last : AnsState) →
         IsSizes w s → AreModels w since →

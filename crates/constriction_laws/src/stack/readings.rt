@@ -1,7 +1,7 @@
-//! Coders over backends whose reads tell the words, such as iterators.
+//! Coders over backends without a list of words, such as iterators.
 //!
-//! Such a backend doesn't know its words. But if a function gives the words of each of its states, and reads take these
-//! one by one, then a decode by reads is a decode from these words.
+//! For these backends `is_list` doesn't hold. But suppose that a function lists the words of each state of the backend,
+//! and that reads return these words one by one. Then a decode by reads is a decode from these words.
 
 ghost use Rattle.std.specs.Prelude.{◌≡◌, ℕ, List, reverse};
 ghost use Rattle.constriction_base.specs.Iterators.{FusedRead};
@@ -17,15 +17,15 @@ use crate::stack::words::{imports_are_words, reads_are_words};
 use constriction_base::backends::{ReadWords, Stack};
 use constriction_words::BitArray;
 
-/// If a function tells the words of an iterator, it tells the words of a backend over it.
+/// If a function lists the words of an iterator, there is a function that lists the words of a backend over it.
 ///
-/// These are the words left, or none after the iterator has ended.
+/// These are the words that the iterator has left, or none after it has ended.
 pub fn items_are_words<Word, ReadError, Iter: Iterator<Item = Result<Word, ReadError>>>()
     ensures { (words : Iter → List Word) → TellsItems Iter.next_gives words →
         TellsWords (FusedRead Iter.next_gives) (words_left words) }
 {}
 
-/// If a function tells the words of a backend, decodes by reads are decodes from these words.
+/// If a function lists the words of a backend, decodes by reads are decodes from these words.
 pub fn decodes_are_words<Symbol, Word: BitArray, Backend: ReadWords<Word, Stack>>()
     ensures one { (words : Backend → List Word) (w s : ℕ) (model : Model Symbol) (symbol : Symbol)
         (old new : AnsValue Backend) → TellsWords Backend.reads words →
@@ -39,7 +39,7 @@ pub fn decodes_are_words<Symbol, Word: BitArray, Backend: ReadWords<Word, Stack>
     reads_are_words::<Word, Backend>()
 }
 
-/// Symbols encoded onto an empty coder come back by reads that give the exported words.
+/// Decoding by reads that return exported words returns the symbols encoded onto an empty coder.
 ///
 /// Encode any symbols, each under its own table, and export the words. Import them by reads, as from an iterator, and
 /// decode with the same tables in reverse order. The symbols are the same, last symbol first. No word is left, and the

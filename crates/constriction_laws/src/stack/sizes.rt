@@ -7,20 +7,22 @@ ghost use Rattle.constriction_stack.specs.Sizes.{word_count, bit_count, valid_bi
 ghost use Rattle.constriction_base.specs.Writing.{IsOneAbove};
 ghost use Rattle.constriction_stack.specs.Binary.{binary_words};
 
-/// A state has as many words as it exports. Below its head stand those that the head doesn't have.
+/// A state has as many words as it exports.
+///
+/// The words below its head are the exported words without the words of the head.
 pub fn words_that_are_exported()
     ensures count { (w : ℕ) (state : AnsState) → length (exported w state) ≡ word_count w state }
     ensures below { (w : ℕ) (state : AnsState) →
         drop (length (digits_of (2 ^ w) state.head)) (exported w state) ≡ state.words }
 {}
 
-/// The number of bits of a state in binary form is that of its words.
+/// The number of bits of a state in binary form is the number of bits of its words.
 pub fn bits_of_binary_words()
     ensures { (w m : ℕ) (state : AnsState) → IsOneAbove w m state.head →
         valid_bit_count w state ≡ w * length (binary_words w m state) }
 {}
 
-/// A number has `bits` bits if it is below `2 ^ bits`, and not below the power of two before.
+/// A number `n` has `bits` bits if `n < 2 ^ bits` and `2 ^ bits <= 2 * n + 1`.
 pub fn bits_of_numbers()
     ensures { (bits n : ℕ) → n < 2 ^ bits → 2 ^ bits ≤ 2 * n + 1 → bit_count n ≡ bits }
 {}

@@ -27,7 +27,7 @@ pub fn pushes_and_pops_undo()
         IsValid w s old → IsNext e old → IsValid w s (pop w s e old) }
 {}
 
-/// A symbol that its table knows can be encoded onto each valid state, in exactly one way.
+/// A symbol with an entry in its table can be encoded onto each valid state, in exactly one way.
 pub fn one_encode<Symbol>()
     ensures exists { (w s : ℕ) (model : Model Symbol) (symbol : Symbol) (old : AnsState) →
         IsSizes w s → IsModel w model → Knows model symbol → IsValid w s old →
@@ -37,7 +37,7 @@ pub fn one_encode<Symbol>()
         Encodes w s model symbol old new → Encodes w s model symbol old other → new ≡ other }
 {}
 
-/// From each state, valid or not, exactly one symbol is decoded, and leads to exactly one state.
+/// Decoding from a state, valid or not, returns exactly one symbol and leads to exactly one state.
 pub fn one_decode<Symbol>()
     ensures exists { (w s : ℕ) (model : Model Symbol) (old : AnsState) →
         IsTable model.precision model.table →
@@ -48,7 +48,7 @@ pub fn one_decode<Symbol>()
         (symbol ≡ other) × (new ≡ last) }
 {}
 
-/// A decode under the same table undoes an encode: it returns the symbol, and leads to the state before.
+/// A decode under the same table undoes an encode: it returns the symbol, and leads to the state before the encode.
 pub fn decode_undoes_encode<Symbol>()
     ensures back { (w s : ℕ) (model : Model Symbol) (symbol : Symbol) (old new : AnsState) →
         Encodes w s model symbol old new → Decodes w s model symbol new old }

@@ -10,7 +10,7 @@ ghost use Rattle.constriction_laws.specs.Readings.{TellsWords};
 use constriction_base::backends::{ReadWords, Stack};
 use constriction_words::BitArray;
 
-/// An import of the words that a valid state exports returns that state.
+/// Importing the words that a valid state exports restores that state.
 pub fn import_of_export()
     ensures state { (w s : ℕ) (state : AnsState) → IsSizes w s → IsValid w s state →
         filled w s 0 (exported w state) ≡ state }
@@ -20,9 +20,9 @@ pub fn import_of_export()
         AreWords w (exported w state) }
 {}
 
-/// A list of words whose first one in reading order isn't 0 is imported as a valid state, which exports that list.
+/// Importing words leads to a valid state. It exports the same words, if the first word in reading order isn't 0.
 ///
-/// The empty list is one of them.
+/// It also exports the same words if there are none.
 pub fn export_of_import()
     ensures words { (w s : ℕ) (words : List ℕ) → IsSizes w s → AreWords w words → BeginsHigh words →
         exported w (filled w s 0 words) ≡ words }
@@ -30,7 +30,7 @@ pub fn export_of_import()
         IsValid w s (filled w s 0 words) }
 {}
 
-/// If a function tells the words of a backend, such as an iterator, a refill by reads is a refill from these words.
+/// If a function lists the words of a backend, a refill by reads is a refill from these words.
 pub fn reads_are_words<Word: BitArray, Backend: ReadWords<Word, Stack>>()
     ensures { (words : Backend → List Word) (w s head new_head : ℕ) (old new : Backend) →
         TellsWords Backend.reads words → RefillsBy Word.number Backend.reads w s head old new_head new →
@@ -38,7 +38,7 @@ pub fn reads_are_words<Word: BitArray, Backend: ReadWords<Word, Stack>>()
         ≡ record { head = new_head; words = map Word.number (words new) } }
 {}
 
-/// If a function tells the words of a backend, such as an iterator, an import by reads is an import of these words.
+/// If a function lists the words of a backend, an import by reads is an import of these words.
 pub fn imports_are_words<Word: BitArray, Backend: ReadWords<Word, Stack>>()
     ensures { (words : Backend → List Word) (w s head : ℕ) (old new : Backend) → IsSizes w s →
         head < 2 ^ s → TellsWords Backend.reads words →

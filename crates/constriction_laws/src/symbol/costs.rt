@@ -16,10 +16,11 @@ use constriction_words::BitArray;
 use std::alloc::Global;
 use std::convert::Infallible;
 
-/// Makes the encoder's Huffman tree of weights, which costs at most what any other codebook does.
+/// Makes the Huffman tree of weights for encoding, which costs at most as much as any other codebook.
 ///
-/// Its codewords are those of the symbols `0`, `1`, .., one for each weight. The other codebook may have any symbols.
-/// It has codewords for equally many of them, and no two of these mean the same.
+/// The cost of the tree is the cost of the codewords of the symbols `0`, `1`, .., one for each weight. The other
+/// codebook may have any type of symbols. Its cost is the cost of the codewords of equally many symbols, no two of
+/// which mean the same.
 ///
 /// # Errors
 ///

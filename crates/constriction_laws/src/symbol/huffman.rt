@@ -22,9 +22,10 @@ pub fn huffman_knows_its_symbols()
     ensures impossible { (weights : List ℕ) (s : ℕ) → length weights ≤ s → huffman weights s ≡ None }
 {}
 
-/// The codewords of a Huffman tree cost at most what any prefix-free codewords cost, one for each weight.
+/// The codewords of a Huffman tree cost at most as much as any prefix-free codewords for the same weights.
 ///
-/// `codebook` says so of the codewords of a prefix-free codebook, and `tree` of the trees that both makers ensure.
+/// The clause `codewords` compares with any prefix-free list of codewords, the clause `codebook` with the codewords of
+/// a prefix-free codebook. The clause `tree` is about a tree as the contracts of both constructors ensure it.
 pub fn least_cost()
     ensures codewords { (weights : List ℕ) (codewords others : List (List Bool)) →
         length codewords ≡ length weights → AreCodewordsOf (huffman weights) codewords →

@@ -13,10 +13,10 @@ use constriction_base::backends::Semantics;
 use constriction_symbol::codebooks::DecoderCodebook;
 use constriction_symbol::reading::ReadBitStream;
 
-/// Symbols come back from a stream whose bits begin with the symbols' codewords.
+/// Decoding a stream whose bits begin with the codewords of symbols returns these symbols.
 ///
-/// The stream has to know its bits (`is_list`). One read for each symbol, by the same codebook, returns the symbol and
-/// reads exactly its codeword.
+/// The caller proves that the stream's `is_list` holds. All symbols have the same codebook. Each decode returns one
+/// symbol and reads exactly its codeword.
 pub fn symbols_come_back<S: Semantics, R: ReadBitStream<S>, C: DecoderCodebook>()
     requires { R.is_list }
     ensures { (codebook : C) (symbols again : List C.Symbol) (code rest : List Bool) (old new : R) →
@@ -25,7 +25,7 @@ pub fn symbols_come_back<S: Semantics, R: ReadBitStream<S>, C: DecoderCodebook>(
         AreEach (C.is_same codebook) again symbols × (R.unread new ≡ rest) }
 {}
 
-/// Symbols come back under mixed codebooks, one codebook for each symbol.
+/// Decoding a stream whose bits begin with the codewords of symbols returns these symbols, with one codebook for each.
 pub fn mixed_symbols_come_back<S: Semantics, R: ReadBitStream<S>, C: DecoderCodebook>()
     requires { R.is_list }
     ensures { (codebooks : List C) (symbols again : List C.Symbol) (code rest : List Bool) (old new : R) →
@@ -35,7 +35,7 @@ pub fn mixed_symbols_come_back<S: Semantics, R: ReadBitStream<S>, C: DecoderCode
         AreSameBy C.is_same codebooks again symbols × (R.unread new ≡ rest) }
 {}
 
-/// Bits for which the codebook refuses a read of this many symbols don't begin with the codewords of as many symbols.
+/// If a codebook refuses to read `amt` symbols from bits, the bits don't begin with the codewords of `amt` symbols.
 pub fn refused_where_none_begin<S: Semantics, R: ReadBitStream<S>, C: DecoderCodebook>()
     requires { R.is_list }
     ensures { (codebook : C) (amt : ℕ) (bits tail : List Bool) (old new : R) (e : SymbolCodeError C.InvalidCodeword) →

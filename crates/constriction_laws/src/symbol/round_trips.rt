@@ -1,5 +1,5 @@
 //! Callers of the bit coders: lists of symbols that are written to a stream, or read from one.
 //!
-//! - [`pairs`]: symbols that have a codebook each.
+//! - [`pairs`]: symbols with one codebook each.
 
 pub mod pairs;

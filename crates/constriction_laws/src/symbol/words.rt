@@ -4,19 +4,19 @@ ghost use Rattle.constriction_base.specs.Steps.{AreWords};
 ghost use Rattle.constriction_symbol.specs.Bits.{HasStackWords, IsQueueWords, IsStackWords};
 ghost use Rattle.std.specs.Prelude.{Bool, List, ◌≡◌, ℕ};
 
-/// The words of a stack determine its bits, so an import of an export holds the bits that were exported.
+/// The words of a stack determine its bits, so importing an export restores the bits that were exported.
 pub fn one_stack_of_words()
     ensures { (w : ℕ) (words : List ℕ) (bits others : List Bool) →
         HasStackWords w bits words → HasStackWords w others words → bits ≡ others }
 {}
 
-/// A stack has one list of words, so a guard lends the words that the export then returns.
+/// A stack of bits has only one list of words, so a guard lends the words that an export returns.
 pub fn one_list_of_stack_words()
     ensures { (w : ℕ) (bits : List Bool) (words others : List ℕ) → AreWords w words → AreWords w others →
         IsStackWords w bits words → IsStackWords w bits others → words ≡ others }
 {}
 
-/// A queue has one list of words.
+/// A queue of bits has only one list of words.
 pub fn one_list_of_queue_words()
     ensures { (w : ℕ) (bits : List Bool) (words others : List ℕ) → AreWords w words → AreWords w others →
         IsQueueWords w bits words → IsQueueWords w bits others → words ≡ others }

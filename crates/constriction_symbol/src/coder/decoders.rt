@@ -1,4 +1,4 @@
-//! Turning bit coders into readers of the same bits.
+//! Conversion of bit coders to readers of the same bits.
 
 ghost use Rattle.constriction_base.specs.Backends.{IsWrite};
 ghost use Rattle.constriction_symbol.specs.Bits.{PadsTo, ReadsClosed, bits_of_words};
@@ -16,11 +16,14 @@ impl<
     Word: BitArray,
     B: WriteWords<Word> + IntoReadWords<Word, Queue> + BothWays<Word>,
 > QueueEncoder<Word, B> {
-    /// Turns the queue into a decoder, which reads the bits first to last and then zeros up to a whole word.
+    /// Turns the queue into a decoder of its bits.
+    ///
+    /// The decoder returns the bits from first to last, and then the zeros that complete the last word.
     ///
     /// # Errors
     ///
-    /// The backend's error if there are bits outside the backend, and it refuses their word. The coder is consumed.
+    /// The backend's error if there are bits outside the backend, and the backend refuses the word of these bits. The
+    /// coder is consumed.
     pub fn into_decoder(self) -> Result<QueueDecoder<Word, B::IntoReadWords>, B::WriteError>
     where
         B: Drop,
@@ -38,7 +41,9 @@ impl<
         }
     }
 
-    /// Turns the queue into an iterator over its bits, first to last, and over the zeros behind them.
+    /// Turns the queue into an iterator over its bits, from first to last.
+    ///
+    /// The iterator then returns the zeros that complete the last word.
     ///
     /// # Errors
     ///
@@ -61,7 +66,7 @@ impl<
 }
 
 impl<Word: BitArray, B: IntoReadWords<Word, Stack>> StackCoder<Word, B> {
-    /// Moves the bits to a backend for reading.
+    /// Turns the stack into a decoder with the same bits, over a backend for reading.
     pub fn into_decoder(self) -> StackCoder<Word, B::IntoReadWords>
         ensures bits { result.bits ≡ self.bits }
         ensures last { result.last ≡ self.last }
@@ -79,7 +84,7 @@ impl<Word: BitArray, B: IntoReadWords<Word, Stack>> StackCoder<Word, B> {
         }
     }
 
-    /// Turns the stack into an iterator over its bits, last to first.
+    /// Turns the stack into an iterator over its bits, from last to first.
     pub fn into_iterator(self) -> StackCoder<Word, B::IntoReadWords>
         ensures bits { result.bits ≡ self.bits }
         ensures last { result.last ≡ self.last }
@@ -90,7 +95,7 @@ impl<Word: BitArray, B: IntoReadWords<Word, Stack>> StackCoder<Word, B> {
 }
 
 impl<Word: BitArray, B: Holds<Word, Stack>> StackCoder<Word, B> {
-    /// Returns a stack with the same bits that borrows this coder's words, for reading.
+    /// Returns a decoder with the same bits that borrows this coder's words.
     ///
     /// # Examples
     ///
@@ -112,7 +117,7 @@ impl<Word: BitArray, B: Holds<Word, Stack>> StackCoder<Word, B> {
         }
     }
 
-    /// Returns an iterator over the bits, last to first, that borrows this coder's words.
+    /// Returns an iterator over the bits, from last to first, that borrows this coder's words.
     pub fn iter<'a>(&'a self) -> StackCoder<Word, B::AsReadWords>
     where
         B: AsReadWords<'a, Word, Stack>,

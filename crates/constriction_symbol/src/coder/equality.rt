@@ -1,4 +1,4 @@
-//! Equality of coders: of the bits outside the backend, and of the backends.
+//! Equality of coders: the bits outside the backends are equal, and the backends are equal.
 
 use crate::coder::SymbolCoder;
 use constriction_base::backends::{Holds, Semantics, Stack};
@@ -16,7 +16,7 @@ impl<Word: BitArray, S: Semantics, B: Holds<Word, Stack> + PartialEq> PartialEq
     ghost laws = { and_per (on_per (λ c. c.last) (lists_per (partial_equiv_from_equiv bool_eq_equiv)))
         (on_per (λ c. c.backend) B.laws) };
 
-    /// Returns whether all parts are equal.
+    /// Returns whether the bits outside the backends are equal, and the backends are equal.
     fn eq(&self, other: &Self) -> bool {
         self.last == other.last && self.backend == other.backend
     }

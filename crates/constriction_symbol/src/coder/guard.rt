@@ -1,4 +1,4 @@
-//! Guards that lend a coder's compressed words: a guard writes them onto the vector, and its drop removes them.
+//! Guards that lend a coder's compressed words. A guard appends the last words to the vector. Its drop removes them.
 
 ghost use Rattle.constriction_symbol.specs.Bits.{IsQueueWords, IsStackWords};
 ghost use Rattle.constriction_symbol.specs.Guards.{LacksEnd, LacksRest, SameBits, bits_without};
@@ -13,9 +13,10 @@ use constriction_words::BitArray;
 use std::alloc::{AllocError, Allocator, Global};
 use std::fmt;
 
-/// A guard that keeps a coder's last words in its vector until it is dropped.
+/// A guard that lends all compressed words of a coder until the guard is dropped.
 ///
-/// The drop takes no memory. A forgotten guard leaves its words in the vector.
+/// The guard appends the last words to the coder's vector. The drop removes them, and allocates nothing. A forgotten
+/// guard leaves these words in the vector.
 pub struct CoderGuard<'a, Word: BitArray, S: Semantics, A: Allocator = Global> {
     inner: &'a mut SymbolCoder<Word, S, Vec<Word, A>>,
     count: usize,
@@ -30,7 +31,7 @@ pub type QueueEncoderGuard<'a, Word, A = Global> = CoderGuard<'a, Word, Queue, A
 impl<'a, Word: BitArray, S: Semantics, A: Allocator> CoderGuard<'a, Word, S, A> {
     ghost use Rattle.constriction_symbol.specs.Guarded.{lender};
 
-    /// Returns all words of the vector, first to last, including those that the guard wrote.
+    /// Returns all words of the vector, from first to last, including the words that the guard appended.
     pub fn words(&self) -> &[Word]
         ensures words { result.now ≡ (lender self.now).now.backend.items }
     {
@@ -42,7 +43,7 @@ impl<'a, Word: BitArray, S: Semantics, A: Allocator> CoderGuard<'a, Word, S, A> 
 impl<Word: BitArray, S: Semantics, A: Allocator> Drop for CoderGuard<'_, Word, S, A> {
     ghost use Rattle.constriction_symbol.specs.Guarded.{lender, lent_back, written};
 
-    /// Removes the words that the guard wrote.
+    /// Removes the words that the guard appended.
     fn drop(self)
         ensures last { (lent_back self.exit).now.last ≡ (lender self.entry).now.last }
         ensures back { (lent_back self.exit).now.bits
@@ -130,8 +131,8 @@ impl<Word: BitArray, A: Allocator> StackCoder<Word, Vec<Word, A>> {
     ///
     /// # Errors
     ///
-    /// `AllocError` if there is no memory for the words that end the bits (two if the last word is full, else one). The
-    /// bits are unchanged.
+    /// `AllocError` if there is no memory for the words that end the bits: two words if the last word is full, else
+    /// one. The bits are unchanged.
     ///
     /// # Examples
     ///
@@ -171,7 +172,8 @@ impl<Word: BitArray, A: Allocator> QueueEncoder<Word, Vec<Word, A>> {
     ///
     /// # Errors
     ///
-    /// `AllocError` if there are bits outside the vector, and no memory for their word. The bits are unchanged.
+    /// `AllocError` if there are bits outside the vector, and no memory for the word of these bits. The bits are
+    /// unchanged.
     pub fn get_compressed(&mut self) -> Result<QueueEncoderGuard<'_, Word, A>, AllocError>
         ensures same_reference { IfOk result (λ g. (lender g).ghost_name ≡ self.entry.ghost_name) }
         ensures shows { IfOk result (λ g.

@@ -15,13 +15,13 @@ use constriction_words::BitArray;
 use std::marker::PhantomData;
 
 impl<Word: BitArray, B: WriteWords<Word>> StackCoder<Word, B> {
-    /// Returns the words of the stack: its bits, a 1 that ends them, and zeros up to a whole word.
+    /// Returns the words of the stack: its bits, a 1 that ends the bits, and zeros up to a whole word.
     ///
-    /// A stack without bits has the one word 1.
+    /// For a stack without bits this is the single word 1.
     ///
     /// # Errors
     ///
-    /// The backend's error if it refuses the last word, or a full word before it. The coder is consumed.
+    /// The backend's error if the backend refuses the last word, or a full word before it. The coder is consumed.
     pub fn into_compressed(self) -> Result<B, B::WriteError>
     where
         B: Drop,
@@ -48,12 +48,12 @@ impl<Word: BitArray, B: WriteWords<Word>> StackCoder<Word, B> {
 impl<Word: BitArray, B: ReadWords<Word, Stack>> StackCoder<Word, B> {
     /// Makes a stack from the words that [`StackCoder::into_compressed`] returns.
     ///
-    /// The highest set bit of the last word ends the bits. From no words this makes a stack without bits.
+    /// The highest set bit of the last word marks the end of the bits. If there are no words, the stack has no bits.
     ///
     /// # Errors
     ///
-    /// - `Frontend(backend)` exactly if the last word is zero. That word was read.
-    /// - `Backend(error)` if the read of the last word failed. The backend is consumed.
+    /// - `Frontend(backend)` exactly if the last word is 0. `backend` is the backend after the read of that word.
+    /// - `Backend(error)` if the read of the last word fails with this error. The backend is consumed.
     ///
     /// # Examples
     ///
@@ -100,11 +100,12 @@ impl<Word: BitArray, B: ReadWords<Word, Stack>> StackCoder<Word, B> {
 }
 
 impl<Word: BitArray, B: WriteWords<Word>> QueueEncoder<Word, B> {
-    /// Returns the words of the queue, the last one with zeros above its bits. An empty queue has no words.
+    /// Returns the words of the queue. Zeros fill the last word above its bits. An empty queue has no words.
     ///
     /// # Errors
     ///
-    /// The backend's error if there are bits outside the backend, and it refuses their word. The coder is consumed.
+    /// The backend's error if there are bits outside the backend, and the backend refuses the word of these bits. The
+    /// coder is consumed.
     pub fn into_compressed(self) -> Result<B, B::WriteError>
     where
         B: Drop,

@@ -1,7 +1,7 @@
 //! The codewords of a tree's nodes, each stored as one number.
 //!
-//! The number has the bits of the codeword below a 1. It is 0 for a codeword of `usize::BITS` bits or more. The encoder
-//! then climbs the tree instead.
+//! The number is a leading 1 followed by the bits of the codeword. It is 0 for a codeword of `usize::BITS` bits or
+//! more, which the encoder finds by climbing the tree instead.
 
 ghost use Rattle.constriction_symbol.specs.Codewords.{IsLowBits};
 ghost use Rattle.constriction_symbol.specs.EncoderTree.{HasBelowOne, HasCodewords, OneBitMore};
@@ -23,7 +23,9 @@ fn codeword_below(above: usize, bit: usize) -> usize
     2 * above + bit
 }
 
-/// Returns for each node the number of its codeword, first bit highest below a leading 1, or 0 if it has too many bits.
+/// Returns the number of each node's codeword, or 0 if the codeword has too many bits.
+///
+/// The number is a leading 1 followed by the codeword, first bit highest.
 pub fn codewords_of(alloc: Global, nodes: &[usize]) -> Result<Vec<usize>, AllocError>
     requires rising { GoesUp (length nodes.now) nodes.now }
     ensures { IfOk result (λ codewords. HasCodewords nodes.now codewords.items) }
@@ -42,7 +44,8 @@ pub fn codewords_of(alloc: Global, nodes: &[usize]) -> Result<Vec<usize>, AllocE
 
 /// Returns the bits below the highest 1, first bit highest, and their count.
 ///
-/// Returns `None` if there is no such bit, or if a `Word` doesn't have more bits than these.
+/// Returns `None` if there is no bit below the highest 1, or if there are as many of them as a `Word` has bits, or
+/// more.
 #[inline]
 pub fn below_one<Word: BitArray>(number: usize) -> Option<(Word, u32)>
     ensures some { OnSome result (1 < number) }

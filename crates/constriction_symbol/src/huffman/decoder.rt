@@ -70,7 +70,8 @@ impl Clone for DecoderHuffmanTree {
 
     /// Returns the same tree.
     ///
-    /// A derived clone would have to prove the invariant of fields that are only known to be clones.
+    /// The clone isn't derived, because it would then have to prove the invariant of fields that are only known to be
+    /// clones.
     fn clone(&self) -> Result<Self, AllocError> {
         let nodes = self.nodes.clone()?;
         let places = self.places.clone()?;
@@ -100,10 +101,11 @@ fn tree_of<P: BitArray, E>(
 }
 
 impl DecoderHuffmanTree {
-    /// Makes a tree from lent weights, one symbol for each weight, in memory of `alloc`.
+    /// Makes a tree with one symbol for each of the lent weights, in memory of `alloc`.
     ///
-    /// The two trees of least weight (on equal weight, of least index) are joined until one tree is left. Symbols have
-    /// the first indices, and each join the next one. The lesser tree of a join has bit 0.
+    /// Each step joins the two trees of least weight, until one tree is left. Of two trees with equal weights, the one
+    /// with the lower index is the lesser. The indices of symbols come first, and each join gets the next index. The
+    /// lesser tree of a join has bit 0.
     ///
     /// # Errors
     ///
@@ -148,7 +150,7 @@ impl DecoderHuffmanTree {
     ///
     /// Checked in this order:
     ///
-    /// - `Iterator(error)` if an item is this error, or `Memory` if there is no memory to collect the weights.
+    /// - `Iterator(error)` if an item is `Err(error)`. `Memory` if there is no memory for a weight before that item.
     /// - The errors of [`DecoderHuffmanTree::from_probabilities`].
     ///
     /// # Examples
@@ -214,7 +216,7 @@ impl DecoderCodebook for DecoderHuffmanTree {
     ///
     /// After each error, the bits read so far stay read.
     ///
-    /// - `Frontend(OutOfCompressedData)` exactly if the bits end within a codeword.
+    /// - `Frontend(OutOfCompressedData)` exactly if the bits end before the codeword is complete.
     /// - `Backend(error)` if the source returns this error in place of a bit.
     #[inline]
     fn decode_symbol<E, I: Iterator<Item = Result<bool, E>>>(
@@ -224,7 +226,7 @@ impl DecoderCodebook for DecoderHuffmanTree {
         walk(&self.nodes, source)
     }
 
-    /// Looks up the codeword that begins the bits, if it has at least one bit and fewer than `count`.
+    /// Looks up the codeword at the beginning of the bits, if it has at least one bit and fewer than `count` bits.
     #[inline]
     fn symbol_at_once<Word: BitArray>(&self, bits: Word, count: u32) -> Option<(usize, u32)> {
         let place = place_of(&self.places, self.most, bits);

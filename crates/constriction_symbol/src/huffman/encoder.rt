@@ -87,10 +87,11 @@ fn tree_of<P: BitArray, E>(
 }
 
 impl EncoderHuffmanTree {
-    /// Makes a tree from lent weights, one symbol for each weight, in memory of `alloc`.
+    /// Makes a tree with one symbol for each of the lent weights, in memory of `alloc`.
     ///
-    /// The two trees of least weight (on equal weight, of least index) are joined until one tree is left. Symbols have
-    /// the first indices, and each join the next one. The lesser tree of a join has bit 0.
+    /// Each step joins the two trees of least weight, until one tree is left. Of two trees with equal weights, the one
+    /// with the lower index is the lesser. The indices of symbols come first, and each join gets the next index. The
+    /// lesser tree of a join has bit 0.
     ///
     /// # Errors
     ///
@@ -135,7 +136,7 @@ impl EncoderHuffmanTree {
     ///
     /// Checked in this order:
     ///
-    /// - `Iterator(error)` if an item is `Err(error)`, or `Memory` if there is no memory for a weight before it.
+    /// - `Iterator(error)` if an item is `Err(error)`. `Memory` if there is no memory for a weight before that item.
     /// - The errors of [`EncoderHuffmanTree::from_probabilities`].
     ///
     /// # Examples
@@ -185,7 +186,7 @@ impl Codebook for EncoderHuffmanTree {
 }
 
 impl SuffixCodebook for EncoderHuffmanTree {
-    /// Emits the codeword from the last bit to the first, on a climb from the symbol to the root. It needs no memory.
+    /// Emits the codeword from the last bit to the first, climbing from the symbol to the root. It needs no memory.
     #[inline]
     fn emit_suffix<E, F: FnMut(bool) -> Result<(), E>>(
         &self,
@@ -206,8 +207,8 @@ impl EncoderCodebook for EncoderHuffmanTree {
 
     /// Emits the codeword from the first bit to the last.
     ///
-    /// The climb finds the bits from the last to the first, so they are reversed. Reversing more than `2 * usize::BITS`
-    /// bits needs memory.
+    /// The climb from the symbol to the root finds the bits from the last to the first, so they are reversed. Reversing
+    /// more than `2 * usize::BITS` bits needs memory.
     #[inline]
     fn encode_symbol_prefix<E: From<AllocError>, F: FnMut(bool) -> Result<(), E>>(
         &self,
@@ -227,7 +228,7 @@ impl EncoderCodebook for EncoderHuffmanTree {
         self.emit_suffix(symbol, emit)
     }
 
-    /// Returns the codeword of a symbol if it has at least one bit and fewer than `Word`.
+    /// Returns the codeword of a symbol if it has at least one bit, and fewer bits than `Word`.
     #[inline]
     fn codeword_at_once<Word: BitArray>(&self, symbol: &usize) -> Option<(Word, u32)> {
         if *symbol > self.nodes.len() / 2 {

@@ -1,4 +1,4 @@
-//! The error of weights that make no Huffman tree.
+//! The reason why weights make no Huffman tree.
 
 ghost use Rattle.constriction_symbol.specs.declared.huffman.error.HuffmanError.TheVariants as errors;
 ghost use Rattle.std.specs.Prelude.{◌≡◌};
@@ -7,10 +7,10 @@ use std::alloc::AllocError;
 use std::fmt::Display;
 use thiserror::Error;
 
-/// The error of weights that make no Huffman tree.
+/// The reason why weights make no Huffman tree.
 ///
-/// `Iterator`, and `Memory` while the weights are collected, come first. The others are checked in the order of the
-/// variants.
+/// Collecting the weights comes first, and may end with `Iterator` or `Memory`. `Empty`, `TooManySymbols` and
+/// `WeightOverflow` are then checked in this order. Last comes `Memory` for the tree.
 ///
 /// # Examples
 ///

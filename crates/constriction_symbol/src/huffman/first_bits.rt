@@ -1,8 +1,8 @@
 //! The table of a decoding tree: where the first bits of a codeword lead from the root.
 //!
-//! The index of an entry is a number with the bits below its highest 1. The entry of `n` is one step from the entry of
-//! `n / 2`, so one loop fills the table. The table looks up one bit more than codewords of equal weights have, and at
-//! most 9 bits, so a small tree has a small table.
+//! The index of an entry is a leading 1 followed by the bits. The entry of `n` is one step from the entry of `n / 2`,
+//! so one loop fills the table. The table looks up one bit more than the longest codeword would have if all weights
+//! were equal, and at most 9 bits. So a small tree has a small table.
 
 ghost use Rattle.constriction_symbol.specs.DecoderTree.{HasPlaces, HoldsTree, IsPlace, LeadsTo, tree_of_pairs};
 ghost use Rattle.constriction_symbol.specs.Bits.{top_bits};
@@ -14,7 +14,7 @@ use std::alloc::{AllocError, Global};
 /// The largest number of bits that the table looks up. Such a table takes 16 KiB.
 const MOST: u32 = 9;
 
-/// Where some bits lead: to a symbol, after `taken` bits, or to an inner node, after all of them.
+/// Where a list of bits leads: to a symbol after its first `taken` bits, or to an inner node after all of them.
 #[derive(Debug, Clone, Copy)]
 pub struct Place {
     pub index: usize,

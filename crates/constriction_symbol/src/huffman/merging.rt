@@ -1,10 +1,10 @@
 //! Huffman's algorithm: joining the two least weights until one is left.
 //!
-//! No union weighs less than an earlier union. So the least tree is the first one of the leaves, which are sorted, or
-//! of the unions, in the order of their making. On equal weights it is the leaf, because leaves have the lower indices.
+//! The leaves are sorted, and no union weighs less than an earlier union. So the least tree is the first leaf or the
+//! first union. On equal weights it is the leaf, because leaves have the lower indices.
 //!
-//! Weights are collected before the merge, so that their sum is known to fit. If the weights are lent, `Memory` may
-//! come wherever one more was to be collected.
+//! Weights are collected before the merge, because the merge requires that their sum fits. Collecting lent weights may
+//! fail with `Memory` at each weight.
 
 ghost use Rattle.constriction_symbol.specs.Huffman.{IsPairLe, keys_from};
 ghost use Rattle.constriction_symbol.specs.Merging.{ArePairs, FitTree, MakeNoTree, all_keys, key_of, keys_of};
@@ -19,7 +19,7 @@ use constriction_words::BitArray;
 use std::alloc::{AllocError, Global};
 use std::collections::VecDeque;
 
-/// Returns whether the sum of the weights fits their type, which a Huffman tree requires.
+/// Returns whether the sum of the weights fits their type. A Huffman tree requires it.
 pub fn total_fits<P: BitArray>(weights: &[P]) -> bool
     ensures { IsTrue result ↔ (sum_by P.number weights.now < 2 ^ P.BITS) }
 {

@@ -22,12 +22,13 @@ use std::alloc::Global;
 
 /// Decodes from two coders over the same words, each with its own list of models.
 ///
-/// Calls `decode_symbols`. Wherever the tables at a place are equal, the symbols there are equal, whatever the other
-/// tables are. The two lists may have models of different types.
+/// Calls `decode_symbols` on `coder` with `models`, and on `same` with `others`. If both coders have the same
+/// compressed head and words, then equal tables at an index give equal symbols at that index, whatever the other tables
+/// are. The two lists may have models of different types.
 ///
 /// # Errors
 ///
-/// If the first coder stops, the other one is unchanged. If the other one stops, the first has decoded all its symbols.
+/// If `coder` stops, `same` is unchanged. If `same` stops, `coder` has decoded all its symbols.
 ///
 /// - `OutOfData(count)`: after `count` symbols one of the coders needs a word, and none is left.
 /// - `Refused`: a read or a write failed, or there was no memory.

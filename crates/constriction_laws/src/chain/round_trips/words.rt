@@ -58,13 +58,13 @@ where
     }
 }
 
-/// Makes a coder from remainders, and encodes symbols back, from last to first, each with its own model.
+/// Makes a coder from remainders, and encodes symbols onto it from last to first, each with its own model.
 ///
 /// Calls `from_remainders` and `encode_symbols_reverse`. There have to be as many models as symbols.
 ///
 /// # Errors
 ///
-/// Each case of [`PutBackError`]. Each but `NoMemory` comes only in its own case.
+/// Every case of [`PutBackError`]. Each case except `NoMemory` is returned only for the reason that it names.
 pub fn put_back_pairs<
     Word: WordOf<State>,
     State: BitArray,

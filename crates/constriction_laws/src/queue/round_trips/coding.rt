@@ -22,7 +22,7 @@ use std::alloc::Global;
 
 /// Encodes symbols in order, each with its own model.
 ///
-/// The encoder then stands for its run, narrowed by each symbol in turn.
+/// The run of the encoder is then narrowed by each symbol in order.
 ///
 /// # Errors
 ///
@@ -63,12 +63,12 @@ where
 
 /// Decodes one symbol for each model.
 ///
-/// The decoder then stands for its run, narrowed by each symbol in turn. If the words encode that many symbols with
-/// these models, the symbols come back in order.
+/// The run of the decoder is then narrowed by each symbol in order. If the words encode that many symbols with these
+/// models, the call returns these symbols in order.
 ///
 /// # Errors
 ///
-/// - `InvalidData`: from there on, the words don't encode symbols of these models.
+/// - `InvalidData`: from the decoder's position on, the words don't encode symbols of these models.
 /// - `Refused`: a read failed, or there was no memory.
 pub fn decode_pairs<
     Word: WordOf<State>,

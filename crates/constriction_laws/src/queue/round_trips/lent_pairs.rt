@@ -1,8 +1,8 @@
 //! Symbols, each with its own model, from the words that an encoder lends.
 //!
-//! No caller decodes through [`RangeEncoder::decoder`]. The contract of that call says that the decoder stands at the
-//! start of the words that the encoder would export. The law
-//! [`symbols_come_back`](crate::queue::lists::symbols_come_back) says which symbols it decodes there.
+//! No function here calls [`RangeEncoder::decoder`]. The contract of that call says that the decoder begins with the
+//! words that the encoder would export. The law [`symbols_come_back`](crate::queue::lists::symbols_come_back) says
+//! which symbols it decodes from these words.
 
 ghost use Rattle.std.specs.Prelude.{◌≡◌, List, length, IfOk, IfErr};
 ghost use Rattle.constriction_base.specs.Models.{pairs_of};
@@ -23,8 +23,8 @@ use std::alloc::{Allocator, Global};
 
 /// Decodes one symbol for each model from the words that an encoder lends.
 ///
-/// Calls `get_compressed`, `from_compressed` and `decode_symbols`. The symbols that the encoder has encoded since it
-/// was new come back. The encoder is unchanged in every case.
+/// Calls `get_compressed`, `from_compressed` and `decode_symbols`. If the symbols encoded since the encoder was new
+/// have these models, the call returns these symbols. The encoder is unchanged in every case.
 ///
 /// # Errors
 ///

@@ -1,7 +1,8 @@
 //! Symbols, each with its own model, and the words that an encoder exports.
 //!
-//! [`compressed_words_of_pairs`] says which words these are. [`pairs_from_words`] takes any words and says what they
-//! hold. Its clauses `sealed`, `followed` and `delimited` take the words of the other half, and so join the two.
+//! [`compressed_words_of_pairs`] says which words these are. [`pairs_from_words`] takes any words and says which
+//! symbols they encode. Its clauses `sealed`, `followed` and `delimited` take the words of the other half, and so join
+//! the two.
 
 ghost use Rattle.std.specs.Prelude.{◌≡◌, ◌<◌, ◌≤◌, ◌-◌, ◌*◌, ◌^◌, ◌/◌, ◌++◌, ℕ, List, length, map, reverse, IfOk, IfErr, IsTrue};
 ghost use Rattle.constriction_base.specs.Models.{pairs_of};
@@ -31,7 +32,7 @@ use std::alloc::Global;
 
 /// Encodes symbols, each with its own model, and returns the words that the encoder then exports.
 ///
-/// Calls `encode_symbols` and `into_compressed`. The models bound the number of words of a new encoder.
+/// Calls `encode_symbols` and `into_compressed`. For a new encoder, the clause `few` bounds the number of words.
 ///
 /// # Errors
 ///
@@ -75,9 +76,10 @@ where
     }
 }
 
-/// Decodes one symbol for each model from any words, and returns whether the decoder may be exhausted then.
+/// Decodes one symbol for each model from any words.
 ///
-/// Calls `from_compressed`, `decode_symbols` and `maybe_exhausted`.
+/// Returns the symbols, and whether the decoder may be exhausted after them. Calls `from_compressed`, `decode_symbols`
+/// and `maybe_exhausted`.
 ///
 /// # Errors
 ///

@@ -28,7 +28,7 @@ use std::alloc::Global;
 /// # Errors
 ///
 /// - `NoSuchPlace`: the words end before the position.
-/// - `InvalidData`: from there on, the words don't encode symbols of these models.
+/// - `InvalidData`: from the position on, the words don't encode symbols of these models.
 /// - `NoMemory`: there was no memory.
 pub fn pairs_from_position<
     Word: WordOf<State>,

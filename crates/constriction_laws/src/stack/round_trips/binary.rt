@@ -1,4 +1,4 @@
-//! Any words come back through their binary form.
+//! Symbols decoded from any words, and encoded back to these words, in binary form.
 
 ghost use Rattle.std.specs.Prelude.{◌≡◌, ℕ, List, length, map, reverse, IfOk, IfErr};
 ghost use Rattle.constriction_base.specs.Models.{pairs_of};
@@ -57,12 +57,13 @@ where
 
 /// Encodes symbols from last to first, each with its own model, and returns the coder's words in binary form.
 ///
-/// Calls `encode_symbols_reverse` and `into_binary`. The words from which these symbols were decoded come back.
+/// Calls `encode_symbols_reverse` and `into_binary`. If the symbols were decoded from words with these models, the call
+/// returns those words.
 ///
 /// # Errors
 ///
 /// - `ImpossibleSymbol`: a model has no entry for its symbol.
-/// - `InvalidData`: the head isn't a 1 above whole words, so the state has no binary form.
+/// - `InvalidData`: the head isn't a leading 1 above whole words, so the state has no binary form.
 /// - `Refused`: the backend refused a word.
 pub fn binary_words_with_pairs<
     Word: WordOf<State>,

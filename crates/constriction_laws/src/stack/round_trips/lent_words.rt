@@ -1,4 +1,4 @@
-//! Symbols from the words that a coder lends through a guard, and the coder afterwards, which is unchanged.
+//! Symbols decoded from the words that a coder lends through a guard. The coder is unchanged afterwards.
 
 ghost use Rattle.std.specs.Prelude.{◌≡◌, List, length, reverse, IfOk, IfErr, OnOk};
 ghost use Rattle.constriction_base.specs.Models.{pairs_of};
@@ -18,12 +18,12 @@ use std::alloc::{Allocator, Global};
 
 /// Decodes one symbol for each model from the words that a coder lends.
 ///
-/// Calls `get_compressed`, `from_compressed_slice` and `decode_symbols`. The symbols that the coder has encoded come
-/// back. The coder's state is unchanged in every case.
+/// Calls `get_compressed`, `from_compressed_slice` and `decode_symbols`. If the coder encoded symbols with these
+/// models, from last to first, the call returns these symbols. The coder's state is unchanged in every case.
 ///
 /// # Errors
 ///
-/// - `InvalidData`: the words that the coder would export end with a zero word. No valid state has such words.
+/// - `InvalidData`: the last word that the coder would export is 0. A valid state has no last word of 0.
 /// - `Refused`: there was no memory.
 pub fn decode_lent_words<
     Word: WordOf<State>,

@@ -23,7 +23,8 @@ use std::alloc::Global;
 
 /// Encodes symbols from last to first, each with its own model, and returns the words that the coder then exports.
 ///
-/// Calls `encode_symbols_reverse` and `into_compressed`. The models bound the number of words of an empty coder.
+/// Calls `encode_symbols_reverse` and `into_compressed`. For an empty coder, the clause `few` bounds the number of
+/// words.
 ///
 /// # Errors
 ///
@@ -66,8 +67,9 @@ where
 
 /// Decodes one symbol for each model from words, and returns the symbols and the coder.
 ///
-/// Calls `from_compressed` and `decode_symbols`. If a coder encoded that many symbols with these models, from last to
-/// first, and exported the words, then the symbols come back in order, and so does the state before them.
+/// Calls `from_compressed` and `decode_symbols`. Suppose that a coder encoded that many symbols with these models, from
+/// last to first, and exported the words. Then the call returns the symbols in order, and the coder in its state before
+/// these encodes.
 ///
 /// # Errors
 ///

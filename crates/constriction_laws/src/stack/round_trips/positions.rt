@@ -1,4 +1,4 @@
-//! Symbols come back from recorded positions.
+//! Symbols decoded from recorded positions.
 
 ghost use Rattle.std.specs.Prelude.{◌≡◌, ◌≤◌, ◌<◌, List, length, reverse, IfOk, IfErr, OnOk};
 ghost use Rattle.constriction_base.specs.Models.{pairs_of};
@@ -17,8 +17,8 @@ use std::alloc::Global;
 
 /// Decodes one symbol for each model, from a recorded position of a coder.
 ///
-/// Calls `as_seekable_decoder`, `seek` and `decode_symbols`. The symbols encoded before the position was recorded come
-/// back if the coder has only written words since then.
+/// Calls `as_seekable_decoder`, `seek` and `decode_symbols`. If the coder has only written words since the position was
+/// recorded, the call returns the symbols encoded before that.
 ///
 /// # Errors
 ///

@@ -1,4 +1,4 @@
-//! Symbols come back from the words that a coder exports.
+//! Symbols decoded from exported words in reverse order.
 
 ghost use Rattle.std.specs.Prelude.{◌≡◌, ℕ, Bool, List, false, length, map, reverse, IfOk, IfErr, OnOk};
 ghost use Rattle.constriction_base.specs.Models.{pairs_of};

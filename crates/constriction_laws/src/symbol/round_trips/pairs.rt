@@ -22,15 +22,16 @@ use constriction_symbol::writing::WriteBitStream;
 use constriction_words::BitArray;
 use std::alloc::{AllocError, Global};
 
-/// Encodes symbols in order, each with its own codebook, behind the bits of a stream.
+/// Encodes symbols in order, each with its own codebook, at the end of a stream.
 ///
 /// Calls `encode_symbols`.
 ///
 /// # Errors
 ///
-/// - `Frontend(ImpossibleSymbol)`: a codebook has no codeword for its symbol. The codewords before it are written.
-/// - `Backend(error)`: the backend refused a word, or there was no memory. The codewords before it are written, and the
-///   bits of this codeword before the refused one.
+/// - `Frontend(ImpossibleSymbol)`: a codebook has no codeword for its symbol. The codewords of the symbols before it
+///   are written.
+/// - `Backend(error)`: the backend refused a word, or there was no memory. The codewords of the symbols before the
+///   failing symbol are written, and the bits of its own codeword before the refused bit.
 pub fn encode_pairs<W: WriteBitStream<Queue>, C: EncoderCodebook>(
     stream: &mut W,
     symbols: &[C::Symbol],
@@ -49,14 +50,15 @@ pub fn encode_pairs<W: WriteBitStream<Queue>, C: EncoderCodebook>(
 
 /// Encodes symbols from last to first, each with its own codebook, onto a stack.
 ///
-/// Calls `encode_symbols_reverse`. Read from the end, the bits are the codewords in the order of the list, and then the
-/// bits before.
+/// Calls `encode_symbols_reverse`. Read from its end, the stack then has the codewords in the order of the list,
+/// followed by the bits that it had before the call.
 ///
 /// # Errors
 ///
-/// - `Frontend(ImpossibleSymbol)`: a codebook has no codeword for its symbol. The codewords behind it are written.
-/// - `Backend(error)`: the backend refused a word, or there was no memory. The codewords behind it are written, and the
-///   bits of this codeword before the refused one.
+/// - `Frontend(ImpossibleSymbol)`: a codebook has no codeword for its symbol. The codewords of the symbols after it in
+///   the list are written.
+/// - `Backend(error)`: the backend refused a word, or there was no memory. The codewords of the symbols after the
+///   failing symbol are written, and the bits of its own codeword before the refused bit.
 pub fn encode_pairs_reverse<Word: BitArray, B: WriteWords<Word>, C: EncoderCodebook>(
     coder: &mut StackCoder<Word, B>,
     symbols: &[C::Symbol],
@@ -78,11 +80,12 @@ where
 
 /// Decodes one symbol for each codebook, with [`ReadBitStream::decode_symbols`].
 ///
-/// If the codewords of that many symbols begin the bits, the symbols come back, and exactly their codewords are read.
+/// If the bits begin with the codewords of that many symbols, the call returns the symbols and reads exactly their
+/// codewords.
 ///
 /// # Errors
 ///
-/// - `Refused(error)`: after fewer symbols, a decode returned this error.
+/// - `Refused(error)`: a decode returned this error before all symbols were decoded.
 /// - `NoMemory`: there was no memory for the symbols.
 pub fn decode_pairs<S: Semantics, R: ReadBitStream<S>, C: DecoderCodebook>(
     alloc: Global,
