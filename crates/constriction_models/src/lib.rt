@@ -29,5 +29,6 @@ pub mod laplace;
 pub mod location_scale;
 pub mod logistic;
 pub mod lookup;
+pub mod mixture;
 pub mod quantizer;
 pub mod uniform;
