@@ -11,7 +11,7 @@ pub enum Stopped<E> {
 
 /// The reason why symbols weren't encoded, or weren't decoded from words.
 ///
-/// Each function documents when it returns each case. With enough memory and room, no function returns `Refused`.
+/// Each function documents when it returns each case.
 #[derive(Debug, Clone, Copy, PartialEq, Eq)]
 pub enum RoundTripError {
     /// The model has no entry for one of the symbols.
@@ -22,6 +22,6 @@ pub enum RoundTripError {
     InvalidData,
     /// The words ended after this number of symbols.
     OutOfData(usize),
-    /// There was no memory, or a backend refused a word.
+    /// There was no memory, or a read or a write of a backend failed.
     Refused,
 }
