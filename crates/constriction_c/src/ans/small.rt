@@ -1,3 +1,4 @@
+// Written by tools/sizes from large.rt.
 //! The stack coder with 16-bit words, 32-bit heads and a precision of 12 bits.
 
 ghost use Rattle.std.specs.Prelude.{map};

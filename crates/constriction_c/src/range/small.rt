@@ -1,9 +1,10 @@
+// Written by tools/sizes from large.rt.
 //! The range coder with 16-bit words, 32-bit states and a precision of 12 bits.
 
 ghost use Rattle.std.specs.Prelude.{◌≡◌, map};
 ghost use Rattle.constriction_c.specs.Small.{small_word, small_state, small_kept, SmallRangeTakes, SmallRangePuts};
+ghost use Rattle.constriction_c.specs.Small.{small_decoder, small_encoder};
 ghost use Rattle.constriction_c.specs.Codes.{Told, answer_by_code};
-ghost use Rattle.constriction_c.specs.Ranges.{small_decoder, small_encoder};
 ghost use Rattle.constriction_inputs.specs.Coded.{AsIntervals, ByRows, ByWeights, in_family};
 ghost use Rattle.constriction_calls.specs.RangeCalls.{IsNew, IsSealed, IsSelfSealed, RangeBegins, RangeMayEnd};
 ghost use Rattle.constriction_calls.specs.RangeCalls.{RangeSeals, RangeSeeks};

@@ -1,3 +1,4 @@
+// Written by tools/sizes from large.rt.
 //! Stores with 16-bit words, 32-bit states and a precision of 12 bits.
 
 ghost use Rattle.std.specs.Prelude.{map};
