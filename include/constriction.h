@@ -439,6 +439,7 @@ uint32_t constriction_exp_golomb_decode_stack_u32(const uint32_t *words, size_t 
                                                   uint32_t *symbols, size_t symbol_count);
 
 /* ==== Words of 16 bits, states of 32, weights that add up to 2^12 ==================================================== */
+/* Written by the script `sizes` from the part above. */
 
 /* ---- The stack coder (ANS): the last symbol encoded is the first decoded ----
 

@@ -134,6 +134,7 @@ uint32_t constriction_weights_of_counts_u32(const uint64_t *counts, size_t count
                                             uint32_t *weights, size_t weight_count);
 
 /* ---- Words of 16 bits, states of 32, weights that add up to 2^12: the same, with 2^12 in the place of 2^24 ---- */
+/* Written by the script `sizes` from the part above. */
 
 uint32_t constriction_ans_encode_quantized_reverse_u16(uint32_t *head, uint16_t *words, size_t capacity, size_t *len,
                                                        uint32_t family, int32_t min, int32_t max,
@@ -173,7 +174,6 @@ uint32_t constriction_chain_decode_quantized_u16(struct constriction_chain_heads
                                                  const int64_t *locations, size_t location_count,
                                                  const uint32_t *scales, size_t scale_count,
                                                  size_t *symbols, size_t symbol_count, size_t *needed);
-
 uint32_t constriction_quantized_intervals_u16(uint32_t family, int32_t min, int32_t max,
                                               const int64_t *locations, size_t location_count,
                                               const uint32_t *scales, size_t scale_count,

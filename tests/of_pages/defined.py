@@ -31,7 +31,8 @@ def files(crate):
     for at, _, names in sorted(os.walk(top)):
         for name in sorted(it for it in names if it.endswith(".antt")):
             path = os.path.relpath(f"{at}/{name}", top)
-            comment = re.match(r"(?:--.*\n)+", read(f"crates/{crate}/specs/{path}"))
+            # A file that a script writes says so first.
+            comment = re.match(r"(?:--.*\n)+", re.sub(r"^-- Written by .*\n", "", read(f"crates/{crate}/specs/{path}")))
             if comment:
                 text = " ".join(line.lstrip("- ").strip() for line in comment[0].splitlines())
                 yield path, re.split(r"(?<=[a-z0-9`)])\.(?= |$)", text)[0]

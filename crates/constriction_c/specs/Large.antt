@@ -4,10 +4,11 @@ use Rattle.constriction_calls.specs.AnsCalls.{AnsKept, AnsPuts, AnsTakes}
 use Rattle.constriction_calls.specs.ChainCalls.{ChainKept, ChainPuts, ChainTakes, keeps}
 use Rattle.constriction_calls.specs.ChainWords.{ChainBegins, ChainEnds, Form}
 use Rattle.constriction_calls.specs.RangeCalls.{RangeKept, RangePuts, RangeTakes, kept_in}
+use Rattle.constriction_calls.specs.declared.chain.ChainHeads.{ChainHeads}
 use Rattle.constriction_calls.specs.declared.range.parts.DecoderParts.{DecoderParts}
-use Rattle.constriction_c.specs.Chains.{large_heads}
-use Rattle.constriction_c.specs.Ranges.{large_encoder}
-use Rattle.constriction_c.specs.declared.chain.ChainHeadsU32.{ChainHeadsU32}
+use Rattle.constriction_calls.specs.declared.range.parts.EncoderParts.{EncoderParts}
+use Rattle.constriction_c.specs.declared.chain.large.ChainHeadsU32.{ChainHeadsU32}
+use Rattle.constriction_c.specs.declared.range.large.RangeDecoderU32.{RangeDecoderU32}
 use Rattle.constriction_c.specs.declared.range.large.RangeEncoderU32.{RangeEncoderU32}
 use Rattle.constriction_inputs.specs.Coded.{Coded}
 use Rattle.constriction_inputs.specs.declared.refusal.Refusal.{Refusal}
@@ -26,6 +27,13 @@ abbrev pub LargeAnsTakes : (List ℕ → Coded) → AnsKept ℕ ℕ → AnsKept 
 LargeAnsTakes coded old new old_symbols new_symbols answer = AnsTakes large_word large_state 32 64 24 coded old new old_symbols new_symbols answer
 
 -- ---- the range coder
+-- The encoder and the decoder of a C caller's structs.
+abbrev pub large_encoder : RangeEncoderU32 → EncoderParts ℕ ℕ
+large_encoder e = record { lower = e.lower; range = e.range; held = e.held; first = e.first }
+
+abbrev pub large_decoder : RangeDecoderU32 → DecoderParts ℕ
+large_decoder d = record { lower = d.lower; range = d.range; point = d.point; pos = d.pos }
+
 -- An encoder, and a buffer with its number of words in use.
 abbrev pub large_kept : RangeEncoderU32 → List ℕ → ℕ → RangeKept ℕ ℕ
 large_kept encoder words len = kept_in (large_encoder encoder) words len
@@ -37,6 +45,10 @@ abbrev pub LargeRangeTakes : (List ℕ → Coded) → List ℕ → DecoderParts 
 LargeRangeTakes coded words old new old_symbols new_symbols answer = RangeTakes large_state 32 64 24 coded (map large_word words) old new old_symbols new_symbols answer
 
 -- ---- the chain coder
+-- The heads of a C caller's struct.
+abbrev pub large_heads : ChainHeadsU32 → ChainHeads ℕ ℕ
+large_heads heads = record { remainders = heads.remainders; compressed = heads.compressed }
+
 -- The heads, and two buffers with their numbers of words in use.
 abbrev pub large_chain : ChainHeadsU32 → List ℕ → ℕ → List ℕ → ℕ → ChainKept ℕ ℕ
 large_chain heads compressed count remainders rest = keeps (large_heads heads) compressed count remainders rest

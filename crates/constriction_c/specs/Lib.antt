@@ -1,5 +1,3 @@
-pub mod Chains
 pub mod Codes
 pub mod Large
-pub mod Ranges
 pub mod Small

@@ -1,13 +1,15 @@
+-- Written by tools/sizes from Large.antt.
 -- The calls with 16-bit words, 32-bit states and a precision of 12 bits.
 use Rattle.std.specs.Prelude.{ℕ, ◌%◌, ◌^◌, List, Result, map}
 use Rattle.constriction_calls.specs.AnsCalls.{AnsKept, AnsPuts, AnsTakes}
 use Rattle.constriction_calls.specs.ChainCalls.{ChainKept, ChainPuts, ChainTakes, keeps}
 use Rattle.constriction_calls.specs.ChainWords.{ChainBegins, ChainEnds, Form}
 use Rattle.constriction_calls.specs.RangeCalls.{RangeKept, RangePuts, RangeTakes, kept_in}
+use Rattle.constriction_calls.specs.declared.chain.ChainHeads.{ChainHeads}
 use Rattle.constriction_calls.specs.declared.range.parts.DecoderParts.{DecoderParts}
-use Rattle.constriction_c.specs.Chains.{small_heads}
-use Rattle.constriction_c.specs.Ranges.{small_encoder}
-use Rattle.constriction_c.specs.declared.chain.ChainHeadsU16.{ChainHeadsU16}
+use Rattle.constriction_calls.specs.declared.range.parts.EncoderParts.{EncoderParts}
+use Rattle.constriction_c.specs.declared.chain.small.ChainHeadsU16.{ChainHeadsU16}
+use Rattle.constriction_c.specs.declared.range.small.RangeDecoderU16.{RangeDecoderU16}
 use Rattle.constriction_c.specs.declared.range.small.RangeEncoderU16.{RangeEncoderU16}
 use Rattle.constriction_inputs.specs.Coded.{Coded}
 use Rattle.constriction_inputs.specs.declared.refusal.Refusal.{Refusal}
@@ -26,6 +28,13 @@ abbrev pub SmallAnsTakes : (List ℕ → Coded) → AnsKept ℕ ℕ → AnsKept 
 SmallAnsTakes coded old new old_symbols new_symbols answer = AnsTakes small_word small_state 16 32 12 coded old new old_symbols new_symbols answer
 
 -- ---- the range coder
+-- The encoder and the decoder of a C caller's structs.
+abbrev pub small_encoder : RangeEncoderU16 → EncoderParts ℕ ℕ
+small_encoder e = record { lower = e.lower; range = e.range; held = e.held; first = e.first }
+
+abbrev pub small_decoder : RangeDecoderU16 → DecoderParts ℕ
+small_decoder d = record { lower = d.lower; range = d.range; point = d.point; pos = d.pos }
+
 -- An encoder, and a buffer with its number of words in use.
 abbrev pub small_kept : RangeEncoderU16 → List ℕ → ℕ → RangeKept ℕ ℕ
 small_kept encoder words len = kept_in (small_encoder encoder) words len
@@ -37,6 +46,10 @@ abbrev pub SmallRangeTakes : (List ℕ → Coded) → List ℕ → DecoderParts 
 SmallRangeTakes coded words old new old_symbols new_symbols answer = RangeTakes small_state 16 32 12 coded (map small_word words) old new old_symbols new_symbols answer
 
 -- ---- the chain coder
+-- The heads of a C caller's struct.
+abbrev pub small_heads : ChainHeadsU16 → ChainHeads ℕ ℕ
+small_heads heads = record { remainders = heads.remainders; compressed = heads.compressed }
+
 -- The heads, and two buffers with their numbers of words in use.
 abbrev pub small_chain : ChainHeadsU16 → List ℕ → ℕ → List ℕ → ℕ → ChainKept ℕ ℕ
 small_chain heads compressed count remainders rest = keeps (small_heads heads) compressed count remainders rest

@@ -1,3 +1,4 @@
+// Written by tools/sizes from large.rt.
 //! Cases of the chain coder at words of 16 bits, numbers of the remainders of 32 bits and a precision of 12 bits.
 
 use crate::chains::{decode_each, encode_each};

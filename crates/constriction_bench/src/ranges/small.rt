@@ -1,3 +1,4 @@
+// Written by tools/sizes from large.rt.
 //! Cases of the range coder at words of 16 bits, states of 32 bits and a precision of 12 bits.
 
 use crate::flat::Flat;

@@ -1,3 +1,4 @@
+// Written by tools/sizes from large.rt.
 //! The stack coder with 16-bit words, 32-bit heads and a precision of 12 bits.
 
 ghost use Rattle.std.specs.Prelude.{map};
@@ -17,7 +18,7 @@ use constriction_calls::ans::words::{from_binary, from_compressed, into_binary, 
 use constriction_inputs::models::{Families, Rows, Weights};
 use std::alloc::Global;
 
-/// Calls `encode_reverse` with one table of weights for all symbols.
+/// Encodes symbols from the last to the first, with one table of weights for all symbols.
 #[unsafe(no_mangle)]
 pub extern "C" fn constriction_ans_encode_reverse_u16(
     alloc: Global,
@@ -36,7 +37,7 @@ pub extern "C" fn constriction_ans_encode_reverse_u16(
     code_of(answer, needed)
 }
 
-/// Calls `encode_reverse` with a row of `width` weights for each symbol.
+/// Encodes symbols from the last to the first, with a row of `width` weights for each symbol.
 #[unsafe(no_mangle)]
 pub extern "C" fn constriction_ans_encode_each_reverse_u16(
     alloc: Global,
@@ -56,7 +57,7 @@ pub extern "C" fn constriction_ans_encode_each_reverse_u16(
     code_of(answer, needed)
 }
 
-/// Calls `encode_intervals_reverse`.
+/// Encodes intervals from the last to the first. Interval `i` begins at `lefts[i]`, and its length is `ps[i]`.
 #[unsafe(no_mangle)]
 pub extern "C" fn constriction_ans_encode_intervals_reverse_u16(
     alloc: Global,
@@ -74,7 +75,7 @@ pub extern "C" fn constriction_ans_encode_intervals_reverse_u16(
     code_of(answer, needed)
 }
 
-/// Calls `encode_reverse` with models of a family.
+/// Encodes symbols from the last to the first, with models of a family, each with its own location and scale.
 #[unsafe(no_mangle)]
 pub extern "C" fn constriction_ans_encode_quantized_reverse_u16(
     alloc: Global,
@@ -97,7 +98,7 @@ pub extern "C" fn constriction_ans_encode_quantized_reverse_u16(
     code_of(answer, needed)
 }
 
-/// Calls `decode` with one table of weights for all symbols.
+/// Decodes symbols with one table of weights for all symbols.
 #[unsafe(no_mangle)]
 pub extern "C" fn constriction_ans_decode_u16(
     alloc: Global,
@@ -114,7 +115,7 @@ pub extern "C" fn constriction_ans_decode_u16(
     code_without_space(decode::<_, _, u16, _, 12>(alloc, head, words, len, &table, symbols))
 }
 
-/// Calls `decode` with a row of `width` weights for each symbol.
+/// Decodes symbols with a row of `width` weights for each symbol.
 #[unsafe(no_mangle)]
 pub extern "C" fn constriction_ans_decode_each_u16(
     alloc: Global,
@@ -132,7 +133,7 @@ pub extern "C" fn constriction_ans_decode_each_u16(
     code_without_space(decode::<_, _, u16, _, 12>(alloc, head, words, len, &rows, symbols))
 }
 
-/// Calls `decode` with models of a family.
+/// Decodes symbols with models of a family, each with its own location and scale.
 #[unsafe(no_mangle)]
 pub extern "C" fn constriction_ans_decode_quantized_u16(
     alloc: Global,
@@ -153,7 +154,7 @@ pub extern "C" fn constriction_ans_decode_quantized_u16(
     code_without_space(decode::<_, _, u16, _, 12>(alloc, head, words, len, &models, symbols))
 }
 
-/// Calls `from_compressed`.
+/// Imports the state that exports the given words.
 #[unsafe(no_mangle)]
 pub extern "C" fn constriction_ans_from_compressed_u16(
     words: &[u16],
@@ -166,7 +167,7 @@ pub extern "C" fn constriction_ans_from_compressed_u16(
     code_without_space(from_compressed(words, len, head))
 }
 
-/// Calls `from_binary`.
+/// Imports a state from any words in binary form.
 #[unsafe(no_mangle)]
 pub extern "C" fn constriction_ans_from_binary_u16(
     words: &[u16],
@@ -180,7 +181,7 @@ pub extern "C" fn constriction_ans_from_binary_u16(
     code_without_space(Ok(()))
 }
 
-/// Calls `into_compressed`.
+/// Exports the state: appends the words of its head, without leading zero words, to the first `len` words.
 #[unsafe(no_mangle)]
 pub extern "C" fn constriction_ans_into_compressed_u16(
     alloc: Global,
@@ -195,7 +196,7 @@ pub extern "C" fn constriction_ans_into_compressed_u16(
     code_of(into_compressed(alloc, head, words, len), needed)
 }
 
-/// Calls `into_binary`.
+/// Exports the state in binary form: appends the words of its head, without its leading 1, to the first `len` words.
 #[unsafe(no_mangle)]
 pub extern "C" fn constriction_ans_into_binary_u16(
     alloc: Global,

@@ -1,20 +1,51 @@
 //! The chain coder with 32-bit words, 64-bit and 32-bit heads and a precision of 24 bits.
 
-ghost use Rattle.std.specs.Prelude.{map};
+ghost use Rattle.std.specs.Prelude.{◌≡◌, map};
 ghost use Rattle.constriction_c.specs.Large.{LargeChainBegins, LargeChainEnds, LargeChainPuts, LargeChainTakes};
-ghost use Rattle.constriction_c.specs.Large.{large_chain, large_word};
+ghost use Rattle.constriction_c.specs.Large.{large_chain, large_heads, large_word};
 ghost use Rattle.constriction_c.specs.Codes.{Told, answer_by_code};
 ghost use Rattle.constriction_calls.specs.ChainWords.{InBinary, InCompressed, InRemainders};
 ghost use Rattle.constriction_inputs.specs.Coded.{AsIntervals, ByRows, ByWeights, in_family};
 
-use crate::chain::ChainHeadsU32;
 use crate::codes::{code_of, code_without_space};
 use constriction_calls::chain::{
-    decode, encode_intervals_reverse, encode_reverse, from_binary, from_compressed,
+    ChainHeads, decode, encode_intervals_reverse, encode_reverse, from_binary, from_compressed,
     from_remainders, into_binary, into_compressed, into_remainders,
 };
 use constriction_inputs::models::{Families, Rows, Weights};
 use std::alloc::Global;
+
+/// The two heads of a chain coder with 32-bit words, with the fields of [`ChainHeads`].
+#[repr(C)]
+#[derive(Drop, Clone, Copy)]
+pub struct ChainHeadsU32 {
+    pub remainders: u64,
+    pub compressed: u32,
+}
+
+impl ChainHeadsU32 {
+    /// Returns the heads that the calls take.
+    #[inline]
+    pub fn parts(&self) -> ChainHeads<u32, u64>
+        ensures { result ≡ large_heads self.now }
+    {
+        ChainHeads {
+            remainders: self.remainders,
+            compressed: self.compressed,
+        }
+    }
+
+    /// Makes the struct of the heads that a call returns.
+    #[inline]
+    pub fn of(heads: ChainHeads<u32, u64>) -> Self
+        ensures { result ≡ record { remainders = heads.remainders; compressed = heads.compressed } }
+    {
+        ChainHeadsU32 {
+            remainders: heads.remainders,
+            compressed: heads.compressed,
+        }
+    }
+}
 
 /// Decodes symbols with one table of weights for all symbols.
 #[unsafe(no_mangle)]

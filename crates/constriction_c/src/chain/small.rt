@@ -1,20 +1,52 @@
+// Written by tools/sizes from large.rt.
 //! The chain coder with 16-bit words, 32-bit and 16-bit heads and a precision of 12 bits.
 
-ghost use Rattle.std.specs.Prelude.{map};
+ghost use Rattle.std.specs.Prelude.{◌≡◌, map};
 ghost use Rattle.constriction_c.specs.Small.{SmallChainBegins, SmallChainEnds, SmallChainPuts, SmallChainTakes};
-ghost use Rattle.constriction_c.specs.Small.{small_chain, small_word};
+ghost use Rattle.constriction_c.specs.Small.{small_chain, small_heads, small_word};
 ghost use Rattle.constriction_c.specs.Codes.{Told, answer_by_code};
 ghost use Rattle.constriction_calls.specs.ChainWords.{InBinary, InCompressed, InRemainders};
 ghost use Rattle.constriction_inputs.specs.Coded.{AsIntervals, ByRows, ByWeights, in_family};
 
-use crate::chain::ChainHeadsU16;
 use crate::codes::{code_of, code_without_space};
 use constriction_calls::chain::{
-    decode, encode_intervals_reverse, encode_reverse, from_binary, from_compressed,
+    ChainHeads, decode, encode_intervals_reverse, encode_reverse, from_binary, from_compressed,
     from_remainders, into_binary, into_compressed, into_remainders,
 };
 use constriction_inputs::models::{Families, Rows, Weights};
 use std::alloc::Global;
+
+/// The two heads of a chain coder with 16-bit words, with the fields of [`ChainHeads`].
+#[repr(C)]
+#[derive(Drop, Clone, Copy)]
+pub struct ChainHeadsU16 {
+    pub remainders: u32,
+    pub compressed: u16,
+}
+
+impl ChainHeadsU16 {
+    /// Returns the heads that the calls take.
+    #[inline]
+    pub fn parts(&self) -> ChainHeads<u16, u32>
+        ensures { result ≡ small_heads self.now }
+    {
+        ChainHeads {
+            remainders: self.remainders,
+            compressed: self.compressed,
+        }
+    }
+
+    /// Makes the struct of the heads that a call returns.
+    #[inline]
+    pub fn of(heads: ChainHeads<u16, u32>) -> Self
+        ensures { result ≡ record { remainders = heads.remainders; compressed = heads.compressed } }
+    {
+        ChainHeadsU16 {
+            remainders: heads.remainders,
+            compressed: heads.compressed,
+        }
+    }
+}
 
 /// Decodes symbols with one table of weights for all symbols.
 #[unsafe(no_mangle)]
@@ -182,7 +214,7 @@ pub extern "C" fn constriction_chain_encode_quantized_reverse_u16(
     code_of(answer, needed)
 }
 
-/// Encodes intervals from the last to the first.
+/// Encodes intervals from the last to the first. Interval `i` begins at `lefts[i]`, and its length is `ps[i]`.
 #[unsafe(no_mangle)]
 pub extern "C" fn constriction_chain_encode_intervals_reverse_u16(
     alloc: Global,
@@ -272,7 +304,7 @@ pub extern "C" fn constriction_chain_into_compressed_u16(
     code_of(answer, needed)
 }
 
-/// Appends the words of the remainders' head below its leading 1 to the compressed words.
+/// Appends the words of the remainders' head, without its leading 1, to the compressed words.
 #[unsafe(no_mangle)]
 pub extern "C" fn constriction_chain_into_binary_u16(
     alloc: Global,

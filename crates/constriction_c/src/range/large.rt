@@ -2,8 +2,8 @@
 
 ghost use Rattle.std.specs.Prelude.{◌≡◌, map};
 ghost use Rattle.constriction_c.specs.Large.{large_word, large_state, large_kept, LargeRangeTakes, LargeRangePuts};
+ghost use Rattle.constriction_c.specs.Large.{large_decoder, large_encoder};
 ghost use Rattle.constriction_c.specs.Codes.{Told, answer_by_code};
-ghost use Rattle.constriction_c.specs.Ranges.{large_decoder, large_encoder};
 ghost use Rattle.constriction_inputs.specs.Coded.{AsIntervals, ByRows, ByWeights, in_family};
 ghost use Rattle.constriction_calls.specs.RangeCalls.{IsNew, IsSealed, IsSelfSealed, RangeBegins, RangeMayEnd};
 ghost use Rattle.constriction_calls.specs.RangeCalls.{RangeSeals, RangeSeeks};

@@ -1,9 +1,10 @@
+// Written by tools/sizes from large.rt.
 //! The range coder with 16-bit words, 32-bit states and a precision of 12 bits.
 
 ghost use Rattle.std.specs.Prelude.{◌≡◌, map};
 ghost use Rattle.constriction_c.specs.Small.{small_word, small_state, small_kept, SmallRangeTakes, SmallRangePuts};
+ghost use Rattle.constriction_c.specs.Small.{small_decoder, small_encoder};
 ghost use Rattle.constriction_c.specs.Codes.{Told, answer_by_code};
-ghost use Rattle.constriction_c.specs.Ranges.{small_decoder, small_encoder};
 ghost use Rattle.constriction_inputs.specs.Coded.{AsIntervals, ByRows, ByWeights, in_family};
 ghost use Rattle.constriction_calls.specs.RangeCalls.{IsNew, IsSealed, IsSelfSealed, RangeBegins, RangeMayEnd};
 ghost use Rattle.constriction_calls.specs.RangeCalls.{RangeSeals, RangeSeeks};
@@ -93,7 +94,7 @@ impl RangeDecoderU16 {
     }
 }
 
-/// Makes an encoder without symbols.
+/// Sets `encoder` to an encoder without symbols.
 #[unsafe(no_mangle)]
 pub extern "C" fn constriction_range_encoder_u16(encoder: &mut RangeEncoderU16) -> u32
     ensures done { result ≡ 0 }
@@ -108,7 +109,7 @@ pub extern "C" fn constriction_range_encoder_u16(encoder: &mut RangeEncoderU16) 
     0
 }
 
-/// Calls `encode` with one table of weights for all symbols.
+/// Encodes symbols in order, with one table of weights for all symbols.
 #[unsafe(no_mangle)]
 pub extern "C" fn constriction_range_encode_u16(
     alloc: Global,
@@ -129,7 +130,7 @@ pub extern "C" fn constriction_range_encode_u16(
     code_of(answer, needed)
 }
 
-/// Calls `encode` with a row of `width` weights for each symbol.
+/// Encodes symbols in order, with a row of `width` weights for each symbol.
 #[unsafe(no_mangle)]
 pub extern "C" fn constriction_range_encode_each_u16(
     alloc: Global,
@@ -151,7 +152,7 @@ pub extern "C" fn constriction_range_encode_each_u16(
     code_of(answer, needed)
 }
 
-/// Calls `encode_intervals`.
+/// Encodes intervals in order. Interval `i` begins at `lefts[i]`, and its length is `ps[i]`.
 #[unsafe(no_mangle)]
 pub extern "C" fn constriction_range_encode_intervals_u16(
     alloc: Global,
@@ -171,7 +172,7 @@ pub extern "C" fn constriction_range_encode_intervals_u16(
     code_of(answer, needed)
 }
 
-/// Calls `encode` with models of a family, each with its own location and scale.
+/// Encodes symbols in order, with models of a family, each with its own location and scale.
 #[unsafe(no_mangle)]
 pub extern "C" fn constriction_range_encode_quantized_u16(
     alloc: Global,
@@ -196,7 +197,7 @@ pub extern "C" fn constriction_range_encode_quantized_u16(
     code_of(answer, needed)
 }
 
-/// Calls `into_compressed`, which appends the words held back and a seal.
+/// Appends the words that the encoder holds back, and a seal, to the buffer's first `len` words.
 #[unsafe(no_mangle)]
 pub extern "C" fn constriction_range_into_compressed_u16(
     alloc: Global,
@@ -211,9 +212,9 @@ pub extern "C" fn constriction_range_into_compressed_u16(
     code_of(into_compressed(alloc, &encoder.parts(), words, len), needed)
 }
 
-/// Calls `into_self_delimited`, whose seal any words may follow.
+/// Appends the words that the encoder holds back, and a self-delimiting seal, to the buffer's first `len` words.
 ///
-/// With states of two words this is the seal of `into_compressed`.
+/// For states of two words this is the seal of `into_compressed`.
 #[unsafe(no_mangle)]
 pub extern "C" fn constriction_range_into_self_delimited_u16(
     alloc: Global,
@@ -229,7 +230,7 @@ pub extern "C" fn constriction_range_into_self_delimited_u16(
     code_of(answer, needed)
 }
 
-/// Calls `from_compressed`, which makes a decoder before its first symbol.
+/// Sets `decoder` to a decoder of sealed words, before their first symbol.
 #[unsafe(no_mangle)]
 pub extern "C" fn constriction_range_from_compressed_u16(
     words: &[u16],
@@ -242,7 +243,7 @@ pub extern "C" fn constriction_range_from_compressed_u16(
     0
 }
 
-/// Calls `decode` with one table of weights for all symbols.
+/// Decodes symbols in order, with one table of weights for all symbols.
 #[unsafe(no_mangle)]
 pub extern "C" fn constriction_range_decode_u16(
     alloc: Global,
@@ -261,7 +262,7 @@ pub extern "C" fn constriction_range_decode_u16(
     code_without_space(answer)
 }
 
-/// Calls `decode` with a row of `width` weights for each symbol.
+/// Decodes symbols in order, with a row of `width` weights for each symbol.
 #[unsafe(no_mangle)]
 pub extern "C" fn constriction_range_decode_each_u16(
     alloc: Global,
@@ -281,7 +282,7 @@ pub extern "C" fn constriction_range_decode_each_u16(
     code_without_space(answer)
 }
 
-/// Calls `decode` with models of a family, each with its own location and scale.
+/// Decodes symbols in order, with models of a family, each with its own location and scale.
 #[unsafe(no_mangle)]
 pub extern "C" fn constriction_range_decode_quantized_u16(
     alloc: Global,
@@ -304,7 +305,7 @@ pub extern "C" fn constriction_range_decode_quantized_u16(
     code_without_space(answer)
 }
 
-/// Calls `seek`, which moves a decoder to an encoder's position.
+/// Sets `decoder` to a decoder of the words at an encoder's recorded position.
 #[unsafe(no_mangle)]
 pub extern "C" fn constriction_range_seek_u16(
     decoder: &mut RangeDecoderU16,
@@ -322,7 +323,7 @@ pub extern "C" fn constriction_range_seek_u16(
     code_without_space(answer)
 }
 
-/// Calls `maybe_exhausted`, which writes 1 if the words may have ended where the decoder stands, and 0 if not.
+/// Sets `maybe` to 1 if the words may have ended at the decoder's position, and to 0 if not.
 #[unsafe(no_mangle)]
 pub extern "C" fn constriction_range_maybe_exhausted_u16(
     decoder: &RangeDecoderU16,

@@ -1,3 +1,4 @@
+// Written by tools/sizes from large.rt.
 //! Stores with 16-bit words, 32-bit states and a precision of 12 bits.
 
 ghost use Rattle.std.specs.Prelude.{map};
@@ -9,7 +10,7 @@ use crate::codes::{code_of, code_without_space};
 use constriction_calls::store::{build, chunk};
 use std::alloc::Global;
 
-/// Calls `build`, which writes the words and the index of a store of chunks.
+/// Builds a store of chunks, and writes its words and its index.
 #[unsafe(no_mangle)]
 pub extern "C" fn constriction_store_build_u16(
     alloc: Global,
@@ -36,7 +37,7 @@ pub extern "C" fn constriction_store_build_u16(
     )
 }
 
-/// Calls `chunk`, which decodes a chunk by its entry of the index.
+/// Decodes a chunk of a store into `symbols`, by the chunk's items of the index.
 #[unsafe(no_mangle)]
 pub extern "C" fn constriction_store_chunk_u16(
     alloc: Global,

@@ -9,6 +9,7 @@ ghost use Rattle.constriction_calls.specs.SymbolCalls.{TakesCodewords};
 use crate::codes::{code_of, code_without_space};
 use constriction_calls::symbol::{Tree, decode_queue, decode_stack, encode_queue, encode_stack};
 use constriction_symbol::exp_golomb::ExpGolomb;
+use constriction_words::BitArray;
 use std::alloc::Global;
 
 /// Encodes numbers as a queue of bits, with Exp-Golomb codewords.
@@ -54,7 +55,7 @@ pub extern "C" fn constriction_huffman_encode_queue_u32(
     needed: &mut usize,
 ) -> u32
     ensures { Told result needed.old needed.new (PutsCodewords (λ s. s) large_word 32 AsQueue
-        (OfWeights 32 (map large_word weights.now)) symbols.now record { words = words.old; len = len.old }
+        (OfWeights 32 (map ⟦<u32 as BitArray>⟧.number weights.now)) symbols.now record { words = words.old; len = len.old }
         record { words = words.new; len = len.new }) }
 {
     let answer = encode_queue(alloc, &Tree { weights }, symbols, words, len);
@@ -72,7 +73,7 @@ pub extern "C" fn constriction_huffman_encode_stack_u32(
     needed: &mut usize,
 ) -> u32
     ensures { Told result needed.old needed.new (PutsCodewords (λ s. s) large_word 32 AsStack
-        (OfWeights 32 (map large_word weights.now)) symbols.now record { words = words.old; len = len.old }
+        (OfWeights 32 (map ⟦<u32 as BitArray>⟧.number weights.now)) symbols.now record { words = words.old; len = len.old }
         record { words = words.new; len = len.new }) }
 {
     let answer = encode_stack(alloc, &Tree { weights }, symbols, words, len);
@@ -113,7 +114,7 @@ pub extern "C" fn constriction_huffman_decode_queue_u32(
     words: &[u32],
     symbols: &mut [usize],
 ) -> u32
-    ensures { TakesCodewords (λ s. s) 32 AsQueue (OfWeights 32 (map large_word weights.now))
+    ensures { TakesCodewords (λ s. s) 32 AsQueue (OfWeights 32 (map ⟦<u32 as BitArray>⟧.number weights.now))
         (map large_word words.now) symbols.old symbols.new (answer_by_code result 0) }
 {
     code_without_space(decode_queue(alloc, &Tree { weights }, words, symbols))
@@ -127,7 +128,7 @@ pub extern "C" fn constriction_huffman_decode_stack_u32(
     words: &[u32],
     symbols: &mut [usize],
 ) -> u32
-    ensures { TakesCodewords (λ s. s) 32 AsStack (OfWeights 32 (map large_word weights.now))
+    ensures { TakesCodewords (λ s. s) 32 AsStack (OfWeights 32 (map ⟦<u32 as BitArray>⟧.number weights.now))
         (map large_word words.now) symbols.old symbols.new (answer_by_code result 0) }
 {
     code_without_space(decode_stack(alloc, &Tree { weights }, words, symbols))

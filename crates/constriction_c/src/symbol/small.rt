@@ -1,7 +1,8 @@
-//! Symbol codes with 16-bit words. `needed` is written only if the answer is that the buffer is too short.
+// Written by tools/sizes from large.rt.
+//! Symbol codes with 16-bit words. A function writes `needed` only if the buffer is too short.
 
 ghost use Rattle.std.specs.Prelude.{map};
-ghost use Rattle.constriction_c.specs.Small.{small_word, small_state};
+ghost use Rattle.constriction_c.specs.Small.{small_word};
 ghost use Rattle.constriction_c.specs.Codes.{Told, answer_by_code};
 ghost use Rattle.constriction_calls.specs.SymbolCalls.{AsQueue, AsStack, OfNumbers, OfWeights, PutsCodewords};
 ghost use Rattle.constriction_calls.specs.SymbolCalls.{TakesCodewords};
@@ -9,6 +10,7 @@ ghost use Rattle.constriction_calls.specs.SymbolCalls.{TakesCodewords};
 use crate::codes::{code_of, code_without_space};
 use constriction_calls::symbol::{Tree, decode_queue, decode_stack, encode_queue, encode_stack};
 use constriction_symbol::exp_golomb::ExpGolomb;
+use constriction_words::BitArray;
 use std::alloc::Global;
 
 /// Encodes numbers as a queue of bits, with Exp-Golomb codewords.
@@ -54,7 +56,7 @@ pub extern "C" fn constriction_huffman_encode_queue_u16(
     needed: &mut usize,
 ) -> u32
     ensures { Told result needed.old needed.new (PutsCodewords (λ s. s) small_word 16 AsQueue
-        (OfWeights 32 (map small_state weights.now)) symbols.now record { words = words.old; len = len.old }
+        (OfWeights 32 (map ⟦<u32 as BitArray>⟧.number weights.now)) symbols.now record { words = words.old; len = len.old }
         record { words = words.new; len = len.new }) }
 {
     let answer = encode_queue(alloc, &Tree { weights }, symbols, words, len);
@@ -72,7 +74,7 @@ pub extern "C" fn constriction_huffman_encode_stack_u16(
     needed: &mut usize,
 ) -> u32
     ensures { Told result needed.old needed.new (PutsCodewords (λ s. s) small_word 16 AsStack
-        (OfWeights 32 (map small_state weights.now)) symbols.now record { words = words.old; len = len.old }
+        (OfWeights 32 (map ⟦<u32 as BitArray>⟧.number weights.now)) symbols.now record { words = words.old; len = len.old }
         record { words = words.new; len = len.new }) }
 {
     let answer = encode_stack(alloc, &Tree { weights }, symbols, words, len);
@@ -113,8 +115,8 @@ pub extern "C" fn constriction_huffman_decode_queue_u16(
     words: &[u16],
     symbols: &mut [usize],
 ) -> u32
-    ensures { TakesCodewords (λ s. s) 16 AsQueue (OfWeights 32 (map small_state weights.now)) (map small_word words.now)
-        symbols.old symbols.new (answer_by_code result 0) }
+    ensures { TakesCodewords (λ s. s) 16 AsQueue (OfWeights 32 (map ⟦<u32 as BitArray>⟧.number weights.now))
+        (map small_word words.now) symbols.old symbols.new (answer_by_code result 0) }
 {
     code_without_space(decode_queue(alloc, &Tree { weights }, words, symbols))
 }
@@ -127,8 +129,8 @@ pub extern "C" fn constriction_huffman_decode_stack_u16(
     words: &[u16],
     symbols: &mut [usize],
 ) -> u32
-    ensures { TakesCodewords (λ s. s) 16 AsStack (OfWeights 32 (map small_state weights.now)) (map small_word words.now)
-        symbols.old symbols.new (answer_by_code result 0) }
+    ensures { TakesCodewords (λ s. s) 16 AsStack (OfWeights 32 (map ⟦<u32 as BitArray>⟧.number weights.now))
+        (map small_word words.now) symbols.old symbols.new (answer_by_code result 0) }
 {
     code_without_space(decode_stack(alloc, &Tree { weights }, words, symbols))
 }

@@ -1,7 +1,8 @@
+-- Written by tools/sizes from Answers.antt.
 use Rattle.std.proofs.Common.{w32, ℕ, List, ap}
 use Rattle.std.proofs.lemmas.Int.{to_z-of_z}
 use Rattle.constriction_inputs.specs.Coded.{Coded}
-use Rattle.constriction_c.specs.Chains.{small_heads}
+use Rattle.constriction_c.specs.Small.{small_heads}
 use Rattle.constriction_c.proofs.Told.{chain_puts, family_is}
 use Rattle.constriction_c.proofs.chain.small.constriction_chain_encode_quantized_reverse_u16.Goals as goal
 

@@ -1,3 +1,4 @@
+-- Written by tools/sizes from Answers.antt.
 use Rattle.std.proofs.Common.{refl}
 use Rattle.constriction_c.proofs.Told.{takes_told}
 use Rattle.constriction_c.proofs.range.small.constriction_range_decode_u16.Goals as goal

@@ -1,3 +1,4 @@
+-- Written by tools/sizes from Answers.antt.
 use Rattle.std.proofs.Common.{w32}
 use Rattle.std.proofs.lemmas.Int.{to_z-of_z}
 use Rattle.constriction_c.proofs.Told.{family_is, puts_told}
