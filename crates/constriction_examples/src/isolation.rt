@@ -37,7 +37,7 @@ type Symbols = (usize, Vec<usize>);
 /// Decodes the words with a stack coder. The first symbol has its own model.
 fn by_stack(alloc: Global, first: &Table, later: &[Table]) -> Result<Symbols> {
     let Ok(mut coder) = SmallAnsCoder::from_compressed(WORDS.to_vec(alloc)?) else {
-        bail!("words that end with a zero word are no coder's");
+        bail!("no coder exports words that end with a zero word");
     };
     let symbol = coder.decode_symbol(first)?;
     let mut rest = Vec::new(alloc);

@@ -114,7 +114,7 @@ pub fn run(rt: &impl Print, alloc: Global) -> Result<()> {
     let words = coder.into_compressed()?; // a `Vec<u32>`
 
     let Ok(mut coder) = DefaultAnsCoder::from_compressed(words) else {
-        bail!("words that end with a zero word are no coder's");
+        bail!("no coder exports words that end with a zero word");
     };
     for _ in 0..3 {
         let symbol = coder.decode_symbol(&table)?;

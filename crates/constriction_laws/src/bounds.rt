@@ -45,7 +45,9 @@ pub fn stack_net_bound()
         IsNetBounded w s acts old new }
 {}
 
-/// Bounds the number of sealed words of a new range encoder, if there are at least two words.
+/// Bounds the number of words of a range encoder from above, if there are at least two words with the seal.
+///
+/// The encoder starts from the initial interval and takes `steps`.
 pub fn range_bound()
     ensures { (w s : ℕ) (steps : List Step) → IsSizes w s → AreSteps w steps →
         2 ≤ length (sealed w s (run w s steps (initial s))) →

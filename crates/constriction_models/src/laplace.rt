@@ -7,7 +7,7 @@ ghost use Rattle.constriction_models.specs.Laplace.{laplace_values, laplace_are_
 use crate::laplace::table::{GUESSES, VALUES};
 use crate::location_scale::{LocationScale, StandardDistribution};
 
-/// The Laplace distribution of location 0 and scale 1, cut off 32 scales from the middle.
+/// The Laplace distribution with location 0 and scale 1, truncated at -32 and 32.
 ///
 /// # Examples
 ///
@@ -17,7 +17,7 @@ use crate::location_scale::{LocationScale, StandardDistribution};
 #[derive(Clone, Copy)]
 pub struct StandardLaplace;
 
-/// The Laplace distribution of a location and a scale.
+/// The Laplace distribution with a location and a scale.
 ///
 /// Its density is proportional to `exp(-|x - location| / scale)`.
 ///

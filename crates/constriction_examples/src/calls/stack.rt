@@ -86,7 +86,7 @@ fn hand_on(rt: &impl Print, alloc: Global, table: &Table) -> Result<()> {
 
     let words = [1u32, 2, 3];
     let Ok(mut borrowed) = DefaultAnsCoder::from_compressed_slice(words.as_slice()) else {
-        bail!("words that end with a zero word are no coder's");
+        bail!("no coder exports words that end with a zero word");
     };
     let symbol = borrowed.decode_symbol(table)?;
     println!(rt; "{symbol}")?;

@@ -11,7 +11,9 @@ use constriction_base::backends::Holds;
 use constriction_base::model::EntropyModel;
 use constriction_words::BitArray;
 
-/// Decoding the sealed words of a new encoder returns its symbols, if a state has two words. Any words may follow.
+/// Decoding returns the encoded symbols whatever words follow the seal, if `State` is two words wide.
+///
+/// The encoder starts from the initial interval.
 pub fn symbols_come_back_before_others<Symbol>()
     ensures { (w s : ℕ) (items : List (Item Symbol)) (last : Run) (rest : List ℕ) → IsSizes w s → s / w ≡ 2 →
         AreModels w items → AreWords w rest → NarrowsAll w s items (initial s) last →

@@ -39,14 +39,14 @@ pub fn flagged_symbols_come_back()
     symbols_come_back_whatever_follows::<usize>()
 }
 
-/// Decodes `amt` symbols from a switch, with the model `first` up to the flag, and the model `second` after it.
+/// Decodes `amt` symbols from a switch, with the model `first` up to and including the flag, and then with `second`.
 ///
 /// Calls `next_symbol`.
 ///
 /// # Errors
 ///
-/// After an error, the switch is positioned after the symbols returned so far, if the backend's `is_list` holds. It has
-/// switched if the flag was among these symbols.
+/// If the backend's `is_list` holds, then after an error the switch is positioned after the symbols that `next_symbol`
+/// returned. It has switched to `second` if the flag was among them.
 ///
 /// - `Refused(error)`: the switch returned this error. It is `InvalidData` only if the words don't encode `amt`
 ///   symbols.

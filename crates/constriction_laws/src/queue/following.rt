@@ -42,9 +42,10 @@ pub fn symbols_come_back_whatever_follows<Symbol>()
     decodes_undo_encodes::<Symbol>()
 }
 
-/// With fewer zero words after the digits, some words may not follow.
+/// A seal with fewer zero words than the least sufficient number isn't self-delimiting.
 ///
-/// If those words follow, decoding doesn't return the symbols.
+/// There are words `rest` such that decoding the sealed words followed by `rest` doesn't return the symbols. There is at
+/// least one symbol.
 pub fn fewer_zero_words_hold_less<Symbol>()
     ensures { (w s count fewer : ℕ) (first : Item Symbol) (others : List (Item Symbol)) (last : Run) → IsSizes w s →
         AreModels w (first ∷ others) → NarrowsAll w s (first ∷ others) (initial s) last →

@@ -85,7 +85,10 @@ fn lesser(most: u32, all: u32) -> u32
     if most < all { most } else { all }
 }
 
-/// Looks up where the highest bits of a word lead.
+/// Looks up the node of the decoder's tree that the highest bits of `bits` lead to.
+///
+/// `places` is the table of first bits, with `2^(most + 1)` entries. The result holds the node or the symbol, and the
+/// number of bits taken, at most `Word::BITS`.
 #[inline]
 pub fn place_of<Word: BitArray>(places: &[Place], most: u32, bits: Word) -> Place
     requires some { 0 < most }
