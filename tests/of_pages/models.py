@@ -53,7 +53,7 @@ def definition(page):
             n, bits = dice.choice((2, 9, 101, 256, 1000)), dice.choice((12, 24))
             least, k = dice.randrange(-(2**31), 2**31 - n) >> dice.randrange(32), dice.randrange(1, n)
             scale = 1 + (dice.randrange(2**32 - 1) >> dice.randrange(32))
-            location = (least + dice.randrange(n)) * models.UNIT + dice.randrange(-(2**33), 2**33)
+            location = (least + k) * models.UNIT + dice.randrange(-9 * scale, 9 * scale)
             found = said["start"](table, width, location, scale, least, n, bits, k)
             wanted = models.starts(family, location, scale, least, n, bits)[k]
             judge(found == wanted, f"{page.name}: {name}, {location}, {scale}, {least}, {n}, {bits}, {k}: {found}")
