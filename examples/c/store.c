@@ -13,7 +13,7 @@
        for each block the three numbers of its entry in the index: position, lower, range
        the words of the range coder, two in each number
 
-   A store of more symbols takes a range encoder: encode each block, and note its position before. */
+   For more symbols, encode each block by constriction_range_encode_u32, and note the encoder's position before it. */
 #include "constriction.h"
 
 #include <stdio.h>
