@@ -2,9 +2,9 @@
    Huffman and Exp-Golomb codewords. constriction_models.h, which this file includes, has models with whole-number
    parameters, such as a Gaussian with its own mean and deviation for each symbol.
 
-   For C99 and later, and for C++. Link with the static library build/libconstriction.a or the shared object
-   build/libconstriction.so, which tools/library makes. docs/C_AND_PYTHON.md says what is proved of these functions.
-   The text of this file isn't proved.
+   For C99 and later, and for C++. Link with the static library libconstriction.a or the shared object
+   libconstriction.so. The page C_AND_PYTHON.md says how, and what is proved of these functions. The text of this
+   file isn't proved.
 
    SIZES. Each function but constriction_version comes in two sizes. The last part of its name says which:
 

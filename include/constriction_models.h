@@ -20,7 +20,7 @@
 
    TABLE. Each symbol has a weight of 1, and the distribution shares out the rest of 2^24 (2^12). The share of the
    whole number x is the part of the distribution between x - 1/2 and x + 1/2. The parts outside the range go to its
-   two ends. So every symbol of the range can be coded. docs/MODELS.md has the exact definition.
+   two ends. So every symbol of the range can be coded. The page MODELS.md has the definition, to the last unit.
 
    There are as many locations and as many scales as symbols. If several errors apply, the result is the first of
    these: WRONG_LENGTH (another number of them, or as in the coder's functions); WRONG_INTERVAL (the range);

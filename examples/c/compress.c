@@ -3,8 +3,8 @@
        compress ans|range FILE PACKED        compresses FILE
        compress -d PACKED FILE               brings it back
 
-   The model is how often each byte value occurs in the file, scaled to weights that add up to 2^24, at least 1 for each value that
-   occurs. PACKED holds numbers of 32 bits, the lowest byte first:
+   The model is how often each byte value occurs in the file, as weights that add up to 2^24. PACKED holds numbers of
+   32 bits, the lowest byte first:
 
        the letters CTR1 of a file by the range coder, or CTA1 of one by the stack coder
        the length of FILE in bytes, its lower half and then its upper one
@@ -31,16 +31,8 @@ static void *room_for(size_t count, size_t size) {
     return room;
 }
 
-static const char *text_of(uint32_t result) {
-    static const char *const texts[] = {
-        "done", "impossible symbol", "wrong weights", "wrong interval", "wrong length",
-        "no space", "out of memory", "invalid data", "out of data",
-    };
-    return result < sizeof texts / sizeof *texts ? texts[result] : "unknown result";
-}
-
 static void want_done(uint32_t result) {
-    if (result != CONSTRICTION_DONE) fail(text_of(result));
+    if (result != CONSTRICTION_DONE) fail(constriction_result_text(result));
 }
 
 static unsigned char *read_file(const char *path, size_t *length) {
@@ -61,24 +53,6 @@ static unsigned char *read_file(const char *path, size_t *length) {
 static void write_file(const char *path, const unsigned char *bytes, size_t length) {
     FILE *file = fopen(path, "wb");
     if (!file || fwrite(bytes, 1, length, file) != length || fclose(file)) fail("cannot write the file");
-}
-
-/* Counts as weights that add up to 2^24, at least 1 for each byte that occurs. What rounding leaves goes to the most frequent one. */
-static void scale(const size_t *counts, size_t length, uint32_t *weights) {
-    uint32_t left = UINT32_C(1) << CONSTRICTION_PRECISION_U32;
-    size_t most = 0;
-    for (size_t i = 0; i < KINDS; i++) {
-        if (counts[i] > counts[most]) most = i;
-        left -= counts[i] > 0;
-    }
-    uint32_t free_weight = left;
-    for (size_t i = 0; i < KINDS; i++) {
-        uint32_t share = length ? (uint32_t)((double)counts[i] / (double)length * free_weight) : 0;
-        if (share > left) share = left;
-        weights[i] = (counts[i] > 0) + share;
-        left -= share;
-    }
-    weights[most] += left;
 }
 
 /* The words of these symbols. There are fewer than 2 + symbols. */
@@ -111,16 +85,18 @@ static void decode(int by_range, const uint32_t *weights, const uint32_t *words,
 }
 
 static void compress(int by_range, const char *from, const char *to) {
-    size_t length, counts[KINDS] = {0};
+    size_t length;
+    uint64_t counts[KINDS] = {0};
     unsigned char *bytes = read_file(from, &length);
     size_t *symbols = room_for(length, sizeof *symbols);
     for (size_t i = 0; i < length; i++) counts[symbols[i] = bytes[i]]++;
+    if (!length) counts[0] = 1; /* weights of an empty file, which has no symbol */
 
     uint32_t *packed = room_for(HEADER + 2 + length, sizeof *packed), *weights = packed + 3, *words = packed + HEADER;
     packed[0] = by_range ? RANGE_FILE : ANS_FILE;
     packed[1] = (uint32_t)length;
     packed[2] = (uint32_t)((uint64_t)length >> 32);
-    scale(counts, length, weights);
+    want_done(constriction_weights_of_counts_u32(counts, KINDS, weights, KINDS));
     size_t total = HEADER + encode(by_range, weights, symbols, length, words, 2 + length);
 
     unsigned char *out = room_for(total, 4);

@@ -2,10 +2,18 @@
 
 from __future__ import annotations
 
+import random
+import re
+from decimal import Decimal
+from fractions import Fraction
+
 import definitions_of_models as models
-from judging import Page, judge, series
+import distributions
+from judging import Page, judge, read, series
 
 LEAST, GREATEST, PRECISION = -2, 2, 8
+# The worked start of the page: a family, its parameters, the range, the bits and a symbol.
+WORKED = "Logistic", -1133972, 701962, -66, 189, 24, -41
 
 
 def table(page):
@@ -21,6 +29,65 @@ def table(page):
         half = f"{LEAST + k - 0.5}" if 0 < k < count else ""
         weight = starts[k + 1] - starts[k] if k < count else ""
         page.row("end" if k == count else LEAST + k, half, below, shared, starts[k], weight)
+
+
+def as_the_page_says():
+    """What the page's program defines, and the tables of its families, each with its width."""
+    said = {}
+    exec(re.search(r"^```python\n(.*?)^```$", read("docs/MODELS.md"), flags=re.M | re.S)[1], said)
+    return said, {name: (said["values"](*it), it[1]) for name, it in said["FAMILIES"].items()}
+
+
+def definition(page):
+    """The page's program gives the tables and the starts of the definitions."""
+    said, tables = as_the_page_says()
+    judge([*map(str.lower, tables)] == [*models.FAMILIES], f"{page.name}: the families")
+    dice = random.Random(1)
+    for name, (table, width) in tables.items():
+        family = name.lower()
+        judge(table == models.values(family), f"{page.name}: the values of {name}")
+        reach, steps = distributions.REACH[family], distributions.STEPS[family]
+        judge(width == 2 * reach, f"{page.name}: the width of {name}")
+        page.has(f"| `{name}` | -{reach}, {reach} | {steps} |")
+        for _ in range(300):
+            n, bits = dice.choice((2, 9, 101, 256, 1000)), dice.choice((12, 24))
+            least, k = dice.randrange(-(2**31), 2**31 - n) >> dice.randrange(32), dice.randrange(1, n)
+            scale = 1 + (dice.randrange(2**32 - 1) >> dice.randrange(32))
+            location = (least + k) * models.UNIT + dice.randrange(-9 * scale, 9 * scale)
+            found = said["start"](table, width, location, scale, least, n, bits, k)
+            wanted = models.starts(family, location, scale, least, n, bits)[k]
+            judge(found == wanted, f"{page.name}: {name}, {location}, {scale}, {least}, {n}, {bits}, {k}: {found}")
+    far = 2**31 * models.UNIT + 2**63 + 32 * (2**32 - 1)
+    page.has(f"`far` can need {far.bit_length() + 1} bits")
+
+
+def worked(page):
+    """The row of the worked start, and what exact straight lines would give."""
+    name, location, scale, least, greatest, bits, symbol = WORKED
+    table, width, n = models.values(name.lower()), 2 * distributions.REACH[name.lower()], greatest - least + 1
+    place, rate = symbol * models.UNIT - models.UNIT // 2, 2**63 // width // scale
+    far = place - location + width * scale // 2
+    step, part = divmod(far * rate // 2**36, models.UNIT)
+    below = models.below(name.lower(), location, scale, place)
+    start = models.starts(name.lower(), location, scale, least, n, bits)[symbol - least]
+    over = f"over the symbols {least} to {greatest} at {bits} bits"
+    page.has(f"The {name.lower()} distribution of location {location} and scale {scale}, {over}")
+    entries = f"{table[step]}, {table[step + 1]}"
+    page.row(symbol, place, far, rate, f"{step}, {part}", entries, below, start)
+    steps = Fraction(2048 * far, width * scale)
+    exact = table[step] + (table[step + 1] - table[step]) * (steps - step)
+    page.has(f"would begin at {(2**bits - n) * exact // 2**32 + symbol - least}.")
+
+
+def margin(page):
+    """How far the values are from where their rounding turns."""
+    apart = []
+    for family, formula in distributions.FORMULAS.items():
+        for k in range(2049):
+            exact = formula(Decimal(k) / distributions.STEPS[family] - distributions.REACH[family]) * models.ALL
+            apart.append(abs(exact % 1 - Decimal("0.5")))
+    digits = f"{int(min(apart) * 10000) / 10000:.4f}"
+    page.has(f"none lies within {digits} of where its rounding turns")
 
 
 def histograms(page):
@@ -42,6 +109,9 @@ def units(page, *texts):
 def test():
     page = Page("docs/MODELS.md")
     table(page)
+    definition(page)
+    worked(page)
+    margin(page)
     histograms(page)
     arrays = "{{{means}}};", "{{{deviations}}};"
     units(page, "means[] = " + arrays[0], "deviations[] = " + arrays[1], f"symbols[] = {{{{{7 + 100}, {-20 + 100}}}}};")

@@ -78,10 +78,9 @@ def crates(page):
 
 
 def commands(readme, program):
-    """The program's commands, by the coders' definitions: the first two in README.md, the others in docs/PROGRAM.md."""
+    """The program's commands, by the coders' definitions: all in docs/PROGRAM.md, and the first two in README.md too."""
 
-    def prints(command, text, answer):
-        page = readme if command.startswith("ans-") else program
+    def prints(command, text, answer, page=program):
         page.has(f"printf '{text}\\n' | ./constriction {command} # {answer}")
 
     def shown(numbers):
@@ -89,8 +88,10 @@ def commands(readme, program):
 
     readme.has(f"first 0 becomes 3, and a second time 3 becomes {3 // 2 * 2**24 + 3 + 3 % 2}")
     words = shown(by.ans_words([[3, 2, 16777211]] * 2, [1, 1]))
-    prints("ans-encode", "3 2 16777211\\n1 1", f"prints {words}")
-    prints("ans-decode", f"3 2 16777211\\n2 {words}", "prints 1 1")
+    prints("ans-encode", "3 2 16777211\\n1 1", f"prints {words}", readme)
+    prints("ans-decode", f"3 2 16777211\\n2 {words}", "prints 1 1", readme)
+    prints("ans-encode", "3 2 16777211\\n1 1", f"{words}: one word for both symbols")
+    prints("ans-decode", f"3 2 16777211\\n2 {words}", "1 1")
     words = shown(by.range_words(HALVES, [1]))
     prints("range-encode", "8388608 8388608\\n1", f"{words}: the upper half of the interval")
     prints("range-decode", f"8388608 8388608\\n1 {words}", "1")
@@ -109,9 +110,36 @@ def commands(readme, program):
     prints("huffman", "2 2 4 1 1", f"{shown(by.huffman_codewords([2, 2, 4, 1, 1]))}: a codeword for each weight")
 
 
+def faults(program):
+    """docs/PROGRAM.md has a row for each command, and for each fault but the one that can come at any point."""
+    crate = "crates/constriction_commands/src"
+    names = re.findall(r'"([\w-]+)" => Some\(Command::', read(f"{crate}/commands.rt"))
+    lines = re.findall(r'b"((?:[^"\\]|\\.)*)"', read(f"{crate}/fault.rt").partition("pub fn line")[2], flags=re.S)
+    lines = [re.sub(r"\\\n\s*", "", line).removesuffix("\\n") for line in lines]
+    text = read(program.name)
+    judge(len(names) >= 8 and len(lines) >= 15, f"{program.name}: the commands and the faults of the program")
+    for name in names:
+        judge(f"\n| `{name}` | " in text, f"{program.name}: no row of the command {name}")
+    for line in lines:
+        row = f"`{line}` can come at any point" if line == "out of memory" else f"\n| `{line}` | "
+        judge(row in text, f"{program.name}: no row of the fault {line}")
+    rows = text.partition("| Fault |")[2]
+    for command in re.findall(r"`([a-z]+(?:-[a-z]+)?)`", " ".join(re.findall(r"^\|[^|]*\|([^|]*)\|", rows, flags=re.M))):
+        judge(command in names, f"{program.name}: a fault of the unknown command {command}")
+
+
+def trial_first():
+    """README.md's first command is a trial, and so comes before all that proves something."""
+    first = re.search(r"^[^#\n]*\./constriction( --trial)?", read("README.md").partition("\n```sh\n")[2], flags=re.M)
+    judge(first and first[1], "README.md: the first command isn't a trial")
+
+
 def test():
     page = Page("README.md")
-    commands(page, Page("docs/PROGRAM.md"))
+    program = Page("docs/PROGRAM.md")
+    commands(page, program)
+    faults(program)
+    trial_first()
     crates(page)
     speed(page)
     gate()

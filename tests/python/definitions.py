@@ -1,5 +1,6 @@
-"""The coders by their definitions over whole numbers and lists, slow and plain: words of 32 bits, states of 64, a precision of 24.
+"""The coders by their definitions over whole numbers and lists, slow and plain.
 
+Words have 32 bits, states 64, and the precision is 24 bits, until at_size sets others.
 Nothing of the library is used here.
 """
 
@@ -9,6 +10,13 @@ import random
 
 WORD, PRECISION = 1 << 32, 1 << 24
 STATE, LEAST = WORD * WORD, WORD
+
+
+def at_size(size: int, precision: int) -> None:
+    """Sets words of so many bits, states of two words, and a precision."""
+    global WORD, PRECISION, STATE, LEAST
+    WORD, PRECISION = 1 << size, 1 << precision
+    STATE, LEAST = WORD * WORD, WORD
 
 
 def ans_words(tables: list[list[int]], symbols: list[int]) -> list[int]:
@@ -26,14 +34,44 @@ def ans_words(tables: list[list[int]], symbols: list[int]) -> list[int]:
     return words
 
 
-def range_words(tables: list[list[int]], symbols: list[int]) -> list[int]:
-    """The words of a range coder after these symbols: the digits of one growing number."""
+def ans_decode(tables: list[list[int]], words: list[int]) -> tuple[list[int], list[int]]:
+    """The symbols that a stack coder decodes, each under its own weights, and the words left. The last word isn't 0."""
+    words, head, symbols = list(words), 0, []
+    while words and head < LEAST:
+        head = head * WORD + words.pop()
+    for weights in tables:
+        quantile = head % PRECISION
+        symbol = max(i for i in range(len(weights)) if weights[i] and sum(weights[:i]) <= quantile)
+        head = head // PRECISION * weights[symbol] + quantile - sum(weights[:symbol])
+        if head < LEAST and words:
+            head = head * WORD + words.pop()
+        symbols.append(symbol)
+    while head:
+        words.append(head % WORD)
+        head //= WORD
+    return symbols, words
+
+
+def range_interval(tables: list[list[int]], symbols: list[int]) -> tuple[int, int, int]:
+    """The interval of these symbols, as its start and its length, and how many words it was shifted by."""
     start, length, shifts = 0, STATE - 1, 0
     for weights, symbol in zip(tables, symbols):
         unit = length // PRECISION
         start, length = start + unit * sum(weights[:symbol]), unit * weights[symbol]
         if length < LEAST:
             start, length, shifts = start * WORD, length * WORD, shifts + 1
+    return start, length, shifts
+
+
+def range_position(tables: list[list[int]], symbols: list[int]) -> tuple[int, int, int]:
+    """Where a range encoder is after these symbols: a number of words, and the interval's beginning and length."""
+    start, length, shifts = range_interval(tables, symbols)
+    return shifts, start % STATE, length
+
+
+def range_words(tables: list[list[int]], symbols: list[int]) -> list[int]:
+    """The words of a range coder after these symbols: the digits of one growing number."""
+    start, length, shifts = range_interval(tables, symbols)
     if length == STATE - 1:
         return []
     sealed = -(-start // LEAST)
@@ -67,7 +105,7 @@ def chain_split(tables: list[list[int]], words: list[int]) -> tuple[list[int], l
 
 
 def golomb_codeword(number: int) -> str:
-    """The Exp-Golomb codeword of a number below 2^32."""
+    """The Exp-Golomb codeword of a number."""
     bits = format(number + 1, "b")
     return "0" * (len(bits) - 1) + bits
 
@@ -87,7 +125,8 @@ def huffman_codewords(weights: list[int]) -> list[str]:
 
 def queue_words(bits: str) -> list[int]:
     """The words of a queue of bits, which fill each from its lowest bit up."""
-    return [int(bits[i : i + 32][::-1], 2) for i in range(0, len(bits), 32)]
+    size = WORD.bit_length() - 1
+    return [int(bits[i : i + size][::-1], 2) for i in range(0, len(bits), size)]
 
 
 def stack_words(bits: str) -> list[int]:
