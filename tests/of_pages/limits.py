@@ -21,7 +21,7 @@ LIMITS = {
     ("edits/README.md",): 800,
     ("edits/README.md", "bench/README.md"): 1500,
     ("docs/HEADLINE.md",): 400,
-    ("docs/HEADLINE.md", "docs/PROGRAM.md"): 1200,
+    ("docs/HEADLINE.md", "docs/PROGRAM.md"): 900,
     (
         "docs/ANS.md",
         "docs/RANGE.md",
