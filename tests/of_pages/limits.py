@@ -16,7 +16,7 @@ LIMITS = {
     ("docs/TIMES.md", "docs/GATE.md", "docs/MACHINE_CODE.md"): 2400,
     ("docs/DIFFERENCES.md",): 2200,
     ("docs/GLOSSARY.md", "docs/LABELS.md"): 2400,
-    ("docs/C_AND_PYTHON.md", "python/README.md"): 2500,
+    ("docs/C_AND_PYTHON.md", "python/README.md"): 2200,
     ("docs/CALLING.md", "docs/EXAMPLES.md"): 1500,
     ("edits/README.md",): 800,
     ("edits/README.md", "bench/README.md"): 1500,
