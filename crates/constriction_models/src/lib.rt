@@ -10,6 +10,8 @@
 //! - [`location_scale`]: `LocationScale`, a standard distribution moved to a location and stretched by a scale.
 //! - [`gaussian`], [`laplace`], [`logistic`]: the distributions `Gaussian`, `Laplace` and `Logistic`.
 //! - [`families`]: `Family`, one of these three, chosen at run time.
+//! - [`mixture`]: `Mixture`, the weighted mean of distributions, each a `Component`. `MixtureError` is the error of
+//!   components that make none.
 //! - [`uniform`], [`bernoulli`]: `UniformModel`, whose symbols have equal weights, and `BernoulliModel`, which has two
 //!   symbols.
 //! - [`counts`]: `weights_of_counts`, weights in proportion to counts.

@@ -147,11 +147,35 @@ impl<'a, D: CumulativeDistribution> CumulativeDistribution for Mixture<'a, D> {
         self.mean(sum)
     }
 
+    /// Returns the weighted mean of the components' places, which lies between the least and the greatest of them.
+    ///
+    /// A place that lies more than 32768 symbols from the first component's counts as one that far away.
     #[inline(always)]
     fn guess(&self, below: u64) -> i64 {
-        for component in self.components {
-            return component.distribution.guess(below);
+        let middle = self.components[0].distribution.guess(below);
+        let mut all = 0u128;
+        for one in self.components {
+            let above = offset(one.distribution.guess(below), middle);
+            all = all.wrapping_add(one.weight as u128 * above as u128);
         }
+        let mean = self.mean(all.min(self.total as u128 * 4294967296));
+        middle
+            .saturating_sub(2147483648)
+            .saturating_add(mean as i64)
+    }
+}
+
+/// Returns how far a place lies above one that is 32768 symbols below the middle, at least 0 and at most twice as far.
+#[inline(always)]
+fn offset(place: i64, middle: i64) -> u64
+    ensures { result ≤ 4294967296 }
+{
+    let from = place.saturating_sub(middle);
+    if from < -2147483648 {
         0
+    } else if from > 2147483648 {
+        4294967296
+    } else {
+        (from + 2147483648) as u64
     }
 }
