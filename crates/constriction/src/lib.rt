@@ -87,7 +87,7 @@
 //!   [`stream::model::SupportError`] is the error of a number of symbols that makes no model.
 //! - [`stream::model::weights_of_counts`]: the weights of a histogram. [`stream::model::CountsError`] is the error of
 //!   counts that make none.
-//! - [`stream::model::ContiguousLookupDecoderModel`]: a model with a list of the symbols of all quantiles.
+//! - [`stream::model::ContiguousLookupDecoderModel`]: a model with a row for each quantile.
 //!   [`stream::model::LookupError`] is the error of a model that makes none.
 //!
 //! ## [`stream::stack`]: asymmetric numeral systems, where the last symbol comes first

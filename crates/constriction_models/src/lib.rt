@@ -13,7 +13,7 @@
 //! - [`uniform`], [`bernoulli`]: `UniformModel`, whose symbols have equal weights, and `BernoulliModel`, which has two
 //!   symbols.
 //! - [`counts`]: `weights_of_counts`, weights in proportion to counts.
-//! - [`lookup`]: `ContiguousLookupDecoderModel`, a model with a list of each quantile's symbol.
+//! - [`lookup`]: `ContiguousLookupDecoderModel`, a model with a row for each quantile.
 //! - [`errors`]: `SupportError`, the error where the number of symbols makes no model.
 #![tactic(auto)]
 
