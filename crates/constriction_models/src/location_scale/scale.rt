@@ -2,7 +2,6 @@
 
 ghost use Rattle.std.specs.Prelude.{◌≡◌, ◌/◌, ◌↔◌, IfSome, IsNone};
 ghost use Rattle.constriction_models.specs.Interpolation.{scaled};
-ghost use Rattle.constriction_models.specs.Scales.{scale_number};
 
 use crate::distribution::CumulativeDistribution;
 use crate::location_scale::{LocationScale, StandardDistribution};
@@ -33,6 +32,8 @@ pub struct Scale<D: StandardDistribution> {
 }
 
 impl<D: StandardDistribution> Scale<D> {
+    ghost use Rattle.constriction_models.specs.Scales.{scale_number};
+
     /// Creates a scale, or returns `None` if the number is 0.
     ///
     /// The number is a multiple of `2^-16`. The type has an example.
