@@ -81,8 +81,8 @@
 //! - [`stream::model::LeakyQuantizer`]: quantizes a distribution in whole numbers, with cuts at half symbols. Its table
 //!   ([`stream::model::LeakilyQuantizedDistribution`]) is the same on every machine.
 //! - [`stream::model::Gaussian`], [`stream::model::Laplace`], [`stream::model::Logistic`]: distributions with a
-//!   location and a scale ([`stream::model::LocationScale`]). You can define others with
-//!   [`stream::model::CumulativeDistribution`].
+//!   location and a scale ([`stream::model::LocationScale`]). [`stream::model::Scale`] makes them without a division.
+//!   You can define others with [`stream::model::CumulativeDistribution`].
 //! - [`stream::model::UniformModel`], [`stream::model::BernoulliModel`]: equal symbols, and two symbols.
 //!   [`stream::model::SupportError`] is the error of a number of symbols that makes no model.
 //! - [`stream::model::weights_of_counts`]: the weights of a histogram. [`stream::model::CountsError`] is the error of
@@ -213,7 +213,7 @@ pub mod stream {
         pub use constriction_models::errors::SupportError;
         pub use constriction_models::gaussian::{Gaussian, StandardNormal};
         pub use constriction_models::laplace::{Laplace, StandardLaplace};
-        pub use constriction_models::location_scale::{LocationScale, StandardDistribution};
+        pub use constriction_models::location_scale::{LocationScale, Scale, StandardDistribution};
         pub use constriction_models::logistic::{Logistic, StandardLogistic};
         pub use constriction_models::lookup::{ContiguousLookupDecoderModel, LookupError};
         pub use constriction_models::quantizer::{LeakilyQuantizedDistribution, LeakyQuantizer};

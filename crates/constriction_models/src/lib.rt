@@ -7,7 +7,8 @@
 //!   it never falls.
 //! - [`quantizer`]: `LeakyQuantizer`, which cuts such a function halfway between symbols, and the models that it
 //!   makes: `LeakilyQuantizedDistribution`, and `IndexedDistribution`, whose symbols are indices of type `usize`.
-//! - [`location_scale`]: `LocationScale`, a distribution from the table of a standard one, a location and a scale.
+//! - [`location_scale`]: `LocationScale`, a distribution from the table of a standard one, a location and a scale;
+//!   `Scale`, which makes such distributions without a division.
 //! - [`gaussian`], [`laplace`], [`logistic`]: the distributions `Gaussian`, `Laplace` and `Logistic`.
 //! - [`families`]: `Family`, one of these three, chosen at run time.
 //! - [`uniform`], [`bernoulli`]: `UniformModel`, whose symbols have equal weights, and `BernoulliModel`, which has two
