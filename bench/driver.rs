@@ -6,12 +6,14 @@
 //!
 //! Names: coder, operation, sizes of words and states with the precision, model. Models: `table`
 //! (a table of weights), `bucket` (4096 start symbols and a short search upward), `lookup` (the
-//! symbol of each quantile listed), `flat` (equal weights, no table at all).
+//! symbol of each quantile listed), `rows` (the symbol and the interval of each quantile), `flat` (equal
+//! weights, no table at all).
 
 mod bits;
 mod chain;
 mod codewords;
 mod input;
+mod rows;
 
 use input::{COUNT, Random, drawn_symbols, weights};
 use std::{
@@ -441,6 +443,7 @@ fn main() {
     let small = library!(u16, "ans", "u16u32p12", 12, "lookup");
     cases(&bench, &large, &drawn, &equal);
     cases(&bench, &small, &drawn, &equal);
+    rows::cases(&bench, &drawn);
     reloading(&bench, &copies!(u32, "u32u64p24"));
     reloading(&bench, &copies!(u16, "u16u32p12"));
     let large = library!(u32, "range", "u32u64p24", 24, "bucket");

@@ -133,7 +133,7 @@ fn main() {
     let table = small::Table::new(&weights_12);
     let lookup = small::Lookup::new(&weights_12);
     let flat = black_box(small::Flat::new(8));
-    ans_cases!(bench, u16, u32, "u16u32p12", &drawn, encode "table": &table, decode "table": &table, decode "lookup": &lookup);
+    ans_cases!(bench, u16, u32, "u16u32p12", &drawn, encode "table": &table, decode "table": &table, decode "lookup": &lookup, decode "rows": &lookup);
     ans_cases!(bench, u16, u32, "u16u32p12", &equal, encode "flat": &flat, decode "flat": &flat);
     range_cases!(bench, u16, u32, "u16u32p12", &drawn, encode "table": &table, decode "table": &table, decode "lookup": &lookup);
     range_cases!(bench, u16, u32, "u16u32p12", &equal, encode "flat": &flat, decode "flat": &flat);

@@ -81,15 +81,15 @@
 //! - [`stream::model::LeakyQuantizer`]: quantizes a distribution in whole numbers, with cuts at half symbols. Its table
 //!   ([`stream::model::LeakilyQuantizedDistribution`]) is the same on every machine.
 //! - [`stream::model::Gaussian`], [`stream::model::Laplace`], [`stream::model::Logistic`]: distributions with a
-//!   location and a scale ([`stream::model::LocationScale`]). You can define other distributions with
-//!   [`stream::model::CumulativeDistribution`].
+//!   location and a scale ([`stream::model::LocationScale`]). [`stream::model::Scale`] makes them without a division.
+//!   You can define other distributions with [`stream::model::CumulativeDistribution`].
 //! - [`stream::model::Mixture`]: the weighted mean of distributions, each a [`stream::model::Component`].
 //!   [`stream::model::MixtureError`] is the error of components that make no mixture.
 //! - [`stream::model::UniformModel`], [`stream::model::BernoulliModel`]: models of equally probable symbols, and of two
 //!   symbols. [`stream::model::SupportError`] is the error of a number of symbols that makes no model.
 //! - [`stream::model::weights_of_counts`]: the weights of a histogram. [`stream::model::CountsError`] is the error of
 //!   counts that make no weights.
-//! - [`stream::model::ContiguousLookupDecoderModel`]: a model with a list of the symbols of all quantiles.
+//! - [`stream::model::ContiguousLookupDecoderModel`]: a model with a row for each quantile.
 //!   [`stream::model::LookupError`] is the error of making it.
 //!
 //! ## [`stream::stack`]: asymmetric numeral systems, which decode the last symbol first
@@ -215,7 +215,7 @@ pub mod stream {
         pub use constriction_models::errors::SupportError;
         pub use constriction_models::gaussian::{Gaussian, StandardNormal};
         pub use constriction_models::laplace::{Laplace, StandardLaplace};
-        pub use constriction_models::location_scale::{LocationScale, StandardDistribution};
+        pub use constriction_models::location_scale::{LocationScale, Scale, StandardDistribution};
         pub use constriction_models::logistic::{Logistic, StandardLogistic};
         pub use constriction_models::lookup::{ContiguousLookupDecoderModel, LookupError};
         pub use constriction_models::mixture::{Component, Mixture, MixtureError};

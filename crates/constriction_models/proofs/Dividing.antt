@@ -47,6 +47,13 @@ near_fits unit c mass rest rate near pos within is near_is =
     let neared : near * unit + c * rate % unit ≡ c * rate = rw near_is (div-add-mod' (c * rate) unit) in
     le_of_mul-le-mul_right {k = unit} (omega (arith, neared, rate_fits unit c mass rest rate within is)) pos
 
+-- it is at most the mass, where the count is at most the rest
+pub quotient_fits : (c mass rest : ℕ) → c ≤ rest → 0 < rest → c * mass / rest ≤ mass
+quotient_fits c mass rest within some =
+    let parts : c * mass / rest * rest + c * mass % rest ≡ c * mass = div-add-mod' (c * mass) rest in
+    let most : c * mass ≤ rest * mass = mul-le-mul_right mass within in
+    le_of_mul-le-mul_right {k = rest} (omega (arith, parts, most)) some
+
 -- a quotient and what is over, from the multiples beside a number
 pub quotient_of : (n d q : ℕ) → q * d ≤ n → n < q * d + d → q ≡ n / d
 quotient_of n d q from below =
@@ -122,6 +129,9 @@ pub record AreBetween (low high : ℕ) (xs near : List ℕ) : Type 0 where
   pub count : length near ≡ sum_by (reaches low) near
   pub parts : (least : ℕ) → low ≤ least → least ≤ high → sum_by (reaches least) near + sum_by (reaches high) xs ≡ sum_by (reaches least) xs
 
+pub are_between : (xs near : List ℕ) (low high above : ℕ) → above ≡ sum_by (reaches high) xs → length near ≡ sum_by (reaches low) near → ((least : ℕ) → low ≤ least → least ≤ high → sum_by (reaches least) near + above ≡ sum_by (reaches least) xs) → AreBetween low high xs near
+are_between xs near low high above is_above count parts = record { count = count; parts = λ least up down. omega (arith, is_above, parts least up down) }
+
 pub is_between : (low high x : ℕ) → low ≤ high → (reaches low x ≡ reaches high x → ⊥) → (low ≤ x) × (x < high)
 is_between low high x order other =
     elim (cases_lt x low) [
@@ -176,9 +186,16 @@ is_reached xs front back x count moved low high long =
       few = omega (arith, few, sum_by-append (reaches (x + 1)) front (x ∷ back), sum_by-cons (reaches (x + 1)) x back, reach_no (x + 1) x (omega arith), none, most, size, long);
     }
 
-pub separates : (xs near : List ℕ) (rest low high left above least : ℕ) → 1 ≤ low → low ≤ high → high ≤ rest → AreBetween low high xs near → above ≡ sum_by (reaches high) xs → above < left → left - above ≤ length near → IsReached near (left - above) least
-    → Separates xs rest left least
-separates xs near rest low high left above least some order within are is_above few enough is =
+-- those that exceed it stand behind it
+pub exceeded_behind : (xs front back : List ℕ) (x : ℕ) → IsPermutation xs (front ++ x ∷ back) → ((k : ℕ) → k < length front → slice_index front k ≤ x) → sum_by (reaches (x + 1)) back ≡ sum_by (reaches (x + 1)) xs
+exceeded_behind xs front back x moved low =
+    let same = sum_by-IsPermutation (reaches (x + 1)) xs (front ++ x ∷ back) moved in
+    let none = none_reach (x + 1) front (λ k h. omega (arith, low k h)) in
+    omega (arith, same, sum_by-append (reaches (x + 1)) front (x ∷ back), sum_by-cons (reaches (x + 1)) x back, reach_no (x + 1) x (omega arith), none)
+
+-- the one reached in a range that holds enough lies in it
+in_range : (xs near : List ℕ) (low high left above least : ℕ) → low ≤ high → AreBetween low high xs near → above ≡ sum_by (reaches high) xs → above < left → left - above ≤ length near → IsReached near (left - above) least → (low ≤ least) × (least < high)
+in_range xs near low high left above least order are is_above few enough is =
     let from : low ≤ least = elim (cases_lt least low) [
       | inl less ↦ absurd (omega (arith, reach_less (least + 1) low near (omega (arith, less)), are.count, is.few, enough))
       | inr more ↦ more
@@ -187,31 +204,50 @@ separates xs near rest low high left above least some order within are is_above 
       | inl less ↦ less
       | inr more ↦ absurd (omega (arith, reach_less high least near more, are.parts high order (omega arith), is.enough, few))
     ] in
+    (from, below)
+
+-- a measure that separates those which get one more from the others, and how many with just this measure do
+pub record IsDivider (xs : List ℕ) (rest left least ties : ℕ) : Type 0 where
+  pub separates : Separates xs rest left least
+  pub tied : sum_by (reaches (least + 1)) xs + ties ≡ left
+
+pub divider_in : (xs near : List ℕ) (rest low high left above least ties : ℕ) → 1 ≤ low → low ≤ high → high ≤ rest → AreBetween low high xs near → above ≡ sum_by (reaches high) xs → above < left → left ≤ above + length near
+    → left ≤ above + sum_by (reaches least) near → 0 < ties → sum_by (reaches (least + 1)) near + above + ties ≡ left → IsDivider xs rest left least ties
+divider_in xs near rest low high left above least ties some order within are is_above few enough reached tied sums =
+    let is : IsReached near (left - above) least = record { enough = omega (arith, reached); few = omega (arith, tied, sums) } in
+    let range = in_range xs near low high left above least order are is_above few (omega (arith, enough)) is in
+    let more = are.parts (least + 1) (omega (arith, range.0)) (omega (arith, range.1)) in
     record {
-      some = omega (arith, some, from);
-      within = omega (arith, below, within);
-      enough = omega (arith, are.parts least from (omega (arith, below)), is_above, is.enough, few);
-      few = omega (arith, are.parts (least + 1) (omega (arith, from)) (omega (arith, below)), is_above, is.few, few);
+      separates = record {
+        some = omega (arith, some, range.0);
+        within = omega (arith, range.1, within);
+        enough = omega (arith, are.parts least range.0 (omega (arith, range.1)), is_above, reached);
+        few = omega (arith, more, is_above, sums);
+      };
+      tied = omega (arith, more, is_above, sums);
     }
 
 -- among all
 pub all_long : (xs near : List ℕ) (rest left : ℕ) → 0 < rest → ((k : ℕ) → k < length xs → slice_index xs k < rest) → left ≤ sum_by (reaches 1) xs → AreBetween 1 rest xs near → left ≤ length near
 all_long xs near rest left some below enough are = omega (arith, enough, are.count, are.parts 1 (omega arith) (omega (arith, some)), none_reach rest xs below)
 
-pub separates_all : (xs near : List ℕ) (rest left least : ℕ) → 0 < rest → ((k : ℕ) → k < length xs → slice_index xs k < rest) → 0 < left → left ≤ sum_by (reaches 1) xs → AreBetween 1 rest xs near → IsReached near left least → Separates xs rest left least
-separates_all xs near rest left least some below any enough are is =
-    separates xs near rest 1 rest left 0 least (omega arith) (omega (arith, some)) (omega arith) are (sym (none_reach rest xs below)) any (omega (arith, all_long xs near rest left some below enough are)) record {
-      enough = omega (arith, is.enough);
-      few = omega (arith, is.few);
-    }
+pub divider_among_all : (xs near : List ℕ) (rest left above least ties : ℕ) → 0 < rest → ((k : ℕ) → k < length xs → slice_index xs k < rest) → 0 < left → left ≤ sum_by (reaches 1) xs → AreBetween 1 rest xs near → above ≡ sum_by (reaches rest) xs
+    → left ≤ above + sum_by (reaches least) near → 0 < ties → sum_by (reaches (least + 1)) near + above + ties ≡ left → IsDivider xs rest left least ties
+divider_among_all xs near rest left above least ties some below any enough are is_above reached tied sums =
+    divider_in xs near rest 1 rest left above least ties (omega arith) (omega (arith, some)) (omega arith) are is_above (omega (arith, is_above, none_reach rest xs below, any)) (omega (arith, all_long xs near rest left some below enough are)) reached tied sums
 
-pub separates_none : (xs : List ℕ) (rest left : ℕ) → 0 < rest → ((k : ℕ) → k < length xs → slice_index xs k < rest) → left ≡ 0 → Separates xs rest left rest
-separates_none xs rest left some below nothing = record {
-  some = some;
-  within = omega arith;
-  enough = omega (arith, nothing);
-  few = omega (arith, none_reach (rest + 1) xs (λ k h. omega (arith, below k h)));
-}
+pub divider_of_nothing : (xs : List ℕ) (rest left : ℕ) → 0 < rest → ((k : ℕ) → k < length xs → slice_index xs k < rest) → left ≡ 0 → IsDivider xs rest left rest 0
+divider_of_nothing xs rest left some below nothing =
+    let none = none_reach (rest + 1) xs (λ k h. omega (arith, below k h)) in
+    record {
+      separates = record {
+        some = some;
+        within = omega arith;
+        enough = omega (arith, nothing);
+        few = omega (arith, none);
+      };
+      tied = omega (arith, none, nothing);
+    }
 
 -- ---- one more
 pub one_more_of : (limit mass rest least c measure ties more fewer : ℕ) → measure ≡ over limit mass rest c → more + fewer ≡ reaches (least + 1) measure + ties → more ≤ reaches 1 measure → fewer ≤ ties

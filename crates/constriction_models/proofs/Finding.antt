@@ -1,25 +1,22 @@
--- Lists of the symbols of quantiles.
-use Rattle.std.proofs.Common.{◌≡◌, ℕ, ◌+◌, ◌<◌, ◌≤◌, ◌^◌, List, [], ◌∷◌, ◌++◌, length, slice_index, inl, inr, refl, arith, sym, subst, length-append, Option, None, Some, rules}
-use Rattle.std.specs.Prelude.{IfNone, IsSome}
+-- Lists of the rows of quantiles.
+use Rattle.std.proofs.Common.{◌≡◌, ℕ, ◌+◌, ◌<◌, ◌≤◌, ◌^◌, List, [], ◌∷◌, ◌++◌, length, inl, inr, refl, arith, sym, subst, length-append}
+use Rattle.std.specs.Prelude.{slice_index_or}
 use Rattle.std.proofs.lemmas.Bool.{cases_lt}
 use Rattle.std.proofs.lemmas.List.{get_or_push, get_or_append_left}
-use Rattle.constriction_base.specs.Tables.{Has, Impossible, Follow, IsTable, Covers}
-use Rattle.constriction_base.proofs.Entries.{in_range, one_at, one_of}
-use Rattle.constriction_models.specs.Lookup.{IsSymbolAt, AreFound, HasLowSymbols}
+use Rattle.constriction_base.specs.Tables.{Has, Follow, IsTable, Covers}
+use Rattle.constriction_base.proofs.Entries.{in_range, one_at}
+use Rattle.constriction_models.specs.declared.lookup.Row.{Row}
+use Rattle.constriction_models.specs.Lookup.{IsRowAt, AreRows, HasLowSymbols}
 
--- the symbol of an entry whose interval holds the quantile
-pub symbol_found : (precision : ℕ) (table : List (ℕ × ℕ × ℕ)) (s l p q : ℕ) → IsTable precision table → Has table s l p → Covers l p q → IsSymbolAt table s q
-symbol_found precision table s l p q is has covers other left weight theirs holds = (one_at 0 (2 ^ precision) q table s other l left p weight is.follow has theirs covers holds).0
+-- no row is made yet
+pub no_rows : {P N : Type 0} (number : P → ℕ) (length_of : N → ℕ) (table : List (ℕ × ℕ × ℕ)) (rows : List (Row P N)) → rows ≡ [] → AreRows number length_of table rows 0
+no_rows number length_of table rows none = rw none (record { row_count = refl; row_at = λ q inside. absurd (omega arith) })
 
--- one more is found
-pub found_more : (table : List (ℕ × ℕ × ℕ)) (symbols new : List ℕ) (count s : ℕ) → AreFound table symbols count → IsSymbolAt table s count → new ≡ symbols ++ s ∷ [] → AreFound table new (count + 1)
-found_more table symbols new count s are is pushed = rw pushed (record {
-  len = omega (arith, length-append symbols (s ∷ []), are.len);
-  each = λ q inside. elim (cases_lt q count) [
-    | inl before ↦ subst (λ (x : ℕ). IsSymbolAt table x q) (sym (get_or_append_left symbols (s ∷ []) 0 q (omega (arith, are.len)))) (are.each q before)
-    | inr past ↦ (let last : count ≡ q = omega arith in subst (λ (n : ℕ). IsSymbolAt table (slice_index (symbols ++ s ∷ []) n) n) last (subst (λ (x : ℕ). IsSymbolAt table x count) (sym (get_or_push symbols s 0 count are.len)) is))
-  ];
-})
+-- an entry that holds a quantile is the one of its row
+pub row_of_entry : {P N : Type 0} (number : P → ℕ) (length_of : N → ℕ) (precision : ℕ) (table : List (ℕ × ℕ × ℕ)) (row : Row P N) (q : ℕ) → IsTable precision table → Has table row.symbol (number row.left) (length_of row.weight) → Covers (number row.left) (length_of row.weight) q
+    → IsRowAt number length_of table row q
+row_of_entry number length_of precision table row q is has covers symbol left p theirs holds =
+    one_at 0 (2 ^ precision) q table row.symbol symbol (number row.left) left (length_of row.weight) p is.follow has theirs covers holds
 
 -- some entry holds each quantile
 pub record IsHeld (table : List (ℕ × ℕ × ℕ)) (q : ℕ) : Type 0 where
@@ -37,45 +34,48 @@ held low high q (e ∷ es) follow from below =
       | inr later ↦ (let more = held (low + e.2) high q es follow.2 later below in record { symbol = more.symbol; left = more.left; weight = more.weight; has = inr more.has; covers = more.covers })
     ]
 
--- the listed symbol is the one whose entry holds the quantile
-pub record IsListed (table : List (ℕ × ℕ × ℕ)) (symbol q : ℕ) : Type 0 where
-  pub left : ℕ
-  pub weight : ℕ
-  pub has : Has table symbol left weight
-  pub covers : Covers left weight q
-
-pub listed : (precision : ℕ) (table : List (ℕ × ℕ × ℕ)) (symbols : List ℕ) (q : ℕ) → IsTable precision table → AreFound table symbols (2 ^ precision) → q < 2 ^ precision → IsListed table (slice_index symbols q) q
-listed precision table symbols q is are inside =
+-- so the row of a quantile is an entry that holds it
+pub entry_of_row : {P N : Type 0} (number : P → ℕ) (length_of : N → ℕ) (precision : ℕ) (table : List (ℕ × ℕ × ℕ)) (row : Row P N) (q : ℕ) → IsTable precision table → q < 2 ^ precision → IsRowAt number length_of table row q
+    → Has table row.symbol (number row.left) (length_of row.weight) × Covers (number row.left) (length_of row.weight) q
+entry_of_row number length_of precision table row q is inside at =
     let some = held 0 (2 ^ precision) q table is.follow (omega arith) inside in
-    let same : slice_index symbols q ≡ some.symbol = are.each q inside some.symbol some.left some.weight some.has some.covers in
-    record { left = some.left; weight = some.weight; has = rw same some.has; covers = some.covers }
+    let same = at some.symbol some.left some.weight some.has some.covers in
+    (rw (same.0, same.1, same.2) some.has, rw (same.1, same.2) some.covers)
 
--- a symbol has one interval
-pub covers_same : (precision : ℕ) (table : List (ℕ × ℕ × ℕ)) (symbol q l p : ℕ) → IsTable precision table → IsListed table symbol q → Has table symbol l p → Covers l p q
-covers_same precision table symbol q l p is listed has =
-    let one = one_of table symbol listed.left l listed.weight p is.distinct listed.has has in
-    (omega (arith, one.0, listed.covers.0), omega (arith, one.0, one.1, listed.covers.1))
+-- the row of a quantile, and where its interval ends
+pub record IsCurrentRow {P N : Type 0} (number : P → ℕ) (length_of : N → ℕ) (table : List (ℕ × ℕ × ℕ)) (row : Row P N) (end q : ℕ) : Type 0 where
+  pub entry : Has table row.symbol (number row.left) (length_of row.weight)
+  pub covers : Covers (number row.left) (length_of row.weight) q
+  pub ends : end ≡ number row.left + length_of row.weight
+  pub low : row.symbol < 65536
 
--- all that is listed is below a bound
-abbrev pub AreLow : List ℕ → Type 0
-AreLow symbols = (k : ℕ) → k < length symbols → slice_index symbols k < 65536
+-- one more is made
+pub one_more_row : {P N : Type 0} (number : P → ℕ) (length_of : N → ℕ) (table : List (ℕ × ℕ × ℕ)) (rows new : List (Row P N)) (count : ℕ) (row : Row P N) → AreRows number length_of table rows count → IsRowAt number length_of table row count → new ≡ rows ++ row ∷ []
+    → AreRows number length_of table new (count + 1)
+one_more_row number length_of table rows new count row are is pushed = rw pushed (record {
+  row_count = omega (arith, length-append rows (row ∷ []), are.row_count);
+  row_at = λ q inside other. elim (cases_lt q count) [
+    | inl before ↦ subst (λ x. IsRowAt number length_of table x q) (sym (get_or_append_left rows (row ∷ []) other q (omega (arith, are.row_count)))) (are.row_at q before other)
+    | inr past ↦ (let last : count ≡ q = omega arith in subst (λ (n : ℕ). IsRowAt number length_of table (slice_index_or (rows ++ row ∷ []) n other) n) last (subst (λ x. IsRowAt number length_of table x count) (sym (get_or_push rows row other count are.row_count)) is))
+  ];
+})
 
--- and one more
-pub all_low : (symbols new : List ℕ) (s : ℕ) → AreLow symbols → s < 65536 → new ≡ symbols ++ s ∷ [] → AreLow new
-all_low symbols new s are low pushed = rw pushed (λ k inside. elim (cases_lt k (length symbols)) [
-  | inl before ↦ omega (arith, get_or_append_left symbols (s ∷ []) 0 k before, are k before)
-  | inr past ↦ (let last : length symbols ≡ k = omega (arith, inside, length-append symbols (s ∷ [])) in omega (arith, get_or_push symbols s 0 k last))
-])
+-- the symbols of the first quantiles are low
+abbrev pub AreLowTo : List (ℕ × ℕ × ℕ) → ℕ → Type 0
+AreLowTo table count = (symbol left weight q : ℕ) → Has table symbol left weight → Covers left weight q → q < count → symbol < 65536
 
--- then so is each symbol
-pub low_symbols : (precision : ℕ) (table : List (ℕ × ℕ × ℕ)) (symbols : List ℕ) → IsTable precision table → AreFound table symbols (2 ^ precision) → AreLow symbols → HasLowSymbols table
-low_symbols precision table symbols is are below symbol left weight has =
+pub one_more_low : (precision : ℕ) (table : List (ℕ × ℕ × ℕ)) (symbol left weight count : ℕ) → IsTable precision table → AreLowTo table count → Has table symbol left weight → Covers left weight count → symbol < 65536 → AreLowTo table (count + 1)
+one_more_low precision table symbol left weight count is low has covers small s l p q theirs holds inside =
+    elim (cases_lt q count) [
+      | inl before ↦ low s l p q theirs holds before
+      | inr past ↦ (
+          let last : count ≡ q = omega arith in
+          let same : symbol ≡ s = (one_at 0 (2 ^ precision) q table symbol s left l weight p is.follow has theirs (subst (λ (n : ℕ). Covers left weight n) last covers) holds).0 in
+          omega (arith, same, small))
+    ]
+
+-- so all are, where the first quantiles are all
+pub all_low : (precision count : ℕ) (table : List (ℕ × ℕ × ℕ)) → IsTable precision table → count ≡ 2 ^ precision → AreLowTo table count → HasLowSymbols table
+all_low precision count table is all low symbol left weight has =
     let range = in_range 0 (2 ^ precision) table symbol left weight is.follow has in
-    let inside : left < 2 ^ precision = omega (arith, range.1, range.2) in
-    let same : slice_index symbols left ≡ symbol = are.each left inside symbol left weight has (omega arith, omega (arith, range.1)) in
-    omega (arith, below left (omega (arith, are.len)), same)
-
--- a listed symbol isn't impossible
-pub known : {X : Type 0} (answer : Option X) (table : List (ℕ × ℕ × ℕ)) (symbol q : ℕ) → IfNone answer (Impossible table symbol) → IsListed table symbol q → IsSome answer
-known None table symbol q impossible is = absurd (impossible is.left is.weight is.has)
-known (Some found) table symbol q impossible is = search rules
+    low symbol left weight left has (omega arith, omega (arith, range.1)) (omega (arith, range.1, range.2, all))

@@ -12,4 +12,5 @@ pub mod Quantizers
 pub mod Counts
 pub mod Families
 pub mod Mixtures
+pub mod Scales
 pub mod laws

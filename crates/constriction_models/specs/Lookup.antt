@@ -1,15 +1,17 @@
--- A list of the symbol of each quantile.
-use Rattle.std.specs.Prelude.{◌≡◌, ℕ, ◌<◌, List, length, slice_index}
+-- The rows of quantiles.
+use Rattle.std.specs.Prelude.{◌≡◌, ℕ, ◌<◌, List, length, slice_index_or}
 use Rattle.constriction_base.specs.Tables.{Has, Covers}
+use Rattle.constriction_models.specs.declared.lookup.Row.{Row}
 
--- The symbol is that of each entry whose interval holds the quantile.
-abbrev pub IsSymbolAt : List (ℕ × ℕ × ℕ) → ℕ → ℕ → Type 0
-IsSymbolAt table symbol q = (other left p : ℕ) → Has table other left p → Covers left p q → symbol ≡ other
+-- The row has the symbol and the interval of each entry whose interval holds the quantile.
+abbrev pub IsRowAt : {P N : Type 0} → (P → ℕ) → (N → ℕ) → List (ℕ × ℕ × ℕ) → Row P N → ℕ → Type 0
+IsRowAt number length_of table row q = (symbol left p : ℕ) → Has table symbol left p → Covers left p q
+    → (row.symbol ≡ symbol) × (number row.left ≡ left) × (length_of row.weight ≡ p)
 
--- The list has the symbols of the first `count` quantiles.
-pub record AreFound (table : List (ℕ × ℕ × ℕ)) (symbols : List ℕ) (count : ℕ) : Type 0 where
-  pub len : length symbols ≡ count
-  pub each : (q : ℕ) → q < count → IsSymbolAt table (slice_index symbols q) q
+-- The list has the rows of the first `count` quantiles.
+pub record AreRows {P N : Type 0} (number : P → ℕ) (length_of : N → ℕ) (table : List (ℕ × ℕ × ℕ)) (rows : List (Row P N)) (count : ℕ) : Type 0 where
+  pub row_count : length rows ≡ count
+  pub row_at : (q : ℕ) → q < count → (other : Row P N) → IsRowAt number length_of table (slice_index_or rows q other) q
 
 -- The table has a symbol above 65535.
 abbrev pub HasHighSymbol : List (ℕ × ℕ × ℕ) → Type 0

@@ -7,7 +7,8 @@
 //!   it never falls.
 //! - [`quantizer`]: `LeakyQuantizer`, which cuts such a function halfway between symbols, and the models that it
 //!   makes: `LeakilyQuantizedDistribution`, and `IndexedDistribution`, whose symbols are indices of type `usize`.
-//! - [`location_scale`]: `LocationScale`, a standard distribution moved to a location and stretched by a scale.
+//! - [`location_scale`]: `LocationScale`, a standard distribution moved to a location and stretched by a scale; `Scale`,
+//!   which makes such distributions without a division.
 //! - [`gaussian`], [`laplace`], [`logistic`]: the distributions `Gaussian`, `Laplace` and `Logistic`.
 //! - [`families`]: `Family`, one of these three, chosen at run time.
 //! - [`mixture`]: `Mixture`, the weighted mean of distributions, each a `Component`. `MixtureError` is the error of
@@ -15,7 +16,7 @@
 //! - [`uniform`], [`bernoulli`]: `UniformModel`, whose symbols have equal weights, and `BernoulliModel`, which has two
 //!   symbols.
 //! - [`counts`]: `weights_of_counts`, weights in proportion to counts.
-//! - [`lookup`]: `ContiguousLookupDecoderModel`, a model that lists the symbol of each quantile.
+//! - [`lookup`]: `ContiguousLookupDecoderModel`, a model with a row for each quantile.
 //! - [`errors`]: `SupportError`, the error for too few symbols, or too many for the precision.
 #![tactic(auto)]
 

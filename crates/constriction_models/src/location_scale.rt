@@ -1,11 +1,14 @@
 //! `LocationScale`: a standard distribution, moved to a location and stretched by a scale.
 
+mod scale;
+
 ghost use Rattle.std.specs.Prelude.{◌≡◌, ℕ, ◌*◌, ◌/◌, ◌<◌, ◌≤◌, ◌↔◌, List, length, IfSome, IsNone};
 ghost use Rattle.constriction_models.specs.Interpolation.{AreValues, scaled};
 ghost use Rattle.constriction_models.specs.laws.Interpolating.{scaled_is_distribution};
 
 use crate::distribution::CumulativeDistribution;
 use crate::interpolation::{guessed, located};
+pub use scale::Scale;
 use std::alloc::AllocError;
 use std::marker::PhantomData;
 
@@ -71,22 +74,16 @@ pub struct LocationScale<D: StandardDistribution> {
 impl<D: StandardDistribution> LocationScale<D> {
     /// Creates the distribution of a location and a scale, or returns `None` if the scale is 0.
     ///
-    /// Both are multiples of `2^-16`. The type has an example.
+    /// Both are multiples of `2^-16`. Each call divides once: where scales repeat, [`Scale::at`] saves that. The type
+    /// has an example.
     #[inline]
     pub fn new(location: i64, scale: u32) -> Option<Self>
         ensures ok { IfSome result
             (λ d. ⟦<LocationScale<D> as CumulativeDistribution>⟧.below d ≡ scaled D.values D.WIDTH location scale) }
         ensures none { IsNone result ↔ (scale ≡ 0) }
     {
-        if scale == 0 {
-            return None;
-        }
-        Some(LocationScale {
-            location,
-            scale,
-            rate: 9223372036854775808 / D::WIDTH / scale as u64,
-            standard: PhantomData,
-        })
+        let scale = Scale::new(scale)?;
+        Some(scale.at(location))
     }
 }
 

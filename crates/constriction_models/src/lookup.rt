@@ -1,10 +1,11 @@
-//! `ContiguousLookupDecoderModel`: a model that lists the symbol of each quantile.
+//! `ContiguousLookupDecoderModel`: a model with a row for each quantile.
 //!
-//! It is made from any other model, and takes the interval of a symbol from that model, so it needs no sums. Each
-//! symbol takes 16 bits in the list. At 16 bits of precision, a list of `usize` would take half a megabyte.
+//! A row holds the symbol and its interval, so a decoder reads one place and not two. A symbol takes 16 bits of a row:
+//! with probabilities of type `u16` a row takes 6 bytes, and the rows of 12 bits of precision fit the first cache.
 
-ghost use Rattle.std.specs.Prelude.{◌≡◌, ◌^◌, ◌≤◌, IfOk, IsErrOf};
-ghost use Rattle.constriction_models.specs.Lookup.{AreFound, HasHighSymbol, HasLowSymbols};
+ghost use Rattle.std.specs.Prelude.{◌≡◌, ◌+◌, ◌^◌, ◌<◌, ◌≤◌, IfOk, IsErrOf};
+ghost use Rattle.constriction_base.specs.Tables.{Has, Covers};
+ghost use Rattle.constriction_models.specs.Lookup.{AreRows, HasHighSymbol, HasLowSymbols};
 
 use constriction_base::model::{DecoderModel, EncoderModel, EntropyModel};
 use constriction_words::{BitArray, WordOf};
@@ -27,15 +28,23 @@ pub enum LookupError {
     /// The model has a symbol above 65535, which the list can't hold.
     #[error("a symbol above 65535")]
     Symbol,
-    /// There is no memory for the list.
+    /// There is no memory for the rows.
     #[error("out of memory")]
     Memory,
 }
 
-/// A model of the symbols `0`, `1`, .. that lists the symbol of each quantile, so that a decode takes one step.
+/// The symbol of a quantile, with the start and the length of its interval.
+#[derive(Drop, Clone, Copy)]
+struct Row<P: Copy + Drop, N: Copy + Drop> {
+    symbol: u16,
+    left: P,
+    weight: N,
+}
+
+/// A model of the symbols `0`, `1`, .. with a row for each quantile, so that a decoder finds its symbol in one step.
 ///
-/// It has the same table as the model that it is made from. The list takes two bytes for each quantile: 8 KiB at a
-/// precision of 12 bits, and 128 KiB at 16 bits.
+/// It has the same table as the model that it is made from. A row has the symbol and its interval. It takes 6 bytes
+/// where probabilities are `u16`, and 12 bytes where they are `u32`: at a precision of 12 bits, 24 KiB and 48 KiB.
 ///
 /// # Examples
 ///
@@ -50,34 +59,76 @@ pub struct ContiguousLookupDecoderModel<
     const PRECISION: usize,
 > {
     model: M,
-    /// The symbol of each quantile.
-    symbols: Vec<u16>,
-    ghost found: { AreFound (M.table model) symbols.items (2 ^ PRECISION) },
+    /// The row of each quantile.
+    rows: Vec<Row<M::Probability, <M::Probability as BitArray>::NonZero>>,
+    ghost found: { AreRows M.Probability.number M.Probability.nonzero_number (M.table model) rows.items (2 ^ PRECISION) },
 }
 
-/// Returns the symbol of each quantile of a model.
-fn symbols_of<M: DecoderModel<PRECISION, Symbol = usize>, const PRECISION: usize>(
+/// Returns the row of a quantile, and the end of its interval.
+fn row_at<M: DecoderModel<PRECISION, Symbol = usize>, const PRECISION: usize>(
+    model: &M,
+    quantile: u32,
+) -> Result<
+    (
+        Row<M::Probability, <M::Probability as BitArray>::NonZero>,
+        u32,
+    ),
+    LookupError,
+>
+where
+    M::Probability: WordOf<u32>,
+    requires small { PRECISION ≤ 16 }
+    requires quantile { quantile < 2 ^ PRECISION }
+    ensures found { IfOk result (λ r. Has (M.table model.now) r.0.symbol (M.Probability.number r.0.left)
+        (M.Probability.nonzero_number r.0.weight)) }
+    ensures covers { IfOk result (λ r. Covers (M.Probability.number r.0.left)
+        (M.Probability.nonzero_number r.0.weight) quantile) }
+    ensures end { IfOk result (λ r. r.1 ≡ M.Probability.number r.0.left + M.Probability.nonzero_number r.0.weight) }
+    ensures fits { IfOk result (λ r. r.0.symbol < 65536) }
+    ensures symbol { IsErrOf result LookupError.Symbol → HasHighSymbol (M.table model.now) }
+{
+    let (symbol, left, weight) = model.quantile_function(M::Probability::narrow(quantile));
+    if symbol > 65535 {
+        return Err(LookupError::Symbol);
+    }
+    let row = Row {
+        symbol: symbol as u16,
+        left,
+        weight,
+    };
+    Ok((
+        row,
+        left.widen() + M::Probability::from_nonzero(weight).widen(),
+    ))
+}
+
+/// Returns the row of each quantile of a model.
+fn rows_of<M: DecoderModel<PRECISION, Symbol = usize>, const PRECISION: usize>(
     alloc: Global,
     model: &M,
-) -> Result<Vec<u16>, LookupError>
+) -> Result<Vec<Row<M::Probability, <M::Probability as BitArray>::NonZero>>, LookupError>
 where
     M::Probability: WordOf<u32>,
     requires { PRECISION ≤ 16 }
-    ensures found { IfOk result (λ symbols. AreFound (M.table model.now) symbols.items (2 ^ PRECISION)) }
+    ensures found { IfOk result
+        (λ rows. AreRows M.Probability.number M.Probability.nonzero_number (M.table model.now) rows.items (2 ^ PRECISION)) }
     ensures fits { IfOk result (λ _. HasLowSymbols (M.table model.now)) }
     ensures symbol { IsErrOf result LookupError.Symbol → HasHighSymbol (M.table model.now) }
 {
-    let mut symbols = Vec::new(alloc);
-    for quantile in 0..1u32 << PRECISION as u32 {
-        let (symbol, _, _) = model.quantile_function(M::Probability::narrow(quantile));
-        if symbol > 65535 {
-            return Err(LookupError::Symbol);
+    let count = 1u32 << PRECISION as u32;
+    let Ok(mut rows) = Vec::with_capacity(alloc, count as usize) else {
+        return Err(LookupError::Memory);
+    };
+    let (mut row, mut end) = row_at(model, 0)?;
+    for quantile in 0..count {
+        if quantile >= end {
+            (row, end) = row_at(model, quantile)?;
         }
-        if symbols.push(symbol as u16).is_err() {
+        if rows.push(row).is_err() {
             return Err(LookupError::Memory);
         }
     }
-    Ok(symbols)
+    Ok(rows)
 }
 
 impl<
@@ -94,7 +145,7 @@ where
     /// # Errors
     ///
     /// - `Symbol`: the model has a symbol above 65535.
-    /// - `Memory`: there is no memory for the list.
+    /// - `Memory`: there is no memory for the rows.
     pub fn new(alloc: Global, model: M) -> Result<Self, LookupError>
         requires { PRECISION ≤ 16 }
         ensures ok { IfOk result
@@ -102,8 +153,8 @@ where
         ensures fits { IfOk result (λ _. HasLowSymbols (M.table model)) }
         ensures symbol { IsErrOf result LookupError.Symbol → HasHighSymbol (M.table model) }
     {
-        let symbols = symbols_of(alloc, &model)?;
-        Ok(ContiguousLookupDecoderModel { model, symbols })
+        let rows = rows_of(alloc, &model)?;
+        Ok(ContiguousLookupDecoderModel { model, rows })
     }
 }
 
@@ -143,8 +194,7 @@ where
         &self,
         quantile: M::Probability,
     ) -> (usize, M::Probability, <M::Probability as BitArray>::NonZero) {
-        let symbol = self.symbols[quantile.widen() as usize] as usize;
-        let (left, p) = self.model.left_cumulative_and_probability(&symbol).unwrap();
-        (symbol, left, p)
+        let row = &self.rows[quantile.widen() as usize];
+        (row.symbol as usize, row.left, row.weight)
     }
 }

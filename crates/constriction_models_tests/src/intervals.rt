@@ -2,8 +2,9 @@
 
 use crate::cuts::interval_of;
 use constriction_models::distribution::CumulativeDistribution;
-use constriction_models::gaussian::Gaussian;
+use constriction_models::gaussian::{Gaussian, StandardNormal};
 use constriction_models::laplace::Laplace;
+use constriction_models::location_scale::Scale;
 use constriction_models::logistic::Logistic;
 use constriction_models::quantizer::LeakyQuantizer;
 
@@ -26,6 +27,14 @@ fn gaussian_has(location: i64, scale: u32, symbol: i32, expected: (u64, u64)) ->
     }
 }
 
+/// The same by a kept scale.
+fn kept_scale_has(location: i64, scale: u32, symbol: i32, expected: (u64, u64)) -> bool {
+    match Scale::<StandardNormal>::new(scale) {
+        Some(kept) => kept.get() == scale && has(&kept.at(location), symbol, expected),
+        None => false,
+    }
+}
+
 #[test]
 fn intervals_of_gaussian(rt: HostRuntime) {
     let cases: [Case; 11] = [
@@ -43,7 +52,8 @@ fn intervals_of_gaussian(rt: HostRuntime) {
     ];
     for (location, scale, symbol, expected) in cases {
         assert!(rt;
-            gaussian_has(location, scale, symbol, expected),
+            gaussian_has(location, scale, symbol, expected)
+                && kept_scale_has(location, scale, symbol, expected),
             "{symbol} at {location}"
         );
     }

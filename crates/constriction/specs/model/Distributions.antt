@@ -1,5 +1,6 @@
 -- Distribution functions given by a table of values, and the values of the standard ones.
 pub use Rattle.constriction_models.specs.Interpolation.{AreValues, located, scaled}
+pub use Rattle.constriction_models.specs.Scales.{scale_number}
 pub use Rattle.constriction_models.specs.Normal.{normal_values}
 pub use Rattle.constriction_models.specs.Laplace.{laplace_values}
 pub use Rattle.constriction_models.specs.Logistic.{logistic_values}

@@ -1,18 +1,21 @@
-use Rattle.std.proofs.Common.{sym, ◌∙◌, arith}
-use Rattle.constriction_models.proofs.Sharing.{whole_low, whole_high, over_low, over_high, kept_high}
+use Rattle.std.specs.Prelude.{◌≡◌, ℕ, ◌+◌, ◌*◌, ◌/◌, ◌%◌, ◌<◌, ◌≤◌}
+use Rattle.std.proofs.Common.{sym, ◌∙◌, inl, inr, arith}
+use Rattle.constriction_models.proofs.Dividing.{quotient_fits}
+use Rattle.constriction_models.proofs.Sharing.{divided_whole, divided_over, raised_few}
 use Rattle.constriction_models.proofs.counts.Share.part.Goals as goal
 
-pub returns-then-count-self-clause-whole : goal.returns-then-count-self-clause-whole
-returns-then-count-self-clause-whole c = c.positive.ensures ∙ sym (whole_low _ _ _ _ c.if-count-self.true)
-
-pub returns-then-count-self-clause-over : goal.returns-then-count-self-clause-over
-returns-then-count-self-clause-over c = sym (over_low _ _ _ _ c.if-count-self.true)
-
-pub divided-requires : goal.divided-requires
-divided-requires c = omega (arith, kept_high c.args.self.now.limit c.args.count c.if-count-self.false, c.requires)
+pub overflow_add-result : goal.overflow_add-result
+overflow_add-result c =
+    let s = c.args.self.now in
+    let kept_fits : c.kept_one.result ≤ s.rest = omega (arith, c.kept_one.ensures, c.requires) in
+    omega (arith, c.divided-whole.ensures.whole, quotient_fits c.kept_one.result s.mass s.rest kept_fits s.some, c.raised_one.ensures, raised_few s.limit c.args.count, s.small)
 
 pub returns-clause-whole : goal.returns-clause-whole
-returns-clause-whole c = c.divided.ensures.whole ∙ sym (whole_high _ _ _ _ c.if-count-self.false)
+returns-clause-whole c =
+    let s = c.args.self.now in
+    divided_whole s.limit s.mass s.rest c.args.count c.kept_one.result c.raised_one.result c.divided-whole.result.0 s.some c.kept_one.ensures c.raised_one.ensures c.divided-whole.ensures.whole
 
 pub returns-clause-over : goal.returns-clause-over
-returns-clause-over c = c.divided.ensures.over ∙ sym (over_high _ _ _ _ c.if-count-self.false)
+returns-clause-over c =
+    let s = c.args.self.now in
+    divided_over s.limit s.mass s.rest c.args.count c.kept_one.result c.divided-whole.result.1 s.some c.kept_one.ensures c.divided-whole.ensures.over

@@ -1,27 +1,25 @@
-use Rattle.std.proofs.Common.{◌≡◌, ◌<◌, ◌^◌, slice_index, sym, subst, ap, ◌∙◌, arith}
-use Rattle.std.proofs.lemmas.List.{get_or_read}
-use Rattle.constriction_models.proofs.Finding.{IsListed, listed, known, covers_same}
+use Rattle.std.specs.Prelude.{◌≡◌, ℕ, slice_index_or}
+use Rattle.std.proofs.Common.{sym, subst, ap, ◌∙◌, arith}
+use Rattle.constriction_models.specs.Lookup.{IsRowAt}
+use Rattle.constriction_models.proofs.Finding.{entry_of_row}
 use Rattle.constriction_models.proofs.lookup.ContiguousLookupDecoderModelDecoderModel.quantile_function.Goals as goal
 
-pub unwrap-left-requires : goal.unwrap-left-requires
-unwrap-left-requires g c =
+pub returns-clause-found : goal.returns-clause-found
+returns-clause-found g c =
     let t = c.args.self.now in
-    let table = g.M.EntropyModel.table t.model in
-    let number = g.M.Probability.BitArray.number c.args.quantile in
+    let row = c.index-row.result.now in
+    let number : ℕ = g.M.Probability.BitArray.number c.args.quantile in
     let same : number ≡ c.widen.result = omega (arith, c.widen.ensures, c.widen.type_inv) in
-    let inside : c.widen.result < 2 ^ g.row.PRECISION = omega (arith, same, c.requires) in
-    let is = get_or_read t.symbols.items _ _ (omega (arith, t.found.len, inside)) c.index.ensures 0 in
-    known c.left_cumulative_and_probability.result table _ number c.left_cumulative_and_probability.ensures.impossible
-    (subst (λ s. IsListed table s number) (ap (λ k. slice_index t.symbols.items k) same ∙ sym is) (listed g.row.PRECISION table t.symbols.items number (g.M.EntropyModel.lawful t.model) t.found c.requires))
+    let read = ap (λ k. slice_index_or t.rows.items k row) same ∙ sym c.index-row.ensures in
+    let at = subst (λ r. IsRowAt g.M.Probability.BitArray.number g.M.Probability.BitArray.nonzero_number (g.M.EntropyModel.table t.model) r number) read (t.found.row_at number c.requires row) in
+    (entry_of_row g.M.Probability.BitArray.number g.M.Probability.BitArray.nonzero_number g.row.PRECISION (g.M.EntropyModel.table t.model) row number (g.M.EntropyModel.lawful t.model) c.requires at).0
 
 pub returns-clause-covers : goal.returns-clause-covers
 returns-clause-covers g c =
     let t = c.args.self.now in
-    let table = g.M.EntropyModel.table t.model in
-    let number = g.M.Probability.BitArray.number c.args.quantile in
+    let row = c.index-row.result.now in
+    let number : ℕ = g.M.Probability.BitArray.number c.args.quantile in
     let same : number ≡ c.widen.result = omega (arith, c.widen.ensures, c.widen.type_inv) in
-    let inside : c.widen.result < 2 ^ g.row.PRECISION = omega (arith, same, c.requires) in
-    let is = get_or_read t.symbols.items _ _ (omega (arith, t.found.len, inside)) c.index.ensures 0 in
-    let has = rw c.unwrap-left.ensures at c.left_cumulative_and_probability.ensures.found in
-    covers_same g.row.PRECISION table c.index.result.now number _ _ (g.M.EntropyModel.lawful t.model)
-    (subst (λ s. IsListed table s number) (ap (λ k. slice_index t.symbols.items k) same ∙ sym is) (listed g.row.PRECISION table t.symbols.items number (g.M.EntropyModel.lawful t.model) t.found c.requires)) has
+    let read = ap (λ k. slice_index_or t.rows.items k row) same ∙ sym c.index-row.ensures in
+    let at = subst (λ r. IsRowAt g.M.Probability.BitArray.number g.M.Probability.BitArray.nonzero_number (g.M.EntropyModel.table t.model) r number) read (t.found.row_at number c.requires row) in
+    (entry_of_row g.M.Probability.BitArray.number g.M.Probability.BitArray.nonzero_number g.row.PRECISION (g.M.EntropyModel.table t.model) row number (g.M.EntropyModel.lawful t.model) c.requires at).1

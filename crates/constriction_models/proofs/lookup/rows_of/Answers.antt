@@ -1,0 +1,36 @@
+use Rattle.std.proofs.Common.{ℕ, ◌≡◌, ◌+◌, ◌^◌, ◌<◌, ◌≤◌, ◌++◌, ◌∷◌, [], arith}
+use Rattle.std.proofs.lemmas.Grind.{common_steps}
+use Rattle.constriction_models.proofs.Finding.{IsCurrentRow, one_more_row, one_more_low, row_of_entry, all_low}
+use Rattle.constriction_models.proofs.lookup.rows_of.Goals.{then-quantile-end+in_ok-row-2, else-quantile-end}
+use Rattle.constriction_models.proofs.lookup.rows_of.Goals as goal
+
+pub loop-quantile-preserved : goal.loop-quantile-preserved
+loop-quantile-preserved g c =
+    let before = c.loop-quantile.invariant in
+    let number = g.M.Probability.BitArray.number in
+    let length_of = g.M.Probability.BitArray.nonzero_number in
+    let table = g.M.EntropyModel.table c.args.model.now in
+    let lawful = g.M.EntropyModel.lawful c.args.model.now in
+    let q : ℕ = c.loop-quantile.quantile in
+    let row = c.if-quantile-end.row in
+    let items : c.push.new.self.items ≡ c.loop-quantile.rows.items ++ row ∷ [] = grind (arith, common_steps) in
+    let now : IsCurrentRow number length_of table row c.if-quantile-end.end q = elim c.if-quantile-end.branch [
+      | then-quantile-end+in_ok-row-2 w ↦ rw (w.row-is, w.end-is) (record { entry = w.in_ok-row-2.ensures.found; covers = w.in_ok-row-2.ensures.covers; ends = w.in_ok-row-2.ensures.end; low = w.in_ok-row-2.ensures.fits })
+      | else-quantile-end w ↦ rw (w.row-is, w.end-is) (record { entry = before.entry; covers = (before.from, omega (arith, w.if-quantile-end.false, before.end)); ends = before.end; low = before.small })
+    ] in
+    record {
+      rows = one_more_row number length_of table c.loop-quantile.rows.items c.push.new.self.items q row before.rows (row_of_entry number length_of g.row.PRECISION table row q lawful now.entry now.covers) items;
+      last = before.last;
+      within = omega (arith, before.last, c.loop-quantile-test.true);
+      entry = now.entry;
+      from = omega (arith, now.covers.0);
+      end = now.ends;
+      small = now.low;
+      low = one_more_low g.row.PRECISION table row.symbol (number row.left) (length_of row.weight) q lawful before.low now.entry now.covers now.low;
+    }
+
+pub returns-clause-fits : goal.returns-clause-fits
+returns-clause-fits g c =
+    let made = c.loop-quantile.invariant in
+    let all : c.loop-quantile.quantile ≡ 2 ^ g.row.PRECISION = omega (arith, made.last, made.within, c.loop-quantile-test.false) in
+    all_low g.row.PRECISION c.loop-quantile.quantile (g.M.EntropyModel.table c.args.model.now) (g.M.EntropyModel.lawful c.args.model.now) all made.low

@@ -1,0 +1,97 @@
+//! `Scale`: a scale whose reciprocal is known.
+
+ghost use Rattle.std.specs.Prelude.{◌≡◌, ◌/◌, ◌↔◌, IfSome, IsNone};
+ghost use Rattle.constriction_models.specs.Interpolation.{scaled};
+
+use crate::distribution::CumulativeDistribution;
+use crate::location_scale::{LocationScale, StandardDistribution};
+use std::alloc::AllocError;
+use std::marker::PhantomData;
+
+/// A scale of a family of distributions, a multiple of `2^-16`, whose reciprocal is computed once.
+///
+/// `Scale::new` divides, and `Scale::at` doesn't. A program whose scales repeat, or come from a table, keeps the
+/// values of this type and makes a distribution for each symbol without a division.
+///
+/// # Examples
+///
+/// ```
+/// // Standard deviations of 1, 2 and 4, as multiples of 2^-16.
+/// if let Some(scale) = Scale::<StandardNormal>::new(65536) {
+///     // Mean 3.5: the same distribution as `Gaussian::new(229376, 65536)`.
+///     scale.at(229376).cumulative(229376) // 2147483648, half of 2^32
+/// }
+/// ```
+#[derive(Drop, Copy)]
+pub struct Scale<D: StandardDistribution> {
+    scale: u32,
+    /// `2^36` times the number of 65536ths of a step of the table in one unit.
+    rate: u64,
+    standard: PhantomData<D>,
+    ghost rated: { rate ≡ 9223372036854775808 / D.WIDTH / scale },
+}
+
+impl<D: StandardDistribution> Scale<D> {
+    ghost use Rattle.constriction_models.specs.Scales.{scale_number};
+
+    /// Creates a scale, or returns `None` if the number is 0.
+    ///
+    /// The number is a multiple of `2^-16`. The type has an example.
+    #[inline]
+    pub fn new(scale: u32) -> Option<Self>
+        ensures ok { IfSome result (λ s. scale_number s ≡ scale) }
+        ensures none { IsNone result ↔ (scale ≡ 0) }
+    {
+        if scale == 0 {
+            return None;
+        }
+        Some(Scale {
+            scale,
+            rate: 9223372036854775808 / D::WIDTH / scale as u64,
+            standard: PhantomData,
+        })
+    }
+
+    /// Returns the number, a multiple of `2^-16`.
+    ///
+    /// # Examples
+    ///
+    /// ```
+    /// if let Some(scale) = Scale::<StandardNormal>::new(65536) {
+    ///     scale.get() // 65536
+    /// }
+    /// ```
+    #[inline]
+    pub fn get(self) -> u32
+        ensures { result ≡ scale_number self }
+    {
+        self.scale
+    }
+
+    /// Returns the distribution of a location and this scale.
+    ///
+    /// The location is a multiple of `2^-16`. The type has an example.
+    #[inline]
+    pub fn at(self, location: i64) -> LocationScale<D>
+        ensures { ⟦<LocationScale<D> as CumulativeDistribution>⟧.below result
+            ≡ scaled D.values D.WIDTH location (scale_number self) }
+    {
+        LocationScale {
+            location,
+            scale: self.scale,
+            rate: self.rate,
+            standard: PhantomData,
+        }
+    }
+}
+
+impl<D: StandardDistribution> Clone for Scale<D> {
+    ghost is_clone = { λ old new. new ≡ old };
+
+    ghost is_infallible = { λ _. Unit {0} };
+
+    /// Returns the same scale. This never fails.
+    fn clone(&self) -> Result<Self, AllocError> {
+        Ok(*self)
+    }
+}
