@@ -155,7 +155,7 @@ impl<'a, D: CumulativeDistribution> CumulativeDistribution for Mixture<'a, D> {
         let middle = self.components[0].distribution.guess(below);
         let mut all = 0u128;
         for one in self.components {
-            let above = offset(one.distribution.guess(below), middle);
+            let above = clamped(one.distribution.guess(below), middle);
             all = all.wrapping_add(one.weight as u128 * above as u128);
         }
         let mean = self.mean(all.min(self.total as u128 * 4294967296));
@@ -167,7 +167,7 @@ impl<'a, D: CumulativeDistribution> CumulativeDistribution for Mixture<'a, D> {
 
 /// Returns how far a place lies above one that is 32768 symbols below the middle, at least 0 and at most twice as far.
 #[inline(always)]
-fn offset(place: i64, middle: i64) -> u64
+fn clamped(place: i64, middle: i64) -> u64
     ensures { result ≤ 4294967296 }
 {
     let from = place.saturating_sub(middle);
