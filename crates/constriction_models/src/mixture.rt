@@ -1,6 +1,6 @@
 //! `Mixture`: the weighted mean of distributions.
 
-ghost use Rattle.std.specs.Prelude.{◌≡◌, ◌↔◌, ◌+◌, ◌*◌, ◌/◌, ◌<◌, ◌≤◌, [], IfOk};
+ghost use Rattle.std.specs.Prelude.{◌≡◌, ◌↔◌, ◌+◌, ◌*◌, ◌/◌, ◌<◌, ◌≤◌, [], length, IfOk};
 ghost use Rattle.std.specs.Prelude.{IsErrOf};
 ghost use Rattle.constriction_models.specs.Mixtures.{mixed, weighted, total_weight};
 ghost use Rattle.constriction_models.specs.laws.Mixing.{mixed_is_distribution};
@@ -131,6 +131,49 @@ impl<'a, D: CumulativeDistribution> Mixture<'a, D> {
             near
         }
     }
+
+    /// Returns about where the quantile lies if the components don't overlap: the shares below it, in the order of
+    /// their places, say in which component it is, and how much of that lies below.
+    fn place_by_shares(&self, below: u64) -> i64 {
+        let mut places = [0i64; FEW];
+        let count = self.components.len().min(FEW);
+        for k in 0..count {
+            places[k] = self.components[k].distribution.guess(below);
+        }
+        let sum = below.min(4294967295) * self.total;
+        let (k, inside) = self.share_of(&places, sum);
+        self.components[k].distribution.guess(inside)
+    }
+
+    /// Returns the component whose share holds this sum of the shares in the order of places, and how much of `2^32`
+    /// lies below in it.
+    fn share_of(&self, places: &[i64; FEW], sum: u64) -> (usize, u64)
+        ensures { result.0 < length self.now.components.now }
+    {
+        for k in 0..self.components.len().min(FEW) {
+            let weight = self.components[k].weight as u64;
+            let before = self.weight_before(places, places[k], k) << 32;
+            if before <= sum && (sum - before) >> 32 < weight {
+                return (k, (sum - before) / weight);
+            }
+        }
+        (0, 2147483648)
+    }
+
+    /// Returns the sum of the weights of the components whose places are lower, or equal and listed earlier.
+    #[inline(always)]
+    fn weight_before(&self, places: &[i64; FEW], place: i64, k: usize) -> u64 {
+        let mut before = 0u64;
+        for i in 0..self.components.len().min(FEW) {
+            let lower = places[i] < place || (places[i] == place && i < k);
+            before = before.wrapping_add(if lower {
+                self.components[i].weight as u64
+            } else {
+                0
+            });
+        }
+        before
+    }
 }
 
 impl<'a, D: CumulativeDistribution> CumulativeDistribution for Mixture<'a, D> {
@@ -147,27 +190,39 @@ impl<'a, D: CumulativeDistribution> CumulativeDistribution for Mixture<'a, D> {
         self.mean(sum)
     }
 
-    /// Returns the weighted mean of the components' places, which lies between the least and the greatest of them.
+    /// Returns the weighted mean of the components' places, or where these lie far apart the place by shares.
     ///
-    /// A place that lies more than 32768 symbols from the first component's counts as one that far away.
+    /// Both lie between the least and the greatest of the places, and so does the quantile. A place that is more than
+    /// 32768 symbols from the first component's counts as one that far away.
     #[inline(always)]
     fn guess(&self, below: u64) -> i64 {
-        let middle = self.components[0].distribution.guess(below);
+        let first = self.components[0].distribution.guess(below);
+        let mut least = first;
+        let mut greatest = first;
         let mut all = 0u128;
         for one in self.components {
-            let above = offset(one.distribution.guess(below), middle);
-            all = all.wrapping_add(one.weight as u128 * above as u128);
+            let place = one.distribution.guess(below);
+            least = least.min(place);
+            greatest = greatest.max(place);
+            all = all.wrapping_add(one.weight as u128 * clamped(place, first) as u128);
+        }
+        if greatest.saturating_sub(least) > FAR && self.components.len() <= FEW {
+            return self.place_by_shares(below).max(least).min(greatest);
         }
         let mean = self.mean(all.min(self.total as u128 * 4294967296));
-        middle
-            .saturating_sub(2147483648)
-            .saturating_add(mean as i64)
+        first.saturating_sub(2147483648).saturating_add(mean as i64)
     }
 }
 
+/// How far apart places are that a mean says little of: 64 symbols.
+const FAR: i64 = 4194304;
+
+/// Of how many components the order is looked at.
+const FEW: usize = 8;
+
 /// Returns how far a place lies above one that is 32768 symbols below the middle, at least 0 and at most twice as far.
 #[inline(always)]
-fn offset(place: i64, middle: i64) -> u64
+fn clamped(place: i64, middle: i64) -> u64
     ensures { result ≤ 4294967296 }
 {
     let from = place.saturating_sub(middle);

@@ -1,4 +1,3 @@
-use Rattle.std.specs.Prelude.{ℕ, ◌<◌}
 use Rattle.std.proofs.Common.{refl, arith}
 use Rattle.constriction_models.proofs.Means.{is_nearly, nearly_more, nearly_same}
 use Rattle.constriction_models.proofs.mixture.Mixture.mean.Goals as goal
