@@ -17,7 +17,6 @@ use crate::errors::{
     BackendError, DecoderError, DecoderFrontendError, EncoderError, EncoderFrontendError,
 };
 use crate::halves::{give, keep, take};
-use crate::heads::ChainCoderHeads;
 use constriction_base::backends::{Holds, ReadWords, Stack, WriteWords};
 use constriction_base::errors::CoderError;
 use constriction_base::model::{DecoderModel, EncoderModel, EntropyModel};
@@ -61,7 +60,7 @@ impl<
     /// - `Backend(Remainders(error))` if a word is needed and the remainders refused room for one: nothing changed. Or
     ///   if the remainders refused to write a word: the compressed backend has lost at most one word, and nothing
     ///   changed if the backend of the remainders grants room.
-    #[inline]
+    #[inline(always)]
     fn decode_symbol<M>(
         &mut self,
         model: M,
@@ -70,18 +69,22 @@ impl<
         M: DecoderModel<PRECISION>,
         M::Probability: WordOf<Word>,
     {
-        let (_, r) = self.heads.parts();
-        let (quantile, h) = match take(&mut self.compressed, &mut self.remainders, self.heads) {
+        let precision = PRECISION as u32;
+        let (before, r) = self.heads.numbers();
+        let (quantile, h) = match take(
+            &mut self.compressed,
+            &mut self.remainders,
+            (before, r),
+            precision,
+        ) {
             Ok(found) => found,
             Err(error) => return Err(error),
         };
         let (symbol, left, p) = model.quantile_function(M::Probability::narrow(quantile));
         let (left, p) = (left.widen(), M::Probability::from_nonzero(p).widen());
-        let precision = PRECISION as u32;
         match keep::<Word, State, R>(&mut self.remainders, r, quantile, left, p, precision) {
             Ok(r) => {
-                let after = ChainCoderHeads::of(h, r);
-                self.heads = after;
+                self.heads.replace(h, r);
                 Ok(symbol)
             }
             Err(error) => Err(CoderError::Backend(BackendError::Remainders(error))),
@@ -153,7 +156,7 @@ impl<
     /// - `Backend(Compressed(error))` if a word had to be written and the backend refused room for it: nothing changed.
     ///   Or if its write was refused, which happens only over a backend that doesn't grant room: the remainders have
     ///   lost at most one word.
-    #[inline]
+    #[inline(always)]
     fn encode_symbol<M>(
         &mut self,
         symbol: &M::Symbol,
@@ -163,11 +166,11 @@ impl<
         M: EncoderModel<PRECISION>,
         M::Probability: WordOf<Word>,
     {
+        let (heads, precision) = (self.heads.numbers(), PRECISION as u32);
         let Some((left, p, reciprocal)) = model.left_cumulative_and_reciprocal(symbol) else {
             return Err(CoderError::Frontend(EncoderFrontendError::ImpossibleSymbol));
         };
         let (left, p) = (left.widen(), M::Probability::from_nonzero(p).widen());
-        let (heads, precision) = (self.heads.parts(), PRECISION as u32);
         match give(
             &mut self.compressed,
             &mut self.remainders,
@@ -178,8 +181,7 @@ impl<
             precision,
         ) {
             Ok((h, r)) => {
-                let after = ChainCoderHeads::of(h, r);
-                self.heads = after;
+                self.heads.replace(h, r);
                 Ok(())
             }
             Err(error) => Err(error),
