@@ -118,7 +118,7 @@ impl<
     /// let (compressed, remainders, heads) = coder.into_raw_parts();
     /// let coder = ChainCoder::from_raw_parts(compressed, remainders, heads); // the same coder
     /// ```
-    #[inline]
+    #[inline(always)]
     pub fn from_raw_parts(
         compressed: C,
         remainders: R,

@@ -11,41 +11,37 @@ ghost use Rattle.constriction_words.specs.Reciprocals.{IsReciprocalOf};
 ghost use Rattle.std.specs.Prelude.{Err, IfErr, IfOk, IfSome, Ok, ◌%◌, ◌*◌, ◌+◌, ◌-◌, ◌/◌, ◌<◌, ◌^◌, ◌≡◌, ◌≤◌};
 
 use crate::errors::{BackendError, DecoderError, EncoderError, EncoderFrontendError};
-use crate::heads::ChainCoderHeads;
 use crate::steps::{gain, give_quantile, prepare_for_quantile, regain, take_quantile};
 use constriction_base::backends::{Holds, ReadWords, Stack, WriteWords};
 use constriction_base::errors::CoderError;
 use constriction_words::{BitArray, Reciprocal, WordOf};
 
 /// Takes the next quantile, and returns it with the compressed head after it.
-#[inline]
-pub fn take<
-    Word: WordOf<State>,
-    State: BitArray,
-    C: ReadWords<Word, Stack>,
-    R: WriteWords<Word>,
-    const PRECISION: usize,
->(
+#[inline(always)]
+pub fn take<Word: WordOf<State>, State: BitArray, C: ReadWords<Word, Stack>, R: WriteWords<Word>>(
     compressed: &mut C,
     remainders: &mut R,
-    heads: ChainCoderHeads<Word, State, PRECISION>,
+    heads: (Word, State),
+    precision: u32,
 ) -> Result<(Word, Word), DecoderError<C::ReadError, R::WriteError>>
+    requires sized { IsSized Word.BITS State.BITS precision }
+    requires head { 0 < Word.number heads.0 }
+    requires window { IsRemaindersHead Word.BITS State.BITS precision (State.number heads.1) }
     ensures ok { IfOk result (λ found. Took Word.number C.Holds C.ReadWords.own R.Holds R.WriteWords.own
-        Word.BITS State.BITS PRECISION
+        Word.BITS State.BITS precision
         (at_heads Word.number State.number C.Holds R.Holds heads compressed.old remainders.old)
         (Word.number found.0) (Word.number found.1)
         (at_heads Word.number State.number C.Holds R.Holds heads compressed.new remainders.new)) }
     ensures err { IfErr result (λ e. Halted Word.number C.Holds C.ReadWords.own R.Holds R.WriteWords.own
-        Word.BITS State.BITS PRECISION
+        Word.BITS State.BITS precision
         (at_heads Word.number State.number C.Holds R.Holds heads compressed.old remainders.old) e
         (at_heads Word.number State.number C.Holds R.Holds heads compressed.new remainders.new)) }
 {
-    let (h, _) = heads.parts();
-    take_quantile(compressed, remainders, h, PRECISION as u32)
+    take_quantile(compressed, remainders, heads.0, precision)
 }
 
 /// Moves the place of a quantile in its interval to the remainders, and returns the remainders head after it.
-#[inline]
+#[inline(always)]
 pub fn keep<Word: WordOf<State>, State: BitArray, R: WriteWords<Word>>(
     remainders: &mut R,
     r: State,
@@ -73,7 +69,7 @@ pub fn keep<Word: WordOf<State>, State: BitArray, R: WriteWords<Word>>(
 }
 
 /// Returns the quotient by the length of an interval and the remainder, by a product if there is a reciprocal.
-#[inline]
+#[inline(always)]
 fn divided<State: BitArray>(
     number: State,
     p: State,
@@ -94,7 +90,7 @@ fn divided<State: BitArray>(
 }
 
 /// Puts back the quantile that the remainders determine in an interval, and returns both heads after it.
-#[inline]
+#[inline(always)]
 pub fn give<Word: WordOf<State>, State: BitArray, C: WriteWords<Word>, R: ReadWords<Word, Stack>>(
     compressed: &mut C,
     remainders: &mut R,

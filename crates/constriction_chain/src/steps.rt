@@ -13,7 +13,7 @@ use constriction_base::errors::CoderError;
 use constriction_words::{BitArray, WordOf};
 
 /// Returns whether the next quantile has to come from a new word.
-#[inline]
+#[inline(always)]
 fn needs_word<Word: BitArray>(h: Word, precision: u32) -> bool
     requires { precision ≤ Word.BITS }
     ensures { MatchBool result (NeedsWord Word.BITS precision (Word.number h))
@@ -23,7 +23,7 @@ fn needs_word<Word: BitArray>(h: Word, precision: u32) -> bool
 }
 
 /// Splits a word into a quantile and the head with the word's other bits.
-#[inline]
+#[inline(always)]
 fn from_word<Word: BitArray>(h: Word, word: Word, precision: u32) -> (Word, Word)
     requires sized { (1 ≤ precision) × (precision ≤ Word.BITS) }
     requires few { NeedsWord Word.BITS precision (Word.number h) }
@@ -44,7 +44,7 @@ fn from_word<Word: BitArray>(h: Word, word: Word, precision: u32) -> (Word, Word
 /// Takes the next quantile, and returns it with the head after it.
 ///
 /// If it needs a word, it first asks the remainders for room for one.
-#[inline]
+#[inline(always)]
 pub fn take_quantile<Word: BitArray, C: ReadWords<Word, Stack>, R: WriteWords<Word>>(
     compressed: &mut C,
     remainders: &mut R,
@@ -77,7 +77,7 @@ pub fn take_quantile<Word: BitArray, C: ReadWords<Word, Stack>, R: WriteWords<Wo
 }
 
 /// Adds a place in an interval to the remainders head, and brings the head back into its window.
-#[inline]
+#[inline(always)]
 pub fn gain<Word: WordOf<State>, State: BitArray, R: WriteWords<Word>>(
     remainders: &mut R,
     r: State,
@@ -105,7 +105,7 @@ pub fn gain<Word: WordOf<State>, State: BitArray, R: WriteWords<Word>>(
 }
 
 /// Returns whether a quantile makes the compressed head too long, so that a word has to be written.
-#[inline]
+#[inline(always)]
 fn owes_word<Word: BitArray>(h: Word, precision: u32) -> bool
     requires { (1 ≤ precision) × (precision ≤ Word.BITS) }
     ensures { MatchBool result (OwesWord Word.BITS precision (Word.number h))
@@ -115,7 +115,7 @@ fn owes_word<Word: BitArray>(h: Word, precision: u32) -> bool
 }
 
 /// Asks for room for a word if the quantile makes the compressed head too long.
-#[inline]
+#[inline(always)]
 pub fn prepare_for_quantile<Word: BitArray, C: WriteWords<Word>>(
     compressed: &mut C,
     h: Word,
@@ -137,7 +137,7 @@ pub fn prepare_for_quantile<Word: BitArray, C: WriteWords<Word>>(
 }
 
 /// Puts a quantile back onto the compressed head, which writes a word if it is full.
-#[inline]
+#[inline(always)]
 pub fn give_quantile<Word: BitArray, C: WriteWords<Word>>(
     compressed: &mut C,
     h: Word,
@@ -167,7 +167,7 @@ pub fn give_quantile<Word: BitArray, C: WriteWords<Word>>(
 }
 
 /// Returns whether the remainders head is too short for an interval, so that a word is needed.
-#[inline]
+#[inline(always)]
 fn is_short<Word: BitArray, State: BitArray>(r: State, p: State, precision: u32) -> bool
     requires { IsSized Word.BITS State.BITS precision }
     ensures { MatchBool result (State.number r < State.number p * least Word.BITS State.BITS precision)
@@ -178,7 +178,7 @@ fn is_short<Word: BitArray, State: BitArray>(r: State, p: State, precision: u32)
 }
 
 /// Returns the remainders head, after a word moved in if the interval needs one, or `None` if no word is left.
-#[inline]
+#[inline(always)]
 pub fn regain<Word: WordOf<State>, State: BitArray, R: ReadWords<Word, Stack>>(
     remainders: &mut R,
     r: State,

@@ -18,7 +18,6 @@ use crate::errors::{
     BackendError, DecoderError, DecoderFrontendError, EncoderError, EncoderFrontendError,
 };
 use crate::halves::{give, keep, take};
-use crate::heads::ChainCoderHeads;
 use constriction_base::backends::{Holds, ReadWords, Stack, WriteWords};
 use constriction_base::errors::CoderError;
 use constriction_base::model::{DecoderModel, EncoderModel, EntropyModel};
@@ -64,7 +63,7 @@ impl<
     ///   Nothing changed.
     /// - `Backend(Remainders(error))` if the remainders refuse to write a word. The compressed backend has lost at most
     ///   one word. It has lost none if `makes_room` of the remainders' backend holds.
-    #[inline]
+    #[inline(always)]
     fn decode_symbol<M>(
         &mut self,
         model: M,
@@ -73,18 +72,22 @@ impl<
         M: DecoderModel<PRECISION>,
         M::Probability: WordOf<Word>,
     {
-        let (_, r) = self.heads.parts();
-        let (quantile, h) = match take(&mut self.compressed, &mut self.remainders, self.heads) {
+        let precision = PRECISION as u32;
+        let (before, r) = self.heads.numbers();
+        let (quantile, h) = match take(
+            &mut self.compressed,
+            &mut self.remainders,
+            (before, r),
+            precision,
+        ) {
             Ok(found) => found,
             Err(error) => return Err(error),
         };
         let (symbol, left, p) = model.quantile_function(M::Probability::narrow(quantile));
         let (left, p) = (left.widen(), M::Probability::from_nonzero(p).widen());
-        let precision = PRECISION as u32;
         match keep::<Word, State, R>(&mut self.remainders, r, quantile, left, p, precision) {
             Ok(r) => {
-                let after = ChainCoderHeads::of(h, r);
-                self.heads = after;
+                self.heads.replace(h, r);
                 Ok(symbol)
             }
             Err(error) => Err(CoderError::Backend(BackendError::Remainders(error))),
@@ -158,7 +161,7 @@ impl<
     ///   Nothing changed.
     /// - `Backend(Compressed(error))` if the compressed backend refuses to write that word, which happens only if
     ///   `makes_room` of that backend doesn't hold. The remainders have lost at most one word.
-    #[inline]
+    #[inline(always)]
     fn encode_symbol<M>(
         &mut self,
         symbol: &M::Symbol,
@@ -168,11 +171,11 @@ impl<
         M: EncoderModel<PRECISION>,
         M::Probability: WordOf<Word>,
     {
+        let (heads, precision) = (self.heads.numbers(), PRECISION as u32);
         let Some((left, p, reciprocal)) = model.left_cumulative_and_reciprocal(symbol) else {
             return Err(CoderError::Frontend(EncoderFrontendError::ImpossibleSymbol));
         };
         let (left, p) = (left.widen(), M::Probability::from_nonzero(p).widen());
-        let (heads, precision) = (self.heads.parts(), PRECISION as u32);
         match give(
             &mut self.compressed,
             &mut self.remainders,
@@ -183,8 +186,7 @@ impl<
             precision,
         ) {
             Ok((h, r)) => {
-                let after = ChainCoderHeads::of(h, r);
-                self.heads = after;
+                self.heads.replace(h, r);
                 Ok(())
             }
             Err(error) => Err(error),

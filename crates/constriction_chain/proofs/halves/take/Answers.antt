@@ -6,18 +6,18 @@ pub returns-clause-ok : goal.returns-clause-ok
 returns-clause-ok g c =
     let number = g.Word.BitArray.number in
     let law = g.met.Word.BitArray.number_law in
-    let parts = c.parts-h.ensures in
-    let before = coder_of _ _ _ number law g.C.Holds g.R.Holds _ _ c.args.compressed.now c.args.remainders.now parts.sized parts.some (law _) parts.window in
+    let parts = c.requires in
+    let before = coder_of _ _ _ number law g.C.Holds g.R.Holds _ _ c.args.compressed.now c.args.remainders.now parts.sized parts.head (law _) parts.window in
     told_ok _ _ c.take_quantile.result (λ found taken. took_of number g.C.Holds g.C.ReadWords g.R.Holds g.R.WriteWords _ _ _ _ _ _ _ _ _ _ _ before taken)
-    (rw parts.parts at c.take_quantile.ensures.ok)
+    c.take_quantile.ensures.ok
 
 pub returns-clause-err : goal.returns-clause-err
 returns-clause-err g c =
     let number = g.Word.BitArray.number in
     let law = g.met.Word.BitArray.number_law in
-    let parts = c.parts-h.ensures in
-    let before = coder_of _ _ _ number law g.C.Holds g.R.Holds _ _ c.args.compressed.now c.args.remainders.now parts.sized parts.some (law _) parts.window in
-    let after = coder_of _ _ _ number law g.C.Holds g.R.Holds _ _ c.take_quantile.new.compressed c.take_quantile.new.remainders parts.sized parts.some (law _) parts.window in
+    let parts = c.requires in
+    let before = coder_of _ _ _ number law g.C.Holds g.R.Holds _ _ c.args.compressed.now c.args.remainders.now parts.sized parts.head (law _) parts.window in
+    let after = coder_of _ _ _ number law g.C.Holds g.R.Holds _ _ c.take_quantile.new.compressed c.take_quantile.new.remainders parts.sized parts.head (law _) parts.window in
     told_err _ _ c.take_quantile.result
     (λ e halts others kept room. halted_of number g.C.Holds g.C.ReadWords g.R.Holds g.R.WriteWords _ _ _ _ _ _ _ _ _ e before after halts others kept room)
-    (rw parts.parts at c.take_quantile.ensures.err) c.take_quantile.ensures.others c.take_quantile.ensures.kept c.take_quantile.ensures.room
+    c.take_quantile.ensures.err c.take_quantile.ensures.others c.take_quantile.ensures.kept c.take_quantile.ensures.room

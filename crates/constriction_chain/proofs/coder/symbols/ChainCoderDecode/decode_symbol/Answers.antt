@@ -23,10 +23,10 @@ keep-requires-clause-few g c =
 pub returns-in-Ok-keep : goal.returns-in-Ok-keep
 returns-in-Ok-keep g c =
     let number = g.Word.BitArray.number in
-    let taken = c.in-Ok.ensures.ok in
+    let taken = rw c.numbers-before.ensures.parts at c.in-Ok.ensures.ok in
     let covers = covered _ _ _ _ _ _ taken.below (g.met.M.EntropyModel.sized c.args.model).1 c.narrow.ensures c.quantile_function-symbol.ensures.covers in
-    let kept = rw (c.widen-left.ensures, c.widen-p.ensures, c.from_nonzero.ensures, c.parts-r.ensures.parts) at c.in-Ok-keep.ensures.ok in
-    rw (← c.self.view_is, c.of-after.ensures) (record {
+    let kept = rw (c.widen-left.ensures, c.widen-p.ensures, c.from_nonzero.ensures, c.numbers-before.ensures.parts) at c.in-Ok-keep.ensures.ok in
+    rw (← c.self.view_is, c.replace.ensures) (record {
       step = (
         _,
         _,
@@ -38,9 +38,9 @@ returns-in-Ok-keep g c =
 pub returns : goal.returns
 returns g c =
     let number = g.Word.BitArray.number in
-    let taken = c.in-Ok.ensures.ok in
+    let taken = rw c.numbers-before.ensures.parts at c.in-Ok.ensures.ok in
     let covers = covered _ _ _ _ _ _ taken.below (g.met.M.EntropyModel.sized c.args.model).1 c.narrow.ensures c.quantile_function-symbol.ensures.covers in
-    let lost = rw (c.widen-left.ensures, c.widen-p.ensures, c.from_nonzero.ensures, c.parts-r.ensures.parts) at c.in-Err-keep.ensures.err in
+    let lost = rw (c.widen-left.ensures, c.widen-p.ensures, c.from_nonzero.ensures, c.numbers-before.ensures.parts) at c.in-Err-keep.ensures.err in
     rw (← c.self.view_is) (record {
       step = inr (
         _,
