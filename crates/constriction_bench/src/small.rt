@@ -5,7 +5,6 @@ use crate::flat::Flat;
 use crate::lookup::LookupTable;
 use crate::runs::{copy_out, decode_in, encode_out, reload_out};
 use constriction_base::weights::WeightTable;
-use constriction_models::lookup::ContiguousLookupDecoderModel;
 use std::alloc::Global;
 
 /// Encodes symbols by a table of weights.
@@ -76,23 +75,6 @@ pub extern "C" fn constriction_bench_ans_decode_u16u32p12_lookup(
         return false;
     };
     decode_in::<u16, u32, _, 12>(alloc, words, symbols, &table)
-}
-
-/// Decodes as many symbols as there is room for, by the library's model with a row for each quantile.
-#[unsafe(no_mangle)]
-pub extern "C" fn constriction_bench_ans_decode_u16u32p12_rows(
-    alloc: Global,
-    weights: &[u16],
-    words: &[u16],
-    symbols: &mut [usize],
-) -> bool {
-    let Ok(table) = WeightTable::<u16, 12>::new(alloc, weights) else {
-        return false;
-    };
-    match ContiguousLookupDecoderModel::new(alloc, table) {
-        Ok(rows) => decode_in::<u16, u32, _, 12>(alloc, words, symbols, &rows),
-        Err(_) => false,
-    }
 }
 
 /// Puts words into a coder and takes them out again.

@@ -2,7 +2,8 @@
 -- that a struct holds for them.
 use Rattle.std.proofs.Common.{◌≡◌, ℕ, ℤ, List, Result, refl, sym}
 use Rattle.constriction_c.specs.Codes.{Told, answer_by_code, needed_by}
-use Rattle.constriction_inputs.specs.Coded.{Coded, InFamily, in_family}
+use Rattle.constriction_inputs.specs.Coded.{Coded}
+use Rattle.constriction_inputs.specs.Quantized.{by_family, in_family}
 use Rattle.constriction_calls.specs.AnsCalls.{AnsKept, AnsPuts, AnsTakes}
 use Rattle.constriction_calls.specs.ChainCalls.{ChainPuts, ChainTakes, keeps}
 use Rattle.constriction_calls.specs.RangeCalls.{RangePuts, RangeTakes, kept_in}
@@ -14,7 +15,7 @@ use Rattle.constriction_inputs.specs.declared.refusal.Refusal.{Refusal}
 -- models of a family
 pub family_is : {made family : ℕ} {first last low high min max : ℤ} {places locations : List ℤ} {widths scales : List ℕ} → (made ≡ family) × (first ≡ low) × (last ≡ high)
     → (places ≡ locations) × (widths ≡ scales) → low ≡ min → high ≡ max
-    → ◌≡◌ {A = List ℕ → Coded} (InFamily (record { family = made; min = first; max = last; locations = places; scales = widths })) (in_family family min max locations scales)
+    → ◌≡◌ {A = List ℕ → Coded} (by_family (record { family = made; min = first; max = last; locations = places; scales = widths })) (in_family family min max locations scales)
 family_is numbers lists low_is high_is = rw (numbers.0, numbers.1, numbers.2, low_is, high_is, lists.0, lists.1) refl
 
 -- ---- the stack coder

@@ -1,40 +1,18 @@
 -- Words that lie below those that a chain coder's steps read and write stay there.
 use Rattle.std.proofs.Common.{◌≡◌, ℕ, ◌+◌, ◌^◌, ◌<◌, ◌≤◌, List, [], ◌∷◌, ◌++◌, length, map, take, drop, reverse, zip, sym, ap, ◌∙◌, subst, arith, inl, inr, append_assoc}
-use Rattle.std.specs.List.{AllByRecursion}
 use Rattle.std.proofs.lemmas.List.{length-append}
 use Rattle.constriction_base.specs.Models.{Item}
 use Rattle.constriction_base.specs.Steps.{AreWords, Step}
-use Rattle.constriction_base.proofs.Turns.{all-reverse}
 use Rattle.constriction_base.proofs.WordLists.{words-append, words_fit}
 use Rattle.constriction_chain.specs.Chain.{ChainState, IsChain, IsDecode, IsEncode}
 use Rattle.constriction_chain.specs.Symbols.{PutsBackAll, TakesOffAll}
+use Rattle.constriction_chain.specs.Walk.{IsTaken, Source}
 use Rattle.constriction_chain.proofs.Below.{decodes_part}
 use Rattle.constriction_chain.proofs.Chains.{decode_from, state, state_same}
 use Rattle.constriction_chain.proofs.Walks.{quantile_over}
 use Rattle.constriction_inputs.specs.Buffers.{Appended, stack_in}
-use Rattle.constriction_inputs.specs.Coded.{AsIntervals, ByRows, ByWeights, Coded, InFamily, items}
-use Rattle.constriction_inputs.specs.Quantized.{family_tables}
-use Rattle.constriction_inputs.specs.Weights.{row_items}
 use Rattle.constriction_calls.specs.ChainCalls.{LacksCompressed, LacksRemainders, CompressedNeedRoom, RemaindersNeedRoom, chain_in}
-use Rattle.constriction_calls.proofs.Known.{all_first, all_made}
 use Rattle.constriction_calls.proofs.Stacked.{length_in, rest_in, stacked}
-
--- ---- models of precisions that words have room for
-abbrev AreWithin : {S : Type 0} → ℕ → List (Item S) → Type 0
-AreWithin w items = AllByRecursion (λ item. item.model.precision ≤ w) items
-
-within_rows : (w precision width : ℕ) (weights symbols : List ℕ) → precision ≤ w → AreWithin w (row_items precision width weights symbols)
-within_rows w precision width weights [] h = tt
-within_rows w precision width weights (symbol ∷ symbols) h = (h, within_rows w precision width (drop width weights) symbols h)
-
-within_items : (w precision : ℕ) (coded : Coded) → precision ≤ w → AreWithin w (items precision coded)
-within_items w precision (ByWeights weights symbols) h = all_made (λ (item : Item ℕ). item.model.precision ≤ w) _ (λ x. h) symbols
-within_items w precision (ByRows width weights symbols) h = within_rows w precision width weights symbols h
-within_items w precision (AsIntervals lefts ps) h = all_made (λ (item : Item ℕ). item.model.precision ≤ w) _ (λ x. h) (zip lefts ps)
-within_items w precision (InFamily by symbols) h = all_made (λ (item : Item ℕ). item.model.precision ≤ w) _ (λ x. h) (zip symbols (family_tables precision by))
-
-pub within_turned : (w precision : ℕ) (coded : Coded) → precision ≤ w → AreWithin w (reverse (items precision coded))
-within_turned w precision coded h = all-reverse (λ item. item.model.precision ≤ w) (items precision coded) (within_items w precision coded h)
 
 -- ---- decodes
 
@@ -47,10 +25,16 @@ taken_over w s items x y below all =
 
 -- ---- encodes
 
+-- a word has room for the bits that are taken
+taken_within : (w P : ℕ) (old new : Source) (quantile : ℕ) → IsTaken w P old quantile new → P ≤ w
+taken_within w P old new quantile (inl from) = omega (arith, from.others_length)
+taken_within w P old new quantile (inr from) = omega (arith, from.within_word)
+
 -- an encode leaves the compressed words that lie below those that it writes
-encode_over : (w s : ℕ) (e : Step) (x y : ChainState) (below : List ℕ) → e.precision ≤ w → AreWords w below → IsEncode w s e x y
+encode_over : (w s : ℕ) (e : Step) (x y : ChainState) (below : List ℕ) → AreWords w below → IsEncode w s e x y
     → IsEncode w s e (state x.h x.r (x.compressed ++ below) x.remainders) (state y.h y.r (y.compressed ++ below) y.remainders)
-encode_over w s e x y below within fit i =
+encode_over w s e x y below fit i =
+    let within : e.precision ≤ w = taken_within w e.precision _ _ _ i.back.walk.taken in
     let old : ChainState = state x.h x.r (x.compressed ++ below) x.remainders in
     let new : ChainState = state y.h y.r (y.compressed ++ below) y.remainders in
     let chain : IsChain w s e.precision new = record {
@@ -69,14 +53,14 @@ encode_over w s e x y below within fit i =
     record { chain = chain; back = back; only = λ other ok d. decode_from w s e within old other new ok chain d back }
 
 -- the same of encodes one after the other
-put_over : {S : Type 0} (w s : ℕ) (items : List (Item S)) (x y : ChainState) (below : List ℕ) → AreWithin w items → AreWords w below → PutsBackAll w s items x y
+put_over : {S : Type 0} (w s : ℕ) (items : List (Item S)) (x y : ChainState) (below : List ℕ) → AreWords w below → PutsBackAll w s items x y
     → PutsBackAll w s items (state x.h x.r (x.compressed ++ below) x.remainders) (state y.h y.r (y.compressed ++ below) y.remainders)
-put_over w s [] x y below within fit all = ap (λ (z : ChainState). state z.h z.r (z.compressed ++ below) z.remainders) all
-put_over w s (item ∷ items) x y below within fit (next, (left, p, has, i), all) =
+put_over w s [] x y below fit all = ap (λ (z : ChainState). state z.h z.r (z.compressed ++ below) z.remainders) all
+put_over w s (item ∷ items) x y below fit (next, (left, p, has, i), all) =
     let e : Step = record { precision = item.model.precision; left = left; p = p } in (
       state next.h next.r (next.compressed ++ below) next.remainders,
-      (left, p, has, encode_over w s e x next below within.0 fit i),
-      put_over w s items next y below within.1 fit all,
+      (left, p, has, encode_over w s e x next below fit i),
+      put_over w s items next y below fit all,
     )
 
 -- and they take words of the remainders
@@ -132,7 +116,7 @@ module _ {W : Type 0} (number : W → ℕ) (w s h r : ℕ) (compressed : List W)
       }
 
   -- ---- encodes over lent words, with the compressed words behind a caller's, are encodes of the caller's state
-  module _ (law : (x : W) → number x < 2 ^ w) (items : List (Item ℕ)) (fine : AreWithin w items) where
+  module _ (law : (x : W) → number x < 2 ^ w) (items : List (Item ℕ)) where
     pub put_in : (h' r' rlen' : ℕ) (added compressed' : List W) (len' : ℕ) (y : ChainState) → rlen ≤ length remainders
         → PutsBackAll w s items (state h r [] (stack_in number remainders rlen)) y → h' ≡ y.h → r' ≡ y.r → rlen' ≡ length y.remainders → map number (reverse added) ≡ y.compressed → Appended compressed len added compressed' len'
         → (rlen' ≤ rlen) × PutsBackAll w s items (chain_in number h r compressed len remainders rlen) (chain_in number h' r' compressed' len' remainders rlen')
@@ -144,7 +128,7 @@ module _ {W : Type 0} (number : W → ℕ) (w s h r : ℕ) (compressed : List W)
         state_same _ _ eh er (stacked number compressed len added compressed' len' appended ∙ ap (λ (ys : List ℕ). ys ++ below) ea) (ap (λ (n : ℕ). stack_in number remainders n) el ∙ sym rest.1) in (
           omega (arith, rest.0, el),
           subst (λ (z : ChainState). PutsBackAll w s items (chain_in number h r compressed len remainders rlen) z) (sym end)
-              (put_over w s items _ y below fine (words_fit w number law (reverse (take len compressed))) all),
+              (put_over w s items _ y below (words_fit w number law (reverse (take len compressed))) all),
         )
 
     -- so are those that lack remainders
@@ -156,7 +140,7 @@ module _ {W : Type 0} (number : W → ℕ) (w s h r : ℕ) (compressed : List W)
           others = e.others;
           last = state e.last.h e.last.r (e.last.compressed ++ stack_in number compressed len) e.last.remainders;
           parts = e.parts;
-          put = put_over w s e.first _ e.last (stack_in number compressed len) (all_first (λ item. item.model.precision ≤ w) e.first (e.item ∷ e.others) (rw e.parts at fine)) (words_fit w number law (reverse (take len compressed))) e.put;
+          put = put_over w s e.first _ e.last (stack_in number compressed len) (words_fit w number law (reverse (take len compressed))) e.put;
           needs = e.needs;
           ended = e.ended;
         }
@@ -168,7 +152,7 @@ module _ {W : Type 0} (number : W → ℕ) (w s h r : ℕ) (compressed : List W)
         let below : List ℕ = stack_in number compressed len in
         record {
           new = state y.h y.r (y.compressed ++ below) y.remainders;
-          put = put_over w s items _ y below fine (words_fit w number law (reverse (take len compressed))) all;
+          put = put_over w s items _ y below (words_fit w number law (reverse (take len compressed))) all;
           is = omega (arith, length-append y.compressed below, length_in number compressed len within);
           past = past;
         }

@@ -5,8 +5,8 @@ use Rattle.std.proofs.lemmas.Bool.{cases_eq, cases_lt}
 use Rattle.std.proofs.lemmas.List.{length-map}
 use Rattle.constriction_base.specs.Models.{AreKnown}
 use Rattle.constriction_base.proofs.Entries.{has_at}
-use Rattle.constriction_inputs.specs.Coded.{AreFit, AsIntervals, AsksFit}
-use Rattle.constriction_inputs.specs.Intervals.{AreIntervals, interval_items, interval_weights}
+use Rattle.constriction_inputs.specs.Coded.{AreFit, AsksFit}
+use Rattle.constriction_inputs.specs.Intervals.{AreIntervals, as_intervals, interval_items, interval_weights}
 use Rattle.constriction_inputs.specs.declared.refusal.Refusal.{Refusal}
 use Rattle.constriction_inputs.specs.declared.refusal.Refusal.TheVariants.{NoMemory, WrongInterval, WrongLength}
 use Rattle.constriction_inputs.proofs.Asking.{fit_then}
@@ -37,7 +37,7 @@ module _ {T P : Type 0} (number : P → ℕ) (precision : ℕ) (lefts ps : List 
   as_long same = length-map lefts number ∙ (same ∙ sym (length-map ps number))
 
   -- where memory was missing, they are intervals
-  pub intervals_fit : e ≡ NoMemory → AreFit precision (AsIntervals (map number lefts) (map number ps))
+  pub intervals_fit : e ≡ NoMemory → AreFit precision (as_intervals (map number lefts) (map number ps))
   intervals_fit is =
       let same : length lefts ≡ length ps = elim (cases_eq (length lefts) (length ps)) [ inl alike ↦ alike | inr other ↦ (let wrong = lengths.1 other in absurd cc) ] in
       let all = intervals_told precision (map number lefts) (map number ps) (λ fails. (let wrong = intervals.1 (same, fails) in cc)) in
@@ -45,10 +45,10 @@ module _ {T P : Type 0} (number : P → ℕ) (precision : ℕ) (lefts ps : List 
 
   -- so a call that asks for intervals is refused as they were
   pub intervals_refused : (others : Result (Unit {0}) Refusal → Type 0) → (e ≡ WrongLength) ⊎ ((e ≡ WrongInterval) ⊎ (e ≡ NoMemory))
-      → (AreIntervals precision (map number lefts) (map number ps) → others (Err NoMemory)) → AsksFit precision (AsIntervals (map number lefts) (map number ps)) others (Err e)
+      → (AreIntervals precision (map number lefts) (map number ps) → others (Err NoMemory)) → AsksFit precision (as_intervals (map number lefts) (map number ps)) others (Err e)
   intervals_refused others (inl is) next =
       inl (λ same. lengths.0 (rw is refl) (sym (length-map lefts number) ∙ (same ∙ length-map ps number)), rw is refl)
   intervals_refused others (inr (inl is)) next = (let both = intervals.0 (rw is refl) in inr (as_long both.0, inl (both.1, rw is refl)))
   intervals_refused others (inr (inr is)) next =
       let fit = intervals_fit is in
-      rw is (fit_then precision (AsIntervals (map number lefts) (map number ps)) fit (next fit.1))
+      rw is (fit_then precision (as_intervals (map number lefts) (map number ps)) fit (next fit.1))

@@ -1,6 +1,5 @@
--- Which items are known: those that steps of a coder were made of; and what holds of all of a list.
-use Rattle.std.proofs.Common.{List, [], ◌∷◌, ◌++◌, map, reverse, subst}
-use Rattle.std.specs.List.{AllByRecursion}
+-- Which items are known: those that steps of a coder were made of.
+use Rattle.std.proofs.Common.{List, [], ◌∷◌, reverse, subst}
 use Rattle.std.proofs.lemmas.List.{reverse-reverse}
 use Rattle.constriction_base.specs.Models.{AreKnown, Item}
 use Rattle.constriction_base.specs.Steps.{InTurn, Step}
@@ -16,14 +15,3 @@ known_by leads (item ∷ items) old new all = ((all.1.0, all.1.1, all.1.2), know
 pub known_turned : {S C : Type 0} (leads : Step → C → C → Type 0) (items : List (Item S)) (old new : C)
     → InTurn (λ item a b. AtEntry item.model.precision item.model.table item.symbol (λ step. leads step a b)) (reverse items) old new → AreKnown items
 known_turned leads items old new all = subst AreKnown (reverse-reverse items) (all-reverse _ (reverse items) (known_by leads (reverse items) old new all))
-
--- ---- all of a list
--- those that are made of the elements of another
-pub all_made : {X Y : Type 0} (P : Y → Type 0) (f : X → Y) → ((x : X) → P (f x)) → (xs : List X) → AllByRecursion P (map f xs)
-all_made P f each [] = tt
-all_made P f each (x ∷ xs) = (each x, all_made P f each xs)
-
--- those that stand before others
-pub all_first : {X : Type 0} (P : X → Type 0) (xs ys : List X) → AllByRecursion P (xs ++ ys) → AllByRecursion P xs
-all_first P [] ys all = tt
-all_first P (x ∷ xs) ys all = (all.0, all_first P xs ys all.1)

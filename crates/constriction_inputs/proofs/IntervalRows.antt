@@ -2,7 +2,8 @@
 use Rattle.std.proofs.Common.{◌≡◌, ℕ, ◌*◌, List, [], ◌∷◌, length, map, arith, refl, ap}
 use Rattle.std.specs.Prelude.{replicate}
 use Rattle.constriction_base.specs.Models.{Item, item_of}
-use Rattle.constriction_inputs.specs.Weights.{weights_model, row_items, AreTotals}
+use Rattle.constriction_inputs.specs.Rows.{AreTotals, row_items}
+use Rattle.constriction_inputs.specs.Weights.{weights_model}
 use Rattle.constriction_inputs.specs.Intervals.{AreIntervals, interval_weights, interval_items, rows_between}
 
 module _ {P : Type 0} (number : P → ℕ) (precision : ℕ) where

@@ -4,7 +4,8 @@ use Rattle.std.proofs.lemmas.Bool.{cases_eq, false≢true}
 use Rattle.std.specs.List.{sum_by}
 use Rattle.std.proofs.lemmas.List.{drop-drop, drop_more}
 use Rattle.constriction_base.specs.Models.{AreKnown, Knows, item_of}
-use Rattle.constriction_inputs.specs.Weights.{row_items, weights_model}
+use Rattle.constriction_inputs.specs.Rows.{row_items}
+use Rattle.constriction_inputs.specs.Weights.{weights_model}
 use Rattle.constriction_inputs.proofs.RowWeights.{none_past, none_of_nothing, weight_found}
 
 -- the items that are left behind a place: the first of them, and the others

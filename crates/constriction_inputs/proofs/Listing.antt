@@ -2,7 +2,8 @@
 use Rattle.std.proofs.Common.{◌≡◌, ◌∙◌, ℕ, zero, suc, List, [], ◌∷◌, length, drop, take, refl, sym, ap, arith}
 use Rattle.std.specs.Prelude.{replicate}
 use Rattle.constriction_base.specs.Models.{Item, item_of, items_of, pairs_of}
-use Rattle.constriction_inputs.specs.Weights.{row_items, row_tables, weights_model}
+use Rattle.constriction_inputs.specs.Rows.{row_items, row_tables}
+use Rattle.constriction_inputs.specs.Weights.{weights_model}
 
 -- under one table, as often as there are symbols
 pub items_listed : (precision count : ℕ) (symbols : List ℕ) (table made : List (ℕ × ℕ × ℕ)) → length symbols ≡ count → made ≡ table

@@ -3,7 +3,8 @@ use Rattle.std.proofs.Common.{◌≡◌, ℕ, suc, ◌+◌, ◌-◌, ◌*◌, Li
 use Rattle.std.proofs.lemmas.List.{drop-drop, map_push, take-map}
 use Rattle.constriction_base.specs.Tables.{table_of}
 use Rattle.constriction_base.proofs.Guards.{map-drop}
-use Rattle.constriction_inputs.specs.Weights.{IsTotal, AreTotals, row_tables}
+use Rattle.constriction_inputs.specs.Rows.{AreTotals, row_tables}
+use Rattle.constriction_inputs.specs.Weights.{IsTotal}
 use Rattle.std.proofs.lemmas.Bool.{false≢true}
 
 -- what is left behind a row

@@ -1,7 +1,8 @@
 -- Intervals of the numbers below 2 ^ precision, without the table that they belong to.
-use Rattle.std.specs.Prelude.{ℕ, ◌+◌, ◌-◌, ◌<◌, ◌≤◌, ◌^◌, List, [], ◌∷◌, map}
+use Rattle.std.specs.Prelude.{◌≡◌, ℕ, ◌+◌, ◌-◌, ◌<◌, ◌≤◌, ◌^◌, List, [], ◌∷◌, length, map}
 use Rattle.std.specs.List.{AllByRecursion, zip}
 use Rattle.constriction_base.specs.Models.{Item, item_of}
+use Rattle.constriction_inputs.specs.Coded.{Coded}
 use Rattle.constriction_inputs.specs.Weights.{weights_model}
 
 -- The interval of length p that begins at left is not empty and lies below 2 ^ precision.
@@ -27,3 +28,12 @@ abbrev pub rows_between : ℕ → List ℕ → List ℕ → List ℕ
 rows_between precision [] ps = []
 rows_between precision (left ∷ lefts) [] = []
 rows_between precision (left ∷ lefts) (p ∷ ps) = left ∷ p ∷ (2 ^ precision - (left + p)) ∷ rows_between precision lefts ps
+
+-- Intervals, by their starts and lengths.
+abbrev pub as_intervals : List ℕ → List ℕ → Coded
+as_intervals lefts ps = record {
+  items_at = λ precision. interval_items precision lefts ps;
+  lengths_fit = length lefts ≡ length ps;
+  intervals_fit = λ precision. AreIntervals precision lefts ps;
+  weights_fit = λ precision. Unit {0};
+}

@@ -6,3 +6,4 @@ pub mod QuantizedCalls
 pub mod Refusals
 pub mod Rows
 pub mod Weights
+pub mod laws

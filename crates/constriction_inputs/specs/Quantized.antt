@@ -7,6 +7,7 @@ use Rattle.constriction_models.specs.Families.{family_below}
 use Rattle.constriction_models.specs.Quantized.{indexed}
 use Rattle.constriction_models.specs.declared.families.Family.{Family}
 use Rattle.constriction_models.specs.declared.families.Family.TheVariants.{Gaussian, Laplace, Logistic}
+use Rattle.constriction_inputs.specs.Coded.{Coded}
 
 -- The family with this number.
 abbrev pub family_of : ℕ → Option Family
@@ -58,6 +59,19 @@ IsRange precision min max = (min <ℤ max) × (max <ℤ (min +ℤ pos (2 ^ preci
 -- The number is that of a family, and each scale is above 0.
 abbrev pub AreScaled : ℕ → List ℕ → Type 0
 AreScaled family scales = IsSome (family_of family) × AllByRecursion (λ scale. 0 < scale) scales
+
+-- Symbols, each under the model of its own location and scale.
+abbrev pub by_family : ByFamily → List ℕ → Coded
+by_family by symbols = record {
+  items_at = λ precision. family_items precision by symbols;
+  lengths_fit = AreAsMany by (length symbols);
+  intervals_fit = λ precision. IsRange precision by.min by.max;
+  weights_fit = λ precision. AreScaled by.family by.scales;
+}
+
+-- Symbols under a family, given by its number, over a range, with a location and a scale for each symbol.
+abbrev pub in_family : ℕ → ℤ → ℤ → List ℤ → List ℕ → List ℕ → Coded
+in_family family min max locations scales = by_family (record { family = family; min = min; max = max; locations = locations; scales = scales })
 
 -- Each symbol is an index in the range.
 abbrev pub ArePlacesInRange : ℤ → ℤ → List ℕ → Type 0

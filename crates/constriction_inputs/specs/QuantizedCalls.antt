@@ -3,8 +3,8 @@ use Rattle.std.specs.Prelude.{◌≡◌, ◌↔◌, ℕ, ◌<◌, ◌≤◌, ◌
 use Rattle.std.specs.List.{sum, sum_by}
 use Rattle.constriction_base.specs.Models.{AreKnown}
 use Rattle.constriction_models.specs.Counts.{AllShare, AreShares, AreWeights, ServesLargest, positive}
-use Rattle.constriction_inputs.specs.Coded.{AsksFit, InFamily}
-use Rattle.constriction_inputs.specs.Quantized.{AreIntervalsOf, ByFamily, family_items}
+use Rattle.constriction_inputs.specs.Coded.{AsksFit}
+use Rattle.constriction_inputs.specs.Quantized.{AreIntervalsOf, ByFamily, by_family, family_items}
 use Rattle.constriction_inputs.specs.Refusals.{Asks, Else, Memory, Never}
 use Rattle.constriction_inputs.specs.declared.refusal.Refusal.{Refusal}
 use Rattle.constriction_inputs.specs.declared.refusal.Refusal.TheVariants.{ImpossibleSymbol, WrongLength, WrongWeights}
@@ -24,7 +24,7 @@ pub record GivesIntervals {P : Type 0} (number : P → ℕ) (precision : ℕ) (b
     (answer : Result (Unit {0}) Refusal) : Type 0 where
   pub intervals : OnOk answer (AreIntervalsOf (family_items precision by symbols) (map number new.lefts) (map number new.ps))
   pub asked : Asks WrongLength (HavePlaces (length symbols) old)
-      (AsksFit precision (InFamily by symbols) (Asks ImpossibleSymbol (AreKnown (family_items precision by symbols)) (Else Never))) answer
+      (AsksFit precision (by_family by symbols) (Asks ImpossibleSymbol (AreKnown (family_items precision by symbols)) (Else Never))) answer
   pub kept : OnErr answer (new ≡ old)
 
 -- ---- weights of counts

@@ -1,22 +1,31 @@
--- A row of weights as a model: the laws that its impls cite.
-use Rattle.std.proofs.Common.{◌≡◌, ℕ, ◌<◌, ◌≤◌, ◌^◌, ◌-◌, List, [], ◌∷◌, zero, suc, length, get_or, map, arith, pow_pos, ap}
+-- A row of weights for each symbol, one row behind another.
+use Rattle.std.specs.Prelude.{◌≡◌, ℕ, zero, suc, ◌*◌, List, [], ◌∷◌, ⊤, length, take, drop}
 use Rattle.constriction_base.specs.Tables.{table_of}
-use Rattle.constriction_base.specs.laws.Weights.{at_least_two, has_only, weights_make_table}
-use Rattle.constriction_inputs.specs.Weights.{IsTotal}
+use Rattle.constriction_base.specs.Models.{Item, item_of}
+use Rattle.constriction_inputs.specs.Coded.{Coded}
+use Rattle.constriction_inputs.specs.Weights.{IsTotal, weights_model}
 
--- Each number of a list of words is below 2 ^ bits.
-below_bits : {W : Type 0} (number : W → ℕ) (bits : ℕ) → ((x : W) → number x < 2 ^ bits) → (ws : List W) (k : ℕ) → get_or (map number ws) k 0 < 2 ^ bits
-below_bits number bits law [] k = pow_pos bits
-below_bits number bits law (w ∷ ws) zero = law w
-below_bits number bits law (w ∷ ws) (suc k) = below_bits number bits law ws k
+-- The tables of `count` rows of `width` weights.
+abbrev pub row_tables : ℕ → ℕ → List ℕ → List (List (ℕ × ℕ × ℕ))
+row_tables width zero weights = []
+row_tables width (suc count) weights = table_of (take width weights) ∷ row_tables width count (drop width weights)
 
--- Where the precision is all bits of a word, there are at least two symbols, since a single weight would not fit.
-pub two_weights : {W : Type 0} (number : W → ℕ) (bits : ℕ) → ((x : W) → number x < 2 ^ bits) → (precision : ℕ) (ws : List W) → IsTotal precision (map number ws) → precision ≡ bits → 2 ≤ length (table_of (map number ws))
-two_weights number bits law precision ws total all =
-    let table = weights_make_table precision (map number ws) total in
-    at_least_two (2 ^ precision) _ (pow_pos precision) table.follow
-    (λ s l p entry.
-    let only = has_only 0 0 (map number ws) s l p entry in
-    let weight : p ≡ get_or (map number ws) (s - 0) 0 = only.3 in
-    let same : 2 ^ precision ≡ 2 ^ bits = ap (λ n. 2 ^ n) all in
-    omega (arith, weight, same, below_bits number bits law ws (s - 0)))
+-- Symbols, each under the weights of the next row.
+abbrev pub row_items : ℕ → ℕ → List ℕ → List ℕ → List (Item ℕ)
+row_items precision width weights [] = []
+row_items precision width weights (symbol ∷ symbols) =
+    item_of (weights_model precision (take width weights)) symbol ∷ row_items precision width (drop width weights) symbols
+
+-- Each of `count` rows adds up to 2 ^ precision.
+abbrev pub AreTotals : ℕ → ℕ → ℕ → List ℕ → Type 0
+AreTotals precision width zero weights = ⊤
+AreTotals precision width (suc count) weights = IsTotal precision (take width weights) × AreTotals precision width count (drop width weights)
+
+-- Symbols under rows of `width` weights.
+abbrev pub by_rows : ℕ → List ℕ → List ℕ → Coded
+by_rows width weights symbols = record {
+  items_at = λ precision. row_items precision width weights symbols;
+  lengths_fit = length weights ≡ width * length symbols;
+  intervals_fit = λ precision. Unit {0};
+  weights_fit = λ precision. AreTotals precision width (length symbols) weights;
+}

@@ -1,7 +1,8 @@
--- Tables from weights: one for all symbols, or a row of weights for each symbol.
-use Rattle.std.specs.Prelude.{◌≡◌, ℕ, zero, suc, ◌^◌, List, [], ◌∷◌, ⊤, sum, take, drop}
+-- One table of weights for all symbols.
+use Rattle.std.specs.Prelude.{◌≡◌, ℕ, ◌^◌, List, sum}
 use Rattle.constriction_base.specs.Tables.{table_of}
-use Rattle.constriction_base.specs.Models.{Model, Item, item_of}
+use Rattle.constriction_base.specs.Models.{Model, items_of}
+use Rattle.constriction_inputs.specs.Coded.{Coded}
 
 -- The model of these weights at a precision: symbol 0 has the first weight, symbol 1 the next, and so on.
 abbrev pub weights_model : ℕ → List ℕ → Model ℕ
@@ -11,18 +12,11 @@ weights_model precision weights = record { precision = precision; table = table_
 abbrev pub IsTotal : ℕ → List ℕ → Type 0
 IsTotal precision weights = sum weights ≡ 2 ^ precision
 
--- The tables of `count` rows of `width` weights, one row behind another.
-abbrev pub row_tables : ℕ → ℕ → List ℕ → List (List (ℕ × ℕ × ℕ))
-row_tables width zero weights = []
-row_tables width (suc count) weights = table_of (take width weights) ∷ row_tables width count (drop width weights)
-
--- Symbols, each under the weights of the next row.
-abbrev pub row_items : ℕ → ℕ → List ℕ → List ℕ → List (Item ℕ)
-row_items precision width weights [] = []
-row_items precision width weights (symbol ∷ symbols) =
-    item_of (weights_model precision (take width weights)) symbol ∷ row_items precision width (drop width weights) symbols
-
--- Each of `count` rows adds up to 2 ^ precision.
-abbrev pub AreTotals : ℕ → ℕ → ℕ → List ℕ → Type 0
-AreTotals precision width zero weights = ⊤
-AreTotals precision width (suc count) weights = IsTotal precision (take width weights) × AreTotals precision width count (drop width weights)
+-- Symbols under the weights of one table.
+abbrev pub by_weights : List ℕ → List ℕ → Coded
+by_weights weights symbols = record {
+  items_at = λ precision. items_of (weights_model precision weights) symbols;
+  lengths_fit = Unit {0};
+  intervals_fit = λ precision. Unit {0};
+  weights_fit = λ precision. IsTotal precision weights;
+}

@@ -2,8 +2,8 @@
 
 ghost use Rattle.std.specs.Prelude.{◌≡◌, ◌≢◌, ◌↔◌, ◌⊎◌, ◌*◌, ◌+◌, ◌^◌, ◌≤◌, length, map, IsTrue, IfOk, IfErr, OnOk};
 ghost use Rattle.std.specs.Prelude.{IsErrOf};
-ghost use Rattle.constriction_inputs.specs.Weights.{AreTotals, row_items};
 ghost use Rattle.constriction_inputs.specs.Intervals.{IsIntervalWithin, AreIntervals, interval_items, rows_between};
+ghost use Rattle.constriction_inputs.specs.Rows.{AreTotals, row_items};
 ghost use Rattle.constriction_inputs.specs.declared.refusal.Refusal.TheVariants as refusals;
 
 use crate::refusal::Refusal;

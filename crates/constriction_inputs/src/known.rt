@@ -2,7 +2,8 @@
 
 ghost use Rattle.std.specs.Prelude.{◌≡◌, ◌↔◌, ◌*◌, length, map, IsTrue};
 ghost use Rattle.constriction_base.specs.Models.{AreKnown, Knows};
-ghost use Rattle.constriction_inputs.specs.Weights.{row_items, weights_model};
+ghost use Rattle.constriction_inputs.specs.Rows.{row_items};
+ghost use Rattle.constriction_inputs.specs.Weights.{weights_model};
 
 use constriction_words::BitArray;
 

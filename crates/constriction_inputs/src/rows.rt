@@ -5,7 +5,8 @@ mod models;
 
 ghost use Rattle.std.specs.Prelude.{◌≡◌, ◌↔◌, ◌*◌, ◌≤◌, length, map, IfSome, IsSome, IfOk};
 ghost use Rattle.constriction_base.specs.Tables.{table_of};
-ghost use Rattle.constriction_inputs.specs.Weights.{IsTotal, AreTotals, row_tables};
+ghost use Rattle.constriction_inputs.specs.Rows.{AreTotals, row_tables};
+ghost use Rattle.constriction_inputs.specs.Weights.{IsTotal};
 
 use crate::rows::adding::is_total;
 use constriction_base::model::EntropyModel;

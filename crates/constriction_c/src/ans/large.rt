@@ -6,7 +6,10 @@ ghost use Rattle.constriction_c.specs.Large.{large_word, large_state, LargeAnsTa
 ghost use Rattle.constriction_c.specs.Codes.{Told, answer_by_code};
 ghost use Rattle.constriction_calls.specs.AnsCalls.{AnsExports, AnsImports, coder_of};
 ghost use Rattle.constriction_calls.specs.AnsCalls.{AreBinary, AreCompressed, HasBinary};
-ghost use Rattle.constriction_inputs.specs.Coded.{AsIntervals, ByRows, ByWeights, in_family};
+ghost use Rattle.constriction_inputs.specs.Intervals.{as_intervals};
+ghost use Rattle.constriction_inputs.specs.Quantized.{in_family};
+ghost use Rattle.constriction_inputs.specs.Rows.{by_rows};
+ghost use Rattle.constriction_inputs.specs.Weights.{by_weights};
 ghost use Rattle.constriction_stack.specs.Ans.{filled};
 ghost use Rattle.constriction_stack.specs.Binary.{binary_state};
 
@@ -28,7 +31,7 @@ pub extern "C" fn constriction_ans_encode_reverse_u32(
     symbols: &[usize],
     needed: &mut usize,
 ) -> u32
-    ensures { Told result needed.old needed.new (LargeAnsPuts (ByWeights (map large_word weights.now) symbols.now)
+    ensures { Told result needed.old needed.new (LargeAnsPuts (by_weights (map large_word weights.now) symbols.now)
         (coder_of head.old words.old len.old) (coder_of head.new words.new len.new)) }
 {
     let table = Weights { weights };
@@ -48,7 +51,7 @@ pub extern "C" fn constriction_ans_encode_each_reverse_u32(
     symbols: &[usize],
     needed: &mut usize,
 ) -> u32
-    ensures { Told result needed.old needed.new (LargeAnsPuts (ByRows width (map large_word weights.now) symbols.now)
+    ensures { Told result needed.old needed.new (LargeAnsPuts (by_rows width (map large_word weights.now) symbols.now)
         (coder_of head.old words.old len.old) (coder_of head.new words.new len.new)) }
 {
     let rows = Rows { weights, width };
@@ -67,7 +70,7 @@ pub extern "C" fn constriction_ans_encode_intervals_reverse_u32(
     ps: &[u32],
     needed: &mut usize,
 ) -> u32
-    ensures { Told result needed.old needed.new (LargeAnsPuts (AsIntervals (map large_word lefts.now)
+    ensures { Told result needed.old needed.new (LargeAnsPuts (as_intervals (map large_word lefts.now)
         (map large_word ps.now)) (coder_of head.old words.old len.old) (coder_of head.new words.new len.new)) }
 {
     let answer = encode_intervals_reverse::<_, _, u32, 24>(alloc, head, words, len, lefts, ps);
@@ -107,7 +110,7 @@ pub extern "C" fn constriction_ans_decode_u32(
     weights: &[u32],
     symbols: &mut [usize],
 ) -> u32
-    ensures { LargeAnsTakes (ByWeights (map large_word weights.now)) (coder_of head.old words.now len.old)
+    ensures { LargeAnsTakes (by_weights (map large_word weights.now)) (coder_of head.old words.now len.old)
         (coder_of head.new words.now len.new) symbols.old symbols.new (answer_by_code result 0) }
 {
     let table = Weights { weights };
@@ -125,7 +128,7 @@ pub extern "C" fn constriction_ans_decode_each_u32(
     width: usize,
     symbols: &mut [usize],
 ) -> u32
-    ensures { LargeAnsTakes (ByRows width (map large_word weights.now)) (coder_of head.old words.now len.old)
+    ensures { LargeAnsTakes (by_rows width (map large_word weights.now)) (coder_of head.old words.now len.old)
         (coder_of head.new words.now len.new) symbols.old symbols.new (answer_by_code result 0) }
 {
     let rows = Rows { weights, width };

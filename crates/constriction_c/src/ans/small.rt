@@ -7,7 +7,10 @@ ghost use Rattle.constriction_c.specs.Small.{small_word, small_state, SmallAnsTa
 ghost use Rattle.constriction_c.specs.Codes.{Told, answer_by_code};
 ghost use Rattle.constriction_calls.specs.AnsCalls.{AnsExports, AnsImports, coder_of};
 ghost use Rattle.constriction_calls.specs.AnsCalls.{AreBinary, AreCompressed, HasBinary};
-ghost use Rattle.constriction_inputs.specs.Coded.{AsIntervals, ByRows, ByWeights, in_family};
+ghost use Rattle.constriction_inputs.specs.Intervals.{as_intervals};
+ghost use Rattle.constriction_inputs.specs.Quantized.{in_family};
+ghost use Rattle.constriction_inputs.specs.Rows.{by_rows};
+ghost use Rattle.constriction_inputs.specs.Weights.{by_weights};
 ghost use Rattle.constriction_stack.specs.Ans.{filled};
 ghost use Rattle.constriction_stack.specs.Binary.{binary_state};
 
@@ -29,7 +32,7 @@ pub extern "C" fn constriction_ans_encode_reverse_u16(
     symbols: &[usize],
     needed: &mut usize,
 ) -> u32
-    ensures { Told result needed.old needed.new (SmallAnsPuts (ByWeights (map small_word weights.now) symbols.now)
+    ensures { Told result needed.old needed.new (SmallAnsPuts (by_weights (map small_word weights.now) symbols.now)
         (coder_of head.old words.old len.old) (coder_of head.new words.new len.new)) }
 {
     let table = Weights { weights };
@@ -49,7 +52,7 @@ pub extern "C" fn constriction_ans_encode_each_reverse_u16(
     symbols: &[usize],
     needed: &mut usize,
 ) -> u32
-    ensures { Told result needed.old needed.new (SmallAnsPuts (ByRows width (map small_word weights.now) symbols.now)
+    ensures { Told result needed.old needed.new (SmallAnsPuts (by_rows width (map small_word weights.now) symbols.now)
         (coder_of head.old words.old len.old) (coder_of head.new words.new len.new)) }
 {
     let rows = Rows { weights, width };
@@ -68,7 +71,7 @@ pub extern "C" fn constriction_ans_encode_intervals_reverse_u16(
     ps: &[u16],
     needed: &mut usize,
 ) -> u32
-    ensures { Told result needed.old needed.new (SmallAnsPuts (AsIntervals (map small_word lefts.now)
+    ensures { Told result needed.old needed.new (SmallAnsPuts (as_intervals (map small_word lefts.now)
         (map small_word ps.now)) (coder_of head.old words.old len.old) (coder_of head.new words.new len.new)) }
 {
     let answer = encode_intervals_reverse::<_, _, u16, 12>(alloc, head, words, len, lefts, ps);
@@ -108,7 +111,7 @@ pub extern "C" fn constriction_ans_decode_u16(
     weights: &[u16],
     symbols: &mut [usize],
 ) -> u32
-    ensures { SmallAnsTakes (ByWeights (map small_word weights.now)) (coder_of head.old words.now len.old)
+    ensures { SmallAnsTakes (by_weights (map small_word weights.now)) (coder_of head.old words.now len.old)
         (coder_of head.new words.now len.new) symbols.old symbols.new (answer_by_code result 0) }
 {
     let table = Weights { weights };
@@ -126,7 +129,7 @@ pub extern "C" fn constriction_ans_decode_each_u16(
     width: usize,
     symbols: &mut [usize],
 ) -> u32
-    ensures { SmallAnsTakes (ByRows width (map small_word weights.now)) (coder_of head.old words.now len.old)
+    ensures { SmallAnsTakes (by_rows width (map small_word weights.now)) (coder_of head.old words.now len.old)
         (coder_of head.new words.now len.new) symbols.old symbols.new (answer_by_code result 0) }
 {
     let rows = Rows { weights, width };

@@ -5,7 +5,10 @@ ghost use Rattle.constriction_c.specs.Large.{LargeChainBegins, LargeChainEnds, L
 ghost use Rattle.constriction_c.specs.Large.{large_chain, large_heads, large_word};
 ghost use Rattle.constriction_c.specs.Codes.{Told, answer_by_code};
 ghost use Rattle.constriction_calls.specs.ChainWords.{InBinary, InCompressed, InRemainders};
-ghost use Rattle.constriction_inputs.specs.Coded.{AsIntervals, ByRows, ByWeights, in_family};
+ghost use Rattle.constriction_inputs.specs.Intervals.{as_intervals};
+ghost use Rattle.constriction_inputs.specs.Quantized.{in_family};
+ghost use Rattle.constriction_inputs.specs.Rows.{by_rows};
+ghost use Rattle.constriction_inputs.specs.Weights.{by_weights};
 
 use crate::codes::{code_of, code_without_space};
 use constriction_calls::chain::{
@@ -60,7 +63,7 @@ pub extern "C" fn constriction_chain_decode_u32(
     symbols: &mut [usize],
     needed: &mut usize,
 ) -> u32
-    ensures { Told result needed.old needed.new (LargeChainTakes (ByWeights (map large_word weights.now))
+    ensures { Told result needed.old needed.new (LargeChainTakes (by_weights (map large_word weights.now))
         (large_chain heads.old compressed.now count.old remainders.old rest.old)
         (large_chain heads.new compressed.now count.new remainders.new rest.new) symbols.old symbols.new) }
 {
@@ -87,7 +90,7 @@ pub extern "C" fn constriction_chain_decode_each_u32(
     symbols: &mut [usize],
     needed: &mut usize,
 ) -> u32
-    ensures { Told result needed.old needed.new (LargeChainTakes (ByRows width (map large_word weights.now))
+    ensures { Told result needed.old needed.new (LargeChainTakes (by_rows width (map large_word weights.now))
         (large_chain heads.old compressed.now count.old remainders.old rest.old)
         (large_chain heads.new compressed.now count.new remainders.new rest.new) symbols.old symbols.new) }
 {
@@ -143,7 +146,7 @@ pub extern "C" fn constriction_chain_encode_reverse_u32(
     symbols: &[usize],
     needed: &mut usize,
 ) -> u32
-    ensures { Told result needed.old needed.new (LargeChainPuts (ByWeights (map large_word weights.now) symbols.now)
+    ensures { Told result needed.old needed.new (LargeChainPuts (by_weights (map large_word weights.now) symbols.now)
         (large_chain heads.old compressed.old count.old remainders.now rest.old)
         (large_chain heads.new compressed.new count.new remainders.now rest.new)) }
 {
@@ -170,7 +173,7 @@ pub extern "C" fn constriction_chain_encode_each_reverse_u32(
     symbols: &[usize],
     needed: &mut usize,
 ) -> u32
-    ensures { Told result needed.old needed.new (LargeChainPuts (ByRows width (map large_word weights.now) symbols.now)
+    ensures { Told result needed.old needed.new (LargeChainPuts (by_rows width (map large_word weights.now) symbols.now)
         (large_chain heads.old compressed.old count.old remainders.now rest.old)
         (large_chain heads.new compressed.new count.new remainders.now rest.new)) }
 {
@@ -226,7 +229,7 @@ pub extern "C" fn constriction_chain_encode_intervals_reverse_u32(
     ps: &[u32],
     needed: &mut usize,
 ) -> u32
-    ensures { Told result needed.old needed.new (LargeChainPuts (AsIntervals (map large_word lefts.now)
+    ensures { Told result needed.old needed.new (LargeChainPuts (as_intervals (map large_word lefts.now)
         (map large_word ps.now)) (large_chain heads.old compressed.old count.old remainders.now rest.old)
         (large_chain heads.new compressed.new count.new remainders.now rest.new)) }
 {

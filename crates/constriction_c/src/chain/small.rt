@@ -6,7 +6,10 @@ ghost use Rattle.constriction_c.specs.Small.{SmallChainBegins, SmallChainEnds, S
 ghost use Rattle.constriction_c.specs.Small.{small_chain, small_heads, small_word};
 ghost use Rattle.constriction_c.specs.Codes.{Told, answer_by_code};
 ghost use Rattle.constriction_calls.specs.ChainWords.{InBinary, InCompressed, InRemainders};
-ghost use Rattle.constriction_inputs.specs.Coded.{AsIntervals, ByRows, ByWeights, in_family};
+ghost use Rattle.constriction_inputs.specs.Intervals.{as_intervals};
+ghost use Rattle.constriction_inputs.specs.Quantized.{in_family};
+ghost use Rattle.constriction_inputs.specs.Rows.{by_rows};
+ghost use Rattle.constriction_inputs.specs.Weights.{by_weights};
 
 use crate::codes::{code_of, code_without_space};
 use constriction_calls::chain::{
@@ -61,7 +64,7 @@ pub extern "C" fn constriction_chain_decode_u16(
     symbols: &mut [usize],
     needed: &mut usize,
 ) -> u32
-    ensures { Told result needed.old needed.new (SmallChainTakes (ByWeights (map small_word weights.now))
+    ensures { Told result needed.old needed.new (SmallChainTakes (by_weights (map small_word weights.now))
         (small_chain heads.old compressed.now count.old remainders.old rest.old)
         (small_chain heads.new compressed.now count.new remainders.new rest.new) symbols.old symbols.new) }
 {
@@ -88,7 +91,7 @@ pub extern "C" fn constriction_chain_decode_each_u16(
     symbols: &mut [usize],
     needed: &mut usize,
 ) -> u32
-    ensures { Told result needed.old needed.new (SmallChainTakes (ByRows width (map small_word weights.now))
+    ensures { Told result needed.old needed.new (SmallChainTakes (by_rows width (map small_word weights.now))
         (small_chain heads.old compressed.now count.old remainders.old rest.old)
         (small_chain heads.new compressed.now count.new remainders.new rest.new) symbols.old symbols.new) }
 {
@@ -144,7 +147,7 @@ pub extern "C" fn constriction_chain_encode_reverse_u16(
     symbols: &[usize],
     needed: &mut usize,
 ) -> u32
-    ensures { Told result needed.old needed.new (SmallChainPuts (ByWeights (map small_word weights.now) symbols.now)
+    ensures { Told result needed.old needed.new (SmallChainPuts (by_weights (map small_word weights.now) symbols.now)
         (small_chain heads.old compressed.old count.old remainders.now rest.old)
         (small_chain heads.new compressed.new count.new remainders.now rest.new)) }
 {
@@ -171,7 +174,7 @@ pub extern "C" fn constriction_chain_encode_each_reverse_u16(
     symbols: &[usize],
     needed: &mut usize,
 ) -> u32
-    ensures { Told result needed.old needed.new (SmallChainPuts (ByRows width (map small_word weights.now) symbols.now)
+    ensures { Told result needed.old needed.new (SmallChainPuts (by_rows width (map small_word weights.now) symbols.now)
         (small_chain heads.old compressed.old count.old remainders.now rest.old)
         (small_chain heads.new compressed.new count.new remainders.now rest.new)) }
 {
@@ -227,7 +230,7 @@ pub extern "C" fn constriction_chain_encode_intervals_reverse_u16(
     ps: &[u16],
     needed: &mut usize,
 ) -> u32
-    ensures { Told result needed.old needed.new (SmallChainPuts (AsIntervals (map small_word lefts.now)
+    ensures { Told result needed.old needed.new (SmallChainPuts (as_intervals (map small_word lefts.now)
         (map small_word ps.now)) (small_chain heads.old compressed.old count.old remainders.now rest.old)
         (small_chain heads.new compressed.new count.new remainders.now rest.new)) }
 {

@@ -4,7 +4,10 @@ ghost use Rattle.std.specs.Prelude.{◌≡◌, map};
 ghost use Rattle.constriction_c.specs.Large.{large_word, large_state, large_kept, LargeRangeTakes, LargeRangePuts};
 ghost use Rattle.constriction_c.specs.Large.{large_decoder, large_encoder};
 ghost use Rattle.constriction_c.specs.Codes.{Told, answer_by_code};
-ghost use Rattle.constriction_inputs.specs.Coded.{AsIntervals, ByRows, ByWeights, in_family};
+ghost use Rattle.constriction_inputs.specs.Intervals.{as_intervals};
+ghost use Rattle.constriction_inputs.specs.Quantized.{in_family};
+ghost use Rattle.constriction_inputs.specs.Rows.{by_rows};
+ghost use Rattle.constriction_inputs.specs.Weights.{by_weights};
 ghost use Rattle.constriction_calls.specs.RangeCalls.{IsNew, IsSealed, IsSelfSealed, RangeBegins, RangeMayEnd};
 ghost use Rattle.constriction_calls.specs.RangeCalls.{RangeSeals, RangeSeeks};
 
@@ -119,7 +122,7 @@ pub extern "C" fn constriction_range_encode_u32(
     symbols: &[usize],
     needed: &mut usize,
 ) -> u32
-    ensures { Told result needed.old needed.new (LargeRangePuts (ByWeights (map large_word weights.now)) symbols.now
+    ensures { Told result needed.old needed.new (LargeRangePuts (by_weights (map large_word weights.now)) symbols.now
         (large_kept encoder.old words.old len.old) (large_kept encoder.new words.new len.new)) }
 {
     let one = Weights { weights };
@@ -141,7 +144,7 @@ pub extern "C" fn constriction_range_encode_each_u32(
     symbols: &[usize],
     needed: &mut usize,
 ) -> u32
-    ensures { Told result needed.old needed.new (LargeRangePuts (ByRows width (map large_word weights.now)) symbols.now
+    ensures { Told result needed.old needed.new (LargeRangePuts (by_rows width (map large_word weights.now)) symbols.now
         (large_kept encoder.old words.old len.old) (large_kept encoder.new words.new len.new)) }
 {
     let rows = Rows { weights, width };
@@ -162,7 +165,7 @@ pub extern "C" fn constriction_range_encode_intervals_u32(
     ps: &[u32],
     needed: &mut usize,
 ) -> u32
-    ensures { Told result needed.old needed.new (LargeRangePuts (AsIntervals (map large_word lefts.now))
+    ensures { Told result needed.old needed.new (LargeRangePuts (as_intervals (map large_word lefts.now))
         (map large_word ps.now) (large_kept encoder.old words.old len.old) (large_kept encoder.new words.new len.new)) }
 {
     let mut parts = encoder.parts();
@@ -251,7 +254,7 @@ pub extern "C" fn constriction_range_decode_u32(
     weights: &[u32],
     symbols: &mut [usize],
 ) -> u32
-    ensures { LargeRangeTakes (ByWeights (map large_word weights.now)) words.now (large_decoder decoder.old)
+    ensures { LargeRangeTakes (by_weights (map large_word weights.now)) words.now (large_decoder decoder.old)
         (large_decoder decoder.new) symbols.old symbols.new (answer_by_code result 0) }
 {
     let one = Weights { weights };
@@ -271,7 +274,7 @@ pub extern "C" fn constriction_range_decode_each_u32(
     width: usize,
     symbols: &mut [usize],
 ) -> u32
-    ensures { LargeRangeTakes (ByRows width (map large_word weights.now)) words.now (large_decoder decoder.old)
+    ensures { LargeRangeTakes (by_rows width (map large_word weights.now)) words.now (large_decoder decoder.old)
         (large_decoder decoder.new) symbols.old symbols.new (answer_by_code result 0) }
 {
     let rows = Rows { weights, width };

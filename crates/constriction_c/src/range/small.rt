@@ -5,7 +5,10 @@ ghost use Rattle.std.specs.Prelude.{◌≡◌, map};
 ghost use Rattle.constriction_c.specs.Small.{small_word, small_state, small_kept, SmallRangeTakes, SmallRangePuts};
 ghost use Rattle.constriction_c.specs.Small.{small_decoder, small_encoder};
 ghost use Rattle.constriction_c.specs.Codes.{Told, answer_by_code};
-ghost use Rattle.constriction_inputs.specs.Coded.{AsIntervals, ByRows, ByWeights, in_family};
+ghost use Rattle.constriction_inputs.specs.Intervals.{as_intervals};
+ghost use Rattle.constriction_inputs.specs.Quantized.{in_family};
+ghost use Rattle.constriction_inputs.specs.Rows.{by_rows};
+ghost use Rattle.constriction_inputs.specs.Weights.{by_weights};
 ghost use Rattle.constriction_calls.specs.RangeCalls.{IsNew, IsSealed, IsSelfSealed, RangeBegins, RangeMayEnd};
 ghost use Rattle.constriction_calls.specs.RangeCalls.{RangeSeals, RangeSeeks};
 
@@ -120,7 +123,7 @@ pub extern "C" fn constriction_range_encode_u16(
     symbols: &[usize],
     needed: &mut usize,
 ) -> u32
-    ensures { Told result needed.old needed.new (SmallRangePuts (ByWeights (map small_word weights.now)) symbols.now
+    ensures { Told result needed.old needed.new (SmallRangePuts (by_weights (map small_word weights.now)) symbols.now
         (small_kept encoder.old words.old len.old) (small_kept encoder.new words.new len.new)) }
 {
     let one = Weights { weights };
@@ -142,7 +145,7 @@ pub extern "C" fn constriction_range_encode_each_u16(
     symbols: &[usize],
     needed: &mut usize,
 ) -> u32
-    ensures { Told result needed.old needed.new (SmallRangePuts (ByRows width (map small_word weights.now)) symbols.now
+    ensures { Told result needed.old needed.new (SmallRangePuts (by_rows width (map small_word weights.now)) symbols.now
         (small_kept encoder.old words.old len.old) (small_kept encoder.new words.new len.new)) }
 {
     let rows = Rows { weights, width };
@@ -163,7 +166,7 @@ pub extern "C" fn constriction_range_encode_intervals_u16(
     ps: &[u16],
     needed: &mut usize,
 ) -> u32
-    ensures { Told result needed.old needed.new (SmallRangePuts (AsIntervals (map small_word lefts.now))
+    ensures { Told result needed.old needed.new (SmallRangePuts (as_intervals (map small_word lefts.now))
         (map small_word ps.now) (small_kept encoder.old words.old len.old) (small_kept encoder.new words.new len.new)) }
 {
     let mut parts = encoder.parts();
@@ -252,7 +255,7 @@ pub extern "C" fn constriction_range_decode_u16(
     weights: &[u16],
     symbols: &mut [usize],
 ) -> u32
-    ensures { SmallRangeTakes (ByWeights (map small_word weights.now)) words.now (small_decoder decoder.old)
+    ensures { SmallRangeTakes (by_weights (map small_word weights.now)) words.now (small_decoder decoder.old)
         (small_decoder decoder.new) symbols.old symbols.new (answer_by_code result 0) }
 {
     let one = Weights { weights };
@@ -272,7 +275,7 @@ pub extern "C" fn constriction_range_decode_each_u16(
     width: usize,
     symbols: &mut [usize],
 ) -> u32
-    ensures { SmallRangeTakes (ByRows width (map small_word weights.now)) words.now (small_decoder decoder.old)
+    ensures { SmallRangeTakes (by_rows width (map small_word weights.now)) words.now (small_decoder decoder.old)
         (small_decoder decoder.new) symbols.old symbols.new (answer_by_code result 0) }
 {
     let rows = Rows { weights, width };

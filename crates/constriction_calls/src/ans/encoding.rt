@@ -4,7 +4,7 @@ ghost use Rattle.std.specs.Prelude.{◌≡◌, ◌≤◌, [], length, map, rever
 ghost use Rattle.constriction_base.specs.Models.{AreModels, pairs_of};
 ghost use Rattle.constriction_base.specs.Steps.{IsSizes};
 ghost use Rattle.constriction_calls.specs.AnsCalls.{AnsPuts, coder_of};
-ghost use Rattle.constriction_inputs.specs.Coded.{AsIntervals};
+ghost use Rattle.constriction_inputs.specs.Intervals.{as_intervals};
 ghost use Rattle.constriction_stack.specs.Symbols.{EncodesAll};
 
 use constriction_base::model::{EncoderModel, EntropyModel};
@@ -87,7 +87,7 @@ pub fn encode_intervals_reverse<
     requires sizes { IsSizes Word.BITS State.BITS }
     requires precision { (1 ≤ PRECISION) × (PRECISION ≤ P.BITS) }
     ensures call { AnsPuts Word.number State.number Word.BITS State.BITS PRECISION
-        (AsIntervals (map P.number lefts.now) (map P.number ps.now))
+        (as_intervals (map P.number lefts.now) (map P.number ps.now))
         (coder_of head.old words.old len.old) (coder_of head.new words.new len.new) result }
 {
     if *len > words.len() {

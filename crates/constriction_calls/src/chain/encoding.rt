@@ -7,7 +7,8 @@ ghost use Rattle.constriction_chain.specs.Symbols.{PutsBackAll};
 ghost use Rattle.constriction_inputs.specs.Buffers.{Appended};
 ghost use Rattle.constriction_calls.specs.ChainCalls.{ChainPuts, LacksRemainders, keeps};
 ghost use Rattle.constriction_calls.specs.ChainFits.{CoderFits};
-ghost use Rattle.constriction_inputs.specs.Coded.{AreFit, AsIntervals, items};
+ghost use Rattle.constriction_inputs.specs.Coded.{AreFit, items};
+ghost use Rattle.constriction_inputs.specs.Intervals.{as_intervals};
 ghost use Rattle.constriction_inputs.specs.Refusals.{Asks, Else};
 ghost use Rattle.constriction_inputs.specs.declared.refusal.Refusal.TheVariants as refusals;
 
@@ -110,7 +111,7 @@ pub fn encode_intervals_reverse<
     requires within { PRECISION ≤ P.BITS }
     requires fits { CoderFits Word.row State.row }
     ensures call { ChainPuts Word.number State.number Word.BITS State.BITS PRECISION
-        (AsIntervals (map P.number lefts.now) (map P.number ps.now))
+        (as_intervals (map P.number lefts.now) (map P.number ps.now))
         (keeps heads.old compressed.old compressed_len.old remainders.now remainders_len.old)
         (keeps heads.new compressed.new compressed_len.new remainders.now remainders_len.new) result }
 {

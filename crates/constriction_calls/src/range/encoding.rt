@@ -5,7 +5,8 @@ ghost use Rattle.constriction_base.specs.Models.{pairs_of};
 ghost use Rattle.constriction_base.specs.Steps.{IsSizes};
 ghost use Rattle.constriction_queue.specs.Encoder.{left_to_encode, run_by};
 ghost use Rattle.constriction_queue.specs.Symbols.{NarrowsAll};
-ghost use Rattle.constriction_inputs.specs.Coded.{AreFit, AsIntervals, items};
+ghost use Rattle.constriction_inputs.specs.Coded.{AreFit, items};
+ghost use Rattle.constriction_inputs.specs.Intervals.{as_intervals};
 ghost use Rattle.constriction_calls.specs.RangeCalls.{IsEncoderKept, RangePuts, kept_in, run_kept};
 
 use crate::range::parts::{EncoderParts, encoder_for, parts_of};
@@ -157,7 +158,7 @@ pub fn encode_intervals<
     requires sizes { IsSizes Word.BITS State.BITS }
     requires precision { (1 ≤ PRECISION) × (PRECISION ≤ P.BITS) }
     ensures call { RangePuts Word.number State.number Word.BITS State.BITS PRECISION
-        (AsIntervals (map P.number lefts.now)) (map P.number ps.now)
+        (as_intervals (map P.number lefts.now)) (map P.number ps.now)
         (kept_in encoder.old buffer.old len.old) (kept_in encoder.new buffer.new len.new) result }
 {
     if *len > buffer.len() {

@@ -3,9 +3,8 @@
 ghost use Rattle.std.specs.Prelude.{◌≡◌, ◌↔◌, ◌<◌, ◌≤◌, ◌<ℤ◌, Some, length, map, IfOk, IsTrue};
 ghost use Rattle.std.specs.List.{AllByRecursion};
 ghost use Rattle.constriction_models.specs.Quantizers.{symbol_count, first_symbol};
-ghost use Rattle.constriction_inputs.specs.Coded.{InFamily};
 ghost use Rattle.constriction_inputs.specs.Quantized.{ArePlacesInRange, AreScaled, IsRange, family_of, symbols_in};
-ghost use Rattle.constriction_inputs.specs.Quantized.{tables_by};
+ghost use Rattle.constriction_inputs.specs.Quantized.{by_family, tables_by};
 ghost use Rattle.constriction_inputs.specs.Refusals.{Asks, Else, Never};
 ghost use Rattle.constriction_inputs.specs.declared.refusal.Refusal.TheVariants as refusals;
 
@@ -47,7 +46,7 @@ pub struct Families<'a> {
 impl<'a, P: WordOf<u32>, const PRECISION: usize> Models<P, PRECISION> for Families<'a> {
     type List = Each<FamilyModel<P, PRECISION>>;
 
-    ghost coded = { λ given. InFamily
+    ghost coded = { λ given. by_family
         (record {
           family = given.family;
           min = given.min;

@@ -1,7 +1,7 @@
 //! `Rows`: a row of weights for each symbol.
 
 ghost use Rattle.std.specs.Prelude.{map};
-ghost use Rattle.constriction_inputs.specs.Coded.{ByRows};
+ghost use Rattle.constriction_inputs.specs.Rows.{by_rows};
 
 use crate::known::all_known_in_rows;
 use crate::models::{Each, Models};
@@ -27,7 +27,7 @@ pub struct Rows<'a, P> {
 impl<'a, P: BitArray, const PRECISION: usize> Models<P, PRECISION> for Rows<'a, P> {
     type List = Each<Row<'a, P, PRECISION>>;
 
-    ghost coded = { λ given. ByRows given.width (map P.number given.weights.now) };
+    ghost coded = { λ given. by_rows given.width (map P.number given.weights.now) };
 
     fn check(&self, symbols: &[usize]) -> Result<(), Refusal> {
         if !is_product(self.weights.len(), self.width, symbols.len()) {

@@ -3,7 +3,7 @@
 ghost use Rattle.std.specs.Prelude.{◌≡◌, ◌≤◌, map, IfSome};
 ghost use Rattle.constriction_base.specs.Tables.{table_of};
 ghost use Rattle.constriction_base.specs.WeightTables.{entries};
-ghost use Rattle.constriction_inputs.specs.Coded.{ByWeights};
+ghost use Rattle.constriction_inputs.specs.Weights.{by_weights};
 
 use crate::known::is_known;
 use crate::models::{Models, One};
@@ -30,7 +30,7 @@ pub struct Weights<'a, P> {
 impl<'a, P: BitArray, const PRECISION: usize> Models<P, PRECISION> for Weights<'a, P> {
     type List = One<WeightTable<P, PRECISION>>;
 
-    ghost coded = { λ given. ByWeights (map P.number given.weights.now) };
+    ghost coded = { λ given. by_weights (map P.number given.weights.now) };
 
     fn check(&self, _symbols: &[usize]) -> Result<(), Refusal> {
         if is_total::<P, PRECISION>(self.weights) {

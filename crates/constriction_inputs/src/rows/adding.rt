@@ -1,7 +1,8 @@
 //! Sums of weights: whether they are `2 ^ PRECISION`, and the sum before a symbol.
 
 ghost use Rattle.std.specs.Prelude.{◌≡◌, ◌↔◌, ◌+◌, ◌*◌, ◌^◌, ◌<◌, ◌≤◌, length, map, sum_by, take, IsTrue};
-ghost use Rattle.constriction_inputs.specs.Weights.{IsTotal, AreTotals};
+ghost use Rattle.constriction_inputs.specs.Rows.{AreTotals};
+ghost use Rattle.constriction_inputs.specs.Weights.{IsTotal};
 
 use constriction_base::weights::starts::ones;
 use constriction_words::BitArray;

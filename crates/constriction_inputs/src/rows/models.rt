@@ -3,7 +3,7 @@
 ghost use Rattle.std.specs.Prelude.{map};
 ghost use Rattle.constriction_base.specs.Tables.{table_of};
 ghost use Rattle.constriction_base.specs.laws.Weights.{weights_make_table};
-ghost use Rattle.constriction_inputs.specs.Rows.{two_weights};
+ghost use Rattle.constriction_inputs.specs.laws.Rows.{two_weights};
 
 use crate::rows::Row;
 use crate::rows::adding::sum_before;

@@ -1,6 +1,6 @@
 use Rattle.std.proofs.Common.{◌≡◌, ◌+◌, ◌-◌, ◌*◌, drop, length, map}
 use Rattle.constriction_base.specs.Models.{AreKnown}
-use Rattle.constriction_inputs.specs.Weights.{row_items}
+use Rattle.constriction_inputs.specs.Rows.{row_items}
 use Rattle.constriction_inputs.proofs.known.all_known_in_rows.Given as goal
 
 abbrev pub invariant-loop-i : goal.invariant-loop-i

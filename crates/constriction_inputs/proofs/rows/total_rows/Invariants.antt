@@ -1,6 +1,6 @@
 use Rattle.std.proofs.Common.{◌≡◌, ◌+◌, ◌-◌, ◌*◌, ◌++◌, drop, length, map, vec_len, vec_capacity}
 use Rattle.constriction_base.specs.Tables.{table_of}
-use Rattle.constriction_inputs.specs.Weights.{AreTotals, row_tables}
+use Rattle.constriction_inputs.specs.Rows.{AreTotals, row_tables}
 use Rattle.constriction_inputs.proofs.rows.total_rows.Given as goal
 
 abbrev pub invariant-loop-done : goal.invariant-loop-done

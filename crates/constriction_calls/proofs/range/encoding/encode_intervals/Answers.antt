@@ -1,6 +1,6 @@
 use Rattle.std.proofs.Common.{◌≤◌, arith, length, map, refl, rules}
 use Rattle.std.proofs.lemmas.List.{length-map}
-use Rattle.constriction_inputs.specs.Coded.{AsIntervals}
+use Rattle.constriction_inputs.specs.Intervals.{as_intervals}
 use Rattle.constriction_calls.specs.RangeCalls.{CanEncode, RangeKept}
 use Rattle.constriction_inputs.specs.declared.refusal.Refusal.TheVariants as refusals
 use Rattle.constriction_calls.proofs.RangeAnswers.{puts_numbers, puts_room}
@@ -21,7 +21,7 @@ returns-then-can g c =
     let e = c.in-Err-NoMemory in
     let fit = intervals_fit g.P.BitArray.number P c.args.lefts.now c.args.ps.now e.field-0 e.ensures.wrong_length e.ensures.wrong_interval e.field-0-is in
     let can : CanEncode number state w s c.args.encoder.now (length c.args.ps.now) = search rules in
-    record { call = puts_room number state w s P (AsIntervals lefts) ps old within fit (rw (length-map c.args.ps.now g.P.BitArray.number) can) (intervals_known P lefts ps fit.1) old refl refusals.NoMemory tt }
+    record { call = puts_room number state w s P (as_intervals lefts) ps old within fit (rw (length-map c.args.ps.now g.P.BitArray.number) can) (intervals_known P lefts ps fit.1) old refl refusals.NoMemory tt }
 
 pub returns-else-can : goal.returns-else-can
 returns-else-can g c =
@@ -37,4 +37,4 @@ returns-else-can g c =
     let e = c.in-Err-NoMemory in
     let fit = intervals_fit g.P.BitArray.number P c.args.lefts.now c.args.ps.now e.field-0 e.ensures.wrong_length e.ensures.wrong_interval e.field-0-is in
     let none : CanEncode number state w s c.args.encoder.now (length c.args.ps.now) → ⊥ = search rules in
-    record { call = puts_numbers number state w s P (AsIntervals lefts) ps old within fit (λ counted. none (rw (length-map c.args.ps.now g.P.BitArray.number) at counted)) }
+    record { call = puts_numbers number state w s P (as_intervals lefts) ps old within fit (λ counted. none (rw (length-map c.args.ps.now g.P.BitArray.number) at counted)) }

@@ -1,5 +1,5 @@
 use Rattle.std.proofs.Common.{◌≡◌, ◌+◌, ◌-◌, ◌*◌, drop, length, map}
-use Rattle.constriction_inputs.specs.Weights.{AreTotals}
+use Rattle.constriction_inputs.specs.Rows.{AreTotals}
 use Rattle.constriction_inputs.proofs.rows.adding.are_totals.Given as goal
 
 abbrev pub invariant-loop-done : goal.invariant-loop-done
