@@ -26,8 +26,8 @@ pub fn stack_bound()
 
 /// Bounds the number of words of a stack coder after encodes onto an empty coder, all with one precision.
 ///
-/// With one precision the spare bits `k` are the same in all steps. After `n` symbols, all words but one have at most
-/// as many bits as the sum of `s - w`, the information content, and `n * log2(1 + 2^-k)`.
+/// With one precision the spare bits `k` are the same in all steps. If the coder exports `N` words for `n`
+/// symbols, then `w * (N - 1)` is at most `s - w`, plus the information content in bits, plus `n * log2(1 + 2^-k)`.
 pub fn stack_bound_at_one_precision()
     ensures { (w s precision : ℕ) (steps : List Step) (state : AnsState) → IsSizes w s → AreSteps w steps →
         AllByRecursion (λ e. e.precision ≡ precision) steps → InTurn (IsPush w s) steps empty state →

@@ -99,8 +99,8 @@ impl<Word: WordOf<State>, State: BitArray, A: Allocator> RangeEncoder<Word, Stat
     /// Removes all symbols and pending words, and keeps the allocated memory.
     ///
     /// Pending words have to go too, because they would spoil the next export. For example, take 8-bit words and the
-    /// weights 127, 1, 127, 1. Encoding symbol 1 leaves the word 126 pending. After a `clear`, encoding symbol 0
-    /// exports `[0]`. If the word stayed pending, it would export `[126, 0]`.
+    /// weights 127, 1, 127, 1. Encoding symbol 1 leaves the word 126 pending. After `clear`, an encoder that
+    /// encodes symbol 0 exports `[0]`. If the word 126 stayed pending, it would export `[126, 0]`.
     pub fn clear(&mut self)
         ensures run { run_by Word.BITS State.BITS self.new ≡ initial State.BITS }
         ensures held { self.new.held ≡ [] }

@@ -34,7 +34,9 @@ impl<Word> Default for EncoderSituation<Word> {
     }
 }
 
-/// Pending words that can be written: their number, the first of them, and the value of all other words.
+/// Held words that are ready to be written.
+///
+/// `count` is their number, and `first` is the first of them. Each other word equals `others`.
 #[derive(Drop, Debug, Clone, Copy)]
 pub struct HeldWords<Word> {
     pub count: NonZeroUsize,

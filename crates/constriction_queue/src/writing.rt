@@ -149,7 +149,7 @@ pub fn write_owed_behind<Word: BitArray, Backend: WriteWords<Word>>(
     write_released(bulk, behind)
 }
 
-/// Writes released words, then `top`, then `last`, each if there is one.
+/// Writes the words of `held`, then `top`, then `last`. Skips each argument that is `None`.
 ///
 /// If there is any word to write, the call first asks for room for all of them.
 pub fn write_owed<Word: BitArray, Backend: WriteWords<Word>>(

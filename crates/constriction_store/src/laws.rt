@@ -14,7 +14,9 @@ use constriction_base::model::{DecoderModel, EncoderModel, EntropyModel};
 use constriction_words::{BitArray, WordOf};
 use std::alloc::Global;
 
-/// At an entry, words hold at most one chunk. If they hold one, none of its symbols is missing.
+/// At any entry, a list of words holds at most one chunk.
+///
+/// `HoldsChunk` and `HoldsNoChunk` never both hold for the same words at the same entry.
 pub fn one_chunk_at_entry()
     ensures one { (w s : ℕ) (model : Model ℕ) (words : List ℕ) (entry : Entry) (symbols others : List ℕ) →
         IsModel w model → HoldsChunk w s model words entry symbols → HoldsChunk w s model words entry others →

@@ -19,9 +19,9 @@ use constriction_words::WordOf;
 /// An implementor chooses the ghost members and proves two facts:
 ///
 /// - `decode_symbol` makes the step of one entry of the model's table, or refuses as `decodes` and `halts` allow.
-/// - `maybe_exhausted` returns `false` only if `has_data` holds and the next step isn't refused because the data ended.
+/// - If `maybe_exhausted` returns `false`, then `has_data` holds, and the next step isn't refused for lack of data.
 ///
-/// Generic code can rely only on these clauses. A caller that needs more names the type of the coder.
+/// Generic code can rely only on these clauses. If a caller needs stronger guarantees, it must name the coder's type.
 pub trait Decode<const PRECISION: usize>: Code {
     /// The error of a step that the coder itself refuses, for example because its data ended or is invalid.
     type FrontendError;

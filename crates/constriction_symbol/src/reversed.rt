@@ -111,12 +111,12 @@ fn emit_taken<E, F: FnMut(bool) -> Result<(), E>>(
     Ok(())
 }
 
-/// Emits the codeword of a symbol in reading order, given a codebook that emits its suffix form.
+/// Emits the prefix form of a symbol's codeword, by a codebook that emits suffix forms.
 ///
 /// # Errors
 ///
 /// - `Frontend(ImpossibleSymbol)` exactly if the symbol has no codeword. Nothing was emitted.
-/// - `Backend(error)` if `emit` returns this error. The codeword's bits up to the refused bit were passed to `emit`.
+/// - `Backend(error)` if `emit` returns this error. `emit` got the codeword's bits up to and including that bit.
 /// - `Backend(error)`, made from an `AllocError`, if there is no memory for a codeword of more than `2 * usize::BITS`
 ///   bits. Nothing was emitted. Shorter codewords need no memory.
 ///

@@ -17,8 +17,8 @@ pub trait PosSeek {
 /// A value whose position can be recorded.
 ///
 /// An implementor chooses `stands_at` and `can_tell` freely, and proves that `pos` returns a position that `stands_at`
-/// allows. `stands_at` is a relation, because a position may hold more than an index. For example, a coder's position
-/// includes its head.
+/// allows. `stands_at` relates the value to a `Position` and not to an index, because a position may hold more than an
+/// index. For example, a coder's position includes its head.
 pub trait Pos: PosSeek {
     /// Holds if the position is the current position of the value.
     ghost stands_at: { Self → Self.Position → Type 0 };
@@ -53,8 +53,8 @@ pub trait CountsWords<Word>: Pos<Position = usize> + Holds<Word, Stack> {
 /// A value that can go to a position.
 ///
 /// An implementor chooses `can_seek`, `seek_fails`, `sought` and `stays` freely, and proves that `seek` obeys them.
-/// `can_seek` and `seek_fails` may both hold at one position if a read decides between success and refusal. Where they
-/// exclude each other, as for vectors and cursors, a seek succeeds exactly if `can_seek` holds.
+/// `can_seek` and `seek_fails` may both hold for the same position, if a read during `seek` decides whether the seek
+/// succeeds. Where they exclude each other, as for vectors and cursors, a seek succeeds exactly if `can_seek` holds.
 pub trait Seek: PosSeek {
     /// Holds if a seek to the position may succeed. A seek to any other position is refused.
     ghost can_seek: { Self → Self.Position → Type 0 };

@@ -47,7 +47,7 @@ pub fn one_list_of_encodes<Symbol>()
         NarrowsAll w s items old new → IsInterval w s new }
 {}
 
-/// Decoding words within the final run of encodes returns the encoded symbols, and no others.
+/// If words lie within the encoder's run after the last encode, decoding them returns the encoded symbols and no others.
 pub fn decodes_undo_encodes<Symbol>()
     ensures back { (w s : ℕ) (words : List ℕ) (items : List (Item Symbol)) (old new : Run) → IsSizes w s →
         AreWords w words → AreModels w items → IsInterval w s old →

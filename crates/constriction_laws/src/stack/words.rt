@@ -30,7 +30,9 @@ pub fn export_of_import()
         IsValid w s (filled w s 0 words) }
 {}
 
-/// If a function lists the words of a backend, a refill by reads is a refill from these words.
+/// If `words` lists the words of a backend, a refill by reads equals the refill from that list.
+///
+/// Both give the same head and leave the same words.
 pub fn reads_are_words<Word: BitArray, Backend: ReadWords<Word, Stack>>()
     ensures { (words : Backend → List Word) (w s head new_head : ℕ) (old new : Backend) →
         TellsWords Backend.reads words → RefillsBy Word.number Backend.reads w s head old new_head new →
@@ -38,7 +40,7 @@ pub fn reads_are_words<Word: BitArray, Backend: ReadWords<Word, Stack>>()
         ≡ record { head = new_head; words = map Word.number (words new) } }
 {}
 
-/// If a function lists the words of a backend, an import by reads is an import of these words.
+/// If `words` lists the words of a backend, an import by reads equals the import of that list.
 pub fn imports_are_words<Word: BitArray, Backend: ReadWords<Word, Stack>>()
     ensures { (words : Backend → List Word) (w s head : ℕ) (old new : Backend) → IsSizes w s →
         head < 2 ^ s → TellsWords Backend.reads words →
