@@ -43,7 +43,7 @@ impl<Symbol> Lent<Symbol> for &Symbol {
 ///
 /// An implementor chooses the ghost members and proves that each call obeys them. It also proves two laws: no step
 /// returns the error of an impossible symbol, and this error doesn't mean lack of room. Generic code can rely only on
-/// these clauses and laws. A caller that needs more names the type of the coder.
+/// these clauses and laws. If a caller needs more, it must name the coder's type.
 pub trait Encode<const PRECISION: usize>: Code {
     /// The error of a step that the coder itself refuses, for example because the symbol is impossible.
     type FrontendError;
