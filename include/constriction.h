@@ -38,7 +38,8 @@
    `symbols` in the order of decoding.
 
    ROOM. CONSTRICTION_NO_SPACE doesn't come if a buffer has room for the words in use, one word for each symbol, and
-   two words for an export. Words that a range encoder holds back count as words in use.
+   two words for an export. Words that a range encoder holds back count as words in use: without room for them an
+   encode answers at once, and *needed is *len + held.
    constriction_chain_into_remainders writes at most three words. Codewords have no such bound: the codeword of a
    number has at most 2 * 32 + 1 (2 * 16 + 1) bits, and that of a symbol at most weight_count - 1.
 
@@ -102,7 +103,8 @@ enum constriction_result {
     CONSTRICTION_WRONG_INTERVAL = 3,
     /* A length or a position is past its buffer's end, or the lengths of two lists don't match. */
     CONSTRICTION_WRONG_LENGTH = 4,
-    /* The buffer is too short. *needed is the length that it needs, words in use included. */
+    /* The buffer is too short. *needed is the length that it needs, words in use included, or SIZE_MAX if that is
+       greater. */
     CONSTRICTION_NO_SPACE = 5,
     /* malloc or realloc failed. The call can be made again. */
     CONSTRICTION_NO_MEMORY = 6,

@@ -85,7 +85,8 @@ fn put_by<
 /// Those of [`crate::range`], and then:
 ///
 /// - `ImpossibleSymbol` exactly if a model doesn't know its symbol.
-/// - `NoSpace` if the buffer is too short. The error has the number of words that it needs.
+/// - `NoSpace` if the buffer is too short. The error has the number of words that it needs. If it is too short for the
+///   words held back, it has their number and that of the words in use, and the call asks for no memory.
 /// - `NoMemory` if there is no memory.
 pub fn encode<
     Word: WordOf<State>,
@@ -116,19 +117,28 @@ pub fn encode<
     let Some(made) = encoder_for(alloc, *encoder, symbols.len()) else {
         return Err(Refusal::InvalidData);
     };
-    let Some((words, now)) = put_by::<Word, State, P, G, PRECISION>(alloc, made, models, symbols)
-    else {
-        if models.know(symbols) {
-            return Err(Refusal::NoMemory);
-        }
+    let held = encoder.held;
+    let is_room = held <= buffer.len() - *len;
+    if is_room
+        && let Some((words, now)) = put_by::<Word, State, P, G, PRECISION>(
+            alloc, made, models, symbols,
+        )
+    {
+        return match append(&words, buffer, len) {
+            Ok(()) => {
+                *encoder = now;
+                Ok(())
+            }
+            Err(refusal) => Err(refusal),
+        };
+    }
+    if !models.know(symbols) {
         return Err(Refusal::ImpossibleSymbol);
-    };
-    match append(&words, buffer, len) {
-        Ok(()) => {
-            *encoder = now;
-            Ok(())
-        }
-        Err(refusal) => Err(refusal),
+    }
+    if is_room {
+        Err(Refusal::NoMemory)
+    } else {
+        Err(Refusal::NoSpace(len.saturating_add(held)))
     }
 }
 
@@ -170,11 +180,13 @@ pub fn encode_intervals<
             encode::<Word, State, P, _, PRECISION>(alloc, encoder, buffer, len, &models, &symbols)
         }
         Err(Refusal::NoMemory) => {
-            if can {
-                Err(Refusal::NoMemory)
-            } else {
-                Err(Refusal::InvalidData)
+            if !can {
+                return Err(Refusal::InvalidData);
             }
+            if encoder.held > buffer.len() - *len {
+                return Err(Refusal::NoSpace(len.saturating_add(encoder.held)));
+            }
+            Err(Refusal::NoMemory)
         }
         Err(refusal) => Err(refusal),
     }
