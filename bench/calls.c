@@ -1,9 +1,10 @@
 /* Nanoseconds a symbol of the C functions: lines `name ns_per_symbol`, each the least of so many runs.
 
-   gcc -O2 -Iinclude bench/calls.c build/libconstriction.a -o bench/out/calls && bench/out/calls [SYMBOLS_A_CALL]
+   gcc -O2 -Iinclude bench/calls.c build/libconstriction.a -o bench/out/calls && bench/out/calls [SYMBOLS_A_CALL [FORM]]
 
    The million symbols and their weights are those of bench/driver. Symbols are handed over so many at a time, 65536 unless
-   said otherwise. What is decoded is compared with what was encoded. */
+   said otherwise. FORM is `table`, by one table of weights, or `intervals`, by the interval of each symbol; both without it.
+   What is decoded is compared with what was encoded, and what intervals write with what the table wrote. */
 
 #define _POSIX_C_SOURCE 199309L
 #include <stdio.h>
@@ -14,7 +15,7 @@
 
 enum { COUNT = 1000000, RUNS = 11, KINDS = 256, DATA = COUNT * 3 / 4 + 101 };
 
-static uint32_t weights[KINDS], words[COUNT + 2], data[DATA], remainders[COUNT], back[COUNT];
+static uint32_t weights[KINDS], words[COUNT + 2], whole[COUNT + 2], data[DATA], remainders[COUNT], back[COUNT], lefts[COUNT], ps[COUNT];
 static size_t symbols[COUNT], decoded[COUNT], part = 65536;
 
 static uint64_t random_number(uint64_t *x) {
@@ -30,6 +31,10 @@ static void draw(void) {
     for (size_t i = 0; i < COUNT; i++) {
         uint64_t quantile = random_number(&x) >> 40;
         for (symbols[i] = 0; quantile >= weights[symbols[i]]; symbols[i]++) quantile -= weights[symbols[i]];
+    }
+    for (size_t i = 0; i < COUNT; i++) {
+        for (size_t j = 0; j < symbols[i]; j++) lefts[i] += weights[j];
+        ps[i] = weights[symbols[i]];
     }
     x = 7;
     for (size_t i = 0; i < DATA - 1; i++) data[i] = (uint32_t)(random_number(&x) >> 32);
@@ -91,6 +96,52 @@ static void chain_encode(void) {
                                                     decoded + i * part, length_at(i * part), &needed), "chain_encode");
 }
 
+static void ans_intervals(void) {
+    head = 0, len = 0;
+    for (size_t i = (COUNT - 1) / part + 1; i-- > 0;) {
+        size_t count = length_at(i * part);
+        must(!constriction_ans_encode_intervals_reverse_u32(&head, words, COUNT + 2, &len, lefts + i * part, count, ps + i * part, count,
+                                                            &needed), "ans_intervals");
+    }
+}
+
+static void range_intervals(void) {
+    constriction_range_encoder_u32(&encoder), len = 0;
+    for (size_t i = 0; i < COUNT; i += part)
+        must(!constriction_range_encode_intervals_u32(&encoder, words, COUNT + 2, &len, lefts + i, length_at(i), ps + i, length_at(i), &needed),
+             "range_intervals");
+    must(!constriction_range_into_compressed_u32(&encoder, words, COUNT + 2, &len, &needed), "range_intervals");
+}
+
+static void chain_intervals(void) {
+    for (size_t i = (COUNT - 1) / part + 1; i-- > 0;) {
+        size_t count = length_at(i * part);
+        must(!constriction_chain_encode_intervals_reverse_u32(&heads, back, COUNT, &left, remainders, COUNT, &kept, lefts + i * part, count,
+                                                              ps + i * part, count, &needed), "chain_intervals");
+    }
+}
+
+/* ---- what each of them has to leave: words that whole calls by the table leave, kept behind those of the run before */
+static size_t whole_len;
+
+static void keep_words(void) { memcpy(whole, words, len * sizeof *words), whole_len = len; }
+
+static int same_words(void) { return len == whole_len && !memcmp(whole, words, len * sizeof *words); }
+
+/* The intervals of the symbols that the data are decoded to, and a coder whose remainders stand for them. */
+static void decode_data(void) {
+    size_t one = part;
+    part = COUNT, chain_decode(), part = one;
+    memcpy(back, data, left * sizeof *data);
+}
+
+static void intervals_of_decoded(void) {
+    for (size_t i = 0; i < COUNT; i++) {
+        lefts[i] = 0, ps[i] = weights[decoded[i]];
+        for (size_t j = 0; j < decoded[i]; j++) lefts[i] += weights[j];
+    }
+}
+
 /* ---- their times */
 static double timed(void (*pass)(void), double least) {
     struct timespec from, to;
@@ -101,21 +152,47 @@ static double timed(void (*pass)(void), double least) {
     return taken < least ? taken : least;
 }
 
+static void by_table(double *least) {
+    least[0] = timed(ans_encode, least[0]), least[1] = timed(ans_decode, least[1]);
+    must(!memcmp(decoded, symbols, sizeof symbols), "ans: other symbols came back");
+    least[2] = timed(range_encode, least[2]), least[3] = timed(range_decode, least[3]);
+    must(!memcmp(decoded, symbols, sizeof symbols), "range: other symbols came back");
+    least[4] = timed(chain_decode, least[4]);
+    memcpy(back, data, left * sizeof *data);
+    least[5] = timed(chain_encode, least[5]);
+    must(!memcmp(back, data, left * sizeof *data), "chain: other words came back");
+}
+
+static void by_intervals(double *least) {
+    size_t one = part;
+    part = COUNT, ans_encode(), keep_words(), part = one;
+    least[6] = timed(ans_intervals, least[6]);
+    must(same_words(), "ans: other words");
+    part = COUNT, range_encode(), keep_words(), part = one;
+    least[7] = timed(range_intervals, least[7]);
+    must(same_words(), "range: other words");
+    uint32_t *own[] = {malloc(sizeof lefts), malloc(sizeof ps)};
+    must(own[0] && own[1], "out of memory");
+    memcpy(own[0], lefts, sizeof lefts), memcpy(own[1], ps, sizeof ps);
+    decode_data(), intervals_of_decoded();
+    least[8] = timed(chain_intervals, least[8]);
+    must(!memcmp(back, data, left * sizeof *data), "chain: other words came back");
+    memcpy(lefts, own[0], sizeof lefts), memcpy(ps, own[1], sizeof ps);
+    free(own[0]), free(own[1]);
+}
+
 int main(int count, char **arguments) {
     if (count > 1) part = strtoul(arguments[1], NULL, 10);
-    must(part > 0, "usage: calls [SYMBOLS_A_CALL]");
+    const char *form = count > 2 ? arguments[2] : "";
+    must(part > 0 && strchr("ti", *form), "usage: calls [SYMBOLS_A_CALL [table|intervals]]");
     draw();
-    double least[6] = {1e9, 1e9, 1e9, 1e9, 1e9, 1e9};
+    double least[9] = {1e9, 1e9, 1e9, 1e9, 1e9, 1e9, 1e9, 1e9, 1e9};
     for (int run = 0; run < RUNS; run++) {
-        least[0] = timed(ans_encode, least[0]), least[1] = timed(ans_decode, least[1]);
-        must(!memcmp(decoded, symbols, sizeof symbols), "ans: other symbols came back");
-        least[2] = timed(range_encode, least[2]), least[3] = timed(range_decode, least[3]);
-        must(!memcmp(decoded, symbols, sizeof symbols), "range: other symbols came back");
-        least[4] = timed(chain_decode, least[4]);
-        memcpy(back, data, left * sizeof *data);
-        least[5] = timed(chain_encode, least[5]);
-        must(!memcmp(back, data, left * sizeof *data), "chain: other words came back");
+        if (*form != 'i') by_table(least);
+        if (*form != 't') by_intervals(least);
     }
-    const char *const names[] = {"ans_encode", "ans_decode", "range_encode", "range_decode", "chain_decode", "chain_encode"};
-    for (int i = 0; i < 6; i++) printf("c_%s_u32u64p24_table %.3f\n", names[i], least[i]);
+    const char *const names[] = {"ans_encode", "ans_decode", "range_encode", "range_decode", "chain_decode", "chain_encode",
+                                 "ans_encode", "range_encode", "chain_encode"};
+    for (int i = 0; i < 9; i++)
+        if (least[i] < 1e9) printf("c_%s_u32u64p24_%s %.3f\n", names[i], i < 6 ? "table" : "intervals", least[i]);
 }

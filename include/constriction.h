@@ -38,18 +38,23 @@
    `symbols` in the order of decoding.
 
    ROOM. CONSTRICTION_NO_SPACE doesn't come if a buffer has room for the words in use, one word for each symbol, and
-   two words for an export. Words that a range encoder holds back count as words in use.
+   two words for an export. Words that a range encoder holds back count as words in use: without room for them an
+   encode answers at once, and *needed is *len + held.
    constriction_chain_into_remainders writes at most three words. Codewords have no such bound: the codeword of a
    number has at most 2 * 32 + 1 (2 * 16 + 1) bits, and that of a symbol at most weight_count - 1.
 
-   ONE SYMBOL AT A TIME. A call reads all weights that it gets. Decoding one symbol under 256 weights takes about 2
-   microseconds. If you can search the sums of the weights yourself, compute the quantile from the state, find its
-   symbol, and pass three weights: the sum of all below it, its own, and the sum of all above it. The call then
-   decodes symbol 1. The quantile is:
+   COST. A call by one table of weights takes about 13 nanoseconds for each weight, or 45 if it encodes with a stack
+   or a chain coder, which needs the weights' reciprocals, and 0.1 microseconds for itself. So one symbol under 256
+   weights takes 3.4 microseconds, or 12. After that, each symbol takes 3 to 6 nanoseconds to encode, 6 to decode with
+   a stack coder, and 19 with a range coder. .._each takes 4 nanoseconds for each weight of each row.
+
+   ONE SYMBOL AT A TIME. To encode one symbol, pass its interval. To decode one, if you can search the sums of the
+   weights yourself, compute the quantile from the state, find its symbol, and pass three weights: the sum of all
+   below it, its own, and the sum of all above it. The call then decodes symbol 1. Each of the two takes about 0.1
+   microseconds. The quantile is:
    - for the stack coder, head % 2^24 (2^12).
    - for the range coder, (point - lower) / (range >> 24) (range >> 12), in the type of the state, with a difference
      that wraps. If it is 2^24 (2^12) or more, no encoder wrote the words, and each decode returns INVALID_DATA.
-   To encode one symbol, pass its interval.
 
    POINTERS. A pointer to a list may be null if its length is 0. No other pointer may be null, and each must be
    aligned for its type. Memory that one argument writes must not overlap memory that another argument reads or
@@ -102,7 +107,8 @@ enum constriction_result {
     CONSTRICTION_WRONG_INTERVAL = 3,
     /* A length or a position is past its buffer's end, or the lengths of two lists don't match. */
     CONSTRICTION_WRONG_LENGTH = 4,
-    /* The buffer is too short. *needed is the length that it needs, words in use included. */
+    /* The buffer is too short. *needed is the length that it needs, words in use included, or SIZE_MAX if that is
+       greater. */
     CONSTRICTION_NO_SPACE = 5,
     /* malloc or realloc failed. The call can be made again. */
     CONSTRICTION_NO_MEMORY = 6,

@@ -179,10 +179,10 @@ static struct world ans_start(size_t count) {
 
 static void ans(size_t count) {
     struct world start = ans_start(count), w = start;
-    every_length("ANS: encode", ans_encode, &start, 1);
-    every_length("ANS: encode under rows", ans_encode_each, &start, 1);
-    every_length("ANS: encode by intervals", ans_encode_pairs, &start, 1);
-    every_length("ANS: export", ans_export, &start, 1);
+    every_length("ANS: encode", ans_encode, &start, BEHIND);
+    every_length("ANS: encode under rows", ans_encode_each, &start, BEHIND);
+    every_length("ANS: encode by intervals", ans_encode_pairs, &start, BEHIND);
+    every_length("ANS: export", ans_export, &start, BEHIND);
     refused_memory("ANS: encode, memory", ans_encode, &start);
     refused_memory("ANS: encode under rows, memory", ans_encode_each, &start);
     refused_memory("ANS: encode by intervals, memory", ans_encode_pairs, &start);
@@ -212,7 +212,7 @@ static void ans(size_t count) {
     memcpy(symbols, in.symbols, sizeof symbols), memcpy(in.symbols, w.symbols, sizeof symbols);
     done("ANS: encode what they gave", ans_encode, &w);
     memcpy(in.symbols, symbols, sizeof symbols);
-    every_length("ANS: export of any words", ans_export_binary, &w, 1);
+    every_length("ANS: export of any words", ans_export_binary, &w, BEHIND);
     done("ANS: export of any words", ans_export_binary, &w);
     CHECK("ANS: any words come back", w.len == binary.len && !memcmp(w.words, binary.words, sizeof w.words));
     refuses("ANS: a zero word", ans_import, &binary, CONSTRICTION_INVALID_DATA);
@@ -232,15 +232,15 @@ static void range(size_t count) {
     draw(count);
     done("range: symbols before", range_encode, &start);
     draw(count);
-    every_length("range: encode", range_encode, &start, 1);
-    every_length("range: encode under rows", range_encode_each, &start, 1);
-    every_length("range: encode by intervals", range_encode_pairs, &start, 1);
-    every_length("range: export", range_export, &start, 1);
+    every_length("range: encode", range_encode, &start, BEHIND_HELD);
+    every_length("range: encode under rows", range_encode_each, &start, BEHIND_HELD);
+    every_length("range: encode by intervals", range_encode_pairs, &start, BEHIND_HELD);
+    every_length("range: export", range_export, &start, BEHIND);
     refused_memory("range: encode, memory", range_encode, &start);
     refused_memory("range: encode under rows, memory", range_encode_each, &start);
     refused_memory("range: encode by intervals, memory", range_encode_pairs, &start);
     refused_memory("range: export, memory", range_export, &start);
-    every_length("range: export that holds whatever follows", range_followed, &start, 1);
+    every_length("range: export that holds whatever follows", range_followed, &start, BEHIND);
     refused_memory("range: export that holds whatever follows, memory", range_followed, &start);
     same("range: both exports", range_export, range_followed, &start);
     same("range: intervals", range_encode, range_encode_pairs, &start);
@@ -402,7 +402,7 @@ static void most_symbols(void) {
 static void store(size_t count) {
     struct world start = fresh(), w;
     draw(count);
-    every_length("store: build", store_build, &start, 0);
+    every_length("store: build", store_build, &start, FROM_FRONT);
     refused_memory("store: build, memory", store_build, &start);
     if (count) refuses_build(&start);
     w = start;
@@ -418,18 +418,36 @@ static void store(size_t count) {
     if (count) refuses_chunk(&w);
 }
 
-/* A state from outside may hold any number of words back: room is looked at before memory is asked for. */
+/* A call with a state that holds so many words back asks for so much memory at most, and answers how many words are needed. */
+static void holds(call *run, size_t held, size_t len, size_t needed, unsigned long most) {
+    struct world w = fresh();
+    w.encoder.lower = (state)-1, w.encoder.range = (state)1 << (8 * sizeof(state) - BITS);
+    w.encoder.held = held, w.encoder.first = 0, w.len = len;
+    requests = 0;
+    refuses("range: many words held", run, &w, CONSTRICTION_NO_SPACE);
+    uint32_t result = run(&w);
+    CHECK("range: many words held, needed", result == CONSTRICTION_NO_SPACE && w.needed == needed);
+    CHECK("range: many words held, memory", requests <= most);
+}
+
+/* A state from outside may hold any number of words back, also more than have bits that can be counted: room is looked at before memory is
+   asked for. */
 static void great_held(void) {
     call *const exports[] = {range_export, range_followed};
+    call *const encodes[] = {range_encode, range_encode_each, range_encode_pairs, range_encode_row_pairs};
+    size_t most = SIZE_MAX - 17;
+    draw(3);
     for (size_t i = 0; i < 2; i++) {
-        struct world w = fresh();
-        w.encoder.lower = (state)-1, w.encoder.range = (state)1 << (8 * sizeof(state) - BITS);
-        w.encoder.held = (size_t)1 << 28, w.encoder.first = 0;
-        requests = 0;
-        refuses("range: many words held", exports[i], &w, CONSTRICTION_NO_SPACE);
-        uint32_t result = exports[i](&w);
-        CHECK("range: many words held, needed", result == CONSTRICTION_NO_SPACE && w.needed == w.encoder.held + 2);
-        CHECK("range: many words held, memory", requests == 0);
+        holds(exports[i], (size_t)1 << 28, 0, ((size_t)1 << 28) + 2, 0);
+        holds(exports[i], (size_t)1 << 61, 5, ((size_t)1 << 61) + 7, 0);
+        holds(exports[i], most, 5, most + 7, 0);
+        holds(exports[i], most, 40, SIZE_MAX, 0);
+    }
+    for (size_t i = 0; i < 4; i++) {
+        holds(encodes[i], ROOM + 1, 0, ROOM + 1, i < 2 ? 0 : 8);
+        holds(encodes[i], (size_t)1 << 28, 4, ((size_t)1 << 28) + 4, i < 2 ? 0 : 8);
+        holds(encodes[i], (size_t)1 << 61, 4, ((size_t)1 << 61) + 4, i < 2 ? 0 : 8);
+        holds(encodes[i], most - 3, 30, SIZE_MAX, i < 2 ? 0 : 8);
     }
 }
 
@@ -488,11 +506,11 @@ static void chain(size_t count) {
     for (size_t i = 0; i < ROOM; i++) start.other[i] = (word)random_below((uint64_t)1 << BITS);
     start.other_len = ROOM, start.other[ROOM - 1] |= 1;
     done("chain: import", chain_import, &start);
-    every_length("chain: decode", chain_decode, &start, 1);
-    every_length("chain: decode under rows", chain_decode_each, &start, 1);
+    every_length("chain: decode", chain_decode, &start, BEHIND);
+    every_length("chain: decode under rows", chain_decode_each, &start, BEHIND);
     refused_memory("chain: decode, memory", chain_decode, &start);
     refused_memory("chain: decode under rows, memory", chain_decode_each, &start);
-    every_length("chain: export", chain_export, &start, 1);
+    every_length("chain: export", chain_export, &start, BEHIND);
     refused_memory("chain: export, memory", chain_export, &start);
 
     for (int each = 0; each < 2; each++) {
@@ -500,7 +518,7 @@ static void chain(size_t count) {
         kept.len = 2;
         w = kept;
         done("chain: decode", each ? chain_decode_each : chain_decode, &w);
-        every_length("chain: export of remainders", chain_export_remainders, &w, 1);
+        every_length("chain: export of remainders", chain_export_remainders, &w, BEHIND);
         refused_memory("chain: export of remainders, memory", chain_export_remainders, &w);
 
         /* The two sides change places, so that an encode writes behind what was left over. */
@@ -514,8 +532,8 @@ static void chain(size_t count) {
         }
         call *encode = each ? chain_encode_each : chain_encode;
         same("chain: intervals", encode, each ? chain_encode_row_pairs : chain_encode_pairs, &back);
-        every_length("chain: encode", encode, &back, 1);
-        every_length("chain: encode by intervals", each ? chain_encode_row_pairs : chain_encode_pairs, &back, 1);
+        every_length("chain: encode", encode, &back, BEHIND);
+        every_length("chain: encode by intervals", each ? chain_encode_row_pairs : chain_encode_pairs, &back, BEHIND);
         refused_memory("chain: encode, memory", encode, &back);
         if (count) refuses_symbols("chain: encode refuses", chain_encode, chain_encode_each, chain_encode_pairs, &back);
         done("chain: encode", encode, &back);
@@ -566,7 +584,7 @@ static void chain(size_t count) {
     w = start, w.other_len = ROOM, w.other[ROOM - 1] = 0;
     done("chain: any words", chain_import_binary, &w);
     memcpy(w.words, w.other, sizeof w.words), w.len = w.other_len, w.other_len = 0;
-    every_length("chain: export of any words", chain_export_binary, &w, 1);
+    every_length("chain: export of any words", chain_export_binary, &w, BEHIND);
     done("chain: export of any words", chain_export_binary, &w);
     CHECK("chain: any words come back", w.len == ROOM && !memcmp(w.words, w.other, sizeof w.words));
 }
@@ -577,7 +595,7 @@ static void codewords(size_t count) {
     call *const encodes[] = {huffman_queue, huffman_stack, golomb_queue, golomb_stack};
     call *const decodes[] = {huffman_from_queue, huffman_from_stack, golomb_from_queue, golomb_from_stack};
     for (size_t i = 0; i < 4; i++) {
-        every_length("codewords: encode", encodes[i], &start, 0);
+        every_length("codewords: encode", encodes[i], &start, FROM_FRONT);
         refused_memory("codewords: encode, memory", encodes[i], &start);
         w = start;
         done("codewords: encode", encodes[i], &w);

@@ -196,7 +196,7 @@ static void ans(size_t count) {
     draw(count);
     start.len = 3, start.words[2] = 7;
     CHECK("ANS: an import", !C(ans_from_compressed)(start.words, start.len, &start.len, &start.head));
-    every_length("ANS: encode", ans_encode, &start, 1);
+    every_length("ANS: encode", ans_encode, &start, BEHIND);
     refused_memory("ANS: encode, memory", ans_encode, &start);
     same_by_name("ANS: encode by name", ans_encode, ANS_ENCODE, &start);
     CHECK("ANS: intervals", !intervals_of(&start));
@@ -225,7 +225,7 @@ static void range(size_t count) {
     draw(count);
     done("range: symbols before", range_encode, &start);
     draw(count);
-    every_length("range: encode", range_encode, &start, 1);
+    every_length("range: encode", range_encode, &start, BEHIND_HELD);
     refused_memory("range: encode, memory", range_encode, &start);
     same_by_name("range: encode by name", range_encode, RANGE_ENCODE, &start);
     CHECK("range: intervals", !intervals_of(&start));
@@ -264,7 +264,7 @@ static void chain(size_t count) {
     start.other_len = ROOM, start.other[ROOM - 1] |= 1;
     CHECK("chain: import", !C(chain_from_compressed)(start.other, ROOM, &start.other_len, &start.heads));
     start.len = 2;
-    every_length("chain: decode", chain_decode, &start, 1);
+    every_length("chain: decode", chain_decode, &start, BEHIND);
     refused_memory("chain: decode, memory", chain_decode, &start);
     same_by_name("chain: decode by name", chain_decode, CHAIN_DECODE, &start);
 
@@ -275,7 +275,7 @@ static void chain(size_t count) {
     memcpy(back.words, w.other, sizeof back.words), memcpy(back.other, w.words, sizeof back.other);
     back.len = w.other_len, back.other_len = w.len;
     memcpy(in.symbols, w.symbols, count * sizeof *in.symbols);
-    every_length("chain: encode", chain_encode, &back, 1);
+    every_length("chain: encode", chain_encode, &back, BEHIND);
     refused_memory("chain: encode, memory", chain_encode, &back);
     same_by_name("chain: encode by name", chain_encode, CHAIN_ENCODE, &back);
     CHECK("chain: intervals", !intervals_of(&back));

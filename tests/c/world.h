@@ -104,23 +104,26 @@ static inline void done(const char *about, call *run, struct world *w) {
     CHECK(about, from <= ROOM && !memcmp(w->words + from, old.words + from, (ROOM - from) * sizeof(word)));
 }
 
-/* With buffers of every length: too short for what is in use, too short for what is added, and long enough.
-   keeps: what is in use stays in front of what is added. */
+/* Where a call writes: from the beginning of a buffer on, or behind what is in use, which stays; and then it may want room for the
+   words held back first. */
+enum { FROM_FRONT, BEHIND, BEHIND_HELD };
+
+/* With buffers of every length: too short for what is in use, too short for what is added, and long enough. */
 static inline void every_length(const char *about, call *run, const struct world *start, int keeps) {
     struct world whole = *start;
     done(about, run, &whole);
-    size_t used = keeps ? start->len : 0;
+    size_t used = keeps ? start->len : 0, first = keeps == BEHIND_HELD ? used + start->encoder.held : 0;
     if (keeps) CHECK(about, whole.len >= used && !memcmp(whole.words, start->words, used * sizeof(word)));
-    for (size_t capacity = 0; capacity <= whole.len + 2; capacity++) {
+    for (size_t capacity = 0; capacity <= whole.len + 2 || capacity <= first; capacity++) {
         struct world w = *start;
         w.capacity = capacity;
         if (capacity < used) {
             refuses(about, run, &w, CONSTRICTION_WRONG_LENGTH);
-        } else if (capacity < whole.len) {
+        } else if (capacity < first || capacity < whole.len) {
             struct world old = w;
             uint32_t result = run(&w);
             seen[CONSTRICTION_NO_SPACE]++;
-            CHECK(about, result == CONSTRICTION_NO_SPACE && w.needed == whole.len);
+            CHECK(about, result == CONSTRICTION_NO_SPACE && w.needed == (capacity < first ? first : whole.len));
             w.needed = old.needed;
             CHECK(about, equal(&w, &old));
         } else {

@@ -1,15 +1,14 @@
 -- What calls of the range coder did, as their records say it.
-use Rattle.std.proofs.Common.{◌≡◌, ℕ, ◌+◌, ◌/◌, ◌<◌, ◌≤◌, ◌^◌, ◌⊎◌, List, [], ◌++◌, length, map, take, refl, sym, ap, ◌∙◌, inl, inr, arith, Result, Ok, Err}
+use Rattle.std.proofs.Common.{◌≡◌, ℕ, ◌+◌, ◌-◌, ◌/◌, ◌<◌, ◌≤◌, ◌^◌, ◌⊎◌, List, [], ◌++◌, length, map, take, refl, sym, ap, ◌∙◌, inl, inr, arith, Result, Ok, Err}
 use Rattle.std.specs.Prelude.{OnErr, OnOk, IfErr}
 use Rattle.std.proofs.lemmas.List.{length-append, length-map, length-take, map-append}
 use Rattle.constriction_base.specs.Models.{AreKnown}
 use Rattle.constriction_base.specs.Steps.{IsSizes}
-use Rattle.constriction_queue.proofs.Seals.{words_within}
 use Rattle.constriction_queue.specs.Range.{Run, narrowed_by, sealed}
 use Rattle.constriction_queue.specs.Symbols.{NarrowsAll}
 use Rattle.constriction_inputs.specs.Buffers.{Appended}
 use Rattle.constriction_inputs.specs.Coded.{AreFit, Coded, items}
-use Rattle.constriction_calls.specs.RangeCalls.{CanEncode, IsDecoderKept, IsEncoderKept, IsSealed, IsSelfSealed, LacksRoom, LeadsBy, LeadsNowhere, RangeKept, RangePuts, RangeSeals, RangeTakes, RoomFirst, run_kept}
+use Rattle.constriction_calls.specs.RangeCalls.{CanEncode, IsDecoderKept, IsEncoderKept, IsSealed, IsSelfSealed, LacksRoom, LeadsBy, LeadsNowhere, RangeKept, RangePuts, RangeSeals, RangeTakes, RoomFirst, count_needed, run_kept}
 use Rattle.constriction_inputs.specs.Refusals.{Room, Words}
 use Rattle.constriction_inputs.specs.declared.refusal.Refusal.{Refusal}
 use Rattle.constriction_inputs.specs.declared.refusal.Refusal.TheVariants as refusals
@@ -26,39 +25,46 @@ module _ {Word State : Type 0} (number : Word → ℕ) (state : State → ℕ) (
   puts_numbers none = record { put = tt; asked = inr (within, fit_then precision (coded symbols) fit (inl (none, refl))); kept = refl }
 
   module _ (can : CanEncode number state w s old.encoder (length symbols)) where
-    pub puts_room : AreKnown (items precision (coded symbols)) → (new : RangeKept Word State) → new ≡ old → (e : Refusal)
-        → Room (LacksRoom number state w s (items precision (coded symbols)) old.encoder old.words old.len) e → RangePuts number state w s precision coded symbols old new (Err e)
-    puts_room known new kept e room = record { put = tt; asked = inr (within, fit_then precision (coded symbols) fit (inr (can, inr (known, room)))); kept = kept }
+    -- no room for the words held back
+    pub puts_full : AreKnown (items precision (coded symbols)) → (old.len + old.encoder.held ≤ length old.words → ⊥) → (needed : ℕ) → needed ≡ count_needed (old.len + old.encoder.held)
+        → RangePuts number state w s precision coded symbols old old (Err (refusals.NoSpace needed))
+    puts_full known full needed is =
+        record { put = tt; asked = inr (within, fit_then precision (coded symbols) fit (inr (can, inr (known, inl (full, ap (λ n. Err (refusals.NoSpace n)) is))))); kept = refl }
 
-    -- words were written, and put into the buffer, or not
-    module _ (first : Run) (first_is : first ≡ run_kept number state w s old.encoder []) (now : EncoderParts Word State) (is : IsEncoderKept number state w s now) (made added : List Word) (same : added ≡ made)
-        (all : NarrowsAll w s (items precision (coded symbols)) first (run_kept number state w s now made)) where
-      known : AreKnown (items precision (coded symbols))
-      known = known_by (λ e a b. b ≡ narrowed_by w s e a) _ _ _ all
+    module _ (room : old.len + old.encoder.held ≤ length old.words) where
+      pub puts_room : AreKnown (items precision (coded symbols)) → (new : RangeKept Word State) → new ≡ old → (e : Refusal)
+          → Room (LacksRoom number state w s (items precision (coded symbols)) old.encoder old.words old.len) e → RangePuts number state w s precision coded symbols old new (Err e)
+      puts_room known new kept e why = record { put = tt; asked = inr (within, fit_then precision (coded symbols) fit (inr (can, inr (known, inr (room, why))))); kept = kept }
 
-      narrowed : NarrowsAll w s (items precision (coded symbols)) (run_kept number state w s old.encoder (take old.len old.words)) (run_kept number state w s now (take old.len old.words ++ added))
-      narrowed = rw same (narrows_kept number state w s old.encoder (items precision (coded symbols)) now made (rw first_is at all) (take old.len old.words))
+      -- words were written, and put into the buffer, or not
+      module _ (first : Run) (first_is : first ≡ run_kept number state w s old.encoder []) (now : EncoderParts Word State) (is : IsEncoderKept number state w s now) (made added : List Word) (same : added ≡ made)
+          (all : NarrowsAll w s (items precision (coded symbols)) first (run_kept number state w s now made)) where
+        known : AreKnown (items precision (coded symbols))
+        known = known_by (λ e a b. b ≡ narrowed_by w s e a) _ _ _ all
 
-      pub puts_appended : (words : List Word) (len : ℕ) → Appended old.words old.len added words len
-          → RangePuts number state w s precision coded symbols old (record { encoder = now; words = words; len = len }) (Ok tt)
-      puts_appended words len a = record {
-        put = record { narrowed = rw a.words narrowed; is = is; added = added; appended = a };
-        asked = inr (within, fit_then precision (coded symbols) fit (inr (can, inr (known, tt))));
-        kept = tt;
-      }
+        narrowed : NarrowsAll w s (items precision (coded symbols)) (run_kept number state w s old.encoder (take old.len old.words)) (run_kept number state w s now (take old.len old.words ++ added))
+        narrowed = rw same (narrows_kept number state w s old.encoder (items precision (coded symbols)) now made (rw first_is at all) (take old.len old.words))
 
-      pub puts_short : (e : Refusal) (B : Type 0) → (e ≡ refusals.NoSpace (old.len + length added)) ⊎ ((e ≡ refusals.NoMemory) × B) → length old.words < old.len + length added
-          → (new : RangeKept Word State) → new ≡ old → RangePuts number state w s precision coded symbols old new (Err e)
-      puts_short e B why less new kept =
-          let count = length-append (take old.len old.words) added in
-          let lacks : LacksRoom number state w s (items precision (coded symbols)) old.encoder old.words old.len (old.len + length added) =
-          record { less = less; new = now; words = take old.len old.words ++ added; narrowed = narrowed; is = is; count = omega (arith, count, length-take old.len old.words, within) } in
-          puts_room known new kept e (room_of _ e (old.len + length added) why lacks)
+        pub puts_appended : (words : List Word) (len : ℕ) → Appended old.words old.len added words len
+            → RangePuts number state w s precision coded symbols old (record { encoder = now; words = words; len = len }) (Ok tt)
+        puts_appended words len a = record {
+          put = record { narrowed = rw a.words narrowed; is = is; added = added; appended = a };
+          asked = inr (within, fit_then precision (coded symbols) fit (inr (can, inr (known, inr (room, tt)))));
+          kept = tt;
+        }
+
+        pub puts_short : (e : Refusal) (B : Type 0) → (e ≡ refusals.NoSpace (old.len + length added)) ⊎ ((e ≡ refusals.NoMemory) × B) → length old.words < old.len + length added
+            → (new : RangeKept Word State) → new ≡ old → RangePuts number state w s precision coded symbols old new (Err e)
+        puts_short e B why less new kept =
+            let count = length-append (take old.len old.words) added in
+            let lacks : LacksRoom number state w s (items precision (coded symbols)) old.encoder old.words old.len (old.len + length added) =
+            record { less = less; new = now; words = take old.len old.words ++ added; narrowed = narrowed; is = is; count = omega (arith, count, length-take old.len old.words, within) } in
+            puts_room known new kept e (room_of _ e (old.len + length added) why lacks)
 
 -- ---- seals
 module _ {Word State : Type 0} (number : Word → ℕ) (state : State → ℕ) (w s : ℕ) (old : RangeKept Word State) (within : old.len ≤ length old.words) (is : IsEncoderKept number state w s old.encoder) where
   pub seals_room : (ends : Run → List ℕ → Type 0) (new : RangeKept Word State) → new ≡ old → (e : Refusal)
-      → RoomFirst w (length old.words) (length (sealed w s (run_kept number state w s old.encoder (take old.len old.words)))) e → RangeSeals number state w s ends old new (Err e)
+      → RoomFirst (length old.words) (length (sealed w s (run_kept number state w s old.encoder (take old.len old.words)))) e → RangeSeals number state w s ends old new (Err e)
   seals_room ends new kept e room = record { words = tt; appended = tt; asked = inr (within, inr (is, room)); kept = kept }
 
   module _ (words : (x : Word) → number x < 2 ^ w) (states : (x : State) → state x < 2 ^ s) (sizes : IsSizes w s) (first : Run) (first_is : first ≡ run_kept number state w s old.encoder []) where
@@ -69,19 +75,12 @@ module _ {Word State : Type 0} (number : Word → ℕ) (state : State → ℕ) (
         let own : length (sealed w s first) ≡ length (sealed w s (run_kept number state w s old.encoder [])) = ap (λ (r : Run). length (sealed w s r)) first_is in
         omega (arith, ap length all, length-append (map number (take old.len old.words)) (sealed w s (run_kept number state w s old.encoder [])), length-map (take old.len old.words) number, length-take old.len old.words, within, own)
 
-    -- no room for them
-    pub seals_full : (ends : Run → List ℕ → Type 0) (e : Refusal) (n : ℕ) → n ≡ old.len + length (sealed w s first)
-        → (e ≡ refusals.NoSpace n) ⊎ ((e ≡ refusals.NoMemory) × (2 ^ 64 ≤ n)) → length old.words < n → (new : RangeKept Word State) → new ≡ old → RangeSeals number state w s ends old new (Err e)
-    seals_full ends e n n_is (inl space) less new kept = rw space (seals_room ends new kept (refusals.NoSpace n) (less, n_is ∙ sym count_is))
-    seals_full ends e n n_is (inr memory) less new kept =
-        rw memory.0 (seals_room ends new kept refusals.NoMemory (inr (let more = words_within w (length (sealed w s (run_kept number state w s old.encoder (take old.len old.words)))) sizes.some_bits in omega (arith, memory.1, more, count_is, n_is))))
-
     -- they were put into the buffer, or not
-    pub seals_after : (all added : List Word) → added ≡ all → map number all ≡ sealed w s first → (answer : Result (Unit {0}) Refusal) (new_words : List Word) (new_len : ℕ)
+    pub seals_after : (all added : List Word) → added ≡ all → map number all ≡ sealed w s first → length (sealed w s first) ≤ length old.words - old.len → (answer : Result (Unit {0}) Refusal) (new_words : List Word) (new_len : ℕ)
         → OnOk answer (Appended old.words old.len added new_words new_len) → IfErr answer (λ e. (e ≡ refusals.NoSpace (old.len + length added)) ⊎ ((e ≡ refusals.NoMemory) × (2 ^ 64 ≤ old.len + length added)))
         → OnErr answer (length old.words < old.len + length added) → OnErr answer ((new_words ≡ old.words) × (new_len ≡ old.len))
         → RangeSeals number state w s (IsSealed w s) old (record { encoder = old.encoder; words = new_words; len = new_len }) answer
-    seals_after all added same made (Ok u) new_words new_len a err full kept = record {
+    seals_after all added same made room (Ok u) new_words new_len a err full kept = record {
       words = ap (map number) a.words ∙ map-append number (take old.len old.words) added ∙ ap (λ (xs : List Word). map number (take old.len old.words) ++ map number xs) same
           ∙ ap (λ (ws : List ℕ). map number (take old.len old.words) ++ ws) (made ∙ ap (λ (r : Run). sealed w s r) first_is)
           ∙ sym (sealed_kept number state w s old.encoder words states sizes is (take old.len old.words));
@@ -89,9 +88,9 @@ module _ {Word State : Type 0} (number : Word → ℕ) (state : State → ℕ) (
       asked = inr (within, inr (is, tt));
       kept = tt;
     }
-    seals_after all added same made (Err e) new_words new_len a err full kept =
+    seals_after all added same made room (Err e) new_words new_len a err full kept =
         let many : length added ≡ length (sealed w s first) = ap length same ∙ sym (length-map all number) ∙ ap length made in
-        seals_full (IsSealed w s) e (old.len + length added) (ap (λ n. old.len + n) many) err full (record { encoder = old.encoder; words = new_words; len = new_len }) (rw (kept.0, kept.1) refl)
+        absurd (omega (arith, many, room, within, full))
 
 -- where a state is two words they hold whatever follows
 pub seals_self : {Word State : Type 0} (number : Word → ℕ) (state : State → ℕ) (w s : ℕ) (old new : RangeKept Word State) (answer : Result (Unit {0}) Refusal) → ((x : Word) → number x < 2 ^ w) → ((x : State) → state x < 2 ^ s)

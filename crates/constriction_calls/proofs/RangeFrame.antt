@@ -10,6 +10,7 @@ use Rattle.constriction_queue.specs.Range.{Run, cut, grown, narrowed_by, sealed,
 use Rattle.constriction_queue.specs.Encoder.{number_of, run_of, words_held}
 use Rattle.constriction_base.specs.Models.{Item}
 use Rattle.constriction_queue.specs.Symbols.{NarrowsAll}
+use Rattle.constriction_base.proofs.Guards.{fixed-length}
 use Rattle.constriction_base.proofs.Heads.{pow-split}
 use Rattle.constriction_queue.proofs.Runs.{same_run}
 use Rattle.constriction_queue.proofs.Seals.{digits_of_words, words_held_fit}
@@ -150,6 +151,29 @@ sealed_behind w s rest r wide words least inside =
           whole ∙ ap (λ (ds : List ℕ). ds ++ tail) (seal_digits_behind w s rest r wide words least inside)
           ∙ append_assoc (reverse rest) (fixed_digits b (suc m) c) tail ∙ ap (λ (ds : List ℕ). reverse rest ++ ds) (sym own)
     ]
+
+-- ---- how many words
+-- the words of a seal behind words that were held are as many more
+pub sealed_length : (w s : ℕ) (held : List ℕ) (lower range : ℕ) → w ≤ s → (range ≡ 2 ^ s - 1 → ⊥)
+    → length (sealed w s (run_of w s held lower range)) ≡ length held + length (sealed w s (run_of w s [] lower range))
+sealed_length w s held lower range wide ne =
+    let b : ℕ = 2 ^ w in
+    let q : ℕ = 2 ^ (s - w) in
+    let n : ℕ = number_of b held in
+    let k : ℕ = length held in
+    let r : Run = run_of w s [] lower range in
+    let m : ℕ = r.moves in
+    let c : ℕ = seal_number w s r in
+    let point : (n * b ^ m * 2 ^ s + r.low + (q - 1)) / q ≡ n * b ^ suc m + c = seal_number_behind w s n k r wide in
+    let end : (n * b ^ m * 2 ^ s + r.low + r.range) / q ≡ n * b ^ suc m + (r.low + r.range) / q =
+    ap (λ y. y / q) (let turn : n * b ^ m * 2 ^ s + r.low + r.range ≡ n * b ^ m * 2 ^ s + (r.low + r.range) = omega arith in turn) ∙ parts_behind w s n r (r.low + r.range) wide in
+    let test = same_test (n * b ^ suc m) ((r.low + r.range) / q) c in
+    let tail : List ℕ = if (r.low + r.range) / q == c then 0 ∷ [] else [] in
+    let whole : sealed w s (behind w s n k r) ≡ fixed_digits b (suc (m + k)) (n * b ^ suc m + c) ++ tail = rw (ne_eqb r.range (2 ^ s - 1) ne, point, end, test) refl in
+    let own : sealed w s r ≡ fixed_digits b (suc m) c ++ tail = rw (ne_eqb r.range (2 ^ s - 1) ne) refl in
+    let all = ap (λ (r : Run). length (sealed w s r)) (run_behind w s [] held lower range) ∙ ap length whole ∙ length-append (fixed_digits b (suc (m + k)) (n * b ^ suc m + c)) tail in
+    let alone = ap length own ∙ length-append (fixed_digits b (suc m) c) tail in
+    omega (arith, all, alone, fixed-length b (suc (m + k)) (n * b ^ suc m + c), fixed-length b (suc m) c)
 
 -- ---- what an encoder holds leaves room for its interval
 

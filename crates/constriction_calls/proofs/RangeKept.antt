@@ -1,9 +1,9 @@
 -- Encoders between calls: what one over no words does, said of the caller's whole encoder, behind any words.
-use Rattle.std.proofs.Common.{◌≡◌, ℕ, zero, suc, ◌+◌, ◌-◌, ◌*◌, ◌/◌, ◌^◌, ◌<◌, ◌≤◌, List, [], ◌++◌, length, map, refl, sym, ap, ◌∙◌, subst, inl, inr, arith, append-nil, eq-eqb, ne_eqb, mul-le-mul_left, mul-le-mul_right, pow_pos, div-add-mod'}
+use Rattle.std.proofs.Common.{◌≡◌, ℕ, zero, suc, ◌+◌, ◌-◌, ◌*◌, ◌/◌, ◌^◌, ◌<◌, ◌≤◌, List, [], ◌∷◌, ◌++◌, length, map, refl, sym, ap, ◌∙◌, subst, inl, inr, arith, append-nil, eq-eqb, ne_eqb, mul-le-mul_right, pow_pos, div-add-mod'}
 use native.Mathlib.Nat.{pow-zero}
-use Rattle.std.specs.Prelude.{reverse}
+use Rattle.std.specs.Prelude.{min, replicate, reverse}
 use Rattle.std.proofs.lemmas.Bool.{cases_eq, cases_lt}
-use Rattle.std.proofs.lemmas.List.{reverse-reverse}
+use Rattle.std.proofs.lemmas.List.{length-append, length-replicate, reverse-reverse}
 use Rattle.std.proofs.lemmas.Nat.{pow-add}
 use Rattle.constriction_base.specs.Models.{Item}
 use Rattle.constriction_base.specs.Steps.{IsSizes}
@@ -17,7 +17,7 @@ use Rattle.constriction_queue.proofs.Showing.{queue_is}
 use Rattle.constriction_queue.specs.Symbols.{NarrowsAll}
 use Rattle.constriction_calls.specs.RangeCalls.{IsEncoderKept, KeptFit, kept_words, run_kept}
 use Rattle.constriction_calls.specs.declared.range.parts.EncoderParts.{EncoderParts}
-use Rattle.constriction_calls.proofs.RangeFrame.{held_inside, narrows_above, run_behind, sealed_behind}
+use Rattle.constriction_calls.proofs.RangeFrame.{held_inside, narrows_above, run_behind, sealed_behind, sealed_length}
 use Rattle.constriction_calls.proofs.Stacked.{turned_words}
 use Rattle.constriction_queue.proofs.Below.{number_below}
 
@@ -129,11 +129,24 @@ sealed_self w s r words sizes two v is = elim (cases_eq r.range (2 ^ s - 1)) [
 ]
 
 -- ---- how many words
--- bits that can't be counted can't be in more words
-pub uncounted : (w n all : ℕ) → (w * n < 2 ^ 64 → ⊥) → n ≤ all → 2 ^ 64 ≤ w * all
-uncounted w n all never less =
-    let more : w * n ≤ w * all = mul-le-mul_left w less in
-    elim (cases_lt (w * n) (2 ^ 64)) [
-      | inl fits ↦ absurd (never fits)
-      | inr past ↦ omega (arith, past, more)
-    ]
+-- the words of a seal are counted by an encoder that holds back one word at most
+count_short : (w s held first lower range : ℕ) → w ≤ s → KeptFit w s held first lower range
+    → length (sealed w s (run_of w s (kept_words w held first) lower range))
+    ≡ held - min held 1 + length (sealed w s (run_of w s (kept_words w (min held 1) first) lower range))
+count_short w s zero first lower range wide fit = omega arith
+count_short w s (suc held) first lower range wide fit =
+    let one : min (suc held) 1 ≡ 1 = omega arith in
+    let ones : ℕ → List ℕ = λ count. kept_words w (suc count) first in
+    let part : range ≡ 2 ^ s - 1 → ⊥ = λ all. omega (arith, fit.2, all) in
+    let long : (k : ℕ) → length (ones k) ≡ k + 1 =
+    λ k. length-append (replicate (suc k - 1) (2 ^ w - 1)) (first ∷ []) ∙ omega (arith, length-replicate (suc k - 1) (2 ^ w - 1)) in
+    rw one (omega (arith, long held, long 0, sealed_length w s (ones held) lower range wide part, sealed_length w s (ones 0) lower range wide part))
+
+module _ {Word State : Type 0} (number : Word → ℕ) (state : State → ℕ) (w s : ℕ) (e : EncoderParts Word State) (is : IsEncoderKept number state w s e) where
+  abbrev pub short : EncoderParts Word State
+  short = record { lower = e.lower; range = e.range; held = min e.held 1; first = e.first }
+
+  pub short_count : w ≤ s → length (sealed w s (run_kept number state w s e [])) ≡ e.held - min e.held 1 + length (sealed w s (run_kept number state w s short []))
+  short_count wide =
+      ap (λ (r : Run). length (sealed w s r)) (alone number state w s e) ∙ (count_short w s e.held (number e.first) (state e.lower) (state e.range) wide is.fit
+      ∙ ap (λ (r : Run). e.held - min e.held 1 + length (sealed w s r)) (sym (alone number state w s short)))

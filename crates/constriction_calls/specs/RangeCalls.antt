@@ -1,6 +1,6 @@
 -- The calls of the range coder: what each does with the numbers and the buffer that a caller keeps, and which error
 -- comes when.
-use Rattle.std.specs.Prelude.{◌≡◌, ◌↔◌, ℕ, zero, suc, ◌+◌, ◌-◌, ◌*◌, ◌%◌, ◌<◌, ◌≤◌, ◌^◌, ◌⊎◌, List, [], ◌++◌, Result, OnErr, OnOk, length, map, reverse, drop, take}
+use Rattle.std.specs.Prelude.{◌≡◌, ◌↔◌, ℕ, zero, suc, ◌+◌, ◌-◌, ◌*◌, ◌%◌, ◌<◌, ◌≤◌, ◌^◌, ◌⊎◌, List, [], ◌++◌, Result, OnErr, OnOk, length, map, min, reverse, drop, take}
 use Rattle.constriction_base.specs.Models.{Item, AreKnown}
 use Rattle.constriction_queue.specs.Decoder.{Decoder}
 use Rattle.constriction_queue.specs.Encoder.{run_of, words_held}
@@ -65,6 +65,10 @@ pub record LacksRoom {Word State S : Type 0} (number : Word → ℕ) (state : St
   pub is : IsEncoderKept number state w s new
   pub count : needed ≡ length words
 
+-- A number of words as a refusal has it: the greatest number of 64 bits stands for those above it.
+abbrev pub count_needed : ℕ → ℕ
+count_needed count = min count (2 ^ 64 - 1)
+
 -- An encoder that a caller keeps, and its buffer with the number of words in use.
 pub record RangeKept (Word State : Type 0) : Type 0 where
   pub encoder : EncoderParts Word State
@@ -84,10 +88,12 @@ pub record RangePuts {Word State : Type 0} (number : Word → ℕ) (state : Stat
     (old new : RangeKept Word State) (answer : Result (Unit {0}) Refusal) : Type 0 where
   -- The items are encoded, first to last.
   pub put : OnOk answer (IsEncodedBy number state w s (items precision (coded symbols)) old.encoder old.words old.len new.encoder new.words new.len)
-  -- The words in use are within the buffer, the encoder can count the symbols, and the symbols are known.
+  -- The words in use are within the buffer, the encoder can count the symbols, the symbols are known, and the buffer
+  -- has room for the words in use and those held back.
   pub asked : Asks WrongLength (old.len ≤ length old.words) (AsksFit precision (coded symbols)
       (Asks InvalidData (CanEncode number state w s old.encoder (length symbols)) (Asks ImpossibleSymbol (AreKnown (items precision (coded symbols)))
-      (Else (Room (LacksRoom number state w s (items precision (coded symbols)) old.encoder old.words old.len)))))) answer
+      (Asks (NoSpace (count_needed (old.len + old.encoder.held))) (old.len + old.encoder.held ≤ length old.words)
+      (Else (Room (LacksRoom number state w s (items precision (coded symbols)) old.encoder old.words old.len))))))) answer
   pub kept : OnErr answer (new ≡ old)
 
 -- The words are those of the run with a seal.
@@ -98,12 +104,11 @@ IsSealed w s r words = words ≡ sealed w s r
 abbrev pub IsSelfSealed : ℕ → ℕ → Run → List ℕ → Type 0
 IsSelfSealed w s r words = IsSealed w s r words × SelfDelimits w s r words
 
--- The room is checked before any memory is needed. `NoMemory` comes if there is room, or if the bits of all words can't
--- be counted.
-abbrev pub RoomFirst : ℕ → ℕ → ℕ → Refusal → Type 0
-RoomFirst w size count (NoSpace needed) = (size < needed) × (needed ≡ count)
-RoomFirst w size count NoMemory = (count ≤ size) ⊎ (2 ^ 64 ≤ w * count)
-RoomFirst w size count other = ⊥
+-- The room is checked before any memory is needed, so `NoMemory` comes only if there is room.
+abbrev pub RoomFirst : ℕ → ℕ → Refusal → Type 0
+RoomFirst size count (NoSpace needed) = (size < count) × (needed ≡ count_needed count)
+RoomFirst size count NoMemory = count ≤ size
+RoomFirst size count other = ⊥
 
 -- A seal call: it completes the encoder's words so that the relation holds of its run and of them.
 pub record RangeSeals {Word State : Type 0} (number : Word → ℕ) (state : State → ℕ) (w s : ℕ) (ends : Run → List ℕ → Type 0)
@@ -112,7 +117,7 @@ pub record RangeSeals {Word State : Type 0} (number : Word → ℕ) (state : Sta
   pub appended : OnOk answer ((added : List Word) × Appended old.words old.len added new.words new.len)
   -- The words in use are within the buffer, and the numbers are those of an encoder.
   pub asked : Asks WrongLength (old.len ≤ length old.words) (Asks InvalidData (IsEncoderKept number state w s old.encoder)
-      (Else (RoomFirst w (length old.words) (length (sealed w s (run_kept number state w s old.encoder (take old.len old.words))))))) answer
+      (Else (RoomFirst (length old.words) (length (sealed w s (run_kept number state w s old.encoder (take old.len old.words))))))) answer
   pub kept : OnErr answer (new ≡ old)
 
 -- ---- decoders

@@ -89,7 +89,8 @@ fn put_by<
 /// The errors of [`crate::range`], and then:
 ///
 /// - `ImpossibleSymbol` exactly if a model has no entry for its symbol.
-/// - `NoSpace(needed)` if the buffer is too short. `needed` is the number of words that it has to hold.
+/// - `NoSpace(needed)` if the buffer is too short. `needed` is the number of words that it has to hold. If the buffer is
+///   too short for the words in use and the held words alone, `needed` is their number, and the call asks for no memory.
 /// - `NoMemory` if there is no memory.
 pub fn encode<
     Word: WordOf<State>,
@@ -120,19 +121,28 @@ pub fn encode<
     let Some(made) = encoder_for(alloc, *encoder, symbols.len()) else {
         return Err(Refusal::InvalidData);
     };
-    let Some((words, now)) = put_by::<Word, State, P, G, PRECISION>(alloc, made, models, symbols)
-    else {
-        if models.know(symbols) {
-            return Err(Refusal::NoMemory);
-        }
+    let held = encoder.held;
+    let is_room = held <= buffer.len() - *len;
+    if is_room
+        && let Some((words, now)) = put_by::<Word, State, P, G, PRECISION>(
+            alloc, made, models, symbols,
+        )
+    {
+        return match append(&words, buffer, len) {
+            Ok(()) => {
+                *encoder = now;
+                Ok(())
+            }
+            Err(refusal) => Err(refusal),
+        };
+    }
+    if !models.know(symbols) {
         return Err(Refusal::ImpossibleSymbol);
-    };
-    match append(&words, buffer, len) {
-        Ok(()) => {
-            *encoder = now;
-            Ok(())
-        }
-        Err(refusal) => Err(refusal),
+    }
+    if is_room {
+        Err(Refusal::NoMemory)
+    } else {
+        Err(Refusal::NoSpace(len.saturating_add(held)))
     }
 }
 
@@ -174,11 +184,13 @@ pub fn encode_intervals<
             encode::<Word, State, P, _, PRECISION>(alloc, encoder, buffer, len, &models, &symbols)
         }
         Err(Refusal::NoMemory) => {
-            if can {
-                Err(Refusal::NoMemory)
-            } else {
-                Err(Refusal::InvalidData)
+            if !can {
+                return Err(Refusal::InvalidData);
             }
+            if encoder.held > buffer.len() - *len {
+                return Err(Refusal::NoSpace(len.saturating_add(encoder.held)));
+            }
+            Err(Refusal::NoMemory)
         }
         Err(refusal) => Err(refusal),
     }

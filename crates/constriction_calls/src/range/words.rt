@@ -1,11 +1,13 @@
 //! Sealing the words of an encoder.
 
-ghost use Rattle.std.specs.Prelude.{◌≡◌, ◌/◌};
+ghost use Rattle.std.specs.Prelude.{◌≡◌, ◌/◌, [], length};
 ghost use Rattle.constriction_base.specs.Steps.{IsSizes};
-ghost use Rattle.constriction_calls.specs.RangeCalls.{IsSealed, IsSelfSealed, RangeSeals, kept_in};
+ghost use Rattle.constriction_queue.specs.Range.{sealed};
+ghost use Rattle.constriction_calls.specs.RangeCalls.{IsEncoderKept, IsSealed, IsSelfSealed, RangeSeals, kept_in};
+ghost use Rattle.constriction_calls.specs.RangeCalls.{run_kept};
 
 use crate::range::parts::{EncoderParts, encoder_for};
-use constriction_inputs::buffers::{append, room_for};
+use constriction_inputs::buffers::append;
 use constriction_inputs::refusal::Refusal;
 use constriction_words::{BitArray, WordOf};
 use std::alloc::Global;
@@ -18,9 +20,9 @@ use std::alloc::Global;
 ///
 /// The errors of [`crate::range`], and then:
 ///
-/// - `NoSpace(needed)` exactly if the buffer is too short, and the number of bits can be counted. `needed` is the
-///   number of words that the buffer has to hold. The call checks this before it asks for memory.
-/// - `NoMemory` if there is no memory, or the number of bits of all words can't be counted.
+/// - `NoSpace(needed)` exactly if the buffer is too short. `needed` is the number of words that the buffer has to hold.
+///   The call checks this before it asks for memory.
+/// - `NoMemory` if there is no memory.
 pub fn into_compressed<Word: WordOf<State>, State: BitArray>(
     alloc: Global,
     encoder: &EncoderParts<Word, State>,
@@ -37,17 +39,31 @@ pub fn into_compressed<Word: WordOf<State>, State: BitArray>(
     let Some(made) = encoder_for(alloc, *encoder, 0) else {
         return Err(Refusal::InvalidData);
     };
-    if !made.sizes_fit() {
-        return Err(Refusal::NoMemory);
-    }
-    match room_for(made.num_words(), *len, buffer.len()) {
-        Ok(()) => {}
-        Err(refusal) => return Err(refusal),
+    let count = sealed_count(alloc, *encoder);
+    if count > buffer.len() - *len {
+        return Err(Refusal::NoSpace(len.saturating_add(count)));
     }
     match made.into_compressed() {
         Ok(added) => append(&added, buffer, len),
         Err(_) => Err(Refusal::NoMemory),
     }
+}
+
+/// Returns the number of held words and of the seal's words, however many bits these have.
+fn sealed_count<Word: WordOf<State>, State: BitArray>(
+    alloc: Global,
+    parts: EncoderParts<Word, State>,
+) -> usize
+    requires sizes { IsSizes Word.BITS State.BITS }
+    requires kept { IsEncoderKept Word.number State.number Word.BITS State.BITS parts }
+    ensures { result ≡ length (sealed Word.BITS State.BITS
+        (run_kept Word.number State.number Word.BITS State.BITS parts [])) }
+{
+    let held = parts.held.min(1);
+    let Some(encoder) = encoder_for(alloc, EncoderParts { held, ..parts }, 0) else {
+        unreachable!()
+    };
+    parts.held - held + encoder.num_words()
 }
 
 /// Writes the words that an encoder holds back, and a self-delimiting seal, for states of two words.
