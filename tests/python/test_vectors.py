@@ -202,7 +202,9 @@ def codewords(test: unittest.TestCase, size: Size, case: dict[str, list[Any]]) -
     is_golomb = case["case"] == ["golomb"]
     values = case["numbers"] if is_golomb else case["symbols"]
     symbols = size.words(values) if is_golomb else sizes(values)
-    before = [] if is_golomb else [size.words(case["weights"]), len(case["weights"])]
+    # The weights of a tree have 32 bits at both sizes.
+    weights = case.get("weights", [])
+    before = [] if is_golomb else [(c_uint32 * len(weights))(*weights), len(weights)]
     for kind in ("queue", "stack"):
         name, wanted = "exp_golomb" if is_golomb else "huffman", case[kind]
         words, count, needed = size.words([], len(wanted)), c_size_t(0), c_size_t(0)
