@@ -84,6 +84,7 @@ def next_word(page, run):
     judge(end > 65535, "the interval reaches over the end")
     page.has(f"`{run[0]} = {held} * 65536 + {lower}`, and `{lower} + {length}` is above 65535")
     page.has(f"begin with the word {held} to numbers that begin with {held + 1}")
+    page.has(f"0 is the first number that begins with the word {held}:")
     why = {0: ": no number of the part reaches 65536", 2: ": all numbers of the part are above 65535"}
     for symbol, (left, weight) in enumerate(entries(WEIGHTS)):
         begin, end = lower + length // 256 * left, lower + length // 256 * (left + weight)
@@ -99,7 +100,7 @@ def waiting(page, runs, words):
     """Words that are held, and carries through them."""
     held, lower = next_word(page, runs[0])
     page.row("", 0, 65535, "", "", "")
-    why = f"the part is short, so a word is shifted out: {held}, and it has to wait"
+    why = f"`z * p` is below 256, so the word {held} is shifted out and held"
     page.row(1, lower, runs[0][1], "", held, why)
     low, length, _ = runs[1]
     both, lower = divmod(low, 2**16)
@@ -107,7 +108,7 @@ def waiting(page, runs, words):
     page.has(f"The second reaches from the word {held} to the word {held + 1}")
     page.has("the third from the words 127, 127 to their end")
     why = f"the part is above 65535: a carry turns the word into {held + 1}"
-    why += f"; the next word, again {both % 256}, has to wait"
+    why += f"; the next word, again {both % 256}, is held"
     page.row(3, lower, length, held + 1, both % 256, why)
     judge(lower + length == 65536, "an interval that just reaches the end")
     page.has(f"`{lower} + {length}` is exactly 65536")
@@ -116,12 +117,11 @@ def waiting(page, runs, words):
     run, _ = narrowed(WEIGHTS, 1, *runs[0])
     a, b = digits(run[0] // 2**16, 2)
     judge(run[0] % 2**16 + run[1] > 65536, "two words are held")
-    page.has(f"after the symbols 1, 1 the encoder holds {a} and {b} as `Inverted(2, {a})`")
+    page.has(f"After the symbols 1, 1 the encoder holds {a} and {b} as `Inverted(2, {a})`")
     run, _ = narrowed(WEIGHTS, 3, *run)
     c, d = digits(run[0] // 2**24, 2)
     judge(256 * c + d == 256 * a + b + 1, "a carry through two words")
-    page.has("After one more symbol 3 the carry goes through both")
-    page.has(f"{c} and {d} are written, as 1 added to {a}, {b} is {c}, {d}")
+    page.has(f"After one more symbol 3 a carry turns `[{a}, {b}]` into `[{c}, {d}]`")
 
 
 def reading(page, runs, words):
@@ -136,19 +136,19 @@ def reading(page, runs, words):
 def following(page):
     """The seal that any words may follow, with states of 32 bits."""
     tables, symbols = [[27, 229], [19, 237], [128, 128]], [0, 0, 1]
-    shown = ", then ".join(map(series, tables))
-    page.has(f"With states of 32 bits `q` is `2^24`. The symbols {series(symbols)} under the weights {shown}")
+    shown = [f"{symbol} under `{listed(table)}`" for symbol, table in zip(symbols, tables)]
+    page.has(f"With states of 32 bits `q` is `2^24`. Symbol {shown[0]}, {shown[1]} and {shown[2]} leave")
     low, length, moves = steps(page, tables, symbols, 32)[-1]
     number, words = sealed(low, length, moves, 32)
     room, zeros = low + length - number * 2**24, zero_words(low, length, 32)
     page.has(f"So `c = {number}`, and `A + R` is {low + length}, which is `c * q + {room}`")
     page.has(f"With one zero word it needs {2**24 // 256}, with two {2**24 // 256**2}. It holds {room}, so `t` is {zeros}")
     longer = digits(number, moves + 1) + [0] * zeros
-    page.has(f"the words are `{listed(longer)}`, where `into_compressed` gives `{listed(words)}`")
     others, within = words + [255, 255], words + [0, 255]
     judge(found(tables, words, 32)[0] == found(tables, within, 32)[0] == symbols, "what may follow the seal")
     judge(found(tables, others, 32)[0][:2] == [0, 1] and number_of(others, 4) >= low + length, "what may not")
-    page.has(f"And `{listed(words)}` isn't enough: `{listed(others)}` is a number past the interval")
+    enough = f"The `{listed(words)}` of `into_compressed` isn't enough: `{listed(others)}` is past the interval"
+    page.has(f"the words are `{listed(longer)}`. {enough}")
     page.has(f"`{listed(within)}` lies within")
     page.has("Where a state is two words, `t` is 0 or 1")
 
@@ -158,14 +158,14 @@ def joined(page):
     tables, symbols = [WEIGHTS] * 2, [1, 3]
     other, later = [129, 127], [0, 1, 1]
     first, second = self_delimited(tables, symbols), self_delimited([other] * 3, later)
-    page.has(f"With states of 32 bits the symbols {series(symbols)} under the weights {series(WEIGHTS)} have the words `{listed(first)}`")
-    page.has(f"and the symbols {series(later)} under {series(other)} the word `{listed(second)}`")
+    page.has(f"With states of 32 bits, the symbols `{listed(symbols)}` under the weights `{listed(WEIGHTS)}` give `{listed(first)}`")
+    page.has(f"The symbols `{listed(later)}` under `{listed(other)}` give `{listed(second)}`")
     words = first + second
     judge(found(tables, words, 32)[0] == symbols and found([other] * 3, words[len(first) :], 32)[0] == later, "both lists come back")
     page.has(f"In `{listed(words)}` the second list begins at place {len(first)}")
     judge(len(words) == 4, "the fourth word")
-    page.has(f"A decoder at place 0 reads {words[3]} as its fourth word, and {symbols[0]} and {symbols[1]} come all the same")
-    page.has(f"one at place {len(first)} reads {words[3]} and then zeros")
+    page.has(f"A decoder at place 0 reads {words[3]} as its fourth word and still returns {symbols[0]} and {symbols[1]}")
+    page.has(f"A decoder at place {len(first)} reads {words[3]}, then zeros")
 
 
 def self_delimited(tables, symbols, state=32):

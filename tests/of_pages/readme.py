@@ -51,7 +51,7 @@ def gate():
     sums = [round(sum(float(row[column]) for row in rows if row[column].strip())) for column in (2, 4)]
     judge(sums == [int(whole[2]), int(whole[4])], "docs/GATE.md: the sums of the gate's parts")
     said = re.search(r"take about (\d+) times the proof of `constriction_words`", times.replace("\n", " "))
-    others = re.search(r"take some (\d+) times words", times.replace("\n", " "))
+    others = re.search(r"have an estimated share of (\d+)\.", times.replace("\n", " "))
     judge(said and others and int(said[1]) == sum(sums) + int(others[1]), "docs/GATE.md: the gate's multiple")
     judge(said and f"about {said[1]} times" in read("README.md"), "README.md: the gate's multiple")
 
