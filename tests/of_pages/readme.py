@@ -48,8 +48,8 @@ def gate():
     """README's multiple is that of docs/GATE.md, which is the sum of its table's columns and of what stands below the table."""
     times = read("docs/GATE.md").partition("\n## Cost of each crate\n")[2]
     *rows, whole = [line.split("|")[1:-1] for line in times.splitlines() if line.startswith("|")][2:]
-    sums = [round(sum(float(row[column]) for row in rows if row[column].strip())) for column in (2, 4)]
-    judge(sums == [int(whole[2]), int(whole[4])], "docs/GATE.md: the sums of the gate's parts")
+    sums = [round(sum(float(row[column]) for row in rows if row[column].strip())) for column in (1, 3)]
+    judge(sums == [int(whole[1]), int(whole[3])], "docs/GATE.md: the sums of the gate's parts")
     said = re.search(r"take about (\d+) times the proof of `constriction_words`", times.replace("\n", " "))
     others = re.search(r"have an estimated share of (\d+)\.", times.replace("\n", " "))
     judge(said and others and int(said[1]) == sum(sums) + int(others[1]), "docs/GATE.md: the gate's multiple")
