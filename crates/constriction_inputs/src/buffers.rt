@@ -7,32 +7,6 @@ ghost use Rattle.constriction_inputs.specs.declared.refusal.Refusal.TheVariants 
 use crate::refusal::Refusal;
 use constriction_words::BitArray;
 
-/// Checks that a buffer of `size` words has room for `count` words after its first `len` words.
-///
-/// # Errors
-///
-/// The errors of [`append`] for `count` words.
-///
-/// # Examples
-///
-/// ```
-/// room_for(3, 6, 8) // Err(Refusal::NoSpace(9))
-/// ```
-pub fn room_for(count: usize, len: usize, size: usize) -> Result<(), Refusal>
-    ensures ok { OnOk result (len + count ≤ size) }
-    ensures err { IfErr result
-        (λ e. (e ≡ refusals.NoSpace (len + count)) ⊎ ((e ≡ refusals.NoMemory) × (2 ^ 64 ≤ len + count))) }
-    ensures full { OnErr result (size < len + count) }
-{
-    let Some(end) = len.checked_add(count) else {
-        return Err(Refusal::NoMemory);
-    };
-    if end > size {
-        return Err(Refusal::NoSpace(end));
-    }
-    Ok(())
-}
-
 /// Writes words after the first `len` words of a buffer, and adds their number to `len`.
 ///
 /// The caller proves that `len` is at most the length of the buffer.
