@@ -17,12 +17,6 @@ fn coder_of(alloc: Global, words: &[u16]) -> Option<SmallChainCoder> {
     SmallChainCoder::from_binary(alloc, words).ok()
 }
 
-/// The coder of a copy of remainders. There is none where no decode left them or memory is missing.
-fn coder_back(alloc: Global, remainders: &[u16]) -> Option<SmallChainCoder> {
-    let remainders = remainders.to_vec(alloc).ok()?;
-    SmallChainCoder::from_remainders(alloc, remainders).ok()
-}
-
 /// Writes as many words of the remainders with both heads on top as there is room for. It returns how many there
 /// are, 0 where memory is missing.
 fn give_remainders(coder: SmallChainCoder, out: &mut [u16]) -> usize {
@@ -67,7 +61,8 @@ where
 /// none.
 #[inline(never)]
 fn encode_out<M: EncoderModel<12, Symbol = usize>>(
-    found: Option<SmallChainCoder>,
+    alloc: Global,
+    remainders: Vec<u16>,
     symbols: &[usize],
     model: &M,
     out: &mut [u16],
@@ -75,7 +70,7 @@ fn encode_out<M: EncoderModel<12, Symbol = usize>>(
 where
     M::Probability: WordOf<u16>,
 {
-    let Some(mut coder) = found else {
+    let Ok(mut coder) = SmallChainCoder::from_remainders(alloc, remainders) else {
         return 0;
     };
     if encode_each(&mut coder, symbols, model) {
@@ -112,7 +107,10 @@ pub extern "C" fn constriction_bench_chain_encode_u16u32p12_table(
     let Ok(table) = WeightTable::<u16, 12>::new(alloc, weights) else {
         return 0;
     };
-    encode_out(coder_back(alloc, remainders), symbols, &table, out)
+    match remainders.to_vec(alloc) {
+        Ok(remainders) => encode_out(alloc, remainders, symbols, &table, out),
+        Err(_) => 0,
+    }
 }
 
 /// Decodes as many symbols below `2^bits` as there is room for, by equal weights.
@@ -142,7 +140,10 @@ pub extern "C" fn constriction_bench_chain_encode_u16u32p12_flat(
     let Some(flat) = Flat::<u16, 12>::new(bits) else {
         return 0;
     };
-    encode_out(coder_back(alloc, remainders), symbols, &flat, out)
+    match remainders.to_vec(alloc) {
+        Ok(remainders) => encode_out(alloc, remainders, symbols, &flat, out),
+        Err(_) => 0,
+    }
 }
 
 /// Decodes as many symbols as there is room for, by a table with the symbol of each quantile.
