@@ -1,5 +1,5 @@
 -- Lists of the rows of quantiles.
-use Rattle.std.proofs.Common.{◌≡◌, ℕ, ◌+◌, ◌<◌, ◌≤◌, ◌^◌, List, [], ◌∷◌, ◌++◌, length, inl, inr, refl, arith, sym, subst, length-append}
+use Rattle.std.proofs.Common.{◌≡◌, ℕ, ◌+◌, ◌<◌, ◌≤◌, ◌^◌, List, [], ◌∷◌, ◌++◌, inl, inr, refl, arith, sym, subst, length-append}
 use Rattle.std.specs.Prelude.{slice_index_or}
 use Rattle.std.proofs.lemmas.Bool.{cases_lt}
 use Rattle.std.proofs.lemmas.List.{get_or_push, get_or_append_left}
@@ -7,10 +7,6 @@ use Rattle.constriction_base.specs.Tables.{Has, Follow, IsTable, Covers}
 use Rattle.constriction_base.proofs.Entries.{in_range, one_at}
 use Rattle.constriction_models.specs.declared.lookup.Row.{Row}
 use Rattle.constriction_models.specs.Lookup.{IsRowAt, AreRows, HasLowSymbols}
-
--- no row is made yet
-pub no_rows : {P N : Type 0} (number : P → ℕ) (length_of : N → ℕ) (table : List (ℕ × ℕ × ℕ)) (rows : List (Row P N)) → rows ≡ [] → AreRows number length_of table rows 0
-no_rows number length_of table rows none = rw none (record { row_count = refl; row_at = λ q inside. absurd (omega arith) })
 
 -- an entry that holds a quantile is the one of its row
 pub row_of_entry : {P N : Type 0} (number : P → ℕ) (length_of : N → ℕ) (precision : ℕ) (table : List (ℕ × ℕ × ℕ)) (row : Row P N) (q : ℕ) → IsTable precision table → Has table row.symbol (number row.left) (length_of row.weight) → Covers (number row.left) (length_of row.weight) q

@@ -1,8 +1,8 @@
 use Rattle.std.specs.Prelude.{◌≡◌, ℕ, ◌+◌, ◌-◌, ◌*◌, ◌/◌, ◌<◌, ◌≤◌, List}
 use Rattle.std.specs.List.{sum_by}
 use Rattle.std.proofs.Common.{refl, sym, arith}
-use Rattle.constriction_models.proofs.Sharing.{IsWithin, within_most, most_positive, one_raises_none, rounded_up, rounded_least, next_fair, other_reaches}
-use Rattle.constriction_models.specs.Counts.{positive, raised, kept, IsGreatest, IsLimit, IsSplit, AllShare, LimitsNone}
+use Rattle.constriction_models.proofs.Sharing.{within_most, most_positive, one_raises_none, rounded_up, rounded_least, next_fair, other_reaches}
+use Rattle.constriction_models.specs.Counts.{positive, raised, kept, IsGreatest, IsLimit, IsSplit}
 use Rattle.std.proofs.Math.Nat.{mul-le-mul_right}
 use Rattle.constriction_models.proofs.counts.split_at_least_limit.Goals as goal
 
@@ -79,12 +79,12 @@ search-preserved c =
     let made = c.split_at-split.ensures in
     let most = rounded_least rest mass next c.args.most some refl n.2 in
     record {
-      split = rw made.limit made.split;
+      split = rw made.value made.total;
       fits = made.fits;
-      some = omega (arith, made.limit, c.if-next-split.false);
-      within = omega (arith, made.limit, most);
-      least = λ other is. omega (arith, made.limit, rounded_least rest mass next other some refl (rw (i.split.raised_is, i.split.kept_is) (other_reaches c.args.counts.now c.args.all c.search.split.limit other i.some (i.least other is) (omega (arith, n.1, i.split.raised_is)) is)));
-      fair = λ share k inside any. omega (arith, made.limit, next_fair c.args.counts.now c.args.all c.search.split.limit next (omega (arith, c.requires.some, c.requires.enough)) i.some share (i.fair share) (rw (i.split.raised_is, i.split.kept_is) refl) k inside any);
+      some = omega (arith, made.value, c.if-next-split.false);
+      within = omega (arith, made.value, most);
+      least = λ other is. omega (arith, made.value, rounded_least rest mass next other some refl (rw (i.split.raised_is, i.split.kept_is) (other_reaches c.args.counts.now c.args.all c.search.split.limit other i.some (i.least other is) (omega (arith, n.1, i.split.raised_is)) is)));
+      fair = λ share k inside any. omega (arith, made.value, next_fair c.args.counts.now c.args.all c.search.split.limit next (omega (arith, c.requires.some, c.requires.enough)) i.some share (i.fair share) (rw (i.split.raised_is, i.split.kept_is) refl) k inside any);
     }
 
 pub returns-clause-least : goal.returns-clause-least

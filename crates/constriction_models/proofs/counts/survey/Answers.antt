@@ -1,4 +1,4 @@
-use Rattle.std.specs.Prelude.{ℕ, ◌≡◌, ◌<◌, ◌≤◌, length, slice_index}
+use Rattle.std.specs.Prelude.{ℕ, ◌<◌, length, slice_index}
 use Rattle.std.proofs.Common.{rules, inl, inr, arith}
 use Rattle.std.proofs.lemmas.Bool.{cases_lt}
 use Rattle.constriction_models.proofs.Sharing.{kept_fit, kept_all, ones_fit, positive_few}

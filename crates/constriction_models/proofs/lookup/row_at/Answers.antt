@@ -1,4 +1,4 @@
-use Rattle.std.specs.Prelude.{◌≡◌, ◌+◌, ◌<◌, ◌≤◌, ◌^◌, ℕ}
+use Rattle.std.specs.Prelude.{◌≡◌, ◌≤◌, ◌^◌, ℕ}
 use Rattle.std.proofs.Common.{arith, subst}
 use Rattle.constriction_base.specs.Tables.{Covers}
 use Rattle.constriction_base.proofs.Entries.{in_range}

@@ -1,4 +1,4 @@
-use Rattle.std.proofs.Common.{ℕ, ◌≡◌, ◌+◌, ◌^◌, ◌<◌, ◌≤◌, ◌++◌, ◌∷◌, [], arith}
+use Rattle.std.proofs.Common.{ℕ, ◌≡◌, ◌+◌, ◌^◌, ◌++◌, ◌∷◌, [], arith}
 use Rattle.std.proofs.lemmas.Grind.{common_steps}
 use Rattle.constriction_models.proofs.Finding.{IsCurrentRow, one_more_row, one_more_low, row_of_entry, all_low}
 use Rattle.constriction_models.proofs.lookup.rows_of.Goals.{then-quantile-end+in_ok-row-2, else-quantile-end}

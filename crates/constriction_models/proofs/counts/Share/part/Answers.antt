@@ -1,5 +1,5 @@
-use Rattle.std.specs.Prelude.{◌≡◌, ℕ, ◌+◌, ◌*◌, ◌/◌, ◌%◌, ◌<◌, ◌≤◌}
-use Rattle.std.proofs.Common.{sym, ◌∙◌, inl, inr, arith}
+use Rattle.std.specs.Prelude.{◌≤◌}
+use Rattle.std.proofs.Common.{arith}
 use Rattle.constriction_models.proofs.Dividing.{quotient_fits}
 use Rattle.constriction_models.proofs.Sharing.{divided_whole, divided_over, raised_few}
 use Rattle.constriction_models.proofs.counts.Share.part.Goals as goal
