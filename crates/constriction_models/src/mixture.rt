@@ -134,14 +134,9 @@ impl<'a, D: CumulativeDistribution> Mixture<'a, D> {
 
     /// Returns about where the quantile lies if the components don't overlap: the shares below it, in the order of
     /// their places, say in which component it is, and how much of that lies below.
-    fn place_by_shares(&self, below: u64) -> i64 {
-        let mut places = [0i64; FEW];
-        let count = self.components.len().min(FEW);
-        for k in 0..count {
-            places[k] = self.components[k].distribution.guess(below);
-        }
+    fn place_by_shares(&self, places: &[i64; FEW], below: u64) -> i64 {
         let sum = below.min(4294967295) * self.total;
-        let (k, inside) = self.share_of(&places, sum);
+        let (k, inside) = self.share_of(places, sum);
         self.components[k].distribution.guess(inside)
     }
 
@@ -197,17 +192,25 @@ impl<'a, D: CumulativeDistribution> CumulativeDistribution for Mixture<'a, D> {
     #[inline(always)]
     fn guess(&self, below: u64) -> i64 {
         let first = self.components[0].distribution.guess(below);
+        let mut places = [first; FEW];
         let mut least = first;
         let mut greatest = first;
-        let mut all = 0u128;
-        for one in self.components {
+        let mut all = self.components[0].weight as u128 * 2147483648;
+        for k in 1..self.components.len() {
+            let one = &self.components[k];
             let place = one.distribution.guess(below);
+            if k < FEW {
+                places[k] = place;
+            }
             least = least.min(place);
             greatest = greatest.max(place);
             all = all.wrapping_add(one.weight as u128 * clamped(place, first) as u128);
         }
         if greatest.saturating_sub(least) > FAR && self.components.len() <= FEW {
-            return self.place_by_shares(below).max(least).min(greatest);
+            return self
+                .place_by_shares(&places, below)
+                .max(least)
+                .min(greatest);
         }
         let mean = self.mean(all.min(self.total as u128 * 4294967296));
         first.saturating_sub(2147483648).saturating_add(mean as i64)
