@@ -91,7 +91,7 @@ fn divided<State: BitArray>(
 
 /// Puts back the quantile that the remainders determine in an interval, and returns both heads after it.
 #[inline(always)]
-pub fn give<Word: WordOf<State>, State: BitArray, C: WriteWords<Word>, R: ReadWords<Word, Stack>>(
+fn give_at<Word: WordOf<State>, State: BitArray, C: WriteWords<Word>, R: ReadWords<Word, Stack>>(
     compressed: &mut C,
     remainders: &mut R,
     heads: (Word, State),
@@ -132,5 +132,49 @@ pub fn give<Word: WordOf<State>, State: BitArray, C: WriteWords<Word>, R: ReadWo
     match give_quantile(compressed, h, quantile, precision) {
         Ok(h) => Ok((h, quotient)),
         Err(error) => Err(CoderError::Backend(BackendError::Compressed(error))),
+    }
+}
+
+/// Puts back the quantile that the remainders determine in an interval, and returns both heads after it.
+///
+/// A division and a product by a reciprocal are two paths, so that a step asks once which of them it takes.
+#[inline(always)]
+pub fn give<Word: WordOf<State>, State: BitArray, C: WriteWords<Word>, R: ReadWords<Word, Stack>>(
+    compressed: &mut C,
+    remainders: &mut R,
+    heads: (Word, State),
+    left: Word,
+    p: Word,
+    reciprocal: Option<Reciprocal>,
+    precision: u32,
+) -> Result<(Word, State), EncoderError<C::WriteError, R::ReadError>>
+    requires sized { IsSized Word.BITS State.BITS precision }
+    requires head { 0 < Word.number heads.0 }
+    requires window { IsRemaindersHead Word.BITS State.BITS precision (State.number heads.1) }
+    requires some { 0 < Word.number p }
+    requires reciprocal { IfSome reciprocal (λ r. IsReciprocalOf r (Word.number p)) }
+    requires total { Word.number left + Word.number p ≤ 2 ^ precision }
+    ensures ok { IfOk result (λ new. EncodeCall Word.number C.Holds C.WriteWords.own R.Holds R.ReadWords.own
+        Word.BITS State.BITS
+        (at_heads Word.number State.number C.Holds R.Holds heads compressed.old remainders.old)
+        record { precision = precision; left = Word.number left; p = Word.number p } (Ok tt)
+        (at_heads Word.number State.number C.Holds R.Holds new compressed.new remainders.new)) }
+    ensures err { IfErr result (λ e. EncodeCall Word.number C.Holds C.WriteWords.own R.Holds R.ReadWords.own
+        Word.BITS State.BITS
+        (at_heads Word.number State.number C.Holds R.Holds heads compressed.old remainders.old)
+        record { precision = precision; left = Word.number left; p = Word.number p } (Err e)
+        (at_heads Word.number State.number C.Holds R.Holds heads compressed.new remainders.new)) }
+{
+    match reciprocal {
+        Some(reciprocal) => give_at(
+            compressed,
+            remainders,
+            heads,
+            left,
+            p,
+            Some(reciprocal),
+            precision,
+        ),
+        None => give_at(compressed, remainders, heads, left, p, None, precision),
     }
 }

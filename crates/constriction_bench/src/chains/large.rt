@@ -79,6 +79,24 @@ where
     }
 }
 
+/// Puts symbols back from a copy of the remainders, the last first, and gives the words out. It returns how many they
+/// are, 0 where there are none or memory is missing.
+fn encode_in<M: EncoderModel<24, Symbol = usize>>(
+    alloc: Global,
+    remainders: &[u32],
+    symbols: &[usize],
+    model: &M,
+    out: &mut [u32],
+) -> usize
+where
+    M::Probability: WordOf<u32>,
+{
+    match remainders.to_vec(alloc) {
+        Ok(remainders) => encode_out(alloc, remainders, symbols, model, out),
+        Err(_) => 0,
+    }
+}
+
 /// Decodes as many symbols as there is room for, by a table of weights.
 #[unsafe(no_mangle)]
 pub extern "C" fn constriction_bench_chain_decode_u32u64p24_table(
@@ -106,10 +124,7 @@ pub extern "C" fn constriction_bench_chain_encode_u32u64p24_table(
     let Ok(table) = WeightTable::<u32, 24>::new(alloc, weights) else {
         return 0;
     };
-    match remainders.to_vec(alloc) {
-        Ok(remainders) => encode_out(alloc, remainders, symbols, &table, out),
-        Err(_) => 0,
-    }
+    encode_in(alloc, remainders, symbols, &table, out)
 }
 
 /// Decodes as many symbols below `2^bits` as there is room for, by equal weights.
@@ -139,10 +154,7 @@ pub extern "C" fn constriction_bench_chain_encode_u32u64p24_flat(
     let Some(flat) = Flat::<u32, 24>::new(bits) else {
         return 0;
     };
-    match remainders.to_vec(alloc) {
-        Ok(remainders) => encode_out(alloc, remainders, symbols, &flat, out),
-        Err(_) => 0,
-    }
+    encode_in(alloc, remainders, symbols, &flat, out)
 }
 
 /// Decodes as many symbols as there is room for, by a table with a symbol for each part of the quantiles.

@@ -80,6 +80,24 @@ where
     }
 }
 
+/// Puts symbols back from a copy of the remainders, the last first, and gives the words out. It returns how many they
+/// are, 0 where there are none or memory is missing.
+fn encode_in<M: EncoderModel<12, Symbol = usize>>(
+    alloc: Global,
+    remainders: &[u16],
+    symbols: &[usize],
+    model: &M,
+    out: &mut [u16],
+) -> usize
+where
+    M::Probability: WordOf<u16>,
+{
+    match remainders.to_vec(alloc) {
+        Ok(remainders) => encode_out(alloc, remainders, symbols, model, out),
+        Err(_) => 0,
+    }
+}
+
 /// Decodes as many symbols as there is room for, by a table of weights.
 #[unsafe(no_mangle)]
 pub extern "C" fn constriction_bench_chain_decode_u16u32p12_table(
@@ -107,10 +125,7 @@ pub extern "C" fn constriction_bench_chain_encode_u16u32p12_table(
     let Ok(table) = WeightTable::<u16, 12>::new(alloc, weights) else {
         return 0;
     };
-    match remainders.to_vec(alloc) {
-        Ok(remainders) => encode_out(alloc, remainders, symbols, &table, out),
-        Err(_) => 0,
-    }
+    encode_in(alloc, remainders, symbols, &table, out)
 }
 
 /// Decodes as many symbols below `2^bits` as there is room for, by equal weights.
@@ -140,10 +155,7 @@ pub extern "C" fn constriction_bench_chain_encode_u16u32p12_flat(
     let Some(flat) = Flat::<u16, 12>::new(bits) else {
         return 0;
     };
-    match remainders.to_vec(alloc) {
-        Ok(remainders) => encode_out(alloc, remainders, symbols, &flat, out),
-        Err(_) => 0,
-    }
+    encode_in(alloc, remainders, symbols, &flat, out)
 }
 
 /// Decodes as many symbols as there is room for, by a table with the symbol of each quantile.

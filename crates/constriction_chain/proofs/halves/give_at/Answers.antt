@@ -5,7 +5,7 @@ use Rattle.constriction_chain.specs.Chain.{least}
 use Rattle.constriction_chain.proofs.Chains.{coder_of, encode_of, state_same}
 use Rattle.constriction_base.proofs.Exporting.{no_room}
 use Rattle.constriction_chain.proofs.Sizes.{placed}
-use Rattle.constriction_chain.proofs.halves.give.Goals as goal
+use Rattle.constriction_chain.proofs.halves.give_at.Goals as goal
 
 pub regain-requires-clause-few : goal.regain-requires-clause-few
 regain-requires-clause-few g c = rw c.widen-p.ensures (omega (arith, c.requires.total))
