@@ -1,9 +1,9 @@
 //! Writing words to a backend.
 //!
-//! A refused `prepare` doesn't reduce the room, so that a caller can write back the words that it took off. `writes`
-//! has no default, because a default that holds for every backend would be vacuous. Vectors state in it their items,
-//! and that the capacity doesn't shrink. Cursors state their buffer and position. The answer of `maybe_full` is the
-//! ghost member `seems_full`, so that the prover refuses a body that returns anything else.
+//! A refused `prepare` doesn't reduce the room, so a caller that took words off the backend can write them back.
+//! `writes` has no default, because a default that holds for every backend would be vacuous. For vectors, `writes`
+//! states the items, and that the capacity doesn't shrink. For cursors, it states the buffer and the position.
+//! `maybe_full` returns the ghost member `seems_full`, so the prover refuses a body that returns anything else.
 
 ghost use Rattle.std.specs.Prelude.{◌≡◌, ◌+◌, ℕ, Bool, false, ◌∷◌, ◌<◌, ◌≤◌, Result, OnOk, OnErr, IfErr};
 
@@ -77,7 +77,7 @@ pub trait WriteWords<Word>: Holds<Word, Stack> {
 
     /// Returns whether the backend may be full.
     ///
-    /// `false` guarantees that neither the next write nor a `prepare` for one word is refused for lack of room. A
+    /// If it returns `false`, neither the next write nor a `prepare` for one word is refused for lack of room. A
     /// backend that grows as long as there is memory always returns `false`.
     fn maybe_full(&self) -> bool
         ensures value { result ≡ seems_full self.now }
@@ -85,8 +85,9 @@ pub trait WriteWords<Word>: Holds<Word, Stack> {
 
     /// Asks for room for `count` further words. No word changes.
     ///
-    /// For a vector, `Ok` guarantees that the next `count` writes succeed. For a cursor, `Ok` guarantees nothing. Every
-    /// error that the next write may return after the call was also possible before the call.
+    /// Where `makes_room` holds, as for vectors, `Ok` guarantees that the next `count` writes succeed. For a cursor,
+    /// `Ok` guarantees nothing. Every error that the next write may return after the call was also possible before the
+    /// call.
     ///
     /// # Errors
     ///
