@@ -45,7 +45,7 @@ where
 
     /// Goes to a position that an encoder recorded: seeks in the backend, and takes the recorded interval.
     ///
-    /// The decoder reads as many words at the position as a state has.
+    /// At the position, the decoder reads as many words as a `State` has. They form the new point.
     ///
     /// # Errors
     ///

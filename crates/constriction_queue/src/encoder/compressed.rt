@@ -19,8 +19,8 @@ impl<Word: WordOf<State>, State: BitArray, Backend: WriteWords<Word>> RangeEncod
 > {
     /// Returns the backend with the encoder's words: the words written, the pending words, and a seal.
     ///
-    /// If no symbol was encoded, there is no seal. The encoder first asks the backend for room for all words that it
-    /// still has to write.
+    /// The seal consists of the words that end the data. If no symbol was encoded, there is no seal. The encoder first
+    /// asks the backend for room for all words that it still has to write.
     ///
     /// # Errors
     ///

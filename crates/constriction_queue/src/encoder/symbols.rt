@@ -64,8 +64,8 @@ impl<
 
     /// Returns how many more symbols the encoder can encode.
     ///
-    /// The number of pending words and the at most 16 words of a seal have to fit a `usize` together. A step adds at
-    /// most one pending word.
+    /// The number of pending words plus the words of a seal, at most 16, has to fit a `usize`. A step adds at most one
+    /// pending word.
     #[inline]
     fn symbols_left(&self) -> usize {
         match self.situation {
@@ -86,7 +86,7 @@ impl<
     ///   unchanged.
     /// - `Backend(error)`: returned only if words had to be written, and the backend refused room for them or refused a
     ///   write. The interval and the pending words are unchanged. The backend keeps the words that it took before it
-    ///   refused. A vector is unchanged.
+    ///   refused. If the backend is a vector, it is unchanged.
     #[inline]
     fn encode_symbol<M>(
         &mut self,
