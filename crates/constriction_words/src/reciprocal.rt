@@ -10,7 +10,7 @@
 
 ghost use Rattle.std.specs.Prelude.{◌≡◌, ◌+◌, ◌*◌, ◌/◌, ◌<◌, ℕ};
 
-/// The reciprocal of a number above 0, which gives the quotient, rounded down, of every number below 2^64.
+/// The reciprocal of a divisor above 0, which gives the rounded-down quotient of every number below 2^64.
 ///
 /// It consists of a multiplier, an addend and a shift. It pays off where many numbers are divided by the same number,
 /// as coder states are divided by a symbol's weight. It is made once, and each quotient then takes one 128-bit product
