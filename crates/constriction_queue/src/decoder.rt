@@ -14,7 +14,9 @@ use constriction_base::cursor::Cursor;
 use constriction_words::{BitArray, WordOf};
 use std::marker::Model;
 
-/// A queue of symbols, decoded from words of type `Word` with an interval of numbers of type `State`.
+/// A decoder that reads words of type `Word` and keeps an interval of numbers of type `State`.
+///
+/// The symbols form a queue: the symbol encoded first is decoded first.
 ///
 /// The width of `State` is a whole number of words, at least two. The decoder narrows the same intervals as the
 /// encoder. The words that it has read determine which part of the interval belongs to the next symbol. After the last

@@ -30,7 +30,9 @@ use constriction_words::{BitArray, WordOf};
 use std::alloc::{AllocError, Allocator, Global};
 use std::marker::Model;
 
-/// A queue of symbols over words of type `Word`, with an interval of numbers of type `State`.
+/// An encoder that writes words of type `Word` and keeps an interval of numbers of type `State`.
+///
+/// The symbols form a queue: the symbol encoded first is decoded first.
 ///
 /// The width of `State` is a whole number of words, at least two. Each symbol narrows the interval, and the encoder
 /// writes the words that all numbers of the interval have in common. While the interval passes the greatest number of

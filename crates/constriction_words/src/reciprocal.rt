@@ -6,7 +6,7 @@
 //! case.
 //!
 //! A reciprocal of 64 bits serves every state of at most 64 bits, because a product of two 64-bit numbers is one
-//! machine instruction. A form of 32 bits gains nothing.
+//! machine instruction. A reciprocal of 32 bits would gain nothing.
 
 ghost use Rattle.std.specs.Prelude.{◌≡◌, ◌+◌, ◌*◌, ◌/◌, ◌<◌, ℕ};
 

@@ -10,7 +10,7 @@ ghost use Rattle.std.specs.Prelude.{◌≡◌, ◌+◌, ℕ, Bool, false, ◌∷
 use crate::backends::reading::Holds;
 use crate::backends::semantics::Stack;
 
-/// A backend that words can be written to, as onto a stack.
+/// A backend for writing, whose words form a stack: each write puts a word on top.
 ///
 /// The errors that a call may return depend only on the backend before the call and, for `prepare`, on the number of
 /// words.
@@ -35,7 +35,9 @@ use crate::backends::semantics::Stack;
 /// words.write(9)?; // neither write grows the vector
 /// ```
 pub trait WriteWords<Word>: Holds<Word, Stack> {
-    /// The error of a write and of `prepare`: lack of memory for a vector, lack of room for a cursor.
+    /// The error of a write and of `prepare`.
+    ///
+    /// A vector's error is lack of memory. A cursor's error is lack of room.
     type WriteError;
 
     /// Relates the backend before a write, the word, what the write returns, and the backend after it.

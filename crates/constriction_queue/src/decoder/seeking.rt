@@ -49,8 +49,7 @@ where
     ///
     /// # Errors
     ///
-    /// Returns `Err(())` if the backend refuses to seek to its position, or refuses a read. The interval and the point
-    /// are unchanged.
+    /// Returns `Err(())` if the backend refuses the seek, or refuses a read. The interval and the point are unchanged.
     ///
     /// # Examples
     ///

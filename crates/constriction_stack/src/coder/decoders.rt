@@ -406,8 +406,8 @@ impl<Word: WordOf<State>, State: BitArray, Backend: Holds<Word, Stack> + Seek> S
     ///
     /// # Errors
     ///
-    /// Returns `Err(())` if the backend refuses to seek to its position. The head is unchanged. If the backend is
-    /// unchanged, so is the coder.
+    /// Returns `Err(())` if the backend refuses the seek. The head is unchanged. If the backend is unchanged, so is the
+    /// coder.
     ///
     /// # Examples
     ///
