@@ -5,8 +5,8 @@
 //!
 //! - [`distribution`]: `CumulativeDistribution`, a cumulative distribution function in integers, whose one law is that
 //!   it never falls.
-//! - [`quantizer`]: `LeakyQuantizer`, which cuts a distribution function halfway between symbols, and the models that
-//!   it makes: `LeakilyQuantizedDistribution`, and `IndexedDistribution`, whose symbols are indices of type `usize`.
+//! - [`quantizer`]: `LeakyQuantizer`, which cuts a distribution function halfway between symbols. It makes two models:
+//!   `LeakilyQuantizedDistribution`, and `IndexedDistribution`, whose symbols are indices of type `usize`.
 //! - [`location_scale`]: `LocationScale`, a standard distribution moved to a location and stretched by a scale;
 //!   `Scale`, which makes a `LocationScale` without a division.
 //! - [`gaussian`], [`laplace`], [`logistic`]: the distributions `Gaussian`, `Laplace` and `Logistic`.

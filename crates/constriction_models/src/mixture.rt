@@ -194,8 +194,8 @@ impl<'a, D: CumulativeDistribution> CumulativeDistribution for Mixture<'a, D> {
     /// The result is the weighted mean of the guesses. A guess that is more than 32768 symbols from the first
     /// component's guess counts as a guess 32768 symbols away from it.
     ///
-    /// If there are at most 8 components, and their guesses lie more than 64 symbols apart, the result is computed as
-    /// if the components didn't overlap. It is then a guess of the component in which `below` falls, limited to the
+    /// If there are at most 8 components, and their guesses lie more than 64 symbols apart, the call assumes that the
+    /// components don't overlap. The result is then a guess of the component in which `below` falls, limited to the
     /// range of all guesses.
     #[inline(always)]
     fn guess(&self, below: u64) -> i64 {

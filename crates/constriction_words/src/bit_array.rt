@@ -25,8 +25,11 @@ mod of_usize;
 /// inlines each method as one or a few machine operations. The exceptions are quotients and remainders of `u128`, for
 /// which the machine has no instruction.
 ///
-/// An implementor proves the contract of each method and three laws: every word is below `2 ^ BITS`, every `NonZero`
-/// is above 0, and `BITS` is between 8 and 128.
+/// An implementor proves the contract of each method and three laws:
+///
+/// - Every word is below `2 ^ BITS`.
+/// - Every `NonZero` is above 0.
+/// - `BITS` is between 8 and 128.
 ///
 /// No method shares its name with a method of `num_traits`. Code that needs both traits writes both bounds, as in
 /// `Word: BitArray + PrimInt`, and calls every method by its bare name.

@@ -1,9 +1,8 @@
 //! `Reciprocal`: exact division by a fixed number, with a product instead of a division instruction.
 //!
-//! Let `k` be the place of the highest set bit of the divisor `p`, and let `q` and `r` be the quotient and the
-//! remainder of `2^(64+k) - 1` by `p`. The shift is `k`. If `r < 2^k`, multiplier and addend are both `q`. Otherwise
-//! the multiplier is `q + 1` and the addend is 0. Multiplier and addend fit 64 bits. Powers of two fall in the first
-//! case.
+//! Let `k` be the place of the highest set bit of the divisor `p`. Let `q` and `r` be the quotient and the remainder of
+//! `2^(64+k) - 1` by `p`. The shift is `k`. If `r < 2^k`, multiplier and addend are both `q`. Otherwise the multiplier
+//! is `q + 1` and the addend is 0. Multiplier and addend fit 64 bits. Powers of two fall in the first case.
 //!
 //! A reciprocal of 64 bits serves every state of at most 64 bits, because a product of two 64-bit numbers is one
 //! machine instruction. A reciprocal of 32 bits would gain nothing.

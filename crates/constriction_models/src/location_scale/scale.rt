@@ -1,4 +1,4 @@
-//! `Scale`: a scale whose reciprocal is known.
+//! `Scale`: a scale whose reciprocal is stored.
 
 ghost use Rattle.std.specs.Prelude.{◌≡◌, ◌/◌, ◌↔◌, IfSome, IsNone};
 ghost use Rattle.constriction_models.specs.Interpolation.{scaled};

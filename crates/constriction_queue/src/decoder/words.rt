@@ -21,7 +21,7 @@ impl<Word: WordOf<State>, State: BitArray, Backend: ReadWords<Word, Queue>> Rang
 > {
     /// Makes a decoder over a backend, and reads as many words as a `State` has.
     ///
-    /// If the backend has fewer words, the decoder stops at the first read that finds no word, and uses zero words for
+    /// If the backend has fewer words, the decoder stops at the first read that finds no word. It uses zero words for
     /// the missing words.
     ///
     /// # Errors

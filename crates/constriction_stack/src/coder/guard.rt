@@ -151,9 +151,9 @@ where
 
     /// Returns a guard that lends the words that [`AnsCoder::into_compressed`] would return.
     ///
-    /// While the guard lives, the backend holds the words below the head and then the words of the head, lowest first,
-    /// without leading zero words. The coder first asks the backend for room for the head's words. A head of 0 has no
-    /// words. Dropping the guard restores the coder.
+    /// While the guard lives, the backend holds the words below the head and then the words of the head. The head's
+    /// words are written lowest first, without leading zero words. The coder first asks the backend for room for the
+    /// head's words. A head of 0 has no words. Dropping the guard restores the coder.
     ///
     /// # Errors
     ///

@@ -1,7 +1,7 @@
 //! Importing and exporting a coder's words in two forms, and counting them.
 //!
-//! In the compressed form, the head's words have no leading zeros. In the binary form, an implicit leading 1
-//! marks the top of the head, so that every list of words is the export of a coder.
+//! In the compressed form, the head's words have no leading zeros. In the binary form, an implicit leading 1 marks the
+//! top of the head. Therefore every list of words is the export of a coder.
 
 ghost use Rattle.constriction_base.specs.Readings.{BeginsHigh};
 ghost use Rattle.constriction_base.specs.Steps.{IsSizes};
