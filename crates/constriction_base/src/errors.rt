@@ -11,8 +11,8 @@ use thiserror::Error;
 /// The error of a coder: either its frontend or its backend refused the call.
 ///
 /// The frontend is the part of the coder that handles symbols and their models. The backend reads and writes words. The
-/// `?` operator turns a backend's error into `CoderError::Backend`. It doesn't convert a frontend's error, which code
-/// writes as `CoderError::Frontend(error)`.
+/// `?` operator turns a backend's error into `CoderError::Backend`. It doesn't convert a frontend's error: code has to
+/// wrap that error as `CoderError::Frontend(error)`.
 ///
 /// # Examples
 ///

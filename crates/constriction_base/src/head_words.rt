@@ -1,8 +1,8 @@
 //! Words that move between a coder's head and a backend. The head is the number that a coder keeps above its words.
 //!
 //! If there are no words to write, `append_words` doesn't call the backend. A call that stops at a refused write
-//! returns how many words it wrote before. The stack coder's guard takes these words off again, and generic code can't
-//! count them on the backend.
+//! returns how many words it wrote before that write. The stack coder's guard takes these words off again. The guard
+//! needs the number, because generic code can't count the words on a backend.
 
 ghost use Rattle.std.specs.Prelude.{Err, IfErr, IfNone, IfOk, IfSome, MatchResult, Ok, drop, ℕ, ◌+◌, ◌<◌};
 ghost use Rattle.std.specs.Prelude.{true, ◌^◌, ◌≡◌, ◌≤◌, ◌⊎◌};
@@ -31,7 +31,7 @@ pub fn count_of_words<Word: WordOf<State>, State: BitArray>(head: State) -> usiz
     count
 }
 
-/// Returns the number of words below the leading set bit of a head, or `None` if the bits aren't whole words.
+/// Returns the number of words below a head's leading set bit, or `None` if those bits don't fill whole words.
 ///
 /// It also returns `None` for the head 0.
 pub fn words_below_one<Word: WordOf<State>, State: BitArray>(head: State) -> Option<usize>
@@ -53,7 +53,8 @@ pub fn words_below_one<Word: WordOf<State>, State: BitArray>(head: State) -> Opt
 ///
 /// # Errors
 ///
-/// Returns the error of the refused write, and the number of words written before it. These words stay on the backend.
+/// Returns a pair: the number of words written before the refused write, and the error of that write. The words that
+/// were written stay on the backend.
 pub fn write_words<Word: WordOf<State>, State: BitArray, Backend: WriteWords<Word>>(
     bulk: &mut Backend,
     head: State,
@@ -88,8 +89,8 @@ pub fn write_words<Word: WordOf<State>, State: BitArray, Backend: WriteWords<Wor
 ///
 /// # Errors
 ///
-/// Returns the error of the refused `prepare` or write, and the number of words written before it. These words stay on
-/// the backend.
+/// Returns a pair: the number of words written, and the error of the refused `prepare` or write. The words that were
+/// written stay on the backend. If `prepare` is refused, the number is 0.
 pub fn append_words<Word: WordOf<State>, State: BitArray, Backend: WriteWords<Word>>(
     bulk: &mut Backend,
     head: State,
@@ -122,8 +123,8 @@ pub fn append_words<Word: WordOf<State>, State: BitArray, Backend: WriteWords<Wo
 /// Reads words into a head until the head reaches `2 ^ bits` or no word is left.
 ///
 /// Returns the new head, and whether it reached `2 ^ bits`. Each word becomes the lowest word of the head. If the head
-/// is at least `2 ^ bits` already, the call reads no word. The caller proves that the head is above 0, and that a state
-/// has room for `bits` bits and one more word.
+/// is at least `2 ^ bits` already, the call reads no word. The caller proves that the head is above 0, and that `State`
+/// is wide enough for `bits` bits and one more word.
 ///
 /// # Errors
 ///

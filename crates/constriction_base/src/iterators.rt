@@ -75,7 +75,7 @@ impl<Iter: Iterator> IntoIterator for FallibleIteratorReadWords<Iter> {
     ghost into_iter_gives = { λ backend rest. (fuse_source rest ≡ backend.0) × (fuse_done rest ≡ backend.1)
         × (fuse_done rest ≡ false → Iter.can_next (fuse_source rest)) };
 
-    /// Returns the iterator with the items that no read took. Once it has ended, it returns only `None`.
+    /// Returns an iterator over the items that no read took. After its first `None`, it returns only `None`.
     fn into_iter(self) -> Fuse<Iter> {
         let FallibleIteratorReadWords { inner } = self;
         inner

@@ -2,7 +2,8 @@
 //!
 //! A coder depends on two things. Its backend is a list of words: a read takes the first word off, and a write puts a
 //! word in front. Its model is a table: each symbol has an interval, and the intervals partition the numbers below
-//! `2 ^ PRECISION`. The contracts of the crates above this one describe backends and models only as lists and tables.
+//! `2 ^ PRECISION`. The contracts of the crates that depend on this one describe backends and models only as lists and
+//! tables.
 //!
 //! - [`backends`]: the backend traits (`ReadWords`, `WriteWords` and others) and the two reading orders, `Stack` and
 //!   `Queue`.

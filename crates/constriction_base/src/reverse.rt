@@ -13,7 +13,7 @@ use crate::cursor::Cursor;
 use constriction_words::BitArray;
 use std::convert::Infallible;
 
-/// A backend whose queue and stack are swapped.
+/// A backend that swaps the stack and the queue of the backend `B`.
 ///
 /// Over a cursor, the stack consists of the words from the cursor's position on, and the word at the position is read
 /// first. The queue consists of the words before the position, and the word right before the position is read first. A

@@ -1,8 +1,8 @@
 //! `SmallVec` as a stack of words, whose first word is stored in the value itself.
 //!
-//! The vector asks for memory only when it grows past its first word. Only then may a write or `prepare` return lack of
-//! memory, and they return no other error. Reads never fail, take no memory and keep the capacity. A bit stack over a
-//! small vector holds one codeword while the codeword is reversed. The impls hold for every allocator.
+//! The vector asks for memory only when it grows past its first word. Only then may a write or `prepare` fail, and only
+//! for lack of memory. Reads never fail, take no memory and keep the capacity. A bit stack over a small vector holds
+//! one codeword while the codeword is reversed. The impls hold for every allocator.
 
 ghost use Rattle.std.specs.Prelude.{◌≡◌, ◌+◌, ◌-◌, false, ◌<◌, ◌≤◌, ◌==◌, Option, Result, Ok, Err, length, reverse};
 ghost use Rattle.constriction_base.specs.Backends.{Reads, Writes};
@@ -79,7 +79,7 @@ impl<A: Allocator + Copy> WriteWords<usize> for SmallVec<usize, 1, A> {
 
     /// Asks for room for `count` further words.
     ///
-    /// The call needs no memory if the words held and the further words are at most one word together.
+    /// The call needs no memory if the number of words held plus `count` is at most 1.
     fn prepare(&mut self, count: usize) -> Result<(), AllocError> {
         // The capacity is at least one, and at least the number of words.
         let _inline = self.capacity();

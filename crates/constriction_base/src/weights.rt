@@ -6,8 +6,8 @@
 //!
 //! A reciprocal takes one 128-bit division, 33 to 41 ns in a prototype. The rest of a table takes 10.4 to 10.8 ns a
 //! symbol. Two 64-bit divisions would take 19 to 29 ns, but they serve only weights below 2^32, so the table uses the
-//! simpler form. An encode with a table of `for_decoding` divides. At a precision of at most 63 bits, an encode with a
-//! table of `new` never takes that path.
+//! simpler form. An encoder that divides by weights does so with a table of `for_decoding`. With a table of `new`, at a
+//! precision of at most 63 bits, it never divides.
 
 mod hints;
 pub mod starts;
@@ -99,13 +99,13 @@ pub struct WeightTable<Probability: BitArray, const PRECISION: usize> {
 impl<Probability: BitArray, const PRECISION: usize> WeightTable<Probability, PRECISION> {
     ghost use Rattle.constriction_base.specs.WeightTables.{entries, KeepsReciprocals};
 
-    /// Creates the table of these weights, for encoding and decoding.
+    /// Creates the table of `weights`, for encoding and decoding.
     ///
     /// If `PRECISION` is `Probability::BITS`, a single weight can't hold the total, so at least two weights have to be
     /// above 0.
     ///
-    /// The table allocates in `alloc`. Let `n` be the number of symbols up to the last symbol with a weight above 0.
-    /// The table keeps:
+    /// The table allocates in `alloc`. Let `n` be the number of symbols up to and including the last symbol with a
+    /// weight above 0. The table keeps:
     ///
     /// - The starts of `n` intervals.
     /// - At most `4 * n + 1` hints.
@@ -146,7 +146,7 @@ impl<Probability: BitArray, const PRECISION: usize> WeightTable<Probability, PRE
         }
     }
 
-    /// Creates the table of these weights without reciprocals, for decoding.
+    /// Creates the table of `weights` without reciprocals, for decoding.
     ///
     /// The table has the same entries as the table of [`new`](WeightTable::new), and takes less time and memory. It
     /// also serves encoders that don't divide by weights, such as the range coder's. Encoders that divide by weights

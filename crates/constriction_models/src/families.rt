@@ -78,7 +78,7 @@ pub enum Family {
 pub type FamilyDistribution = OneOf<Gaussian, Laplace, Logistic>;
 
 impl Family {
-    /// Returns the distribution of a location and a scale, both multiples of `2^-16`, or `None` if the scale is 0.
+    /// Returns the distribution with a location and a scale in multiples of `2^-16`, or `None` if the scale is 0.
     #[inline]
     pub fn distribution(self, location: i64, scale: u32) -> Option<FamilyDistribution>
         ensures ok { IfSome result

@@ -7,7 +7,7 @@ ghost use Rattle.constriction_models.specs.Normal.{normal_values, normal_are_val
 use crate::gaussian::table::{GUESSES, VALUES};
 use crate::location_scale::{LocationScale, StandardDistribution};
 
-/// The normal distribution of mean 0 and standard deviation 1, cut off 8 standard deviations from the mean.
+/// The normal distribution with mean 0 and standard deviation 1, truncated at -8 and 8.
 ///
 /// # Examples
 ///
@@ -17,7 +17,7 @@ use crate::location_scale::{LocationScale, StandardDistribution};
 #[derive(Clone, Copy)]
 pub struct StandardNormal;
 
-/// The normal distribution of a mean (the location) and a standard deviation (the scale).
+/// The normal distribution with a mean (the location) and a standard deviation (the scale).
 ///
 /// # Examples
 ///

@@ -5,14 +5,14 @@
 //!
 //! - [`distribution`]: `CumulativeDistribution`, a cumulative distribution function in integers, whose one law is that
 //!   it never falls.
-//! - [`quantizer`]: `LeakyQuantizer`, which cuts such a function halfway between symbols, and the models that it
-//!   makes: `LeakilyQuantizedDistribution`, and `IndexedDistribution`, whose symbols are indices of type `usize`.
-//! - [`location_scale`]: `LocationScale`, a standard distribution moved to a location and stretched by a scale; `Scale`,
-//!   which makes such distributions without a division.
+//! - [`quantizer`]: `LeakyQuantizer`, which cuts a distribution function halfway between symbols. It makes two models:
+//!   `LeakilyQuantizedDistribution`, and `IndexedDistribution`, whose symbols are indices of type `usize`.
+//! - [`location_scale`]: `LocationScale`, a standard distribution moved to a location and stretched by a scale;
+//!   `Scale`, which makes a `LocationScale` without a division.
 //! - [`gaussian`], [`laplace`], [`logistic`]: the distributions `Gaussian`, `Laplace` and `Logistic`.
-//! - [`families`]: `Family`, one of these three, chosen at run time.
-//! - [`mixture`]: `Mixture`, the weighted mean of distributions, each a `Component`. `MixtureError` is the error of
-//!   components that make none.
+//! - [`families`]: `Family`, which chooses one of these three at run time.
+//! - [`mixture`]: `Mixture`, the weighted mean of distributions, each a `Component`. `MixtureError` is the error for
+//!   components that can't form a mixture.
 //! - [`uniform`], [`bernoulli`]: `UniformModel`, whose symbols have equal weights, and `BernoulliModel`, which has two
 //!   symbols.
 //! - [`counts`]: `weights_of_counts`, weights in proportion to counts.

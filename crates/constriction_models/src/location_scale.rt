@@ -38,13 +38,14 @@ pub trait StandardDistribution: Copy {
     // The table is at least 1 and at most 64 scales wide.
     ghost width_law: { (1 ≤ WIDTH) × (WIDTH ≤ 64) };
 
-    /// Returns the 2049 values, in parts of `2^32`.
+    /// Returns the 2049 values, in units of `2^-32`.
     fn table() -> &'static [u64]
         ensures { result.now ≡ values };
 
-    /// Returns about where the function reaches each multiple of `2^22`, in 65536ths of a step of the table.
+    /// Returns about where the distribution function reaches each multiple of `2^22`, in 65536ths of a step.
     ///
-    /// Every list of 1025 numbers is allowed. A close list makes decoding fast.
+    /// A step is the distance between neighbouring places of the table. Every list of 1025 numbers is allowed. Accurate
+    /// numbers make decoding fast.
     fn guesses() -> &'static [u32]
         ensures { length result.now ≡ 1025 };
 }
@@ -74,8 +75,8 @@ pub struct LocationScale<D: StandardDistribution> {
 impl<D: StandardDistribution> LocationScale<D> {
     /// Creates the distribution of a location and a scale, or returns `None` if the scale is 0.
     ///
-    /// Both are multiples of `2^-16`. Each call divides once: where scales repeat, [`Scale::at`] saves that. The type
-    /// has an example.
+    /// Both are given in multiples of `2^-16`. Each call divides once. If scales repeat, [`Scale::at`] saves the
+    /// division. The type has an example.
     #[inline]
     pub fn new(location: i64, scale: u32) -> Option<Self>
         ensures ok { IfSome result

@@ -7,7 +7,7 @@ ghost use Rattle.constriction_models.specs.Logistic.{logistic_values, logistic_a
 use crate::location_scale::{LocationScale, StandardDistribution};
 use crate::logistic::table::{GUESSES, VALUES};
 
-/// The logistic distribution of location 0 and scale 1, cut off 32 scales from the middle.
+/// The logistic distribution with location 0 and scale 1, truncated at -32 and 32.
 ///
 /// # Examples
 ///
@@ -17,7 +17,7 @@ use crate::logistic::table::{GUESSES, VALUES};
 #[derive(Clone, Copy)]
 pub struct StandardLogistic;
 
-/// The logistic distribution of a location and a scale.
+/// The logistic distribution with a location and a scale.
 ///
 /// Its distribution function is `1 / (1 + exp(-(x - location) / scale))`.
 ///

@@ -25,7 +25,7 @@ use thiserror::Error;
 /// ```
 #[derive(Debug, Clone, Copy, PartialEq, Eq, Hash, Error)]
 pub enum LookupError {
-    /// The model has a symbol above 65535, which the list can't hold.
+    /// The model has a symbol above 65535, which a row can't hold.
     #[error("a symbol above 65535")]
     Symbol,
     /// There is no memory for the rows.
@@ -43,8 +43,9 @@ struct Row<P: Copy + Drop, N: Copy + Drop> {
 
 /// A model of the symbols `0`, `1`, .. with a row for each quantile, so that a decoder finds its symbol in one step.
 ///
-/// It has the same table as the model that it is made from. A row has the symbol and its interval. It takes 6 bytes
-/// where probabilities are `u16`, and 12 bytes where they are `u32`: at a precision of 12 bits, 24 KiB and 48 KiB.
+/// It has the same table as the model that it is made from. A row holds a symbol and its interval. A row takes 6 bytes
+/// if probabilities are `u16`, and 12 bytes if they are `u32`. At a precision of 12 bits, all rows together take 24 or
+/// 48 KiB.
 ///
 /// # Examples
 ///

@@ -8,7 +8,7 @@ ghost use Rattle.constriction_models.specs.laws.Mixing.{mixed_is_distribution};
 use crate::distribution::CumulativeDistribution;
 use thiserror::Error;
 
-/// A component of a mixture: a distribution, and its weight among the others.
+/// A component of a mixture: a distribution, and its weight in the weighted mean.
 ///
 /// # Examples
 ///
@@ -19,13 +19,13 @@ use thiserror::Error;
 /// ```
 #[derive(Debug, Clone, Copy, Drop)]
 pub struct Component<D> {
-    /// How many shares of the mixture it has.
+    /// The weight of the distribution, relative to the sum of all weights.
     pub weight: u32,
     /// The distribution.
     pub distribution: D,
 }
 
-/// The error where components make no mixture.
+/// The error for components that can't form a mixture.
 ///
 /// # Examples
 ///
@@ -47,9 +47,8 @@ pub enum MixtureError {
 
 /// A mixture of distributions: the weighted mean of their distribution functions.
 ///
-/// Below a place lies the sum of each component's weight times what lies below the place under it, divided by the sum
-/// of the weights, and rounded down once. It borrows its components, so a list of them can be filled anew for each
-/// symbol.
+/// At each place, the sum of the weighted distribution functions is divided by the sum of the weights, and rounded down
+/// once. The mixture borrows its components, so a list of components can be refilled for each symbol.
 ///
 /// # Examples
 ///
@@ -78,12 +77,12 @@ pub struct Mixture<'a, D: CumulativeDistribution> {
 }
 
 impl<'a, D: CumulativeDistribution> Mixture<'a, D> {
-    /// Creates the mixture of these components. The type has an example.
+    /// Creates the mixture of `components`. The type has an example.
     ///
     /// # Errors
     ///
     /// - `Empty`: there are no components.
-    /// - `NoWeight`: there are some, and their weights are all 0.
+    /// - `NoWeight`: there are components, but all their weights are 0.
     /// - `TooMuchWeight`: the weights add up to more than `2^32`.
     #[inline]
     pub fn new(components: &'a [Component<D>]) -> Result<Self, MixtureError>
@@ -185,10 +184,14 @@ impl<'a, D: CumulativeDistribution> CumulativeDistribution for Mixture<'a, D> {
         self.mean(sum)
     }
 
-    /// Returns the weighted mean of the components' places, or where these lie far apart the place by shares.
+    /// Returns about where the probability `below` is reached, by the guesses of the components.
     ///
-    /// Both lie between the least and the greatest of the places, and so does the quantile. A place that is more than
-    /// 32768 symbols from the first component's counts as one that far away.
+    /// The result is the weighted mean of the guesses. A guess that is more than 32768 symbols from the first
+    /// component's guess counts as a guess 32768 symbols away from it.
+    ///
+    /// If there are at most 8 components, and their guesses lie more than 64 symbols apart, the call assumes that the
+    /// components don't overlap. The result is then a guess of the component in which `below` falls, limited to the
+    /// range of all guesses.
     #[inline(always)]
     fn guess(&self, below: u64) -> i64 {
         let first = self.components[0].distribution.guess(below);

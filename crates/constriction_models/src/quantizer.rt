@@ -17,8 +17,8 @@ use std::marker::PhantomData;
 
 /// A quantizer that cuts distributions halfway between the neighbouring symbols of a range.
 ///
-/// Every symbol of the range gets a weight above 0, however unlikely it is: the cut leaks to all symbols. Symbols
-/// outside the range are impossible.
+/// Every symbol of the range gets a weight above 0, however unlikely the symbol is. In this sense the quantizer leaks.
+/// Symbols outside the range are impossible.
 ///
 /// # Examples
 ///
@@ -94,10 +94,11 @@ impl<Probability: WordOf<u32>, const PRECISION: usize> LeakyQuantizer<Probabilit
 
 /// A distribution cut halfway between symbols: a model in which every symbol of a range has an interval.
 ///
-/// At a precision of `P` bits, each of the `n` symbols gets 1 of the `2^P` quantiles, and the distribution shares out
-/// the rest. The first symbol has `k = 0`, the next symbol `k = 1`. The interval of a symbol begins at
-/// `floor((2^P - n) * F / 2^32) + k`. Here `F` is how much of `2^32` lies below the edge between the symbol and the
-/// symbol before it. For the first symbol, `F` is 0. At the end of the last interval, `k` is `n` and `F` is `2^32`.
+/// At a precision of `P` bits, each of the `n` symbols gets 1 of the `2^P` quantiles. The symbols share the other
+/// quantiles in proportion to their probabilities, up to rounding. The first symbol has `k = 0`, the next symbol
+/// `k = 1`. The interval of a symbol begins at `floor((2^P - n) * F / 2^32) + k`. Here `F` is the probability below the
+/// edge between the symbol and the symbol before it, in units of `2^-32`. For the first symbol, `F` is 0. At the end of
+/// the last interval, `k` is `n` and `F` is `2^32`.
 ///
 /// # Examples
 ///

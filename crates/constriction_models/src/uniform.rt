@@ -1,6 +1,6 @@
 //! `UniformModel`: a model of equally likely symbols.
 //!
-//! Each share is rounded down, and the last symbol gets the rest. An encode therefore takes a product and no division,
+//! Each weight is rounded down, and the last symbol gets the rest. An encode therefore takes a product and no division,
 //! and a decode takes one division. The last symbol's weight exceeds the weight of each other symbol by less than the
 //! number of symbols.
 

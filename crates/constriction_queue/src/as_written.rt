@@ -8,9 +8,9 @@ use std::alloc::Allocator;
 
 /// A backend that lends its words in the order in which they were written, last word last.
 ///
-/// With this bound, generic code knows that [`crate::RangeEncoder::iter_compressed`] returns the words of
-/// `into_compressed`. An implementor has nothing to choose. It proves that the lent words, in reverse, are the words
-/// that the backend holds as a stack.
+/// This bound guarantees that [`crate::RangeEncoder::iter_compressed`] returns the words of `into_compressed`. An
+/// implementor chooses nothing. It proves that the lent words, in reverse, are the words that the backend holds as a
+/// stack.
 pub trait LendsAsWritten<Word>: Holds<Word, Stack> + Words<Word> {
     // The stack is what is lent, turned round.
     ghost written_law: { (b : Self) →

@@ -14,15 +14,17 @@ use constriction_base::cursor::Cursor;
 use constriction_words::{BitArray, WordOf};
 use std::marker::Model;
 
-/// A queue of symbols, decoded from words of type `Word` with an interval of numbers of type `State`.
+/// A decoder that reads words of type `Word` and keeps an interval of numbers of type `State`.
 ///
-/// `State` has the bits of a whole number of words, at least two. The decoder narrows the same intervals as the
+/// The symbols form a queue: the symbol encoded first is decoded first.
+///
+/// The width of `State` is a whole number of words, at least two. The decoder narrows the same intervals as the
 /// encoder. The words that it has read determine which part of the interval belongs to the next symbol. After the last
 /// word, the decoder uses zero words.
 ///
-/// The point is the number that the last words read stand for, as many words as a state has. The decoder stores the
-/// distance of the point from the lower end of the interval, modulo 2 to the power of `State::BITS`. Contracts describe
-/// a decoder by a `Decoder`: the backend, the remaining words, the interval, and the point.
+/// The point is the number that the last words read form. It consists of as many words as a `State` has. The decoder
+/// stores the distance of the point from the lower end of the interval, modulo 2 to the power of `State::BITS`.
+/// Contracts describe a decoder by a `Decoder`: the backend, the remaining words, the interval, and the point.
 ///
 /// # Examples
 ///

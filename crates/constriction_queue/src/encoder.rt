@@ -4,7 +4,7 @@
 //! - [`compressed`]: exporting an encoder's words, and counting them.
 //! - [`guard`]: the compressed words while a guard lends them.
 //! - [`lending`]: lending the compressed words to a function.
-//! - [`through_guard`]: a decoder of the compressed words that borrows the encoder.
+//! - [`through_guard`]: a decoder that borrows the encoder and reads its compressed words.
 //! - [`decoders`]: turning an encoder into a decoder.
 //! - [`positions`]: recording positions.
 
@@ -30,9 +30,11 @@ use constriction_words::{BitArray, WordOf};
 use std::alloc::{AllocError, Allocator, Global};
 use std::marker::Model;
 
-/// A queue of symbols over words of type `Word`, with an interval of numbers of type `State`.
+/// An encoder that writes words of type `Word` and keeps an interval of numbers of type `State`.
 ///
-/// `State` has the bits of a whole number of words, at least two. Each symbol narrows the interval, and the encoder
+/// The symbols form a queue: the symbol encoded first is decoded first.
+///
+/// The width of `State` is a whole number of words, at least two. Each symbol narrows the interval, and the encoder
 /// writes the words that all numbers of the interval have in common. While the interval passes the greatest number of
 /// `State`, a carry may still change these words, so the encoder keeps them pending.
 ///
@@ -119,8 +121,8 @@ impl<Word: WordOf<State>, State: BitArray, Backend: Holds<Word, Stack>> RangeEnc
 > {
     /// Makes an encoder without symbols that writes after the words of a backend.
     ///
-    /// The backend's words stay before the encoder's own words. Over an empty backend, the encoder is the same as a new
-    /// encoder.
+    /// The backend's words stay before the encoder's own words. If the backend holds no words, the encoder starts in
+    /// the same way as an encoder of [`RangeEncoder::new`].
     ///
     /// # Examples
     ///
@@ -150,7 +152,7 @@ impl<Word: WordOf<State>, State: BitArray, Backend: Holds<Word, Stack>> RangeEnc
     /// - The interval passes the greatest number of `State`.
     /// - The first pending word isn't all ones.
     /// - The interval isn't the interval of an encoder without symbols.
-    /// - A `usize` can count the pending words together with a seal.
+    /// - The number of pending words plus the words of a seal fits a `usize`.
     pub fn parts_fit(state: RangeCoderState<Word, State>, situation: EncoderSituation<Word>) -> bool
         ensures { IsTrue result
             ↔ PartsFit Word.number Word.BITS State.BITS situation (lower_of state) (range_of state) }

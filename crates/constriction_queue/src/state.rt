@@ -1,8 +1,8 @@
 //! The interval of a range coder.
 //!
-//! `RangeCoderState` keeps the length as a `State`, and an invariant states that it is long enough. `range()` returns
-//! the length as a nonzero number. `new` takes a plain `State`, and refuses 0 like every other length that is too
-//! short.
+//! `RangeCoderState` keeps the length as a `State`, and an invariant states that the interval is long enough. `range()`
+//! returns the length as a nonzero number. `new` takes the length as a plain `State`, and refuses every length that is
+//! too short, including 0.
 
 ghost use Rattle.std.specs.Prelude.{◌≡◌, ◌↔◌, ◌+◌, ◌-◌, ◌*◌, ◌<◌, ◌≤◌, ◌^◌, IfOk, IsOk};
 
@@ -10,7 +10,7 @@ use constriction_words::{BitArray, WordOf};
 use std::alloc::AllocError;
 use std::marker::PhantomData;
 
-/// An interval of numbers, by its lower end and its length.
+/// An interval of numbers, given by its lower end and its length.
 ///
 /// The length is at least 2 to the power of (bits of `State` - bits of `Word`). Contracts refer to the two numbers as
 /// `lower_of` and `range_of`.
@@ -68,7 +68,7 @@ impl<Word: WordOf<State>, State: BitArray> RangeCoderState<Word, State> {
 
     /// Makes the interval of `range` numbers from `lower` on.
     ///
-    /// Any `lower` is allowed: an interval that passes the greatest number of `State` continues at 0.
+    /// Any `lower` is allowed. An interval that passes the greatest number of `State` continues at 0.
     ///
     /// # Errors
     ///

@@ -1,7 +1,7 @@
-//! Writing pending words and others to a backend.
+//! Writing words to a backend.
 //!
 //! Only the single word of a common step is written in line (`write_step`); the code for several words is out of line.
-//! So the common path of an encode has no call but that of a growing vector.
+//! Therefore the common path of an encode makes no call, except when a vector grows.
 
 ghost use Rattle.std.specs.Prelude.{◌≡◌, ◌+◌, ◌<◌, ◌≤◌, ◌^◌, ◌++◌, ◌∷◌, ◌⊎◌, [], None, Some, length, IfErr};
 ghost use Rattle.constriction_base.specs.Writing.{Appends, WritesAll};

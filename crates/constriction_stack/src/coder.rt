@@ -3,7 +3,8 @@
 //! - [`symbols`]: the two steps, `encode_symbol` and `decode_symbol`.
 //! - [`lists`]: encoding lists of symbols from last to first.
 //! - [`words`]: importing and exporting words, and counting them.
-//! - [`decoders`]: coders over other backends, over borrowed words, over words in reading order, and positions.
+//! - [`decoders`]: positions, and coders for reading: over other backends, over borrowed words, or over words in
+//!   reading order.
 //! - [`guard`]: the compressed words while a guard lends them.
 
 pub mod decoders;
@@ -23,7 +24,7 @@ use std::marker::{Model, PhantomData};
 
 /// A stack of symbols: a head (the state `x` of rANS) of type `State` above a backend of words of type `Word`.
 ///
-/// `State` has the bits of a whole number of words, at least two. The backend holds the words below the head. The word
+/// The width of `State` is a whole number of words, at least two. The backend holds the words below the head. The word
 /// written last is the top word, which is read first. [`AnsCoder::new`] makes an empty coder.
 ///
 /// Contracts describe a coder by its `AnsValue`: the state (the head and the words below it) and the backend.
@@ -84,7 +85,7 @@ impl<Word: WordOf<State>, State: BitArray> AnsCoder<Word, State, Vec<Word>> {
 }
 
 impl<Word: WordOf<State>, State: BitArray, A: Allocator> AnsCoder<Word, State, Vec<Word, A>> {
-    /// Removes everything from the coder, and keeps its allocated memory.
+    /// Removes all symbols and words from the coder, and keeps the allocated memory.
     pub fn clear(&mut self)
         ensures state { self.new.state ≡ empty }
         ensures coder { IsCoder Word.number ⟦<Vec<Word, A> as Holds<Word, Stack>>⟧ Word.BITS State.BITS self.new }

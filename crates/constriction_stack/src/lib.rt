@@ -1,10 +1,10 @@
 //! The stack coder: asymmetric numeral systems (ANS), a stack of symbols.
 //!
-//! An [`coder::AnsCoder`] holds a number, the head, above a stack of words. Encoding a symbol multiplies
-//! the head by about the inverse of the symbol's probability. When the head is full, the coder moves a word
-//! out of it onto the stack. Decoding removes the symbols in reverse order, and is the inverse of encoding on
-//! every normalized state. Each symbol may have its own model and precision, as long as the decoder gets the
-//! same models in reverse order.
+//! An [`coder::AnsCoder`] holds a number, the head, above a stack of words. Encoding a symbol multiplies the head by
+//! about the inverse of the symbol's probability. If the head lacks room for the step, the coder first moves the head's
+//! lowest word onto the stack. Decoding removes the symbols in reverse order, and is the inverse of encoding on every
+//! normalized state. Each symbol may have its own model and precision, as long as the decoder gets the same models in
+//! reverse order.
 //!
 //! ```
 //! let table = WeightTable::<u32, 24>::new(alloc, &[16777211, 5])?;
@@ -27,8 +27,8 @@
 //! - `steps`: the arithmetic of a step on the head.
 //!
 //! Contracts cite the definitions of `specs/Ans.antt`: states, pop and push, the words of a state, and the possible
-//! results of a step over a backend. They describe words and heads as natural numbers, and the words below the head as
-//! a list in reading order, top word first.
+//! results of a step over a backend. Contracts describe words and heads as natural numbers. They describe the words
+//! below the head as a list in reading order, top word first.
 #![tactic(auto)]
 
 pub mod coder;

@@ -45,12 +45,12 @@ pub trait Decode<const PRECISION: usize>: Code {
 
     /// Holds for each error that means that the data ended. An implementor chooses these errors freely.
     ///
-    /// A coder that continues past the end of its data has none of these errors.
+    /// For a coder that continues past the end of its data, no error means this.
     ghost is_end_of_data: { CoderError Self.FrontendError Self.BackendError → Type 0 };
 
     /// Decodes a symbol under a model.
     ///
-    /// The coder makes the step of the symbol's interval in the model's table.
+    /// The coder makes the step of the decoded symbol's interval in the model's table.
     ///
     /// # Errors
     ///
@@ -154,7 +154,7 @@ pub trait Decode<const PRECISION: usize>: Code {
 
     /// Returns whether all encoded symbols may have been decoded.
     ///
-    /// If it returns `false`, `has_data` holds, and the next step isn't refused because the data ended.
+    /// If it returns `false`, then `has_data` holds, and the next step isn't refused for lack of data.
     fn maybe_exhausted(&self) -> bool
         ensures data { OnFalse result (has_data self.now) }
         ensures goes_on { OnFalse result (GoesOn decodes halts is_end_of_data self.now) }

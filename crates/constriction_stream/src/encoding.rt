@@ -41,9 +41,9 @@ impl<Symbol> Lent<Symbol> for &Symbol {
 ///
 /// The models guarantee that `PRECISION` is at least 1 and at most the number of bits of a word.
 ///
-/// An implementor chooses the ghost members and proves that each call obeys them. It also proves two laws: no step
-/// returns the error of an impossible symbol, and this error doesn't mean lack of room. Generic code can rely only on
-/// these clauses and laws. If a caller needs more, it must name the coder's type.
+/// An implementor chooses the ghost members and proves that each call obeys them. It also proves two laws: `encodes`
+/// never allows an error that means an impossible symbol, and this error never means lack of room. Generic code can
+/// rely only on these clauses and laws. If a caller needs more, it must name the coder's type.
 pub trait Encode<const PRECISION: usize>: Code {
     /// The error of a step that the coder itself refuses, for example because the symbol is impossible.
     type FrontendError;
@@ -59,7 +59,7 @@ pub trait Encode<const PRECISION: usize>: Code {
 
     /// Holds for each error that means an impossible symbol.
     ///
-    /// An implementor chooses these errors freely among those that no step returns (`never_impossible`).
+    /// An implementor chooses these errors freely among the errors that `encodes` never allows (`never_impossible`).
     ghost is_impossible_symbol: { Self.FrontendError → Type 0 };
 
     /// Holds if `symbols_left` limits the number of symbols that the coder may be asked to encode.
@@ -75,7 +75,7 @@ pub trait Encode<const PRECISION: usize>: Code {
     /// Holds for each error that means that the coder is full.
     ///
     /// An implementor chooses these errors freely, but the error of an impossible symbol is none of them
-    /// (`never_full`). If there are none, `maybe_full` guarantees nothing.
+    /// (`never_full`). If no error means that the coder is full, `maybe_full` guarantees nothing.
     ghost is_lack_of_room: { CoderError Self.FrontendError Self.BackendError → Type 0 };
 
     /// Holds if `maybe_full` can determine whether there is room. An implementor chooses it freely.

@@ -1,9 +1,9 @@
 //! The coder traits: generic code uses them to encode and decode symbols with any coder.
 //!
 //! An encoder takes symbols, each with the model that states its probability. A decoder with the same models returns
-//! the symbols. In each step, a coder gets only an interval of the numbers below `2 ^ PRECISION`: its start and its
-//! length. Each coder states in `Encode::encodes` or `Decode::decodes` what it does with the interval. The traits state
-//! what all coders have in common:
+//! the symbols. In each step, a coder gets only the start and the length of an interval of the numbers below
+//! `2 ^ PRECISION`. Each coder states in `Encode::encodes` or `Decode::decodes` what it does with the interval. The
+//! traits state what all coders have in common:
 //!
 //! - The interval of a step is the symbol's interval in the model's table.
 //! - An encoder refuses an impossible symbol.
@@ -12,9 +12,9 @@
 //! The modules:
 //!
 //! - [`coder`]: `Code`, the words and the state that every coder has.
-//! - [`encoding`]: `Encode`, single steps and lists of symbols; `EncodeReverse`, lists from the last symbol to the
-//!   first.
-//! - [`decoding`]: `Decode`, single steps and iterators of symbols.
+//! - [`encoding`]: `Encode` for single steps and lists of symbols, and `EncodeReverse` for lists from the last symbol
+//!   to the first.
+//! - [`decoding`]: `Decode` for single steps and for iterators of symbols.
 //! - [`iterators`]: the iterators.
 //! - [`conversions`]: `IntoDecoder` and `AsDecoder`, from an encoder to a decoder.
 //! - [`errors`]: the error of calls that take models or symbols as `Result`s.

@@ -19,14 +19,17 @@ mod of_usize;
 ///
 /// Contracts describe a word by a natural number, `number`, and each method by what it does to these numbers. Nothing
 /// wraps or is cut off unless the method's name says so. By `number_law`, `number word < 2 ^ BITS` holds for every
-/// word. Generic code may rely on it without a condition of its own.
+/// word. Generic code may rely on this law without a condition of its own.
 ///
-/// Some methods have a condition, for example that a sum fits the type. The caller proves it. Compiled code inlines
-/// each method as one or a few machine operations. The exceptions are quotients and remainders of `u128`, for which
-/// the machine has no instruction.
+/// Some methods have a condition, for example that a sum fits the type. The caller proves the condition. Compiled code
+/// inlines each method as one or a few machine operations. The exceptions are quotients and remainders of `u128`, for
+/// which the machine has no instruction.
 ///
-/// An implementor proves the contract of each method and three laws: every word is below `2 ^ BITS`, every `NonZero`
-/// is above 0, and `BITS` is between 8 and 128.
+/// An implementor proves the contract of each method and three laws:
+///
+/// - Every word is below `2 ^ BITS`.
+/// - Every `NonZero` is above 0.
+/// - `BITS` is between 8 and 128.
 ///
 /// No method shares its name with a method of `num_traits`. Code that needs both traits writes both bounds, as in
 /// `Word: BitArray + PrimInt`, and calls every method by its bare name.
@@ -95,8 +98,8 @@ pub trait BitArray: Copy + Drop {
 
     /// Returns the quotient by `other`, rounded down, computed from the reciprocal of `other`.
     ///
-    /// The caller proves that `reciprocal` is the reciprocal of `other`. The words of this crate compute a product and
-    /// a shift instead of a division, except `u128`. The default method divides.
+    /// The caller proves that `reciprocal` is the reciprocal of `other`. The impls of this crate compute a product and
+    /// a shift instead of a division, except the impl for `u128`. The default method divides.
     fn quotient_by(self, other: Self, reciprocal: Reciprocal) -> Self
         requires { IsReciprocalOf reciprocal (number other) }
         ensures { number result ≡ number self / number other }
@@ -150,7 +153,7 @@ pub trait BitArray: Copy + Drop {
     fn from_nonzero(nonzero: Self::NonZero) -> Self
         ensures { number result ≡ nonzero_number nonzero };
 
-    /// Returns the same number as an index. The caller proves that it is below `2 ^ 64`.
+    /// Returns the same number as an index. The caller proves that the number is below `2 ^ 64`.
     fn to_index(self) -> usize
         requires { number self < 2 ^ 64 }
         ensures { result ≡ number self };

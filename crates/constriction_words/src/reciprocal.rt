@@ -1,16 +1,15 @@
 //! `Reciprocal`: exact division by a fixed number, with a product instead of a division instruction.
 //!
-//! Let `k` be the place of the highest set bit of the divisor `p`, and let `q` and `r` be the quotient and the
-//! remainder of `2^(64+k) - 1` by `p`. The shift is `k`. If `r < 2^k`, multiplier and addend are both `q`. Otherwise
-//! the multiplier is `q + 1` and the addend is 0. Multiplier and addend fit 64 bits. Powers of two fall in the first
-//! case.
+//! Let `k` be the place of the highest set bit of the divisor `p`. Let `q` and `r` be the quotient and the remainder of
+//! `2^(64+k) - 1` by `p`. The shift is `k`. If `r < 2^k`, multiplier and addend are both `q`. Otherwise the multiplier
+//! is `q + 1` and the addend is 0. Multiplier and addend fit 64 bits. Powers of two fall in the first case.
 //!
 //! A reciprocal of 64 bits serves every state of at most 64 bits, because a product of two 64-bit numbers is one
-//! machine instruction. A form of 32 bits gains nothing.
+//! machine instruction. A reciprocal of 32 bits would gain nothing.
 
 ghost use Rattle.std.specs.Prelude.{◌≡◌, ◌+◌, ◌*◌, ◌/◌, ◌<◌, ℕ};
 
-/// The reciprocal of a number above 0, which gives the quotient, rounded down, of every number below 2^64.
+/// The reciprocal of a divisor above 0, which gives the rounded-down quotient of every number below 2^64.
 ///
 /// It consists of a multiplier, an addend and a shift. It pays off where many numbers are divided by the same number,
 /// as coder states are divided by a symbol's weight. It is made once, and each quotient then takes one 128-bit product

@@ -7,8 +7,12 @@ use crate::bit_array::BitArray;
 
 /// A word that is no wider than the word type `T`, so that each of its numbers is also a number of `T`.
 ///
-/// Each word type is `WordOf` itself. In addition, `u8` is `WordOf` every other word type; `u16` is `WordOf` `u32`,
-/// `u64`, `u128` and `usize`; `u32` is `WordOf` `u64` and `u128`; and `u64` is `WordOf` `u128`.
+/// Each word type is `WordOf` itself. In addition:
+///
+/// - `u8` is `WordOf` every other word type.
+/// - `u16` is `WordOf` `u32`, `u64`, `u128` and `usize`.
+/// - `u32` is `WordOf` `u64` and `u128`.
+/// - `u64` is `WordOf` `u128`.
 ///
 /// An implementor proves three facts:
 ///

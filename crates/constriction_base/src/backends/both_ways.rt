@@ -1,8 +1,8 @@
 //! The same words, read from either end.
 //!
-//! The law of `BothWays` is no law of `Holds`, because it is false for a cursor. A cursor's position separates its
-//! stack from its queue. A coder that only lends its words to a decoder needs no `BothWays`. The lent words are those
-//! of `Holds<Word, Queue>`.
+//! `Holds` doesn't include the law of `BothWays`, because the law is false for a cursor. A cursor's position separates
+//! its stack from its queue. A coder that only lends its words to a decoder needs no `BothWays`, because the decoder
+//! reads the list of `Holds<Word, Queue>`.
 
 ghost use Rattle.std.specs.Prelude.{◌≡◌, reverse};
 
@@ -16,9 +16,9 @@ use crate::backends::writing::WriteWords;
 /// As a stack, it returns the words in the reverse of the order in which they were written. As a queue, it returns them
 /// in the order in which they were written.
 ///
-/// A coder requires this trait of a backend that it writes to as a stack and hands on as a queue. Vectors and slices
-/// implement the trait. A cursor doesn't, because its position separates the words of its stack from those of its
-/// queue.
+/// Coders require this trait of a backend that they write to as a stack and then pass to a decoder as a queue. Vectors
+/// and slices implement the trait. A cursor doesn't, because its position separates the words of its stack from those
+/// of its queue.
 ///
 /// An implementor proves one law: the list of the queue is the reverse of the list of the stack.
 pub trait BothWays<Word>: Holds<Word, Stack> + Holds<Word, Queue> {
@@ -27,7 +27,7 @@ pub trait BothWays<Word>: Holds<Word, Stack> + Holds<Word, Queue> {
         → ⟦<Self as Holds<Word, Queue>>⟧.words b ≡ reverse (⟦<Self as Holds<Word, Stack>>⟧.words b) };
 }
 
-/// Turns a backend into one that reads its words in the order in which they were written.
+/// Turns a backend into a queue, which reads the words in the order in which they were written.
 ///
 /// # Examples
 ///

@@ -1,8 +1,9 @@
 //! Traits of values that turn into a backend for reading, or lend one.
 //!
 //! The new backend holds the same words. That alone doesn't keep recorded positions valid. For example, the new buffer
-//! could begin with an extra word, and the cursor could stand after it. The words would be equal, but recorded
-//! positions would lead to other words. Therefore `becomes` also states the buffer and the position of the new backend.
+//! could begin with an extra word, and the cursor could start after that word. The words left to read would be equal,
+//! but recorded positions would lead to other words. Therefore `becomes` also states the buffer and the position of the
+//! new backend.
 
 ghost use Rattle.std.specs.Prelude.{◌≡◌};
 
@@ -77,14 +78,14 @@ pub trait AsSeekReadWords<'a, Word, S: Semantics>: Holds<Word, S> {
 /// A value that can reverse its buffer in place and still hold the same stack.
 ///
 /// An implementor chooses `turns` freely and proves that the new value holds the same stack. For cursors, `turns`
-/// states the buffer and the position.
+/// states the buffer and the position of the new cursor.
 pub trait IntoReversed<Word>: Holds<Word, Stack> {
     type IntoReversed: Holds<Word, Stack> + Drop;
 
     /// Relates the value to the new value over the reversed buffer.
     ghost turns: { Self → Self.IntoReversed → Type 0 };
 
-    /// Reverses the buffer and returns the same stack over it.
+    /// Reverses the buffer and returns a value over it that holds the same stack of words.
     fn into_reversed_stack(self) -> Self::IntoReversed
         ensures stack { ⟦<Self::IntoReversed as Holds<Word, Stack>>⟧.words result ≡ Self.words self }
         ensures turned { turns self result };

@@ -16,8 +16,8 @@ pub trait Words<Word> {
 
 /// A buffer whose words can be replaced and reversed. The number of words stays the same.
 ///
-/// An implementor proves what each call does to the lent words: `set_word` replaces one of them, and `reverse_words`
-/// reverses their order.
+/// An implementor proves what each call does to the lent words: `set_word` replaces a word, and `reverse_words`
+/// reverses the order of the words.
 pub trait WordsMut<Word>: Words<Word> {
     /// Replaces the word at `index`. The caller proves that `index` is below the number of words.
     fn set_word(&mut self, index: usize, word: Word)

@@ -2,7 +2,7 @@
 //!
 //! For vectors and cursors, `can_seek` and `seek_fails` exclude each other: a seek succeeds exactly if `can_seek`
 //! holds, and a refused seek changes nothing. A coder that reads after its backend's seek, or that has two backends,
-//! may allow both at the same position. `stays` states what its refused seek leaves.
+//! may allow both at the same position. `stays` states what a refused seek leaves.
 
 ghost use Rattle.std.specs.Prelude.{◌≡◌, ℕ, length, IsOk, OnOk, OnErr};
 
@@ -23,7 +23,7 @@ pub trait Pos: PosSeek {
     /// Holds if the position is the current position of the value.
     ghost stands_at: { Self → Self.Position → Type 0 };
 
-    /// Holds if `pos` can return the current position, for example because a count of words fits its type.
+    /// Holds if `pos` can return the current position, for example because the count of words fits `Position`.
     ///
     /// It always holds for vectors and cursors.
     ghost can_tell: { Self → Type 0 };
@@ -41,7 +41,7 @@ pub trait Pos: PosSeek {
 /// - Every position that `stands_at` allows is the number of words on the stack.
 /// - `can_tell` always holds, so `pos` may always be called.
 ///
-/// A caller therefore knows that there is exactly one current position, and which number it is.
+/// Therefore the backend has exactly one current position: the number of words on its stack.
 pub trait CountsWords<Word>: Pos<Position = usize> + Holds<Word, Stack> {
     // The position is the number of words on the stack.
     ghost count_law: { (b : Self) (place : ℕ) → Self.stands_at b place → place ≡ length (Self.words b) };

@@ -9,8 +9,8 @@ use crate::backends::writing::WriteWords;
 
 /// Takes `count` words off the backend, or fewer if a read is refused.
 ///
-/// If no read is ever refused, the call takes exactly the first `count` words, or all words if there are fewer. A guard
-/// calls it to take off the words that it wrote onto a backend.
+/// If no read is ever refused, the call takes exactly the first `count` words, or all words if there are fewer. A
+/// coder's guard calls `take_back` to remove the words that the guard wrote onto the backend.
 pub fn take_back<Word, Backend>(bulk: &mut Backend, count: usize)
 where
     Word: Drop,

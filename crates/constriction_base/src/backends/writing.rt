@@ -1,16 +1,16 @@
 //! Writing words to a backend.
 //!
-//! A refused `prepare` doesn't reduce the room, so that a caller can write back the words that it took off. `writes`
-//! has no default, because a default that holds for every backend would be vacuous. Vectors state in it their items,
-//! and that the capacity doesn't shrink. Cursors state their buffer and position. The answer of `maybe_full` is the
-//! ghost member `seems_full`, so that the prover refuses a body that returns anything else.
+//! A refused `prepare` doesn't reduce the room, so a caller that took words off the backend can write them back.
+//! `writes` has no default, because a default that holds for every backend would be vacuous. For vectors, `writes`
+//! states the items, and that the capacity doesn't shrink. For cursors, it states the buffer and the position.
+//! `maybe_full` returns the ghost member `seems_full`, so the prover refuses a body that returns anything else.
 
 ghost use Rattle.std.specs.Prelude.{◌≡◌, ◌+◌, ℕ, Bool, false, ◌∷◌, ◌<◌, ◌≤◌, Result, OnOk, OnErr, IfErr};
 
 use crate::backends::reading::Holds;
 use crate::backends::semantics::Stack;
 
-/// A backend that words can be written to, as onto a stack.
+/// A backend for writing, whose words form a stack: each write puts a word on top.
 ///
 /// The errors that a call may return depend only on the backend before the call and, for `prepare`, on the number of
 /// words.
@@ -35,7 +35,9 @@ use crate::backends::semantics::Stack;
 /// words.write(9)?; // neither write grows the vector
 /// ```
 pub trait WriteWords<Word>: Holds<Word, Stack> {
-    /// The error of a write and of `prepare`: lack of memory for a vector, lack of room for a cursor.
+    /// The error of a write and of `prepare`.
+    ///
+    /// A vector's error is lack of memory. A cursor's error is lack of room.
     type WriteError;
 
     /// Relates the backend before a write, the word, what the write returns, and the backend after it.
@@ -77,7 +79,7 @@ pub trait WriteWords<Word>: Holds<Word, Stack> {
 
     /// Returns whether the backend may be full.
     ///
-    /// `false` guarantees that neither the next write nor a `prepare` for one word is refused for lack of room. A
+    /// If it returns `false`, neither the next write nor a `prepare` for one word is refused for lack of room. A
     /// backend that grows as long as there is memory always returns `false`.
     fn maybe_full(&self) -> bool
         ensures value { result ≡ seems_full self.now }
@@ -85,8 +87,9 @@ pub trait WriteWords<Word>: Holds<Word, Stack> {
 
     /// Asks for room for `count` further words. No word changes.
     ///
-    /// For a vector, `Ok` guarantees that the next `count` writes succeed. For a cursor, `Ok` guarantees nothing. Every
-    /// error that the next write may return after the call was also possible before the call.
+    /// Where `makes_room` holds, as for vectors, `Ok` guarantees that the next `count` writes succeed. For a cursor,
+    /// `Ok` guarantees nothing. Every error that the next write may return after the call was also possible before the
+    /// call.
     ///
     /// # Errors
     ///

@@ -30,9 +30,9 @@ impl<Word: BitArray, Buf: WordsMut<Word> + Drop> Cursor<Word, Buf> {
         }
     }
 
-    /// Reverses the buffer, and returns the same stack and the same queue over it.
+    /// Reverses the buffer and returns a `Reverse` over it, with the same stack and the same queue.
     ///
-    /// Words written as a stack then lie in the buffer in the order in which the stack reads them.
+    /// In the reversed buffer, the stack's words lie in the order in which the stack reads them.
     ///
     /// # Examples
     ///
@@ -56,7 +56,7 @@ impl<Word: BitArray, Buf: WordsMut<Word> + Drop> Cursor<Word, Buf> {
 impl<Word: BitArray, Buf: WordsMut<Word> + Drop> Reverse<Cursor<Word, Buf>> {
     /// Reverses the buffer and returns a plain cursor over it.
     ///
-    /// The words that it holds as a stack and as a queue stay the same.
+    /// The cursor holds the same words as `self`, as a stack and as a queue.
     pub fn into_reversed(self) -> Cursor<Word, Buf>
         ensures stack { ⟦<Cursor<Word, Buf> as Holds<Word, Stack>>⟧.words result
             ≡ ⟦<Reverse<Cursor<Word, Buf>> as Holds<Word, Stack>>⟧.words self }

@@ -1,4 +1,4 @@
-//! `Scale`: a scale whose reciprocal is known.
+//! `Scale`: a scale whose reciprocal is stored.
 
 ghost use Rattle.std.specs.Prelude.{◌≡◌, ◌/◌, ◌↔◌, IfSome, IsNone};
 ghost use Rattle.constriction_models.specs.Interpolation.{scaled};
@@ -10,8 +10,8 @@ use std::marker::PhantomData;
 
 /// A scale of a family of distributions, a multiple of `2^-16`, whose reciprocal is computed once.
 ///
-/// `Scale::new` divides, and `Scale::at` doesn't. A program whose scales repeat, or come from a table, keeps the
-/// values of this type and makes a distribution for each symbol without a division.
+/// `Scale::new` divides, and `Scale::at` doesn't. A program whose scales repeat or come from a table can keep values of
+/// this type. It then makes a distribution for each symbol without a division.
 ///
 /// # Examples
 ///
@@ -34,9 +34,9 @@ pub struct Scale<D: StandardDistribution> {
 impl<D: StandardDistribution> Scale<D> {
     ghost use Rattle.constriction_models.specs.Scales.{scale_number};
 
-    /// Creates a scale, or returns `None` if the number is 0.
+    /// Creates a scale, or returns `None` if `scale` is 0.
     ///
-    /// The number is a multiple of `2^-16`. The type has an example.
+    /// The scale is given in multiples of `2^-16`. The type has an example.
     #[inline]
     pub fn new(scale: u32) -> Option<Self>
         ensures ok { IfSome result (λ s. scale_number s ≡ scale) }
@@ -52,7 +52,7 @@ impl<D: StandardDistribution> Scale<D> {
         })
     }
 
-    /// Returns the number, a multiple of `2^-16`.
+    /// Returns the scale in multiples of `2^-16`.
     ///
     /// # Examples
     ///
@@ -68,9 +68,9 @@ impl<D: StandardDistribution> Scale<D> {
         self.scale
     }
 
-    /// Returns the distribution of a location and this scale.
+    /// Returns the distribution with a location and this scale.
     ///
-    /// The location is a multiple of `2^-16`. The type has an example.
+    /// The location is given in multiples of `2^-16`. The type has an example.
     #[inline]
     pub fn at(self, location: i64) -> LocationScale<D>
         ensures { ⟦<LocationScale<D> as CumulativeDistribution>⟧.below result

@@ -45,12 +45,11 @@ where
 
     /// Goes to a position that an encoder recorded: seeks in the backend, and takes the recorded interval.
     ///
-    /// The decoder reads as many words at the position as a state has.
+    /// At the position, the decoder reads as many words as a `State` has. They form the new point.
     ///
     /// # Errors
     ///
-    /// Returns `Err(())` if the backend refuses to seek to its position, or refuses a read. The interval and the point
-    /// are unchanged.
+    /// Returns `Err(())` if the backend refuses the seek, or refuses a read. The interval and the point are unchanged.
     ///
     /// # Examples
     ///

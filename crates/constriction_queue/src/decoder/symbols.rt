@@ -120,8 +120,10 @@ impl<
 
     /// Returns whether all encoded symbols may have been decoded.
     ///
-    /// It returns `true` exactly if the backend may be exhausted, and either the point lies where a seal puts it or no
-    /// symbol was decoded.
+    /// It returns `true` exactly if both conditions hold:
+    ///
+    /// - The backend may be exhausted.
+    /// - The point lies where a seal puts it, or no symbol was decoded.
     #[inline]
     fn maybe_exhausted(&self) -> bool
         ensures value { IsTrue result ↔ MayBeExhausted Word.BITS State.BITS Backend.seems_exhausted self.now }

@@ -19,14 +19,14 @@ impl<Word: WordOf<State>, State: BitArray, Backend: ReadWords<Word, Queue>> Rang
     State,
     Backend,
 > {
-    /// Makes a decoder over a backend, and reads as many words as a state has.
+    /// Makes a decoder over a backend, and reads as many words as a `State` has.
     ///
-    /// If the backend has fewer words, the decoder stops at the first read that finds no word, and uses zero words for
+    /// If the backend has fewer words, the decoder stops at the first read that finds no word. It uses zero words for
     /// the missing words.
     ///
     /// # Errors
     ///
-    /// Returns the error of a read. The backend is consumed.
+    /// Returns the error of the read that failed. The backend is consumed.
     ///
     /// # Examples
     ///
@@ -59,7 +59,7 @@ impl<Word: WordOf<State>, State: BitArray, Backend: ReadWords<Word, Queue>> Rang
     ///
     /// # Errors
     ///
-    /// Returns the error of a read. Reads from a cursor never fail.
+    /// Returns the error of the read that failed. Reads from a cursor never fail.
     ///
     /// # Examples
     ///
@@ -88,7 +88,7 @@ impl<Word: WordOf<State>, State: BitArray, Backend: ReadWords<Word, Queue>> Rang
     ///
     /// # Errors
     ///
-    /// Returns the error of a read. Reads from a cursor never fail.
+    /// Returns the error of the read that failed. Reads from a cursor never fail.
     ///
     /// # Examples
     ///
@@ -130,11 +130,11 @@ impl<Word: WordOf<State>, State: BitArray, Backend: Holds<Word, Queue>> RangeDec
 > {
     /// Makes a decoder from a backend with the remaining words, an interval, and a point.
     ///
-    /// The point is the number that the last words read stand for, as many words as a state has.
+    /// The point is the number that the last words read form. It consists of as many words as a `State` has.
     ///
     /// # Errors
     ///
-    /// Returns the backend, exactly if the point doesn't lie in the interval.
+    /// Returns `bulk` exactly if the point doesn't lie in the interval.
     ///
     /// # Examples
     ///

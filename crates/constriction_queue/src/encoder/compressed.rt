@@ -19,8 +19,8 @@ impl<Word: WordOf<State>, State: BitArray, Backend: WriteWords<Word>> RangeEncod
 > {
     /// Returns the backend with the encoder's words: the words written, the pending words, and a seal.
     ///
-    /// If no symbol was encoded, there is no seal. The encoder first asks the backend for room for all words that it
-    /// still has to write.
+    /// The seal consists of the words that end the data. If no symbol was encoded, there is no seal. The encoder first
+    /// asks the backend for room for all words that it still has to write.
     ///
     /// # Errors
     ///
@@ -204,7 +204,7 @@ impl<Word: WordOf<State>, State: BitArray, Backend: Holds<Word, Stack> + Words<W
     ///
     /// The encoder is unchanged. The iterator returns the words that the backend lends, then the pending words and the
     /// seal. These are the words of `into_compressed` if the backend lends its words in the order in which they were
-    /// written ([`crate::as_written::LendsAsWritten`]), as vectors and slices do.
+    /// written, as vectors and slices do. The trait [`crate::as_written::LendsAsWritten`] guarantees this order.
     pub fn iter_compressed(&self) -> RangeCompressedIter<'_, Word>
         // The words that the backend lends, and then what the sealed words have behind those written.
         ensures lent { result ≡ map Word.number (Backend.lent self.now.bulk)

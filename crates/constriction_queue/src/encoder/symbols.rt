@@ -64,8 +64,8 @@ impl<
 
     /// Returns how many more symbols the encoder can encode.
     ///
-    /// The number of pending words and the at most 16 words of a seal have to fit a `usize` together. A step adds at
-    /// most one pending word.
+    /// The number of pending words plus the words of a seal, at most 16, has to fit a `usize`. A step adds at most one
+    /// pending word.
     #[inline]
     fn symbols_left(&self) -> usize {
         match self.situation {
@@ -86,7 +86,7 @@ impl<
     ///   unchanged.
     /// - `Backend(error)`: returned only if words had to be written, and the backend refused room for them or refused a
     ///   write. The interval and the pending words are unchanged. The backend keeps the words that it took before it
-    ///   refused. A vector is unchanged.
+    ///   refused. If the backend is a vector, it is unchanged.
     #[inline]
     fn encode_symbol<M>(
         &mut self,
@@ -129,8 +129,8 @@ impl<
 
     /// Returns whether the backend may be full.
     ///
-    /// If no words are pending and it returns `false`, the next step doesn't fail for lack of room, because it writes
-    /// at most one word.
+    /// If it returns `false` and no words are pending, the next step doesn't fail for lack of room. That step writes at
+    /// most one word.
     #[inline]
     fn maybe_full(&self) -> bool
         ensures value { result ≡ Backend.seems_full self.now.bulk }

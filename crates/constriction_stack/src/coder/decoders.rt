@@ -61,7 +61,7 @@ impl<
         × (decoder.backend.buf.now ≡ coder.backend.items) × (decoder.backend.pos ≡ length coder.backend.items)
         × IsCoder Word.number ⟦<Cursor<Word, &'a [Word]> as Holds<Word, Stack>>⟧ Word.BITS State.BITS decoder };
 
-    /// Returns a coder with the same state that borrows this coder's words.
+    /// Returns a coder that borrows this coder's words and has the same state.
     fn as_decoder(&'a self) -> AnsCoder<Word, State, Cursor<Word, &'a [Word]>> {
         AnsCoder::from_raw_parts(
             AsReadWords::<'a, Word, Stack>::as_read_words(&self.bulk),
@@ -92,7 +92,7 @@ impl<Word: WordOf<State>, State: BitArray, Backend: Holds<Word, Stack>> AnsCoder
     State,
     Backend,
 > {
-    /// Returns a coder with the same state that borrows this coder's words, for reading.
+    /// Returns a coder for reading that borrows this coder's words and has the same state.
     ///
     /// # Examples
     ///
@@ -174,7 +174,7 @@ impl<Word: WordOf<State>, State: BitArray, Buf: Words<Word> + Drop> AnsCoder<
     State,
     Reverse<Cursor<Word, Buf>>,
 > {
-    /// Makes a coder from the words that [`AnsCoder::into_compressed`] returns, in reverse order.
+    /// Makes a coder from compressed words, in the reverse of the order of [`AnsCoder::into_compressed`].
     ///
     /// If there are no words, the coder is empty.
     ///
@@ -236,7 +236,7 @@ impl<
     ReadError: Drop,
     Iter: Iterator<Item = Result<Word, ReadError>>,
 > AnsCoder<Word, State, FallibleIteratorReadWords<Iter>> {
-    /// Makes a coder from an iterator over the words that [`AnsCoder::into_compressed`] returns, in reverse order.
+    /// Makes a coder from an iterator over compressed words, in the reverse of [`AnsCoder::into_compressed`]'s order.
     ///
     /// The call takes words into the head until the head is full. Decoding takes the other words when it needs them.
     /// The caller proves that the iterator's `next` may be called.
@@ -338,7 +338,7 @@ impl<Word: WordOf<State>, State: BitArray, Backend: Holds<Word, Stack>> AnsCoder
     State,
     Backend,
 > {
-    /// Returns a coder with the same state that borrows this coder's words, for reading and seeking.
+    /// Returns a coder for reading and seeking that borrows this coder's words and has the same state.
     pub fn as_seekable_decoder<'a>(&'a self) -> AnsCoder<Word, State, Backend::AsSeekReadWords>
     where
         Backend: AsSeekReadWords<'a, Word, Stack>,
@@ -406,8 +406,8 @@ impl<Word: WordOf<State>, State: BitArray, Backend: Holds<Word, Stack> + Seek> S
     ///
     /// # Errors
     ///
-    /// Returns `Err(())` if the backend refuses to seek to its position. The head is unchanged. If the backend is
-    /// unchanged, so is the coder.
+    /// Returns `Err(())` if the backend refuses the seek. The head is unchanged. If the backend is unchanged, so is the
+    /// coder.
     ///
     /// # Examples
     ///

@@ -1,8 +1,9 @@
 //! Guards that lend a coder's compressed words: a guard writes them onto the backend, and its drop removes them.
 //!
 //! Contracts name the borrowed coder by `lender` and the number of written words by `written`, both of
-//! `specs/Guarded.antt`. A model of the guard's own couldn't pass on the ghost name of the coder. The contract of
-//! `backend` says that the backend holds the coder's words, so a caller who decodes lent words needs no other contract.
+//! `specs/Guarded.antt`. The guard has no `Model`, because a `Model` couldn't pass on the ghost name of the coder. The
+//! contract of `backend` says that the backend holds the coder's words, so a caller who decodes lent words needs no
+//! other contract.
 
 ghost use Rattle.constriction_base.specs.Readings.{NeverRefused};
 ghost use Rattle.std.specs.Prelude.{◌≡◌, ◌↔◌, ◌^◌, ◌++◌, ℕ, drop, map, Ok, Err, IfOk, IfErr, OnOk};
@@ -150,9 +151,9 @@ where
 
     /// Returns a guard that lends the words that [`AnsCoder::into_compressed`] would return.
     ///
-    /// While the guard lives, the backend holds the words below the head and then the words of the head, lowest first,
-    /// without leading zero words. The coder first asks the backend for room for the head's words. A head of 0 has no
-    /// words. Dropping the guard restores the coder.
+    /// While the guard lives, the backend holds the words below the head and then the words of the head. The head's
+    /// words are written lowest first, without leading zero words. The coder first asks the backend for room for the
+    /// head's words. A head of 0 has no words. Dropping the guard restores the coder.
     ///
     /// # Errors
     ///

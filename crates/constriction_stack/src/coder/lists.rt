@@ -1,7 +1,7 @@
 //! Encoding lists of symbols from last to first, as methods of the coder, so that no trait has to be in scope.
 //!
-//! The contracts refer to the iterator's `next_back`, so that a caller doesn't have to know `Rev`. They require that
-//! the iterator ends and that its `next_back` may be called.
+//! The contracts refer to the iterator's `next_back`, so a caller needs no contract of `Rev`. They require that the
+//! iterator ends and that its `next_back` may be called.
 
 ghost use Rattle.constriction_stream.specs.Lists.{GivesAtMost, LowersByItems, StepsUntilFault, TriesItem};
 ghost use Rattle.constriction_stream.specs.Symbols.{EncodesPair, EncodesSymbol};

@@ -62,7 +62,7 @@ impl<
 
     ghost never_full = { λ e impossible lack. lack };
 
-    /// Returns `usize::MAX`: the stack coder has no limit on the number of symbols.
+    /// Returns `usize::MAX`, because the stack coder has no limit on the number of symbols.
     #[inline]
     fn symbols_left(&self) -> usize {
         usize::MAX

@@ -1,7 +1,7 @@
 //! Importing and exporting a coder's words in two forms, and counting them.
 //!
-//! In the compressed form, the head's words have no leading zeros. In the binary form, an implicit leading 1
-//! marks the top of the head, so that every list of words is the export of a coder.
+//! In the compressed form, the head's words have no leading zeros. In the binary form, an implicit leading 1 marks the
+//! top of the head. Therefore every list of words is the export of a coder.
 
 ghost use Rattle.constriction_base.specs.Readings.{BeginsHigh};
 ghost use Rattle.constriction_base.specs.Steps.{IsSizes};
@@ -44,7 +44,7 @@ impl<Word: WordOf<State>, State: BitArray, Backend: ReadWords<Word, Stack>> AnsC
     ///
     /// Returns the backend as the reads left it, in exactly two cases:
     ///
-    /// - The word that is read first, the last of the compressed words, is zero.
+    /// - The last of the compressed words, which is read first, is zero.
     /// - A read returned an error.
     ///
     /// # Examples
@@ -146,7 +146,7 @@ impl<Word: WordOf<State>, State: BitArray, Backend: ReadWords<Word, Stack>> AnsC
     ///
     /// # Errors
     ///
-    /// Returns the error of a read. The backend is consumed.
+    /// Returns the error of the read that failed. The backend is consumed.
     ///
     /// # Examples
     ///
@@ -185,7 +185,7 @@ impl<Word: WordOf<State>, State: BitArray, Backend: WriteWords<Word>> AnsCoder<
     State,
     Backend,
 > {
-    /// Returns the words of a coder whose head is a 1 above whole words.
+    /// Returns the backend, with the words of the coder's binary form on it.
     ///
     /// These are the words below the head, then the head's words below its leading 1, lowest first. Zero words at the
     /// top are included. The coder first asks the backend for room for the head's words. If the head is 1, the backend
@@ -262,8 +262,8 @@ impl<Word: WordOf<State>, State: BitArray, Backend: BoundedReadWords<Word, Stack
 
     /// Returns the number of bits that carry information.
     ///
-    /// These are the bits of the words below the head, and the bits of the head below its leading 1. A new coder has
-    /// none.
+    /// These are the bits of the words below the head, and the bits of the head below its leading 1. For an empty
+    /// coder, the number is 0.
     pub fn num_valid_bits(&self) -> usize
         requires { SizesFit Word.BITS self.now.state }
         ensures { result ≡ valid_bit_count Word.BITS self.now.state }

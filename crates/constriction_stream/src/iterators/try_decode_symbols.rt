@@ -25,7 +25,7 @@ use constriction_words::WordOf;
 pub struct TryDecodeSymbols<'a, Decoder, Models, const PRECISION: usize> {
     /// The decoder, positioned after the symbols returned so far.
     pub decoder: &'a mut Decoder,
-    /// The models of the symbols that are left to decode, or errors instead.
+    /// The items that are left. Each is a model, or an error instead of a model.
     pub models: Models,
 }
 
