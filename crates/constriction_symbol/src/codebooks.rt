@@ -106,8 +106,9 @@ pub trait BitOrder: Semantics {
         ensures bits { bits_of count (Word.number result) ≡ form (reverse (bits_of count (Word.number bits))) }
         ensures small { Word.number result < 2 ^ count };
 
-    /// Returns the statement about the form that the stream writes, given one about the prefix form and one about the
-    /// suffix form.
+    /// Returns the statement about the form that the stream writes.
+    ///
+    /// The first argument is a statement about the prefix form, the second one about the suffix form.
     ghost chosen: { Type 0 → Type 0 → Type 0 };
 
     /// Passes the bits of the symbol's codeword to `emit`, in writing order.
