@@ -3,10 +3,10 @@
 //! Each call comes in two sizes: with 32-bit words (64-bit states, a precision of 24 bits), and with 16-bit words
 //! (32-bit states, 12 bits).
 //!
-//! A C function makes one call with its own arguments, and returns the code of the answer (`codes::code_of`). If the
-//! answer is `NoSpace`, it also sets `needed` to the number of words that the buffer has to hold. Else it leaves
-//! `needed` unchanged. The contract of the function is that of the call, for the answer that the code stands for and
-//! the number of words needed (`Told`).
+//! A C function passes its arguments to one call, and returns the code of the call's answer (`codes::code_of`). If the
+//! answer is `NoSpace`, the function also sets `needed` to the number of words that the buffer has to hold. Otherwise
+//! it leaves `needed` unchanged. The contract of the function is the contract of the call, for the answer that the code
+//! stands for (`Told`).
 #![tactic(auto)]
 
 pub mod ans;

@@ -1,6 +1,6 @@
 //! The stack coder over a caller's buffer.
 //!
-//! Its state is a head and the first `len` words of the buffer, last word on top.
+//! The coder's state is a head and the first `len` words of the buffer, last word on top.
 //!
 //! - [`encoding`]: encoding symbols.
 //! - [`decoding`]: decoding symbols.
@@ -14,8 +14,9 @@
 //!   `lefts` and `ps` differ.
 //! - `WrongInterval`: an interval is empty or ends past `2 ^ PRECISION`, or a range has fewer than two symbols or more
 //!   than `2 ^ PRECISION`.
-//! - `WrongWeights`: weights don't add up to `2 ^ PRECISION`, a family doesn't exist, or a scale is 0.
-//! - `InvalidData`: the words or the head are those of no state.
+//! - `WrongWeights`: weights don't add up to `2 ^ PRECISION`, no family has the caller's family number, or a scale is
+//!   0.
+//! - `InvalidData`: no state has these words, or this head.
 //! - `ImpossibleSymbol`: a model has no entry for its symbol.
 //! - `NoSpace(needed)`: the buffer is too short. `needed` is the number of words that the state would have.
 //! - `NoMemory`: there is no memory. The call may also return this if the buffer is too short.

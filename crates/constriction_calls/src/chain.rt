@@ -1,7 +1,7 @@
-//! The chain coder over a caller's buffers. Its state is two heads and the words of two buffers.
+//! The chain coder over a caller's buffers. The coder's state is two heads and the words of two buffers.
 //!
-//! The words in use are the first words of each buffer, last word on top. The caller passes their number. A decode
-//! reads compressed words and writes remainders. An encode does the opposite.
+//! The words in use are the first words of each buffer, last word on top. The caller passes the number of words in use.
+//! A decode reads compressed words and writes remainders. An encode reads remainders and writes compressed words.
 //!
 //! # Errors
 //!
@@ -10,9 +10,9 @@
 //!
 //! - `WrongLength`: a number of words is past its buffer's end, or the arguments of the models don't have as many items
 //!   as there are symbols.
-//! - `WrongInterval`, `WrongWeights`: the arguments make no models. [`constriction_inputs::models`] says when this is
-//!   so.
-//! - `InvalidData`: the heads are those of no coder.
+//! - `WrongInterval`, `WrongWeights`: the arguments make no models. [`constriction_inputs::models`] describes these
+//!   cases.
+//! - `InvalidData`: no coder has these heads.
 //! - `ImpossibleSymbol`: a model has no entry for its symbol.
 //! - `OutOfData`: the coder needs a word, and none is left.
 //! - `NoSpace(needed)`: the buffer to write to is too short. `needed` is the number of words that it has to hold.

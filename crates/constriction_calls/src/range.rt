@@ -12,7 +12,7 @@
 //!
 //! A call that fails changes nothing. Each call first checks for these errors, in this order:
 //!
-//! - `WrongLength` exactly if `len`, a place or a position is past the buffer's end.
+//! - `WrongLength` exactly if `len` or a position is past the buffer's end.
 //! - `WrongLength`, `WrongInterval` and `WrongWeights` exactly if [`constriction_inputs::models::Models::check`]
 //!   returns them.
 //! - `InvalidData` exactly if no decoder or encoder has the numbers, or if the encoder can't count that many further

@@ -13,7 +13,7 @@
 //! - `OutOfData`: the words end before all symbols are read.
 //! - `InvalidData`: some bits begin with no codeword, or the last word of a stack is 0.
 //!
-//! If there is no memory, the call returns `NoMemory`. The errors `WrongWeights` and `ImpossibleSymbol` come before it.
+//! If there is no memory, the call returns `NoMemory`, unless `WrongWeights` or `ImpossibleSymbol` applies.
 
 mod decoding;
 mod encoding;

@@ -24,8 +24,9 @@ use std::marker::Model;
 
 /// A coder that decodes each symbol from its own bits of the compressed words, with that symbol's model alone.
 ///
-/// A decode takes a quantile from the compressed words. It moves the quantile's place in the symbol's interval to the
-/// remainders. An encode takes that place back from the remainders, and restores the quantile.
+/// A decode takes a quantile from the compressed words. The quantile lies in the interval of the symbol. The decode
+/// moves the quantile's place in that interval to the remainders. An encode takes the place back from the remainders,
+/// and restores the quantile.
 ///
 /// Contracts see a `ChainValue`: the state (the two heads and the words of both backends) and the backends.
 ///
@@ -135,7 +136,7 @@ impl<
         }
     }
 
-    /// Splits the coder into its backends and its heads. The backends hold the words below the heads.
+    /// Returns the coder's compressed backend, its remainders' backend and its heads, in this order.
     #[inline]
     pub fn into_raw_parts(self) -> (C, R, ChainCoderHeads<Word, State, PRECISION>)
         ensures value { self ≡ at_heads Word.number State.number C.Holds R.Holds result.2 result.0 result.1 }

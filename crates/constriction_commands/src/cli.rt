@@ -1,4 +1,4 @@
-//! Whole runs of the program: from the arguments and the input bytes to the output bytes and the exit status.
+//! Whole runs of the program, from the arguments and the input bytes to the output bytes and the exit status.
 
 ghost use Rattle.std.specs.Prelude.{◌≡◌, ◌↔◌, ◌⊎◌, ◌≤◌, ◌≢◌, ℕ, List, [], drop, map, string_bytes, IfErr, IfOk, IfSome};
 ghost use Rattle.std.specs.Prelude.{IsErr, IsOk, IsOkAnd, OnOk};
@@ -95,8 +95,8 @@ fn answer_to<R: Read, O: Write>(
 /// - 1 if a fault stopped the run. One line on `faults` says which fault.
 /// - 2 if the arguments aren't exactly one known command.
 ///
-/// Whether a read or a write fails depends on the reader and the writers. So no clause says when `cannot read input`,
-/// `cannot write output` or `out of memory` is written.
+/// Whether a read or a write fails depends on `input`, `output` and `faults`. So no clause says when the line of the
+/// fault is `cannot read input`, `cannot write output` or `out of memory`.
 pub fn run<R: Read, O: Write, E: Write>(
     alloc: Global,
     args: &[String],
@@ -130,10 +130,11 @@ pub fn run<R: Read, O: Write, E: Write>(
 
 /// Runs the program with the arguments that the system gives, and returns the exit status.
 ///
-/// The first argument is the program's name. The status is the one that [`run`] returns, except in two cases:
+/// `given` begins with the program's name. The status is the one that [`run`] returns for the other arguments, except
+/// in two cases:
 ///
-/// - 1, with the line `out of memory`, if there is no memory for the arguments;
-/// - 2, if an argument isn't UTF-8.
+/// - If there is no memory for the arguments, the status is 1, and the line on `faults` is `out of memory`.
+/// - If an argument isn't UTF-8, the status is 2.
 pub fn start<R: Read, O: Write, E: Write>(
     alloc: Global,
     given: io::Result<Args>,

@@ -45,7 +45,7 @@ pub fn codeword<C: EncoderCodebook>(
     }
 }
 
-/// Appends bits as digits.
+/// Appends each bit to `line`, as the digit 0 or 1.
 pub fn push_digits(line: &mut Vec<u8>, bits: &[bool]) -> Result<(), AllocError>
     ensures { OnOk result (line.new.items ≡ line.old.items ++ digits bits.now) }
 {

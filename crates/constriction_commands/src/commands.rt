@@ -57,7 +57,7 @@ impl Command {
     ///
     /// # Errors
     ///
-    /// The fault that stops the command. `specs/commands/` says when each fault comes.
+    /// The fault that stops the command. The command's file in `specs/commands/` says when each fault is returned.
     pub fn answer(self, alloc: Global, text: &[u8]) -> Result<Vec<u8>, Fault>
         ensures ok { IfOk result (λ answer. Answers self text.now answer.items) }
         ensures err { IfErr result (Fails self text.now) }

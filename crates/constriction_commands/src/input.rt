@@ -10,6 +10,10 @@ use std::alloc::Global;
 use std::io::{ErrorKind, Read};
 
 /// Reads all remaining bytes of the input.
+///
+/// # Errors
+///
+/// `OutOfMemory` if there is no memory for the bytes. `Unreadable` if a read fails for another reason.
 pub fn read_all<R: Read>(alloc: Global, input: &mut R) -> Result<Vec<u8>, Fault>
     ensures ok { IfOk result (λ text. IfSome (R.remaining input.old) (λ left. text.items ≡ left)) }
     ensures err { IfErr result (λ fault. (fault ≡ Unreadable) ⊎ (fault ≡ OutOfMemory)) }
@@ -93,7 +97,7 @@ fn with_digit(so_far: u64, byte: u8, greatest: u64) -> Option<u64>
 ///
 /// # Errors
 ///
-/// `BadNumber` if the line isn't a list of numbers that fit the type `N`. `OutOfMemory` if there is no memory.
+/// `BadNumber` only if the line isn't a list of numbers that fit the type `N`. `OutOfMemory` if there is no memory.
 pub fn parse_numbers<N: Number>(alloc: Global, line: &[u8]) -> Result<Vec<N>, Fault>
     ensures ok { IfOk result (λ numbers. numbers_of N.GREATEST line.now ≡ Some (map N.number numbers.items)) }
     ensures bad { IsErrOf result BadNumber → numbers_of N.GREATEST line.now ≡ None }

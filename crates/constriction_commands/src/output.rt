@@ -12,7 +12,7 @@ use itoa::{Buffer, Integer};
 use std::alloc::{AllocError, Global};
 use std::io::{ErrorKind, Write};
 
-/// Appends a line of numbers.
+/// Appends a line of numbers to `out`.
 pub fn push_numbers<I: Integer>(out: &mut Vec<u8>, numbers: &[I]) -> Result<(), AllocError>
     ensures { OnOk result (out.new.items ≡ out.old.items ++ join_with_byte 32 (map I.text numbers.now) ++ 10 ∷ []) }
 {
@@ -43,7 +43,7 @@ pub fn line_of_words(alloc: Global, words: &[u32]) -> Result<Vec<u8>, AllocError
     line_of_numbers(alloc, words)
 }
 
-/// Appends a line of a coder's words.
+/// Appends a line of a coder's words to `out`.
 pub fn push_words(out: &mut Vec<u8>, words: &[u32]) -> Result<(), AllocError>
     ensures { OnOk result (out.new.items ≡ out.old.items ++ line_of (map (λ word. word % 2 ^ 32) words.now)) }
 {
@@ -73,7 +73,11 @@ fn write_bytes<O: Write>(output: &mut O, bytes: &[u8]) -> Result<(), Fault>
     Err(Fault::Unwritable)
 }
 
-/// Writes all bytes, and flushes the writer.
+/// Writes all bytes to `output`, and flushes it.
+///
+/// # Errors
+///
+/// `Unwritable` if a write or the flush fails. The first bytes may have been written.
 pub fn write_out<O: Write>(output: &mut O, bytes: &[u8]) -> Result<(), Fault>
     ensures ok { OnOk result (Appends (O.contents output.old) (O.contents output.new) bytes.now) }
     ensures begun { GrowsByBeginning (O.contents output.old) (O.contents output.new) bytes.now }

@@ -17,6 +17,12 @@ pub const PRECISION: usize = 24;
 pub type Table = WeightTable<u32, PRECISION>;
 
 /// Makes the table of these weights.
+///
+/// # Errors
+///
+/// - `NoWeights` if there is no weight.
+/// - `WrongTotal` if the weights don't add up to `2^24`.
+/// - `OutOfMemory` if there is no memory.
 pub fn make_table(alloc: Global, weights: &[u32]) -> Result<Table, Fault>
     ensures ok { IfOk result (λ table. ⟦<Table as EntropyModel<PRECISION>>⟧.table table ≡ table_of weights.now) }
     ensures total { OnOk result (Total weights.now) }

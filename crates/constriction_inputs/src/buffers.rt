@@ -1,4 +1,4 @@
-//! Appending words to the words in a caller's buffer.
+//! Appending words to the words that a caller's buffer holds.
 
 ghost use Rattle.std.specs.Prelude.{◌≡◌, ◌+◌, ◌<◌, ◌≤◌, ◌⊎◌, ◌^◌, length, OnOk, OnErr, IfErr};
 ghost use Rattle.constriction_inputs.specs.Buffers.{Appended};
@@ -7,7 +7,7 @@ ghost use Rattle.constriction_inputs.specs.declared.refusal.Refusal.TheVariants 
 use crate::refusal::Refusal;
 use constriction_words::BitArray;
 
-/// Writes words after the first `len` words of a buffer, and adds their number to `len`.
+/// Writes the words of `added` after the first `len` words of a buffer, and adds their number to `len`.
 ///
 /// The caller proves that `len` is at most the length of the buffer.
 ///
@@ -16,7 +16,7 @@ use constriction_words::BitArray;
 /// Nothing changes after an error.
 ///
 /// - `NoSpace(needed)`: the buffer is too short. `needed` is the number of words that it has to hold.
-/// - `NoMemory`: that number doesn't fit a `usize`, so no buffer can be that long.
+/// - `NoMemory`: the number of words that the buffer has to hold doesn't fit a `usize`, so no buffer is long enough.
 ///
 /// # Examples
 ///

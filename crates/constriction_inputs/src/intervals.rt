@@ -1,4 +1,5 @@
-//! Intervals without a table, as rows of three weights: below the interval, the interval itself, and above it.
+//! Intervals without a table, as rows of three weights: the weight below an interval, its own length, and the weight
+//! above it.
 
 ghost use Rattle.std.specs.Prelude.{◌≡◌, ◌≢◌, ◌↔◌, ◌⊎◌, ◌*◌, ◌+◌, ◌^◌, ◌≤◌, length, map, IsTrue, IfOk, IfErr, OnOk};
 ghost use Rattle.std.specs.Prelude.{IsErrOf};
@@ -11,9 +12,9 @@ use constriction_base::weights::starts::ones;
 use constriction_words::BitArray;
 use std::alloc::{AllocError, Global};
 
-/// Returns a row of three weights for each interval, and the symbol 1 for each row.
+/// Returns a row of three weights for each interval, and a list with the symbol 1 for each row.
 ///
-/// Symbol 1 of a row stands for the interval. `lefts` has the start of each interval, and `ps` its length.
+/// Symbol 1 of a row stands for the interval. `lefts` has the start of each interval, and `ps` has its length.
 ///
 /// # Errors
 ///

@@ -1,4 +1,4 @@
-//! Whether weights give an interval to the symbols to encode.
+//! Whether the symbols to encode have weights above 0.
 
 ghost use Rattle.std.specs.Prelude.{◌≡◌, ◌↔◌, ◌*◌, length, map, IsTrue};
 ghost use Rattle.constriction_base.specs.Models.{AreKnown, Knows};
@@ -7,9 +7,10 @@ ghost use Rattle.constriction_inputs.specs.Weights.{weights_model};
 
 use constriction_words::BitArray;
 
-/// Returns whether each row of `width` weights gives its symbol an interval. This takes no memory.
+/// Returns whether each symbol has a weight above 0 in its own row of `width` weights. The call needs no memory.
 ///
-/// Each symbol has the row at its own index. The caller proves that there are `width` weights for each symbol.
+/// The row of a symbol is at the symbol's index in `symbols`. The caller proves that there are `width` weights for
+/// each symbol.
 pub fn all_known_in_rows<P: BitArray, const PRECISION: usize>(
     weights: &[P],
     width: usize,

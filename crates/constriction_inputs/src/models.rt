@@ -21,7 +21,7 @@ pub use rows::Rows;
 use std::alloc::Global;
 pub use weights::Weights;
 
-/// The models of a list of symbols, with one model at each index of the list.
+/// The models of a list of symbols: one model for each index of the list.
 ///
 /// An implementor defines the tables of its models (`tables`). It proves that `at` returns a model with the table at
 /// the same index.
@@ -50,16 +50,17 @@ pub trait Models<P: BitArray, const PRECISION: usize> {
     // The symbols, together with what their models are made from.
     ghost coded: { Self → List ℕ → Coded };
 
-    /// Checks that the data make models for these symbols. This takes no memory.
+    /// Checks that the data make models for these symbols. The call needs no memory.
     ///
     /// # Errors
     ///
-    /// `WrongLength`, `WrongInterval` and `WrongWeights`, checked in this order. Each is returned exactly in its case.
+    /// `WrongLength`, `WrongInterval` and `WrongWeights`, checked in this order. The form of the data (`coded`)
+    /// determines the case of each error, and the error is returned exactly in that case.
     fn check(&self, symbols: &[usize]) -> Result<(), Refusal>
         requires { (1 ≤ PRECISION) × (PRECISION ≤ P.BITS) }
         ensures { AsksFit PRECISION (coded self.now symbols.now) (Else Never) result };
 
-    /// Returns whether each model has an entry for its symbol. This takes no memory.
+    /// Returns whether each model has an entry for its symbol. The call needs no memory.
     ///
     /// The caller proves that `check` would succeed.
     fn know(&self, symbols: &[usize]) -> bool
@@ -68,7 +69,7 @@ pub trait Models<P: BitArray, const PRECISION: usize> {
 
     /// Returns the models of the symbols, or `None` if there is no memory for them.
     ///
-    /// `divides` says whether the coder's steps divide by weights. The caller proves that `check` would succeed.
+    /// `divides` says whether the coder divides by weights. The caller proves that `check` would succeed.
     fn list(&self, alloc: Global, symbols: &[usize], divides: bool) -> Option<Self::List>
         requires precision { (1 ≤ PRECISION) × (PRECISION ≤ P.BITS) }
         requires fit { AreFit PRECISION (coded self.now symbols.now) }

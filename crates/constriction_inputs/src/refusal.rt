@@ -16,14 +16,14 @@ pub enum Refusal {
     ImpossibleSymbol,
     /// Weights don't add up to `2 ^ PRECISION`, or the caller's numbers give no weights.
     ///
-    /// Numbers give no weights if no family has the number, if a scale is 0, or if no count or too many counts are
-    /// above 0.
+    /// The numbers give no weights in three cases: no family has the caller's family number, a scale is 0, or no count
+    /// or too many counts are above 0.
     #[error("wrong weights")]
     WrongWeights,
     /// An interval is empty or ends past `2 ^ PRECISION`, or a range has too few or too many symbols.
     #[error("wrong interval")]
     WrongInterval,
-    /// A length is past its buffer's end, or the lengths of two lists don't match.
+    /// A length is above the length of its buffer, or the lengths of two lists don't match.
     #[error("wrong length")]
     WrongLength,
     /// The buffer is too short. It has to hold this number of words.
@@ -32,7 +32,7 @@ pub enum Refusal {
     /// There is no memory.
     #[error("out of memory")]
     NoMemory,
-    /// The words, or the numbers of a state, don't belong to any coder.
+    /// No coder has these words, or these numbers of its state.
     #[error("invalid data")]
     InvalidData,
     /// The words ended before all symbols were decoded.

@@ -16,7 +16,7 @@ use std::alloc::{AllocError, Global};
 /// A model of the symbols `0`, `1`, .. that borrows their weights.
 ///
 /// The intervals lie in the order of the list, and each is as long as its symbol's weight. A symbol of weight 0 and a
-/// number past the end of the list have no interval. Each look-up adds up weights from the first one on.
+/// number past the end of the list have no interval. Each look-up adds up the weights from the beginning of the list.
 ///
 /// # Examples
 ///
@@ -52,7 +52,9 @@ impl<'a, P: BitArray, const PRECISION: usize> Row<'a, P, PRECISION> {
     }
 }
 
-/// Returns `count` rows of `width` weights each as models. The caller proves that each adds up to `2 ^ PRECISION`.
+/// Returns `count` models, one for each row of `width` weights.
+///
+/// The caller proves that each row adds up to `2 ^ PRECISION`.
 ///
 /// # Errors
 ///

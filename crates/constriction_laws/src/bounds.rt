@@ -16,7 +16,9 @@ ghost use Rattle.constriction_queue.specs.SelfDelimiting.{SelfDelimits};
 ghost use Rattle.constriction_laws.specs.Bounds.{Act, Acts, AreAllowed, IsNetBounded, product, rounded_whole};
 ghost use Rattle.constriction_laws.specs.Bounds.{share};
 
-/// Bounds the number of words of a stack coder after encodes onto an empty coder.
+/// Bounds the number of words that a stack coder exports, if it encoded `steps` and was empty before.
+///
+/// Each step has one factor on each side of the inequality: `p * 2^k` on the left, `2^P * (2^k + 1)` on the right.
 pub fn stack_bound()
     ensures { (w s : ℕ) (steps : List Step) (state : AnsState) → IsSizes w s → AreSteps w steps →
         InTurn (IsPush w s) steps empty state →
@@ -24,10 +26,11 @@ pub fn stack_bound()
         ≤ 2 ^ (s - w) * product (rounded_whole w s) steps }
 {}
 
-/// Bounds the number of words of a stack coder after encodes onto an empty coder, all with one precision.
+/// Bounds the number of words that a stack coder exports, if all symbols have the same precision.
 ///
-/// With one precision the spare bits `k` are the same in all steps. If the coder exports `N` words for `n`
-/// symbols, then `w * (N - 1)` is at most `s - w`, plus the information content in bits, plus `n * log2(1 + 2^-k)`.
+/// The coder encoded `steps` and was empty before. The spare bits `k` are the same in all steps. If the coder exports
+/// `N` words for `n` symbols, then `w * (N - 1)` is at most the sum of three terms: `s - w`, the information content
+/// of all symbols in bits, and `n * log2(1 + 2^-k)`.
 pub fn stack_bound_at_one_precision()
     ensures { (w s precision : ℕ) (steps : List Step) (state : AnsState) → IsSizes w s → AreSteps w steps →
         AllByRecursion (λ e. e.precision ≡ precision) steps → InTurn (IsPush w s) steps empty state →
@@ -36,18 +39,19 @@ pub fn stack_bound_at_one_precision()
         ≤ 2 ^ (s - w) * ((2 ^ precision) ^ length steps * (2 ^ (s - w - precision) + 1) ^ length steps) }
 {}
 
-/// Bounds the number of words of a stack coder after encodes and decodes in any order.
+/// Bounds the number of exported words that encodes and decodes in any order add to a stack coder.
 ///
-/// This is the net cost of bits-back coding. The coder begins in a valid state whose head is at least `2^(s-w)`.
+/// The bound is on the net cost of bits-back coding: the bits that encodes add, minus the bits that decodes take off.
+/// The coder begins in a valid state. Its head is at least `2^(s-w)` at the beginning and after each decode.
 pub fn stack_net_bound()
     ensures { (w s : ℕ) (acts : List Act) (old new : AnsState) → IsSizes w s → AreAllowed w acts → IsValid w s old →
         2 ^ (s - w) ≤ old.head → InTurn (Acts w s) acts old new →
         IsNetBounded w s acts old new }
 {}
 
-/// Bounds the number of words of a range encoder from above, if there are at least two words with the seal.
+/// Bounds the number of words of a range encoder, if there are at least two words, including the seal.
 ///
-/// The encoder starts from the initial interval and takes `steps`.
+/// The encoder starts from the initial interval and encodes `steps`.
 pub fn range_bound()
     ensures { (w s : ℕ) (steps : List Step) → IsSizes w s → AreSteps w steps →
         2 ≤ length (sealed w s (run w s steps (initial s))) →
@@ -55,9 +59,10 @@ pub fn range_bound()
         < 2 ^ s * product (rounded_whole w s) steps }
 {}
 
-/// Bounds the number of words of a new range encoder with a self-delimiting seal.
+/// Bounds the number of words of a range encoder with a self-delimiting seal.
 ///
-/// The bound holds if there are at least `s / w` words, as many as a state has.
+/// The encoder starts from the initial interval and encodes `steps`. The bound holds if there are at least `s / w`
+/// words, including the seal. That is the number of words in a state.
 pub fn self_delimiting_bound()
     ensures { (w s : ℕ) (steps : List Step) (words : List ℕ) → IsSizes w s → AreSteps w steps →
         SelfDelimits w s (run w s steps (initial s)) words → s / w ≤ length words →

@@ -4,8 +4,8 @@
 //! - [`errors`]: the reasons why symbols weren't encoded.
 //! - [`isolation`]: a symbol depends only on the compressed words, the precisions and its own table.
 //! - [`lists`]: encoding and decoding lists of symbols undo each other, from the last symbol to the first.
-//! - [`words`]: encoding the symbols decoded from words restores the words, through the remainders.
-//! - [`round_trips`]: functions that make the coder's calls for one half of a round trip through the remainders.
+//! - [`words`]: a coder made from the remainders restores the words when it encodes the decoded symbols.
+//! - [`round_trips`]: functions that decode symbols and return the remainders, or encode symbols onto remainders.
 
 pub mod errors;
 pub mod isolation;

@@ -8,7 +8,7 @@
 //! The public functions of the modules `round_trips`, `costs`, `flagged` and `bounds::words` make the coders' calls.
 //! Their contracts say what these calls do together.
 //!
-//! - [`bounds`]: upper bounds on the number of words; words that any words may follow.
+//! - [`bounds`]: upper bounds on the number of words, and sealed words that any words may follow.
 //! - [`chain`]: the chain coder, whose symbols are isolated.
 //! - [`errors`]: the reasons why symbols weren't encoded or decoded.
 //! - [`lists`]: one law for all coders: if each step can be undone, a list of steps can be undone, from the last step

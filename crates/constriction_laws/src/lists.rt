@@ -7,8 +7,9 @@ ghost use Rattle.constriction_base.specs.Steps.{InTurn};
 /// Steps of a coder, and the steps that undo them.
 ///
 /// An implementor stands for one use of a coder, such as encoding on the stack coder. It proves that an allowed step
-/// from a valid state leads to a valid state, from which the step can be undone. If a coder decodes symbols in the
-/// order of encoding, the implementor's steps take its encodes back, from the last to the first.
+/// from a valid state leads to a valid state, from which the step can be undone. For a coder that decodes symbols in
+/// the order of encoding, the implementor's steps take encodes back, from the last to the first. The inverse steps are
+/// then the decodes.
 pub trait StepsUndo {
     /// The data that all steps share, such as the sizes of words and states.
     ghost setting: { Type 0 };
@@ -19,10 +20,10 @@ pub trait StepsUndo {
     /// The state that a step changes.
     ghost state: { Type 0 };
 
-    /// Holds for the steps that the law covers.
+    /// Holds for the steps that [`lists_undo`] covers.
     ghost allowed: { setting → step → Type 0 };
 
-    /// Holds for the states that the law covers.
+    /// Holds for the states that [`lists_undo`] covers.
     ghost valid: { setting → state → Type 0 };
 
     /// Holds if the step leads from the first state to the second.

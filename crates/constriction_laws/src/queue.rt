@@ -1,13 +1,13 @@
 //! Laws of the range coder.
 //!
-//! - [`words`]: the steps that words are read as.
+//! - [`words`]: which steps a decoder reads from words.
 //! - [`lists`]: decoding sealed words returns the encoded symbols, first symbol first.
 //! - [`positions`]: a recorded position leads to the symbols encoded after it.
-//! - [`following`]: words that any words may follow.
+//! - [`following`]: self-delimiting seals, which any words may follow.
 //! - [`concatenated`]: the reason why a list wasn't decoded from a position in words.
 //! - [`flagged`]: symbols of two models in one stream, separated by a flag.
 //! - [`guards`]: the drop of a guard restores the encoder.
-//! - [`refusals`]: when a step isn't refused.
+//! - [`refusals`]: how much room in a backend is enough for a step.
 //! - [`round_trips`]: functions that make the coder's calls for one half of a round trip: encoding or decoding.
 
 pub mod concatenated;

@@ -160,11 +160,11 @@ where
     ///
     /// - `TooLong` exactly if the chunks have more than [`MOST_SYMBOLS`] symbols together. This is checked before any
     ///   encoding.
-    /// - `ImpossibleSymbol` if the model has no entry for a symbol. It says where the first of these symbols is.
+    /// - `ImpossibleSymbol` if the model has no entry for a symbol. Its fields say where the first of these symbols is.
     /// - `Memory` if there is no memory for the words or the index.
     ///
-    /// `ImpossibleSymbol` and `Memory` stop the encoding, so the call returns the first error that it reaches. For an
-    /// empty list of chunks it returns neither.
+    /// Encoding stops at the first `ImpossibleSymbol` or `Memory`. For an empty list of chunks the call returns
+    /// neither.
     ///
     /// # Examples
     ///

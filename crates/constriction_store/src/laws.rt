@@ -16,7 +16,8 @@ use std::alloc::Global;
 
 /// At any entry, a list of words holds at most one chunk.
 ///
-/// `HoldsChunk` and `HoldsNoChunk` never both hold for the same words at the same entry.
+/// Words hold a chunk at an entry if decoding from the entry returns the chunk's symbols. For the same words and the
+/// same entry, `HoldsChunk` and `HoldsNoChunk` never both hold.
 pub fn one_chunk_at_entry()
     ensures one { (w s : ℕ) (model : Model ℕ) (words : List ℕ) (entry : Entry) (symbols others : List ℕ) →
         IsModel w model → HoldsChunk w s model words entry symbols → HoldsChunk w s model words entry others →
@@ -27,7 +28,7 @@ pub fn one_chunk_at_entry()
 
 /// A look-up depends only on the words of its chunk, and on as many words after them as a state has.
 ///
-/// All other words may differ.
+/// If `others` has the same words in these places, decoding `others` from the chunk's entry returns the same symbols.
 pub fn other_words_are_not_read()
     ensures { (w s : ℕ) (model : Model ℕ) (words others : List ℕ) (entry : Entry) (symbols : List ℕ) (last : Run) →
         IsSizes w s → AreWords w words → AreWords w others →
@@ -38,8 +39,8 @@ pub fn other_words_are_not_read()
 
 /// Looks up the chunks with the numbers `places`, in order.
 ///
-/// If the store holds chunks, as a store from [`Store::build`] does, the call returns these chunks. Any store returns
-/// the symbols that its words encode at each entry.
+/// For a store from [`Store::build`], the call returns the given chunks with these numbers. For any store, it returns
+/// the symbols that the store's words encode at the entries with these numbers.
 ///
 /// # Errors
 ///

@@ -27,7 +27,7 @@ pub enum ChunkError {
     /// The store has no chunk with this number.
     #[error("no such chunk")]
     NoSuchChunk,
-    /// At some index of the chunk, the words encode no symbol of the model.
+    /// The words encode no symbol of the model at some index of the chunk.
     #[error("invalid chunk")]
     Invalid,
     /// There is no memory for the symbols.

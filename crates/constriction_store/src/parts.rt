@@ -38,14 +38,14 @@ impl<
     M: EncoderModel<PRECISION, Symbol = usize> + DecoderModel<PRECISION, Symbol = usize>,
     const PRECISION: usize,
 > Store<Word, State, M, PRECISION> {
-    /// Makes a store from words, an index and a model. It needs no memory.
+    /// Makes a store from words, an index and a model. The call needs no memory.
     ///
     /// The parts may come from [`Store::into_parts`], or from anywhere else.
     ///
     /// # Errors
     ///
-    /// `BadIndex` exactly if an entry begins past the words, or the chunks have more than [`MOST_SYMBOLS`] symbols
-    /// together.
+    /// `BadIndex` exactly if an entry's position is past the end of `words`, or all chunks together have more than
+    /// [`MOST_SYMBOLS`] symbols.
     ///
     /// # Examples
     ///

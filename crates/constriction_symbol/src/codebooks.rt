@@ -47,13 +47,13 @@ pub trait EncoderCodebook: Codebook {
     /// Holds if emitting the suffix form of the symbol may need memory.
     ghost suffix_wants: { Self → Self.Symbol → Type 0 };
 
-    /// Emits the codeword of the symbol in reading order.
+    /// Passes the bits of the symbol's codeword to `emit`, in reading order.
     ///
     /// # Errors
     ///
     /// - `Frontend(ImpossibleSymbol)` exactly if the symbol has no codeword. Nothing was emitted.
-    /// - `Backend(error)` if `emit` returns this error. The codeword's bits up to the refused bit were passed to
-    ///   `emit`.
+    /// - `Backend(error)` if `emit` returns this error. `emit` got the codeword's bits up to and including the bit that
+    ///   it refused.
     /// - `Backend(error)`, made from an `AllocError`, if memory is needed and not available. Nothing was emitted.
     fn encode_symbol_prefix<E: From<AllocError>, F: FnMut(bool) -> Result<(), E>>(
         &self,
@@ -64,7 +64,7 @@ pub trait EncoderCodebook: Codebook {
         ensures { EmitsCodeword F.FnMut (LacksMemory (prefix_wants self.now symbol.now) E.From.from_gives)
             emit.old (Self.codeword self.now symbol.now) result emit.new };
 
-    /// Emits the codeword of the symbol from the last bit to the first (its suffix form).
+    /// Passes the bits of the symbol's codeword to `emit`, from the last to the first (the suffix form).
     ///
     /// # Errors
     ///
@@ -80,8 +80,8 @@ pub trait EncoderCodebook: Codebook {
 
     /// Returns the whole codeword of the symbol in one word, and the codeword's length in bits.
     ///
-    /// The codeword is the lowest bits of the word, with its first bit as their highest. A coder writes it with one
-    /// shift. The default returns `None`. A symbol for which the call returns `None` may still have a codeword.
+    /// The codeword stands in the lowest bits of the word, first bit highest. So a coder can write it with one shift.
+    /// The default implementation returns `None`. A symbol for which the call returns `None` may still have a codeword.
     #[inline]
     fn codeword_at_once<Word: BitArray>(&self, symbol: &Self::Symbol) -> Option<(Word, u32)>
         ensures { IfSome result (λ found.
@@ -106,10 +106,12 @@ pub trait BitOrder: Semantics {
         ensures bits { bits_of count (Word.number result) ≡ form (reverse (bits_of count (Word.number bits))) }
         ensures small { Word.number result < 2 ^ count };
 
-    /// Chooses between two statements: the first is on the prefix form, the second on the suffix form.
+    /// Returns the statement about the form that the stream writes.
+    ///
+    /// The first argument is a statement about the prefix form, the second one about the suffix form.
     ghost chosen: { Type 0 → Type 0 → Type 0 };
 
-    /// Emits the codeword of the symbol in writing order.
+    /// Passes the bits of the symbol's codeword to `emit`, in writing order.
     ///
     /// # Errors
     ///
@@ -225,11 +227,11 @@ pub trait DecoderCodebook: Codebook {
         ensures can { OnOk result (I.can_next source.new) }
         ensures finite { IsFinite (I.remaining source.old) → OnOk result (IsFinite (I.remaining source.new)) };
 
-    /// Looks up the codeword at the beginning of the `count` highest bits of a word. The first bit is the highest.
+    /// Looks up the codeword that the `count` highest bits of `bits` begin with. The highest bit comes first.
     ///
-    /// Returns the codeword's symbol and length, but only if the length is below `count`. A coder then drops these bits
-    /// with one shift. The default returns `None`. Bits for which the call returns `None` may still begin with a
-    /// codeword.
+    /// Returns the codeword's symbol and length, but only if the length is below `count`. So a coder can drop the
+    /// codeword's bits with one shift. The default implementation returns `None`. Bits for which the call returns
+    /// `None` may still begin with a codeword.
     #[inline]
     fn symbol_at_once<Word: BitArray>(&self, bits: Word, count: u32) -> Option<(Self::Symbol, u32)>
         requires { count ≤ Word.BITS }

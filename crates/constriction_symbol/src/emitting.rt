@@ -25,7 +25,7 @@ pub fn emit_zeros<E, F: FnMut(bool) -> Result<(), E>>(
     Ok(())
 }
 
-/// Emits the lowest bits of a word, highest first.
+/// Emits the lowest `count` bits of a word, highest first.
 pub fn emit_down<Word: BitArray, E, F: FnMut(bool) -> Result<(), E>>(
     word: Word,
     count: u32,
@@ -47,7 +47,7 @@ pub fn emit_down<Word: BitArray, E, F: FnMut(bool) -> Result<(), E>>(
     Ok(())
 }
 
-/// Emits the lowest bits of a word, lowest first.
+/// Emits the lowest `count` bits of a word, lowest first.
 pub fn emit_up<Word: BitArray, E, F: FnMut(bool) -> Result<(), E>>(
     word: Word,
     count: u32,

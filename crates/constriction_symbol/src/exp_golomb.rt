@@ -209,7 +209,7 @@ impl<N: BitArray> DecoderCodebook for ExpGolomb<N> {
         }
     }
 
-    /// Looks up the codeword at the beginning of the bits.
+    /// Looks up the codeword that the `count` highest bits of `bits` begin with.
     ///
     /// Returns `None` for the greatest `N`, and for codewords of `count` bits or more.
     #[inline]

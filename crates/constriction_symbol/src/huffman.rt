@@ -1,7 +1,7 @@
-//! Huffman trees: codebooks as cheap as any prefix-free codebook for the given weights.
+//! Huffman trees: codebooks that cost at most as much as any prefix-free codebook for the given weights.
 //!
-//! The cost of a codebook is the sum of each codeword's length times its symbol's weight. `constriction_laws` proves
-//! that no prefix-free codebook costs less (`symbol::huffman::least_cost`).
+//! The cost of a codebook is a sum over all symbols: the length of the symbol's codeword times the symbol's weight.
+//! `constriction_laws` proves that no prefix-free codebook costs less (`symbol::huffman::least_cost`).
 
 mod codewords;
 mod collecting;

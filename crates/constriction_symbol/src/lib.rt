@@ -22,13 +22,13 @@
 //! - [`reversed`]: emits the prefix form of codewords that a codebook finds from the last bit to the first.
 //! - [`iterators`]: iterators over decoded symbols.
 //! - [`exp_golomb`]: the Exp-Golomb codebook for numbers.
-//! - [`huffman`]: Huffman trees for encoding and decoding, as cheap as any prefix-free codebook for the given weights.
+//! - [`huffman`]: Huffman trees for encoding and decoding. No prefix-free codebook costs less for the same weights.
 //!
 //! # Definitions
 //!
 //! Contracts cite `specs/Bits.antt` (bits of words), `specs/Codewords.antt` (emitting, writing and reading codewords),
-//! `specs/Golomb.antt` (the grammar), `specs/Huffman.antt` (the tree that merging the weights gives, and its codewords)
-//! and `specs/Merging.antt` (which weights make a tree, and the error for other weights).
+//! `specs/Golomb.antt` (Exp-Golomb codewords), `specs/Huffman.antt` (the tree that merging the weights gives, and its
+//! codewords) and `specs/Merging.antt` (which weights make a tree, and the error for other weights).
 #![tactic(auto)]
 
 pub mod codebooks;

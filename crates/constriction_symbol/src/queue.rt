@@ -84,7 +84,7 @@ impl<Word: BitArray, B: ReadWords<Word, Queue>> QueueDecoder<Word, B> {
 
     /// Returns whether the unread bits may all be padding.
     ///
-    /// This is so if the unread bits of the word read last are all 0, and the backend may be exhausted.
+    /// Returns `true` exactly if the unread bits of the word read last are all 0, and the backend may be exhausted.
     pub fn maybe_exhausted(&self) -> bool
         ensures { IsTrue result ↔ (AreZeros self.now.last × IsTrue (B.seems_exhausted self.now.backend)) }
     {

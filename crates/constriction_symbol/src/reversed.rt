@@ -24,12 +24,13 @@ use std::alloc::{AllocError, Global};
 ///
 /// An implementor proves that the emitted bits are the codeword of [`Codebook`], reversed.
 pub trait SuffixCodebook: Codebook {
-    /// Emits the codeword of the symbol from the last bit to the first (its suffix form).
+    /// Passes the bits of the symbol's codeword to `emit`, from the last to the first (the suffix form).
     ///
     /// # Errors
     ///
     /// - `Frontend(ImpossibleSymbol)` exactly if the symbol has no codeword. Nothing was emitted.
-    /// - `Backend(error)` if `emit` returns this error. The bits up to the refused bit were passed to `emit`.
+    /// - `Backend(error)` if `emit` returns this error. `emit` got the bits up to and including the bit that it
+    ///   refused.
     fn emit_suffix<E, F: FnMut(bool) -> Result<(), E>>(
         &self,
         symbol: &Self::Symbol,

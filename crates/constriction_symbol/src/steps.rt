@@ -34,10 +34,10 @@ pub fn put_last<Word: BitArray, B: WriteWords<Word>>(
     Ok(())
 }
 
-/// Appends the lowest bits of a word to the last word, lowest first.
+/// Appends the lowest `count` bits of `bits` to the last word, lowest first.
 ///
-/// If not all of them fit, the first ones fill the last word. That word is written, and the remaining bits begin the
-/// next.
+/// If not all of them fit, the first ones fill the last word. The call writes that word to the backend, and the
+/// remaining bits begin the next word.
 #[inline]
 pub fn put_bits<Word: BitArray, B: WriteWords<Word>>(
     backend: &mut B,

@@ -154,7 +154,7 @@ impl<Word: BitArray> TopBits<Word> {
         self.room as u32
     }
 
-    /// Appends the lowest bits of a word, lowest first.
+    /// Appends the lowest `count` bits of a word, lowest first. The caller proves that they fit.
     #[inline]
     pub fn push_all(&mut self, bits: Word, count: u32)
         requires some { 0 < count }

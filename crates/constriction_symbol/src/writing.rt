@@ -73,9 +73,9 @@ pub trait WriteBitStream<S: BitOrder> {
     ///
     /// # Errors
     ///
-    /// The error of the first symbol that fails. Exactly the codewords of the symbols before it were written, and the
-    /// bits of its own codeword that [`WriteBitStream::encode_symbol`] wrote. The call takes no further item from the
-    /// iterator.
+    /// The error of the first symbol that fails. The call wrote exactly the codewords of the symbols before it, and the
+    /// part of the failing symbol's codeword that [`WriteBitStream::encode_symbol`] wrote. The call takes no further
+    /// item from the iterator.
     ///
     /// # Examples
     ///
@@ -237,9 +237,9 @@ where
     ///
     /// # Errors
     ///
-    /// The error of the first symbol that fails, counted from the end of the list. Exactly the codewords of the symbols
-    /// after it in the list were written, and the bits of its own codeword that [`WriteBitStream::encode_symbol`]
-    /// wrote. The call takes no further item from the iterator.
+    /// The error of the first symbol that fails, counted from the end of the list. The call wrote exactly the codewords
+    /// of the symbols after it in the list, and the part of the failing symbol's codeword that
+    /// [`WriteBitStream::encode_symbol`] wrote. The call takes no further item from the iterator.
     pub fn encode_symbols_reverse<L, C, I>(
         &mut self,
         symbols_and_codebooks: I,

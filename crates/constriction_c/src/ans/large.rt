@@ -77,7 +77,7 @@ pub extern "C" fn constriction_ans_encode_intervals_reverse_u32(
     code_of(answer, needed)
 }
 
-/// Encodes symbols from the last to the first, with models of a family, each with its own location and scale.
+/// Encodes symbols from the last to the first, with a model of a family for each: its own location and scale.
 #[unsafe(no_mangle)]
 pub extern "C" fn constriction_ans_encode_quantized_reverse_u32(
     alloc: Global,
@@ -135,7 +135,7 @@ pub extern "C" fn constriction_ans_decode_each_u32(
     code_without_space(decode::<_, _, u32, _, 24>(alloc, head, words, len, &rows, symbols))
 }
 
-/// Decodes symbols with models of a family, each with its own location and scale.
+/// Decodes symbols with a model of a family for each: its own location and scale.
 #[unsafe(no_mangle)]
 pub extern "C" fn constriction_ans_decode_quantized_u32(
     alloc: Global,

@@ -78,7 +78,7 @@ pub extern "C" fn constriction_ans_encode_intervals_reverse_u16(
     code_of(answer, needed)
 }
 
-/// Encodes symbols from the last to the first, with models of a family, each with its own location and scale.
+/// Encodes symbols from the last to the first, with a model of a family for each: its own location and scale.
 #[unsafe(no_mangle)]
 pub extern "C" fn constriction_ans_encode_quantized_reverse_u16(
     alloc: Global,
@@ -136,7 +136,7 @@ pub extern "C" fn constriction_ans_decode_each_u16(
     code_without_space(decode::<_, _, u16, _, 12>(alloc, head, words, len, &rows, symbols))
 }
 
-/// Decodes symbols with models of a family, each with its own location and scale.
+/// Decodes symbols with a model of a family for each: its own location and scale.
 #[unsafe(no_mangle)]
 pub extern "C" fn constriction_ans_decode_quantized_u16(
     alloc: Global,

@@ -27,7 +27,7 @@ pub struct ChainHeadsU32 {
 }
 
 impl ChainHeadsU32 {
-    /// Returns the heads that the calls take.
+    /// Returns the heads in the form that the calls take.
     #[inline]
     pub fn parts(&self) -> ChainHeads<u32, u64>
         ensures { result ≡ large_heads self.now }
@@ -38,7 +38,7 @@ impl ChainHeadsU32 {
         }
     }
 
-    /// Makes the struct of the heads that a call returns.
+    /// Makes the struct from the heads that a call returns.
     #[inline]
     pub fn of(heads: ChainHeads<u32, u64>) -> Self
         ensures { result ≡ record { remainders = heads.remainders; compressed = heads.compressed } }
@@ -103,7 +103,7 @@ pub extern "C" fn constriction_chain_decode_each_u32(
     code_of(answer, needed)
 }
 
-/// Decodes symbols with models of a family, each with its own location and scale.
+/// Decodes symbols with a model of a family for each: its own location and scale.
 #[unsafe(no_mangle)]
 pub extern "C" fn constriction_chain_decode_quantized_u32(
     alloc: Global,
@@ -186,7 +186,7 @@ pub extern "C" fn constriction_chain_encode_each_reverse_u32(
     code_of(answer, needed)
 }
 
-/// Encodes symbols from the last to the first, with models of a family, each with its own location and scale.
+/// Encodes symbols from the last to the first, with a model of a family for each: its own location and scale.
 #[unsafe(no_mangle)]
 pub extern "C" fn constriction_chain_encode_quantized_reverse_u32(
     alloc: Global,

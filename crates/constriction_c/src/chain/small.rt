@@ -28,7 +28,7 @@ pub struct ChainHeadsU16 {
 }
 
 impl ChainHeadsU16 {
-    /// Returns the heads that the calls take.
+    /// Returns the heads in the form that the calls take.
     #[inline]
     pub fn parts(&self) -> ChainHeads<u16, u32>
         ensures { result ≡ small_heads self.now }
@@ -39,7 +39,7 @@ impl ChainHeadsU16 {
         }
     }
 
-    /// Makes the struct of the heads that a call returns.
+    /// Makes the struct from the heads that a call returns.
     #[inline]
     pub fn of(heads: ChainHeads<u16, u32>) -> Self
         ensures { result ≡ record { remainders = heads.remainders; compressed = heads.compressed } }
@@ -104,7 +104,7 @@ pub extern "C" fn constriction_chain_decode_each_u16(
     code_of(answer, needed)
 }
 
-/// Decodes symbols with models of a family, each with its own location and scale.
+/// Decodes symbols with a model of a family for each: its own location and scale.
 #[unsafe(no_mangle)]
 pub extern "C" fn constriction_chain_decode_quantized_u16(
     alloc: Global,
@@ -187,7 +187,7 @@ pub extern "C" fn constriction_chain_encode_each_reverse_u16(
     code_of(answer, needed)
 }
 
-/// Encodes symbols from the last to the first, with models of a family, each with its own location and scale.
+/// Encodes symbols from the last to the first, with a model of a family for each: its own location and scale.
 #[unsafe(no_mangle)]
 pub extern "C" fn constriction_chain_encode_quantized_reverse_u16(
     alloc: Global,

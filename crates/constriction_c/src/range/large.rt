@@ -174,7 +174,7 @@ pub extern "C" fn constriction_range_encode_intervals_u32(
     code_of(answer, needed)
 }
 
-/// Encodes symbols in order, with models of a family, each with its own location and scale.
+/// Encodes symbols in order, with a model of a family for each: its own location and scale.
 #[unsafe(no_mangle)]
 pub extern "C" fn constriction_range_encode_quantized_u32(
     alloc: Global,
@@ -216,7 +216,7 @@ pub extern "C" fn constriction_range_into_compressed_u32(
 
 /// Appends the words that the encoder holds back, and a self-delimiting seal, to the buffer's first `len` words.
 ///
-/// For states of two words this is the seal of `into_compressed`.
+/// For states of two words, this seal equals the one that `into_compressed` appends.
 #[unsafe(no_mangle)]
 pub extern "C" fn constriction_range_into_self_delimited_u32(
     alloc: Global,
@@ -284,7 +284,7 @@ pub extern "C" fn constriction_range_decode_each_u32(
     code_without_space(answer)
 }
 
-/// Decodes symbols in order, with models of a family, each with its own location and scale.
+/// Decodes symbols in order, with a model of a family for each: its own location and scale.
 #[unsafe(no_mangle)]
 pub extern "C" fn constriction_range_decode_quantized_u32(
     alloc: Global,

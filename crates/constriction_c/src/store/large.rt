@@ -36,7 +36,7 @@ pub extern "C" fn constriction_store_build_u32(
     )
 }
 
-/// Decodes a chunk of a store into `symbols`, by the chunk's items of the index.
+/// Decodes a chunk of a store into `symbols`. `pos`, `lower` and `range` are the chunk's items of the index.
 #[unsafe(no_mangle)]
 pub extern "C" fn constriction_store_chunk_u32(
     alloc: Global,

@@ -37,7 +37,7 @@ pub extern "C" fn constriction_store_build_u16(
     )
 }
 
-/// Decodes a chunk of a store into `symbols`, by the chunk's items of the index.
+/// Decodes a chunk of a store into `symbols`. `pos`, `lower` and `range` are the chunk's items of the index.
 #[unsafe(no_mangle)]
 pub extern "C" fn constriction_store_chunk_u16(
     alloc: Global,

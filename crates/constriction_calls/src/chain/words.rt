@@ -29,7 +29,7 @@ type Bare<Word, State, const PRECISION: usize> = ChainCoder<
 ///
 /// # Errors
 ///
-/// `InvalidData` exactly if the words are those of no coder: the last word is 0, or there are too few words.
+/// `InvalidData` exactly if no coder has these words: the last word is 0, or there are too few words.
 pub fn from_compressed<Word: WordOf<State>, State: BitArray, const PRECISION: usize>(
     alloc: Global,
     words: &[Word],
@@ -99,7 +99,7 @@ pub fn from_binary<Word: WordOf<State>, State: BitArray, const PRECISION: usize>
 ///
 /// # Errors
 ///
-/// `InvalidData` exactly if the words are those of no coder: one of the last two is 0, or there are too few words.
+/// `InvalidData` exactly if no coder has these words: one of the last two words is 0, or there are too few words.
 pub fn from_remainders<Word: WordOf<State>, State: BitArray, const PRECISION: usize>(
     alloc: Global,
     words: &[Word],
@@ -138,7 +138,7 @@ pub fn from_remainders<Word: WordOf<State>, State: BitArray, const PRECISION: us
 /// Checked in this order:
 ///
 /// - `WrongLength` exactly if `compressed_len` is past the buffer's end.
-/// - `InvalidData` exactly if the heads are those of no coder, or bits are left over.
+/// - `InvalidData` exactly if no coder has these heads, or bits are left over.
 /// - `NoSpace(needed)` if the buffer is too short. `needed` is the number of words that it has to hold.
 /// - `NoMemory` if there is no memory.
 pub fn into_compressed<Word: WordOf<State>, State: BitArray, const PRECISION: usize>(
@@ -171,7 +171,7 @@ pub fn into_compressed<Word: WordOf<State>, State: BitArray, const PRECISION: us
     }
 }
 
-/// Appends the words of the remainders' head, without its leading 1, to the compressed words.
+/// Appends the words of the remainders' head, without the head's leading 1, to the compressed words.
 ///
 /// The call adds the number of these words to `compressed_len`. [`from_binary`] imports the result. The remainders
 /// below the head aren't needed, and stay with the caller.
@@ -217,7 +217,7 @@ pub fn into_binary<Word: WordOf<State>, State: BitArray, const PRECISION: usize>
 ///
 /// # Errors
 ///
-/// The errors of [`into_compressed`] for the remainders' buffer, except that bits may be left over.
+/// The errors of [`into_compressed`], for the buffer of the remainders. Bits that are left over are no error.
 pub fn into_remainders<Word: WordOf<State>, State: BitArray, const PRECISION: usize>(
     alloc: Global,
     heads: &ChainHeads<Word, State>,

@@ -14,8 +14,8 @@ use std::num::NonZeroUsize;
 
 /// A range encoder between two calls: its interval, and the words that it holds back.
 ///
-/// The encoder holds back `held` words. The first of them is `first`, and in all later ones every bit is 1. If it holds
-/// back none, `first` is 0. The words that it wrote are in the caller's buffer.
+/// The encoder holds back `held` words. The first held word is `first`. In every later held word all bits are 1. If the
+/// encoder holds back no word, `first` is 0. The words that the encoder wrote are in the caller's buffer.
 ///
 /// # Examples
 ///
@@ -35,7 +35,7 @@ pub struct EncoderParts<Word, State> {
 
 /// A range decoder between two calls: its interval, its point, and the number of words that it read from the buffer.
 ///
-/// The point is the number that the words read last make, as many words as a state has.
+/// The point is a number made of the words that the decoder read last, as many words as a state has.
 ///
 /// # Examples
 ///

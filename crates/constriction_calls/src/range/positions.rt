@@ -60,7 +60,8 @@ pub fn seek<Word: WordOf<State>, State: BitArray>(
 
 /// Sets `maybe` to 1 if the words may have ended at the decoder's position, and to 0 if not.
 ///
-/// They may have ended if no word is left, and the decoder's point is a point that a seal gives.
+/// The words may have ended if no word is left, and either the decoder's point lies where a seal puts it, or the
+/// decoder has decoded no symbol.
 ///
 /// # Errors
 ///

@@ -14,7 +14,7 @@ use std::alloc::Global;
 
 /// Writes the words that an encoder holds back, and a seal, after the buffer's first `len` words.
 ///
-/// The call adds the number of these words to `len`. The buffer's first `len` words are then what a decoder reads.
+/// The call adds the number of these words to `len`. A decoder then reads the buffer's first `len` words.
 ///
 /// # Errors
 ///

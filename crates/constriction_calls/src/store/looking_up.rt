@@ -53,8 +53,8 @@ fn decoder_at<'a, Word: WordOf<State>, State: BitArray>(
 ///
 /// - `WrongLength`: the position is past the words.
 /// - `WrongWeights`: the weights don't add up to `2 ^ PRECISION`.
-/// - `InvalidData`: the interval is too short, or the words don't encode that many symbols. In a built store, they do
-///   so at each entry.
+/// - `InvalidData`: the interval is too short, or the words don't encode that many symbols. The call never returns this
+///   error for a chunk of a store that `build` wrote with the same weights.
 /// - `NoMemory`: there is no memory.
 pub fn chunk<Word: WordOf<State>, State: BitArray, P: WordOf<Word>, const PRECISION: usize>(
     alloc: Global,

@@ -9,7 +9,7 @@ use crate::heads::ChainCoderHeads;
 use constriction_base::backends::{Holds, Pos, PosSeek, Seek, SeeksBack, Stack};
 use constriction_words::{BitArray, WordOf};
 
-/// The positions of a coder's two backends. The coder's `pos` returns them with the heads.
+/// The positions of a coder's two backends. The coder's `pos` returns them together with the heads.
 #[derive(Debug, Clone, Copy, PartialEq, Eq, Hash, Drop)]
 pub struct BackendPosition<CompressedPosition, RemaindersPosition> {
     /// The position of the compressed words.

@@ -41,7 +41,9 @@ fn decode<M: DecoderModel<PRECISION, Symbol = usize, Probability = u32>>(
     Ok(symbols)
 }
 
-/// Returns a line of symbols. The input is a line of weights, and a line of a count and words.
+/// Decodes the words in the input `text`, and returns a line of the symbols.
+///
+/// Line 1 of the input has the weights. Line 2 has the number of symbols, followed by the words.
 pub fn answer(alloc: Global, text: &[u8]) -> Result<Vec<u8>, Fault>
     ensures ok { IfOk result (λ answer. IsAnsDecoded text.now answer.items) }
     ensures err { IfErr result (AnsDecodeFails text.now) }

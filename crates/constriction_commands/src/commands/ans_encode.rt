@@ -41,7 +41,9 @@ fn encode<M: EncoderModel<PRECISION, Symbol = usize, Probability = u32>>(
     Ok(coder.into_compressed()?)
 }
 
-/// Returns a line of words. The input is a line of weights, and a line of symbols.
+/// Encodes the symbols in the input `text`, and returns a line of the words.
+///
+/// Line 1 of the input has the weights, and line 2 has the symbols.
 pub fn answer(alloc: Global, text: &[u8]) -> Result<Vec<u8>, Fault>
     ensures ok { IfOk result (λ answer. IsAnsEncoded text.now answer.items) }
     ensures err { IfErr result (EncodeFails text.now) }

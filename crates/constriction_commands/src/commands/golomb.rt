@@ -54,7 +54,7 @@ fn queue_of(alloc: Global, numbers: &[u32]) -> Result<Vec<u32>, AllocError>
     coder.into_compressed()
 }
 
-/// Returns a line of codewords and a line of words. The input is a line of numbers.
+/// Returns a line of the codewords of the numbers in the input `text`, and a line of the words of these bits.
 pub fn answer(alloc: Global, text: &[u8]) -> Result<Vec<u8>, Fault>
     ensures ok { IfOk result (λ answer. IsGolomb text.now answer.items) }
     ensures err { IfErr result (GolombFails text.now) }

@@ -58,7 +58,7 @@ fn line_of_codewords(alloc: Global, tree: &EncoderHuffmanTree) -> Result<Vec<u8>
     Ok(line)
 }
 
-/// Returns a line of codewords. The input is a line of weights.
+/// Returns a line of the codewords of the symbols whose weights are in the input `text`.
 pub fn answer(alloc: Global, text: &[u8]) -> Result<Vec<u8>, Fault>
     ensures ok { IfOk result (λ answer. IsHuffmanLine text.now answer.items) }
     ensures err { IfErr result (HuffmanFails text.now) }

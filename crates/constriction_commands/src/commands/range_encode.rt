@@ -1,8 +1,8 @@
 //! The command `range-encode`, which encodes symbols with a range coder.
 //!
-//! The command answers `out of memory` if the encoder can't count the symbols. The encoder counts `2^64 - 18` symbols,
-//! and each symbol is in memory, so this doesn't happen. But the language guarantees only that the length of a list is
-//! below `2^64`.
+//! The command returns the fault `out of memory` if the encoder can't count the symbols. This doesn't happen: the
+//! encoder counts up to `2^64 - 18` symbols, and each symbol is in memory. But the language guarantees only that the
+//! length of a list is below `2^64`.
 
 ghost use Rattle.std.specs.Prelude.{◌≡◌, ◌%◌, ◌^◌, map, IfOk, IfErr};
 ghost use Rattle.constriction_base.specs.Models.{items_of};
@@ -47,7 +47,9 @@ fn encode<M: EncoderModel<PRECISION, Symbol = usize, Probability = u32>>(
     Ok(coder.into_compressed()?)
 }
 
-/// Returns a line of words. The input is a line of weights, and a line of symbols.
+/// Encodes the symbols in the input `text`, and returns a line of the words.
+///
+/// Line 1 of the input has the weights, and line 2 has the symbols.
 pub fn answer(alloc: Global, text: &[u8]) -> Result<Vec<u8>, Fault>
     ensures ok { IfOk result (λ answer. IsRangeEncoded text.now answer.items) }
     ensures err { IfErr result (EncodeFails text.now) }

@@ -62,9 +62,10 @@ fn push_chunks(
     Ok(())
 }
 
-/// Returns the line of words and the lines of chunks.
+/// Builds a store. Returns a line of its words, and a line for each chunk that is looked up.
 ///
-/// The input is a line of weights, a line of the numbers of chunks to look up, and a line for each chunk.
+/// Line 1 of the input `text` has the weights. Line 2 has the numbers of the chunks to look up. Each further line is a
+/// chunk.
 pub fn answer(alloc: Global, text: &[u8]) -> Result<Vec<u8>, Fault>
     ensures ok { IfOk result (λ answer. IsStored text.now answer.items) }
     ensures err { IfErr result (StoreFails text.now) }

@@ -10,7 +10,7 @@ use crate::weights::{PRECISION, Table, make_table};
 use constriction_base::model::EntropyModel;
 use std::alloc::Global;
 
-/// A table, the numbers of the chunks to look up, and all chunks.
+/// The parts of an input for `store`: a table, the numbers of the chunks to look up, and all chunks.
 pub type Given = (Table, Vec<usize>, Vec<Vec<usize>>);
 
 /// Parses line 1 as weights, line 2 as the numbers of the chunks to look up, and each further line as a chunk.

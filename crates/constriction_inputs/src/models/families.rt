@@ -16,16 +16,16 @@ use constriction_models::quantizer::{IndexedDistribution, LeakyQuantizer};
 use constriction_words::{BitArray, WordOf};
 use std::alloc::{AllocError, Global};
 
-/// A model of the indices in a range, from a distribution of one of the families.
+/// A model from a distribution of one of the families. Its symbols are indices into a range of integers.
 pub type FamilyModel<P, const PRECISION: usize> = IndexedDistribution<
     FamilyDistribution,
     P,
     PRECISION,
 >;
 
-/// Models of a family: each symbol has its own location and scale, in multiples of `2^-16`.
+/// Models of one family of distributions. Each symbol has its own location and scale, in multiples of `2^-16`.
 ///
-/// Symbols are indices into the range from `min` to `max`. The index 0 stands for `min`. The number of the family is 0
+/// Symbols are indices into the range from `min` to `max`: the index 0 stands for `min`. The number of the family is 0
 /// for `Gaussian`, 1 for `Laplace` and 2 for `Logistic`.
 ///
 /// # Examples
@@ -101,7 +101,7 @@ impl<'a> Families<'a> {
         }
     }
 
-    /// Returns the family and the quantizer of the range. This takes no memory.
+    /// Returns the family and the quantizer of the range. The call needs no memory.
     ///
     /// # Errors
     ///
@@ -109,7 +109,7 @@ impl<'a> Families<'a> {
     ///
     /// - `WrongLength`: the numbers of scales and of locations differ.
     /// - `WrongInterval`: the range has fewer than two or more than `2 ^ PRECISION` symbols.
-    /// - `WrongWeights`: no family has the number, or a scale is 0.
+    /// - `WrongWeights`: no family has the number `family`, or a scale is 0.
     pub fn quantizer<P: WordOf<u32>, const PRECISION: usize>(
         &self,
     ) -> Result<(Family, LeakyQuantizer<P, PRECISION>), Refusal>

@@ -1,7 +1,7 @@
 //! The start and the length of each symbol's interval, in the table of the symbol's own location and scale.
 //!
-//! If the symbols are all symbols in order, and the parameters are equal, the intervals are a whole table. So a caller
-//! in another language can inspect a model, or code with its intervals.
+//! If a caller passes all symbols in order, with the same location and scale for each, the intervals make a whole
+//! table. So a caller in another language can inspect a model, or code with the model's intervals.
 
 ghost use Rattle.std.specs.Prelude.{◌≡◌, ◌<◌, ◌≤◌, Some, length, map};
 ghost use Rattle.std.specs.List.{AllByRecursion};
@@ -17,15 +17,15 @@ use constriction_models::families::Family;
 use constriction_models::quantizer::LeakyQuantizer;
 use constriction_words::{BitArray, WordOf};
 
-/// Writes the start of each symbol's interval into `lefts` and its length into `ps`. This takes no memory.
+/// Writes the start of each symbol's interval into `lefts` and its length into `ps`. The call needs no memory.
 ///
 /// # Errors
 ///
 /// Checked in this order, and each is returned exactly in its case. Nothing changes after an error.
 ///
 /// - `WrongLength`: `lefts` or `ps` doesn't have one item for each symbol.
-/// - The errors of [`Models::check`].
-/// - `ImpossibleSymbol`: a symbol lies past the range.
+/// - The errors of [`Models::check`] of `families`.
+/// - `ImpossibleSymbol`: a symbol is no index into the range.
 pub fn intervals_of_quantized<P: WordOf<u32>, const PRECISION: usize>(
     families: &Families<'_>,
     symbols: &[usize],

@@ -1,4 +1,4 @@
-//! Sums of weights: whether they are `2 ^ PRECISION`, and the sum before a symbol.
+//! Sums of weights: whether weights add up to `2 ^ PRECISION`, and the sum of the weights before a symbol.
 
 ghost use Rattle.std.specs.Prelude.{◌≡◌, ◌↔◌, ◌+◌, ◌*◌, ◌^◌, ◌<◌, ◌≤◌, length, map, sum_by, take, IsTrue};
 ghost use Rattle.constriction_inputs.specs.Rows.{AreTotals};
@@ -7,7 +7,7 @@ ghost use Rattle.constriction_inputs.specs.Weights.{IsTotal};
 use constriction_base::weights::starts::ones;
 use constriction_words::BitArray;
 
-/// Returns whether the weights add up to `2 ^ PRECISION`. The sum is exact, whatever the width of `P`.
+/// Returns whether the weights add up to `2 ^ PRECISION`. The result is exact, even if the sum doesn't fit `P`.
 pub fn is_total<P: BitArray, const PRECISION: usize>(weights: &[P]) -> bool
     requires { (1 ≤ PRECISION) × (PRECISION ≤ P.BITS) }
     ensures { IsTrue result ↔ IsTotal PRECISION (map P.number weights.now) }
@@ -44,7 +44,9 @@ pub fn sum_before<P: BitArray>(weights: &[P], symbol: usize) -> P
     sum
 }
 
-/// Returns whether a number is the product of two other numbers.
+/// Returns whether `number` is the product of `first` and `second`.
+///
+/// The result is exact, even if the product doesn't fit a `usize`.
 pub fn is_product(number: usize, first: usize, second: usize) -> bool
     ensures { IsTrue result ↔ (number ≡ first * second) }
 {

@@ -1,4 +1,4 @@
-//! Words that follow the words of a range coder. If a state has two words, any words may follow.
+//! Words that follow a range encoder's sealed words. If a state is two words wide, any words may follow.
 
 ghost use Rattle.std.specs.Prelude.{◌≡◌, ◌/◌, ◌<◌, ◌++◌, ℕ, List};
 ghost use Rattle.constriction_base.specs.Models.{Item, AreModels};

@@ -1,4 +1,6 @@
-//! Bounds on words that follow from the public contracts of the coders and the laws on bounds alone.
+//! An exchange of two symbols on a stack coder, with a bound on the number of words.
+//!
+//! The bound is proved from the coder's public contract and the laws of [`bounds`](crate::bounds) alone.
 
 ghost use Rattle.std.specs.Prelude.{◌≡◌, ◌-◌, ◌<◌, ◌≤◌, ◌^◌, ◌⊎◌, [], ◌∷◌, IfOk, IfErr, MatchBool};
 ghost use Rattle.constriction_base.specs.Steps.{Step, IsSizes};
@@ -34,7 +36,7 @@ fn is_low<Word: WordOf<State>, State: BitArray>(head: State) -> bool
 pub enum ExchangeError {
     /// The head is low before the exchange, or after the first symbol was decoded.
     LowHead,
-    /// The other model has no entry for the symbol to encode.
+    /// The model for encoding has no entry for the symbol.
     ImpossibleSymbol,
     /// The backend refused a word.
     Refused,
@@ -42,7 +44,7 @@ pub enum ExchangeError {
 
 /// Decodes a symbol with the model `off`, and encodes `symbol` with the model `on`, as bits-back coding does.
 ///
-/// If the call succeeds, the net cost of the two symbols is bounded. A head is low if it is below `2^(s-w)`.
+/// If the call succeeds, the clause `net` bounds the words that it adds. A head is low if it is below `2^(s-w)`.
 ///
 /// # Errors
 ///

@@ -3,7 +3,7 @@
 /// The reason why symbols weren't encoded on a chain coder that was made from remainders.
 #[derive(Debug, Clone, Copy, PartialEq, Eq)]
 pub enum PutBackError {
-    /// The remainders are those of no coder.
+    /// No coder has these remainders.
     InvalidRemainders,
     /// The numbers of models and of symbols differ.
     UnequalCounts,

@@ -4,10 +4,10 @@ ghost use Rattle.std.specs.Prelude.{◌≡◌, ℕ, List};
 ghost use Rattle.constriction_chain.specs.Chain.{ChainState};
 ghost use Rattle.constriction_chain.specs.Runs.{Event, IsRun, decodings, AreIsolated};
 
-/// Two runs decode equal symbols wherever their tables are equal.
+/// If two runs begin with the same compressed head and words, equal tables at an index give equal symbols there.
 ///
-/// The runs begin with equal compressed heads and equal compressed words. The law holds as long as the precisions of
-/// the two runs are equal.
+/// A run is a list of decodes and changes of the precision. The index counts decodes. The law covers the decodes
+/// before the first one at which the precisions of the two runs differ.
 pub fn symbols_are_isolated<A>()
     ensures { (w s : ℕ) (x x' y y' : ChainState) (es es' : List (Event A)) → x.h ≡ x'.h → x.compressed ≡ x'.compressed
         → IsRun w s x es y → IsRun w s x' es' y' → AreIsolated (decodings es) (decodings es') }

@@ -1,6 +1,6 @@
 //! Lists of symbols on the chain coder: encodes undo decodes, and decodes undo encodes.
 //!
-//! Each symbol has its own table. All tables have the coder's precision. The laws follow from those of one step by
+//! Each symbol has its own table. All tables have the coder's precision. The laws follow from the laws of one step by
 //! [`lists_undo`].
 
 ghost use Rattle.std.specs.Prelude.{◌≡◌, ℕ, List, reverse, ⊤};
@@ -64,7 +64,9 @@ impl<Symbol> StepsUndo for Decoding<Symbol> {
     ) };
 }
 
-/// Decodes undo encodes, from the last symbol to the first.
+/// Decodes under the same tables undo encodes, from the last symbol to the first.
+///
+/// The decodes return the encoded symbols, and lead to the state before the encodes.
 pub fn decodes_undo_encodes<Symbol>()
     ensures { (w s : ℕ) (items : List (Item Symbol)) (old new : ChainState) →
         PutsBackAll w s items old new → TakesOffAll w s (reverse items) new old }
@@ -74,7 +76,7 @@ pub fn decodes_undo_encodes<Symbol>()
 
 /// Encodes under the same tables undo decodes, from the last symbol to the first.
 ///
-/// These encodes exist. They lead to the state before the decodes, and to no other state.
+/// The encodes are possible. They lead to the state before the decodes, and to no other state.
 pub fn encodes_undo_decodes<Symbol>()
     ensures back { (w s P : ℕ) (items : List (Item Symbol)) (old new : ChainState) → IsSized w s P →
         AreModelsAt P items → IsChain w s P old →

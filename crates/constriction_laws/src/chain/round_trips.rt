@@ -5,8 +5,8 @@
 //! [`PutBackError`](crate::chain::errors::PutBackError). A case other than `Refused` and `NoMemory` is returned only
 //! for the reason that it names.
 //!
-//! - [`isolation`]: symbols of two coders over the same words.
-//! - [`words`]: symbols decoded from words, and encoded back to the words.
+//! - [`isolation`]: decodes from two coders over the same words.
+//! - [`words`]: decodes symbols and returns the remainders, or encodes the symbols onto the remainders.
 
 mod coding;
 pub mod isolation;

@@ -1,4 +1,4 @@
-//! Words are restored from the symbols decoded from them, through the remainders.
+//! A coder made from the remainders restores the words when it encodes the symbols decoded from the words.
 
 ghost use Rattle.std.specs.Prelude.{◌≡◌, ◌≤◌, ℕ, List, reverse, ◌++◌};
 ghost use Rattle.constriction_base.specs.Models.{Item};
@@ -11,9 +11,10 @@ ghost use Rattle.constriction_chain.specs.Symbols.{AreModelsAt, TakesOffAll, Put
 ghost use Rattle.constriction_base.specs.Writing.{IsOneAbove};
 ghost use Rattle.constriction_chain.specs.Words.{remainder_words};
 
-/// Importing words leads to at most one coder, whether as compressed words, in binary form, or as remainders.
+/// Importing a list of words leads to at most one coder. This holds for each of the three imports.
 ///
-/// A number has at most one binary form.
+/// The imports read compressed words, words in binary form, or remainders. The clause `form` says that a number has at
+/// most one binary form.
 pub fn one_coder()
     ensures compressed { (w s P : ℕ) (words : List ℕ) (x y : ChainState) → 1 ≤ w →
         FromCompressed w s P words x → FromCompressed w s P words y → x ≡ y }
@@ -26,10 +27,10 @@ pub fn one_coder()
 
 /// Encoding the symbols decoded from words restores the words.
 ///
-/// Import the words, decode any symbols, and export the remainders. Put any words below these remainders, or none. For
-/// example, put the compressed words left there. Import the result, encode the same symbols from the last to the first
-/// under the same tables, and export. The exported words, followed by the compressed words left, are the original
-/// words. The remainders left are the words put below.
+/// Import the words, decode any symbols, and export the remainders. Optionally, put words `below` these remainders, for
+/// example the compressed words that the decodes left. Import the result as remainders, encode the same symbols from
+/// the last to the first under the same tables, and export. The exported words, followed by the compressed words that
+/// the decodes left, are the original words. The remainders after the encodes are `below`.
 pub fn words_come_back<Symbol>()
     ensures encoded { (w s P : ℕ) (below : List ℕ) (items : List (Item Symbol)) (x y : ChainState) →
         IsSized w s P → AreModelsAt P items → AreWords w below → IsWhole w s P x → TakesOffAll w s items x y →

@@ -20,7 +20,10 @@ use constriction_queue::{DecoderFrontendError, FlagSwitch};
 use constriction_words::{BitArray, WordOf};
 use std::alloc::Global;
 
-/// Words are read as at most one list of a given number of symbols with a flag among them.
+/// Words determine a list of symbols with a flag among them, if the number of symbols is given.
+///
+/// The decoder starts from the run `old`. It uses the model `first` up to and including the flag, and then `second`.
+/// The words also determine the run after the list.
 pub fn one_list_of_flagged_symbols()
     ensures { (w s flag : ℕ) (first second : Model ℕ) (words symbols others : List ℕ) (old new last : Run) →
         IsModel w first → IsModel w second → length others ≡ length symbols →
@@ -29,7 +32,10 @@ pub fn one_list_of_flagged_symbols()
         (others ≡ symbols) × (last ≡ new) }
 {}
 
-/// Decoding a new encoder's self-delimiting words returns its symbols, with a flag among them. Any words may follow.
+/// Decoding self-delimiting words returns the encoded symbols with a flag among them, whatever words follow.
+///
+/// The encoder starts from the initial interval. Symbols up to and including the flag have the model `first`, all later
+/// symbols have the model `second`.
 pub fn flagged_symbols_come_back()
     ensures { (w s flag : ℕ) (first second : Model ℕ) (symbols words rest : List ℕ) (last : Run) → IsSizes w s →
         IsModel w first → IsModel w second → AreWords w rest →

@@ -1,4 +1,4 @@
-//! Words that any words may follow, for states of any number of words.
+//! Self-delimiting seals, which any words may follow. A state may have any number of words.
 
 ghost use Rattle.std.specs.Prelude.{◌≡◌, ◌/◌, ◌<◌, ◌++◌, ◌∷◌, ℕ, List};
 ghost use Rattle.constriction_base.specs.Models.{Item, AreModels};
@@ -11,7 +11,8 @@ use crate::queue::lists::decodes_undo_encodes;
 
 /// A run has only one list of self-delimiting words.
 ///
-/// If a state has two words, these are the sealed words. After the symbols of the run, reading the words may end.
+/// If a state is two words wide, the list equals the sealed words. A decoder of the list may be exhausted after the
+/// run's last symbol. Both facts are about encoders that start from the initial interval.
 pub fn self_delimiting_words<Symbol>()
     ensures one { (w s : ℕ) (last : Run) (words others : List ℕ) → SelfDelimits w s last words →
         SelfDelimits w s last others → others ≡ words }
@@ -24,7 +25,9 @@ pub fn self_delimiting_words<Symbol>()
         MayEnd w s words last }
 {}
 
-/// Self-delimiting words are read as the steps encoded, whatever words follow.
+/// A decoder reads the encoded steps from self-delimiting words, whatever words follow.
+///
+/// The encoder starts from the initial interval.
 pub fn self_delimiting_words_are_read()
     ensures { (w s : ℕ) (steps : List Step) (words rest : List ℕ) → IsSizes w s → AreSteps w steps → AreWords w rest →
         SelfDelimits w s (run w s steps (initial s)) words → ReadAs w s (words ++ rest) steps (initial s) }
@@ -32,7 +35,7 @@ pub fn self_delimiting_words_are_read()
 
 /// Decoding from a position returns the symbols encoded since then, if the seal is self-delimiting.
 ///
-/// Any words may follow the seal. For a new encoder the position is the start.
+/// Any words may follow the seal. The position may be the start, where no symbol has been encoded.
 pub fn symbols_come_back_whatever_follows<Symbol>()
     ensures { (w s : ℕ) (before since : List (Item Symbol)) (middle last : Run) (words rest : List ℕ) → IsSizes w s →
         AreModels w before → AreModels w since → AreWords w rest →
@@ -44,8 +47,8 @@ pub fn symbols_come_back_whatever_follows<Symbol>()
 
 /// A seal with fewer zero words than the least sufficient number isn't self-delimiting.
 ///
-/// There are words `rest` such that decoding the sealed words followed by `rest` doesn't return the symbols. There is at
-/// least one symbol.
+/// For some words `rest`, decoding the seal with fewer zero words, followed by `rest`, doesn't return the symbols. The
+/// encoder starts from the initial interval and encodes at least one symbol.
 pub fn fewer_zero_words_hold_less<Symbol>()
     ensures { (w s count fewer : ℕ) (first : Item Symbol) (others : List (Item Symbol)) (last : Run) → IsSizes w s →
         AreModels w (first ∷ others) → NarrowsAll w s (first ∷ others) (initial s) last →

@@ -2,7 +2,7 @@
 //!
 //! The clause `shows` of `RangeEncoder::get_compressed` says that a guard's words are those of the export. The law here
 //! has the clauses `heads` and `back` of that call as premises: the guard's encoder holds the words of the seal above
-//! its own words, and has the same heads.
+//! the words of the encoder, and has the same heads.
 
 ghost use Rattle.std.specs.Prelude.{◌≡◌, ℕ, drop};
 ghost use Rattle.constriction_queue.specs.Encoder.{Encoder, HasHeads, Without, run_by, sealed_by};

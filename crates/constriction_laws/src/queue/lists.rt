@@ -47,7 +47,7 @@ pub fn one_list_of_encodes<Symbol>()
         NarrowsAll w s items old new → IsInterval w s new }
 {}
 
-/// If words lie within the encoder's run after the last encode, decoding them returns the encoded symbols and no others.
+/// If words lie within the encoder's run after the last encode, decoding them returns exactly the encoded symbols.
 pub fn decodes_undo_encodes<Symbol>()
     ensures back { (w s : ℕ) (words : List ℕ) (items : List (Item Symbol)) (old new : Run) → IsSizes w s →
         AreWords w words → AreModels w items → IsInterval w s old →
@@ -64,7 +64,9 @@ pub fn decodes_undo_encodes<Symbol>()
     lists_undo::<Encoding<Symbol>>()
 }
 
-/// A decoder over any words returns a nonempty list of symbols exactly if the words lie within the list's final run.
+/// Words decode to a nonempty list of symbols exactly if they lie within the run after encoding that list.
+///
+/// The encoder and the decoder start from the initial interval.
 pub fn symbols_of_any_words<Symbol>()
     ensures { (w s : ℕ) (words : List ℕ) (first : Item Symbol) (others : List (Item Symbol)) (last : Run) →
         IsSizes w s → AreWords w words → AreModels w (first ∷ others) →
@@ -74,10 +76,11 @@ pub fn symbols_of_any_words<Symbol>()
     decodes_undo_encodes::<Symbol>()
 }
 
-/// Decoding the sealed words of a new encoder returns its symbols, first symbol first.
+/// Decoding sealed words returns the encoded symbols, first symbol first.
 ///
-/// Encode any symbols, each under its own table, and seal. Decode these words, with no words after them, with the same
-/// tables in the same order. The symbols and the run are the same, and the decoder is exhausted.
+/// Start from the initial interval, encode any symbols, each under its own table, and seal. Decode the sealed words,
+/// with no words after them, with the same tables in the same order. The decoder returns the same symbols and ends at
+/// the encoder's run, where it may be exhausted.
 pub fn symbols_come_back<Symbol>()
     ensures decoded { (w s : ℕ) (items : List (Item Symbol)) (last : Run) → IsSizes w s → AreModels w items →
         NarrowsAll w s items (initial s) last → FindsAll w s (sealed w s last) items (initial s) last }

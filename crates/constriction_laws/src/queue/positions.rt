@@ -49,7 +49,8 @@ pub fn symbols_after_a_position<Symbol>()
 
 /// The run of any encoder is an interval, whatever words were written before.
 ///
-/// So the laws on intervals hold there: decoding from there returns the symbols encoded from there on.
+/// So the clause `anywhere` of [`symbols_after_a_position`] covers each position of the encoder: decoding from the
+/// position returns the symbols encoded since then.
 pub fn run_of_any_encoder<Word: WordOf<State>, State: BitArray, Backend: WriteWords<Word>>(
     encoder: &RangeEncoder<Word, State, Backend>,
 )

@@ -1,4 +1,4 @@
-//! When a step of the range coder isn't refused.
+//! How much room in a backend is enough for a step of the range coder.
 
 ghost use Rattle.std.specs.Prelude.{◌+◌, ◌≤◌, length};
 ghost use Rattle.constriction_base.specs.Steps.{Step};

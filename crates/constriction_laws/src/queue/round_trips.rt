@@ -3,8 +3,8 @@
 //! Each function is one half of a round trip: it encodes symbols and returns words, or it takes words and decodes
 //! symbols. Its contract says what the calls that it names do together, in the definitions of the laws. A caller of
 //! both halves joins them by a law of [`lists`](crate::queue::lists), or by a clause of the half that reads. An error
-//! is a [`RoundTripError`](crate::errors::RoundTripError). A clause `err` says when each case is returned. Only
-//! `Refused` may have another reason.
+//! is a [`RoundTripError`](crate::errors::RoundTripError). The clause `err` of a function gives the reason for each
+//! case except `Refused`.
 //!
 //! - [`lent_pairs`]: the words that an encoder lends.
 //! - [`pairs`]: exported words, and any words.

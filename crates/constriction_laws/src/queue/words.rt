@@ -4,9 +4,9 @@ ghost use Rattle.std.specs.Prelude.{◌≡◌, ◌↔◌, ◌++◌, ◌∷◌, �
 ghost use Rattle.constriction_base.specs.Steps.{Step, IsSizes, AreSteps, AreWords};
 ghost use Rattle.constriction_queue.specs.Range.{Run, ReadAs, Within, run, sealed, initial};
 
-/// Sealed words are read as the steps encoded.
+/// A decoder reads the encoded steps from sealed words.
 ///
-/// If a state has two words, this holds whatever words follow.
+/// The encoder starts from the initial interval. If a state is two words wide, any words may follow the sealed words.
 pub fn sealed_words_are_read()
     ensures alone { (w s : ℕ) (steps : List Step) → IsSizes w s → AreSteps w steps →
         ReadAs w s (sealed w s (run w s steps (initial s))) steps (initial s) }
@@ -16,7 +16,9 @@ pub fn sealed_words_are_read()
     ensures words { (w s : ℕ) (last : Run) → AreWords w (sealed w s last) }
 {}
 
-/// Words are read as a nonempty list of steps exactly if their number lies in the final interval of these steps.
+/// A decoder reads a nonempty list of steps from words exactly if the words lie within the run after these steps.
+///
+/// Encoder and decoder start from the initial interval.
 pub fn words_within_are_read()
     ensures { (w s : ℕ) (words : List ℕ) (first : Step) (others : List Step) → IsSizes w s →
         AreWords w words → AreSteps w (first ∷ others) →

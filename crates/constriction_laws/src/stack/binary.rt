@@ -30,7 +30,9 @@ pub fn binary_import_of_export()
         AreWords w (binary_words w m state) }
 {}
 
-/// A state has at most one binary form, because its head says how many words it holds.
+/// A state has at most one binary form.
+///
+/// The head determines how many words the form takes from the head.
 pub fn one_binary_form()
     ensures { (w m n : ℕ) (state : AnsState) → 1 ≤ w → IsOneAbove w m state.head → IsOneAbove w n state.head →
         m ≡ n }

@@ -11,7 +11,7 @@ ghost use Rattle.constriction_base.specs.Writing.{IsOneAbove};
 ghost use Rattle.constriction_stack.specs.Binary.{binary_state, binary_words};
 ghost use Rattle.constriction_stack.specs.Guards.{without};
 
-/// A guard's words are those of the export: importing them restores the coder's state.
+/// A guard lends the words of the export: importing them restores the coder's state.
 pub fn shown_words_are_exported()
     ensures compressed { (w s : ℕ) (state shown : AnsState) → IsSizes w s → IsValid w s state →
         shown ≡ record { head = state.head; words = exported w state } →

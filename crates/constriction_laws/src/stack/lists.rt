@@ -1,6 +1,7 @@
 //! Lists of symbols on the stack coder. Decoding returns the last symbol first.
 //!
-//! Each symbol has its own table, with any allowed precision. The laws follow from those of one step by [`lists_undo`].
+//! Each symbol has its own table, with any allowed precision. The laws follow from the laws of one step by
+//! [`lists_undo`].
 
 ghost use Rattle.std.specs.Prelude.{◌≡◌, ℕ, List, reverse, ⊤};
 ghost use Rattle.constriction_base.specs.Readings.{BeginsHigh};
@@ -141,7 +142,9 @@ pub fn words_come_back<Symbol>()
     encodes_undo_decodes::<Symbol>()
 }
 
-/// Pops in reverse order undo pushes, and pushes in reverse order undo pops, whatever their tables.
+/// Pops in reverse order undo pushes of the same steps, and pushes in reverse order undo pops.
+///
+/// The steps need no tables. A list of steps can be pushed onto each valid state in exactly one way.
 pub fn lists_of_entries_undo()
     ensures pushes { (w s : ℕ) (steps : List Step) (old : AnsState) → IsSizes w s →
         AreSteps w steps → IsValid w s old →

@@ -7,16 +7,16 @@ ghost use Rattle.constriction_stack.specs.Sizes.{word_count, bit_count, valid_bi
 ghost use Rattle.constriction_base.specs.Writing.{IsOneAbove};
 ghost use Rattle.constriction_stack.specs.Binary.{binary_words};
 
-/// A state has as many words as it exports.
+/// `word_count` of a state is the number of words that it exports.
 ///
-/// The words below its head are the exported words without the words of the head.
+/// The words below the head are the exported words without the words of the head.
 pub fn words_that_are_exported()
     ensures count { (w : ℕ) (state : AnsState) → length (exported w state) ≡ word_count w state }
     ensures below { (w : ℕ) (state : AnsState) →
         drop (length (digits_of (2 ^ w) state.head)) (exported w state) ≡ state.words }
 {}
 
-/// The number of bits of a state in binary form is the number of bits of its words.
+/// `valid_bit_count` of a state is the number of bits in the words of its binary form.
 pub fn bits_of_binary_words()
     ensures { (w m : ℕ) (state : AnsState) → IsOneAbove w m state.head →
         valid_bit_count w state ≡ w * length (binary_words w m state) }

@@ -22,7 +22,7 @@ pub fn import_of_export()
 
 /// Importing words leads to a valid state. It exports the same words, if the first word in reading order isn't 0.
 ///
-/// It also exports the same words if there are none.
+/// The exported words are also the same if `words` is empty.
 pub fn export_of_import()
     ensures words { (w s : ℕ) (words : List ℕ) → IsSizes w s → AreWords w words → BeginsHigh words →
         exported w (filled w s 0 words) ≡ words }
@@ -41,6 +41,8 @@ pub fn reads_are_words<Word: BitArray, Backend: ReadWords<Word, Stack>>()
 {}
 
 /// If `words` lists the words of a backend, an import by reads equals the import of that list.
+///
+/// Both give the same head and leave the same words.
 pub fn imports_are_words<Word: BitArray, Backend: ReadWords<Word, Stack>>()
     ensures { (words : Backend → List Word) (w s head : ℕ) (old new : Backend) → IsSizes w s →
         head < 2 ^ s → TellsWords Backend.reads words →

@@ -15,7 +15,7 @@ pub fn huffman_is_prefix_free()
         huffman weights s ≡ Some bits → huffman weights t ≡ Some (bits ++ tail) → s ≡ t }
 {}
 
-/// A symbol has a codeword exactly if it has a weight.
+/// The symbols with a codeword are the numbers below the number of weights.
 pub fn huffman_knows_its_symbols()
     ensures known { (weights : List ℕ) (s : ℕ) → s < length weights →
         (bits : List Bool) × (huffman weights s ≡ Some bits) }
@@ -25,7 +25,7 @@ pub fn huffman_knows_its_symbols()
 /// The codewords of a Huffman tree cost at most as much as any prefix-free codewords for the same weights.
 ///
 /// The clause `codewords` compares with any prefix-free list of codewords, the clause `codebook` with the codewords of
-/// a prefix-free codebook. The clause `tree` is about a tree as the contracts of both constructors ensure it.
+/// a prefix-free codebook. The clause `tree` is about any tree for which `IsHuffman` holds.
 pub fn least_cost()
     ensures codewords { (weights : List ℕ) (codewords others : List (List Bool)) →
         length codewords ≡ length weights → AreCodewordsOf (huffman weights) codewords →

@@ -35,7 +35,9 @@ pub fn mixed_symbols_come_back<S: Semantics, R: ReadBitStream<S>, C: DecoderCode
         AreSameBy C.is_same codebooks again symbols × (R.unread new ≡ rest) }
 {}
 
-/// If a codebook refuses to read `amt` symbols from bits, the bits don't begin with the codewords of `amt` symbols.
+/// If decoding `amt` symbols stops with a codebook's error, the bits don't begin with the codewords of `amt` symbols.
+///
+/// `bits` may be all unread bits of the stream, or only the first ones.
 pub fn refused_where_none_begin<S: Semantics, R: ReadBitStream<S>, C: DecoderCodebook>()
     requires { R.is_list }
     ensures { (codebook : C) (amt : ℕ) (bits tail : List Bool) (old new : R) (e : SymbolCodeError C.InvalidCodeword) →

@@ -1,4 +1,6 @@
-//! Guards that lend a coder's compressed words. A guard appends the last words to the vector. Its drop removes them.
+//! Guards that lend a coder's compressed words.
+//!
+//! A guard appends the words that an export would add to the vector. Its drop removes these words.
 
 ghost use Rattle.constriction_symbol.specs.Bits.{IsQueueWords, IsStackWords};
 ghost use Rattle.constriction_symbol.specs.Guards.{LacksEnd, LacksRest, SameBits, bits_without};
@@ -15,8 +17,8 @@ use std::fmt;
 
 /// A guard that lends all compressed words of a coder until the guard is dropped.
 ///
-/// The guard appends the last words to the coder's vector. The drop removes them, and allocates nothing. A forgotten
-/// guard leaves these words in the vector.
+/// The guard appends to the coder's vector the words that an export would add. The drop removes these words, and
+/// allocates nothing. A forgotten guard leaves them in the vector.
 pub struct CoderGuard<'a, Word: BitArray, S: Semantics, A: Allocator = Global> {
     inner: &'a mut SymbolCoder<Word, S, Vec<Word, A>>,
     count: usize,

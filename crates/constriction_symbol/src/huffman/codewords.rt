@@ -44,8 +44,7 @@ pub fn codewords_of(alloc: Global, nodes: &[usize]) -> Result<Vec<usize>, AllocE
 
 /// Returns the bits below the highest 1, first bit highest, and their count.
 ///
-/// Returns `None` if there is no bit below the highest 1, or if there are as many of them as a `Word` has bits, or
-/// more.
+/// Returns `None` if there is no bit below the highest 1, or if the count is at least `Word::BITS`.
 #[inline]
 pub fn below_one<Word: BitArray>(number: usize) -> Option<(Word, u32)>
     ensures some { OnSome result (1 < number) }

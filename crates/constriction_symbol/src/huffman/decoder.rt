@@ -103,9 +103,9 @@ fn tree_of<P: BitArray, E>(
 impl DecoderHuffmanTree {
     /// Makes a tree with one symbol for each of the lent weights, in memory of `alloc`.
     ///
-    /// Each step joins the two trees of least weight, until one tree is left. Of two trees with equal weights, the one
-    /// with the lower index is the lesser. The indices of symbols come first, and each join gets the next index. The
-    /// lesser tree of a join has bit 0.
+    /// At first each symbol is a tree of its own. Each step joins the two trees of least weight, until one tree is
+    /// left. Of two trees with equal weights, the tree with the lower index is the lesser. The index of a symbol's tree
+    /// is the symbol, and each joined tree gets the next index. The lesser tree of a join gets bit 0.
     ///
     /// # Errors
     ///
@@ -226,7 +226,9 @@ impl DecoderCodebook for DecoderHuffmanTree {
         walk(&self.nodes, source)
     }
 
-    /// Looks up the codeword at the beginning of the bits, if it has at least one bit and fewer than `count` bits.
+    /// Looks up the codeword that the `count` highest bits of `bits` begin with.
+    ///
+    /// Returns `None` if the codeword is empty, or has `count` bits or more.
     #[inline]
     fn symbol_at_once<Word: BitArray>(&self, bits: Word, count: u32) -> Option<(usize, u32)> {
         let place = place_of(&self.places, self.most, bits);

@@ -89,9 +89,9 @@ fn tree_of<P: BitArray, E>(
 impl EncoderHuffmanTree {
     /// Makes a tree with one symbol for each of the lent weights, in memory of `alloc`.
     ///
-    /// Each step joins the two trees of least weight, until one tree is left. Of two trees with equal weights, the one
-    /// with the lower index is the lesser. The indices of symbols come first, and each join gets the next index. The
-    /// lesser tree of a join has bit 0.
+    /// At first each symbol is a tree of its own. Each step joins the two trees of least weight, until one tree is
+    /// left. Of two trees with equal weights, the tree with the lower index is the lesser. The index of a symbol's tree
+    /// is the symbol, and each joined tree gets the next index. The lesser tree of a join gets bit 0.
     ///
     /// # Errors
     ///

@@ -111,7 +111,8 @@ fn merge_all<P: BitArray>(alloc: Global, weights: &[P]) -> Result<Vec<[usize; 2]
 ///
 /// # Errors
 ///
-/// - `Empty`, `TooManySymbols`, `WeightOverflow`, checked in this order.
+/// - `Empty` if there is no weight, `TooManySymbols` if there are more than `most` weights, and `WeightOverflow` if
+///   the sum of the weights doesn't fit their type. They are checked in this order.
 /// - `Memory` if there is no memory.
 pub fn merged_pairs<P: BitArray, E>(
     alloc: Global,

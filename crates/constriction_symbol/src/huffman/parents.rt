@@ -25,7 +25,9 @@ pub fn parents_of(alloc: Global, pairs: &[[usize; 2]]) -> Result<Vec<usize>, All
     Ok(nodes)
 }
 
-/// Emits the bits from a node up to the root.
+/// Emits the codeword of a symbol from the last bit to the first, climbing from the symbol's leaf to the root.
+///
+/// `nodes` is the list that [`parents_of`] returns.
 #[inline]
 pub fn climb<E, F: FnMut(bool) -> Result<(), E>>(
     nodes: &[usize],

@@ -1,6 +1,6 @@
 //! A tree in the merge, with its weight and its index.
 //!
-//! Both queues compare weights at their own width, as the Rust crate does.
+//! The two queues of the merge compare weights as numbers of type `P`, as the Rust crate does.
 
 ghost use Rattle.std.specs.Prelude.{◌==◌};
 ghost use Rattle.std.proofs.Common.{rules};

@@ -1,6 +1,6 @@
-//! The two halves of the round trip of words through the remainders.
+//! The two halves of a round trip: from words to symbols and remainders, and back.
 //!
-//! The law [`words_come_back`](crate::chain::words::words_come_back) joins their states.
+//! The law [`words_come_back`](crate::chain::words::words_come_back) joins the states of the two halves.
 
 ghost use Rattle.std.specs.Prelude.{◌≡◌, ◌<◌, ◌++◌, ℕ, List, length, map, reverse, IfErr, IfOk, OnOk};
 ghost use Rattle.constriction_base.specs.Models.{pairs_of};
@@ -20,9 +20,9 @@ use constriction_chain::{ChainCoder, EncoderFrontendError};
 use constriction_words::{BitArray, WordOf};
 use std::alloc::Global;
 
-/// Decodes one symbol for each model, and returns the remaining compressed words and the remainders with both heads.
+/// Decodes one symbol for each model. Returns the symbols, the compressed words left, and the remainders.
 ///
-/// Calls `decode_symbols` and `into_remainders`.
+/// Calls `decode_symbols` and `into_remainders`. The remainders include both heads.
 ///
 /// # Errors
 ///

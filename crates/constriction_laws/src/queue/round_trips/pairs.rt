@@ -1,8 +1,8 @@
 //! Symbols, each with its own model, and the words that an encoder exports.
 //!
 //! [`compressed_words_of_pairs`] says which words these are. [`pairs_from_words`] takes any words and says which
-//! symbols they encode. Its clauses `sealed`, `followed` and `delimited` take the words of the other half, and so join
-//! the two.
+//! symbols they encode. Its clauses `sealed`, `followed` and `delimited` assume that an encoder made the words, and so
+//! join the two halves.
 
 ghost use Rattle.std.specs.Prelude.{◌≡◌, ◌<◌, ◌≤◌, ◌-◌, ◌*◌, ◌^◌, ◌/◌, ◌++◌, ℕ, List, length, map, reverse, IfOk, IfErr, IsTrue};
 ghost use Rattle.constriction_base.specs.Models.{pairs_of};
@@ -32,7 +32,8 @@ use std::alloc::Global;
 
 /// Encodes symbols, each with its own model, and returns the words that the encoder then exports.
 ///
-/// Calls `encode_symbols` and `into_compressed`. For a new encoder, the clause `few` bounds the number of words.
+/// Calls `encode_symbols` and `into_compressed`. If the encoder starts from the initial interval, the clause `few`
+/// bounds the number of words.
 ///
 /// # Errors
 ///
