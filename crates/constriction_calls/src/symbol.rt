@@ -11,7 +11,7 @@
 //! - `ImpossibleSymbol`: a symbol has no codeword.
 //! - `NoSpace(needed)`: the buffer is too short. `needed` is the number of words that it has to hold.
 //! - `OutOfData`: the words end before all symbols are read.
-//! - `InvalidData`: some bits begin with no codeword, or the last word of a stack is 0.
+//! - `InvalidData`: at some symbol the next bits begin with no codeword, or the last word of a stack is 0.
 //!
 //! If there is no memory, the call returns `NoMemory`, unless `WrongWeights` or `ImpossibleSymbol` applies.
 
