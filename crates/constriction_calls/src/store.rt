@@ -1,6 +1,7 @@
 //! Stores of chunks over a caller's buffers: words, and an index.
 //!
-//! The index is three lists: the positions of the chunks, and the lower ends and the lengths of their intervals.
+//! The index is three lists with one item for each chunk: the position, and the lower end and length of the interval
+//! there.
 
 mod building;
 mod cutting;

@@ -11,7 +11,7 @@
 //! - `ImpossibleSymbol`: a symbol has no codeword.
 //! - `NoSpace(needed)`: the buffer is too short. `needed` is the number of words that it has to hold.
 //! - `OutOfData`: the words end before all symbols are read.
-//! - `InvalidData`: some bits begin with no codeword, or the last word of a stack is 0.
+//! - `InvalidData`: at some symbol the next bits begin with no codeword, or the last word of a stack is 0.
 //!
 //! If there is no memory, the call returns `NoMemory`, unless `WrongWeights` or `ImpossibleSymbol` applies.
 
@@ -35,8 +35,9 @@ pub use trees::Tree;
 
 /// A caller's choice of codewords.
 ///
-/// An implementor proves that its codebooks have the codewords of `book`. It also proves when each error is returned:
-/// if the weights make no tree, if a symbol has no codeword, or if there is no memory.
+/// An implementor defines the choice (`book`), and proves that its codebooks have the codewords of that choice. It also
+/// proves when each error is returned: if the weights make no tree, if a symbol has no codeword, or if there is no
+/// memory.
 pub trait Codes {
     type Symbol: Copy + Drop;
 
@@ -46,9 +47,10 @@ pub trait Codes {
     /// The error of the decoder's codebook for bits that begin with no codeword.
     type Wrong: Drop;
 
-    // The codewords, and the numbers of symbols.
+    /// The choice of codewords: Exp-Golomb, or the Huffman tree of weights. It assigns codewords to numbers.
     ghost book: { Self → SymbolCode };
 
+    /// The number of a symbol, to which `book` assigns the codeword.
     ghost number: { Self.Symbol → ℕ };
 
     /// Makes the codebook for encoding. Returns `None` if the weights make no tree, or if there is no memory.

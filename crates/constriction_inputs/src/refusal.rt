@@ -16,8 +16,8 @@ pub enum Refusal {
     ImpossibleSymbol,
     /// Weights don't add up to `2 ^ PRECISION`, or the caller's numbers give no weights.
     ///
-    /// The numbers give no weights in three cases: no family has the caller's family number, a scale is 0, or no count
-    /// or too many counts are above 0.
+    /// The numbers give no weights in four cases: no family has the caller's family number, a scale is 0, no count is
+    /// above 0, or too many counts are above 0.
     #[error("wrong weights")]
     WrongWeights,
     /// An interval is empty or ends past `2 ^ PRECISION`, or a range has too few or too many symbols.

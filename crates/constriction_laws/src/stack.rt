@@ -6,7 +6,7 @@
 //! - [`binary`]: encoding the symbols decoded from any words restores the words, in binary form.
 //! - [`positions`]: a recorded position leads back to its state.
 //! - [`readings`]: the same laws over backends without a list of words, such as iterators.
-//! - [`guards`]: a guard's words are those of the export, and its drop removes them.
+//! - [`guards`]: a guard lends the words of the export, and the guard's drop restores the coder.
 //! - [`round_trips`]: functions that make the coder's calls for one half of a round trip: encoding or decoding.
 //! - [`sizes`]: the numbers of words and bits of a state.
 

@@ -14,8 +14,9 @@ use std::num::NonZeroUsize;
 
 /// A range encoder between two calls: its interval, and the words that it holds back.
 ///
-/// The encoder holds back `held` words. The first held word is `first`. In every later held word all bits are 1. If the
-/// encoder holds back no word, `first` is 0. The words that the encoder wrote are in the caller's buffer.
+/// `lower` is the lower end of the interval, modulo `2^State::BITS`, and `range` is the interval's length. The encoder
+/// holds back `held` words. The first held word is `first`. In every later held word all bits are 1. If the encoder
+/// holds back no word, `first` is 0. The words that the encoder wrote are in the caller's buffer.
 ///
 /// # Examples
 ///
@@ -35,7 +36,9 @@ pub struct EncoderParts<Word, State> {
 
 /// A range decoder between two calls: its interval, its point, and the number of words that it read from the buffer.
 ///
-/// The point is a number made of the words that the decoder read last, as many words as a state has.
+/// `lower` is the lower end of the interval, modulo `2^State::BITS`, and `range` is the interval's length. `point` is a
+/// number made of the words that the decoder read last, as many words as a state has. `pos` is the number of words that
+/// the decoder read from the buffer.
 ///
 /// # Examples
 ///

@@ -25,7 +25,8 @@ pub fn from_compressed<Word: WordOf<State>, State: BitArray>(words: &[Word]) -> 
 
 /// Sets `decoder` to a decoder of the words at an encoder's recorded position.
 ///
-/// `pos` is the number of words that the encoder had written and held back. `lower` and `range` are its interval.
+/// `pos` is the number of words that the encoder had written or held back there. `lower` and `range` are the lower end
+/// and the length of the encoder's interval there.
 ///
 /// # Errors
 ///

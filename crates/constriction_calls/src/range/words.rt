@@ -66,13 +66,13 @@ fn sealed_count<Word: WordOf<State>, State: BitArray>(
     parts.held - held + encoder.num_words()
 }
 
-/// Writes the words that an encoder holds back, and a self-delimiting seal, for states of two words.
+/// Writes the words that an encoder holds back, and a self-delimiting seal, after the buffer's first `len` words.
 ///
-/// The call writes them after the buffer's first `len` words, and adds their number to `len`. A decoder of the buffer's
-/// first `len` words, whatever words follow them, returns the symbols encoded.
+/// The call adds the number of these words to `len`. A decoder of the buffer's first `len` words, whatever words follow
+/// them, returns the encoded symbols.
 ///
-/// For states of two words this seal has as many words as the seal of [`into_compressed`], and `num_words` counts them
-/// without memory. So the call checks the room before it asks for memory.
+/// The caller proves that a state has two words. Then this seal has as many words as the seal of [`into_compressed`],
+/// and `num_words` counts them without memory. So the call checks the room before it asks for memory.
 ///
 /// # Errors
 ///

@@ -40,7 +40,7 @@ fn decoder_at<'a, Word: WordOf<State>, State: BitArray>(
     }
 }
 
-/// Decodes a chunk of a store, and fills `symbols` with its symbols.
+/// Decodes a chunk of a store, and fills `symbols` with the chunk's symbols.
 ///
 /// `pos`, `lower` and `range` are the chunk's items of the index: its position and its interval. The length of
 /// `symbols` is the number of symbols to decode. The call reads only the words of the chunk, and as many words after

@@ -17,7 +17,7 @@ use std::alloc::Global;
 /// Checked in this order. Nothing changes after an error.
 ///
 /// - `WrongLength`: exactly if the numbers of weights and of counts differ.
-/// - `WrongWeights`: exactly if no count or more than `2 ^ PRECISION` counts are above 0.
+/// - `WrongWeights`: exactly if no count is above 0, or if more than `2 ^ PRECISION` counts are above 0.
 /// - `NoMemory`: there is no memory.
 pub fn put_weights_of_counts<P: WordOf<u32>, const PRECISION: usize>(
     alloc: Global,

@@ -1,6 +1,6 @@
 //! The drop of a guard restores the encoder.
 //!
-//! The clause `shows` of `RangeEncoder::get_compressed` says that a guard's words are those of the export. The law here
+//! The clause `shows` of `RangeEncoder::get_compressed` says that a guard lends the words of the export. The law here
 //! has the clauses `heads` and `back` of that call as premises: the guard's encoder holds the words of the seal above
 //! the words of the encoder, and has the same heads.
 

@@ -1,7 +1,7 @@
-//! Positions of the range coder. A position leads to the moment of reading at which it was recorded.
+//! Positions of the range coder. Seeking to a position leads a decoder to the run at which it was recorded.
 //!
-//! A position is the number of words written and held, and the interval. Words that are exported later contain that
-//! moment of reading, whatever was encoded since. A carry may have changed the words held.
+//! A position is the number of words written and held, and the interval. It stays usable in all words that are exported
+//! later, whatever was encoded since. This holds even if a carry changed the held words.
 
 ghost use Rattle.std.specs.Prelude.{◌≡◌, ◌/◌, ◌^◌, ℕ, List, drop};
 ghost use Rattle.constriction_base.specs.Models.{Item, models, AreModels};
@@ -16,9 +16,9 @@ use constriction_base::backends::{Holds, WriteWords};
 use constriction_queue::RangeEncoder;
 use constriction_words::{BitArray, WordOf};
 
-/// Seeking to the position of a run leads a decoder to the moment of reading of that run.
+/// Seeking to the position of a run leads a decoder to that run.
 ///
-/// The decoder reads as many words from the position as a state has.
+/// The decoder reads `s / w` words from the position on, as many as a state has. These words make its point.
 pub fn position_leads_there()
     ensures { (w s : ℕ) (words rest : List ℕ) (there : Run) (place lower range point : ℕ) → IsSizes w s →
         AreWords w words → IsPosition s there place lower range →

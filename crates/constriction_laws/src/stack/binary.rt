@@ -1,7 +1,7 @@
 //! Binary forms of the stack coder's states.
 //!
-//! In binary form any words are allowed, also with zeros at the top. In the state, a leading 1 of the head stands above
-//! these words. This 1 isn't written.
+//! A binary form may be any list of words, also with zeros at the top. In the state, the head has a leading 1 above
+//! these words. The binary form leaves out this 1.
 
 ghost use Rattle.std.specs.Prelude.{◌≡◌, ◌≤◌, ℕ, List, reverse};
 ghost use Rattle.constriction_base.specs.Steps.{IsSizes, AreWords};

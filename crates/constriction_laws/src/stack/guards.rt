@@ -1,4 +1,4 @@
-//! A guard's words are those of the export, and its drop restores the coder.
+//! A guard lends the words of the export, and the guard's drop restores the coder.
 //!
 //! The premise of each law is the clause `shows` of the call that makes a guard: the guard's coder holds the words of
 //! the export below the head.
@@ -22,7 +22,9 @@ pub fn shown_words_are_exported()
         binary_state w s shown.words ≡ state }
 {}
 
-/// Removing as many words as the head has restores the state, in both forms.
+/// Removing the words that a guard appended restores the state, in both forms.
+///
+/// These are the words of the head.
 pub fn shown_words_go()
     ensures compressed { (w : ℕ) (state shown : AnsState) →
         shown ≡ record { head = state.head; words = exported w state } →

@@ -19,7 +19,9 @@ pub fn one_word_at_most()
         (new.words ≡ old.words) ⊎ (new.words ≡ old.head % 2 ^ w ∷ old.words) }
 {}
 
-/// Encodes keep the words below the head, so a position recorded before them leads back to its state.
+/// Seeking to a position that was recorded before encodes leads back to the state before these encodes.
+///
+/// The encodes keep the words that were below the head.
 pub fn position_leads_back<Symbol>()
     ensures grows { (w s : ℕ) (items : List (Item Symbol)) (old new : AnsState) → IsSizes w s →
         AreModels w items →

@@ -1,7 +1,8 @@
 //! Coders over backends without a list of words, such as iterators.
 //!
 //! For these backends `is_list` doesn't hold. But suppose that a function lists the words of each state of the backend,
-//! and that reads return these words one by one. Then a decode by reads is a decode from these words.
+//! and that reads return these words one by one. Then a decode that reads from the backend (a decode by reads) equals a
+//! decode from the list.
 
 ghost use Rattle.std.specs.Prelude.{◌≡◌, ℕ, List, reverse};
 ghost use Rattle.constriction_base.specs.Iterators.{FusedRead};
@@ -17,15 +18,17 @@ use crate::stack::words::{imports_are_words, reads_are_words};
 use constriction_base::backends::{ReadWords, Stack};
 use constriction_words::BitArray;
 
-/// If a function lists the words of an iterator, there is a function that lists the words of a backend over it.
+/// If `words` lists the words of an iterator, `words_left words` lists the words of a backend over that iterator.
 ///
-/// These are the words that the iterator has left, or none after it has ended.
+/// `words_left` returns the words that the iterator has left, or no words after the iterator has ended.
 pub fn items_are_words<Word, ReadError, Iter: Iterator<Item = Result<Word, ReadError>>>()
     ensures { (words : Iter → List Word) → TellsItems Iter.next_gives words →
         TellsWords (FusedRead Iter.next_gives) (words_left words) }
 {}
 
-/// If a function lists the words of a backend, decodes by reads are decodes from these words.
+/// If `words` lists the words of a backend, decodes by reads equal decodes from that list.
+///
+/// Both return the same symbols, and leave the same head and words.
 pub fn decodes_are_words<Symbol, Word: BitArray, Backend: ReadWords<Word, Stack>>()
     ensures one { (words : Backend → List Word) (w s : ℕ) (model : Model Symbol) (symbol : Symbol)
         (old new : AnsValue Backend) → TellsWords Backend.reads words →
@@ -39,7 +42,7 @@ pub fn decodes_are_words<Symbol, Word: BitArray, Backend: ReadWords<Word, Stack>
     reads_are_words::<Word, Backend>()
 }
 
-/// Decoding by reads that return exported words returns the symbols encoded onto an empty coder.
+/// Decoding exported words by reads returns the symbols that were encoded onto an empty coder.
 ///
 /// Encode any symbols, each under its own table, and export the words. Import them by reads, as from an iterator, and
 /// decode with the same tables in reverse order. The symbols are the same, last symbol first. No word is left, and the

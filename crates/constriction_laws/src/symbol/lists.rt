@@ -25,7 +25,9 @@ pub fn symbols_come_back<S: Semantics, R: ReadBitStream<S>, C: DecoderCodebook>(
         AreEach (C.is_same codebook) again symbols × (R.unread new ≡ rest) }
 {}
 
-/// Decoding a stream whose bits begin with the codewords of symbols returns these symbols, with one codebook for each.
+/// Decoding with one codebook for each symbol returns the symbols whose codewords the stream's bits begin with.
+///
+/// The caller proves that the stream's `is_list` holds. The decodes read exactly these codewords.
 pub fn mixed_symbols_come_back<S: Semantics, R: ReadBitStream<S>, C: DecoderCodebook>()
     requires { R.is_list }
     ensures { (codebooks : List C) (symbols again : List C.Symbol) (code rest : List Bool) (old new : R) →

@@ -23,8 +23,8 @@ use std::alloc::{Allocator, Global};
 
 /// Decodes one symbol for each model from the words that an encoder lends.
 ///
-/// Calls `get_compressed`, `from_compressed` and `decode_symbols`. If the symbols encoded since the encoder was new
-/// have these models, the call returns these symbols. The encoder is unchanged in every case.
+/// Calls `get_compressed`, `from_compressed` and `decode_symbols`. If the encoder started from the initial interval and
+/// encoded one symbol with each model in order, the call returns these symbols. The encoder is unchanged in every case.
 ///
 /// # Errors
 ///
