@@ -1,6 +1,6 @@
 //! Functions with a table of values, interpolated linearly between them.
 //!
-//! The division by the scale happens once, in `LocationScale::new`, which gives the `rate`. Steps of 1/32 of a
+//! The division by the scale happens once, in `Scale::new`, which gives the `rate`. Steps of 1/32 of a
 //! standard deviation instead of 1/128 would cost 2e-6 bits a symbol.
 
 ghost use Rattle.std.specs.Prelude.{◌≡◌, ◌+◌, ◌-◌, ◌*◌, ◌/◌, ◌<◌, ◌≤◌, length, ℤ, pos, ◌+ℤ◌, ◌-ℤ◌};
