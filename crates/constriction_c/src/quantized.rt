@@ -11,7 +11,7 @@ use constriction_inputs::quantized::intervals::intervals_of_quantized;
 use constriction_words::BitArray;
 use std::alloc::Global;
 
-/// Writes the intervals of symbols in models of a family, with a precision of 24 bits.
+/// Writes each symbol's interval under its own model of a family, with a precision of 24 bits.
 #[unsafe(no_mangle)]
 pub extern "C" fn constriction_quantized_intervals_u32(
     family: u32,

@@ -114,7 +114,7 @@ fn owes_word<Word: BitArray>(h: Word, precision: u32) -> bool
     precision == Word::BITS || !h.shifted_right(Word::BITS - precision).is_nothing()
 }
 
-/// Asks for room for a word if the quantile makes the compressed head too long.
+/// Asks for room for a word if a quantile of `precision` bits would make the compressed head `h` too long.
 #[inline(always)]
 pub fn prepare_for_quantile<Word: BitArray, C: WriteWords<Word>>(
     compressed: &mut C,

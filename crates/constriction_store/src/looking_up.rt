@@ -105,14 +105,14 @@ where
 {
     /// Decodes the symbols of chunk `i`.
     ///
-    /// A new decoder seeks to the chunk's position and decodes as many symbols as the index says. It reads only the
-    /// words of the chunk, and as many words after them as a state has.
+    /// A new decoder seeks to the chunk's position and decodes as many symbols as the index says. It reads the
+    /// words of the chunk and the `State::BITS / Word::BITS` words after them, and no others.
     ///
     /// # Errors
     ///
     /// - `NoSuchChunk` exactly if `i` is at least the number of chunks.
-    /// - `Invalid` if the words encode no symbol of the model at some index of the chunk. A store from [`Store::build`]
-    ///   never returns it.
+    /// - `Invalid` if, for one of the chunk's symbols, the words encode no symbol of the model. A store from
+    ///   [`Store::build`] never returns it.
     /// - `Memory` if there is no memory for the symbols.
     ///
     /// Decoding stops at the first `Invalid` or `Memory`.

@@ -13,11 +13,11 @@ use crate::backends::semantics::Stack;
 /// A backend for writing, whose words form a stack: each write puts a word on top.
 ///
 /// The errors that a call may return depend only on the backend before the call and, for `prepare`, on the number of
-/// words.
+/// words that the caller asks room for.
 ///
 /// An implementor chooses:
 ///
-/// - `writes`: which backend a write leaves.
+/// - `writes`: how a write changes the backend.
 /// - `write_fails` and `prepare_fails`: which errors the calls may return.
 /// - `room`: how many writes are sure to succeed, possibly none.
 /// - `makes_room`: whether `prepare` makes room.
@@ -32,7 +32,7 @@ use crate::backends::semantics::Stack;
 /// let mut words: Vec<u32> = Vec::new(alloc);
 /// words.prepare(2)?;
 /// words.write(7)?;
-/// words.write(9)?; // neither write grows the vector
+/// words.write(9)?; // neither write allocates memory
 /// ```
 pub trait WriteWords<Word>: Holds<Word, Stack> {
     /// The error of a write and of `prepare`.

@@ -14,10 +14,10 @@ use std::alloc::Global;
 ///
 /// # Errors
 ///
-/// Checked in this order. Nothing changes after an error.
+/// The call checks for errors in this order. After an error `weights` is unchanged.
 ///
-/// - `WrongLength`: exactly if the numbers of weights and of counts differ.
-/// - `WrongWeights`: exactly if no count is above 0, or if more than `2 ^ PRECISION` counts are above 0.
+/// - `WrongLength`: the numbers of weights and of counts differ.
+/// - `WrongWeights`: all counts are 0, or more than `2 ^ PRECISION` counts are above 0.
 /// - `NoMemory`: there is no memory.
 pub fn put_weights_of_counts<P: WordOf<u32>, const PRECISION: usize>(
     alloc: Global,

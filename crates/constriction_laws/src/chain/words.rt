@@ -27,10 +27,11 @@ pub fn one_coder()
 
 /// Encoding the symbols decoded from words restores the words.
 ///
-/// Import the words, decode any symbols, and export the remainders. Optionally, put words `below` these remainders, for
-/// example the compressed words that the decodes left. Import the result as remainders, encode the same symbols from
-/// the last to the first under the same tables, and export. The exported words, followed by the compressed words that
-/// the decodes left, are the original words. The remainders after the encodes are `below`.
+/// Import the words, decode any number of symbols, each under its own table, and export the remainders. Optionally, put
+/// a list of words, called `below`, under these remainders. For example, `below` can be the compressed words that the
+/// decodes left. Import the result as remainders, encode the same symbols from the last to the first under the same
+/// tables, and export. The exported words, followed by the compressed words that the decodes left, are the original
+/// words. After the encodes, the remainders are exactly the list `below`.
 pub fn words_come_back<Symbol>()
     ensures encoded { (w s P : ℕ) (below : List ℕ) (items : List (Item Symbol)) (x y : ChainState) →
         IsSized w s P → AreModelsAt P items → AreWords w below → IsWhole w s P x → TakesOffAll w s items x y →

@@ -5,7 +5,7 @@
 pub enum DecodeError {
     /// The words end before the position.
     NoSuchPlace,
-    /// From the position on, the words don't encode that many symbols of the models.
+    /// From the position on, the words don't encode as many symbols of the models as the caller asked for.
     InvalidData,
     /// There is no memory.
     NoMemory,

@@ -40,8 +40,8 @@ pub fn one_binary_form()
 
 /// Encoding the symbols decoded from any words restores the words.
 ///
-/// Import the words in binary form and decode any symbols. Encode the same symbols from the last to the first under the
-/// same tables, and export in binary form. The words are the same.
+/// Import the words in binary form and decode any number of symbols, each under its own table. Encode the same symbols
+/// from the last to the first under the same tables, and export in binary form. The words are the same.
 pub fn binary_words_come_back<Symbol>()
     ensures state { (w s : ℕ) (words : List ℕ) (items : List (Item Symbol)) (state last : AnsState) →
         IsSizes w s → AreWords w words → AreModels w items →

@@ -30,8 +30,8 @@ use std::alloc::{AllocError, Global};
 ///
 /// - `Frontend(ImpossibleSymbol)`: a codebook has no codeword for its symbol. The codewords of the symbols before it
 ///   are written.
-/// - `Backend(error)`: the backend refused a word, or there was no memory. The codewords of the symbols before the
-///   failing symbol are written, and the bits of its own codeword before the refused bit.
+/// - `Backend(error)`: the backend refused a word, or there was no memory. The stream then has the codewords of all
+///   symbols before the failing symbol, and the bits of its codeword before the bit at which the write failed.
 pub fn encode_pairs<W: WriteBitStream<Queue>, C: EncoderCodebook>(
     stream: &mut W,
     symbols: &[C::Symbol],
