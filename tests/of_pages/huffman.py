@@ -69,7 +69,7 @@ def nodes(page, steps, ways):
         node = parents[node // 2]
     first, second, third = (f"{node} (bit {node % 2}, union {node // 2})" for node in climb)
     bits = series(node % 2 for node in climb)
-    climbed = f"From the leaf of symbol 3 the encoder goes up by {first}, {second} and {third} to the root."
+    climbed = f"From symbol 3's leaf the encoder goes up through nodes {first}, {second} and {third} to the root."
     page.has(f"{climbed} That is {bits}")
 
     page.row("Union", *[union for _, _, _, union, _ in steps])
@@ -78,9 +78,9 @@ def nodes(page, steps, ways):
     for bit in ways[3]:
         down.append(steps[down[-1] - len(WEIGHTS)][1 + int(bit)])
     page.has(f"The decoder begins at the root, {down[0]}, and takes a bit")
-    page.has(f"After the bits {series(ways[3])} it has gone from {down[0]} by {down[1]} and {down[2]} to {down[3]}")
+    page.has(f"After the bits {series(ways[3])} it has gone from {down[0]} through {down[1]} and {down[2]} to {down[3]}")
     judge(down[3] == 3 and ways[0] == "00" and ways[5] == "10", "where first bits lead")
-    page.has("the bits 00, 000 and 0011 lead to symbol 0 and take 2; the bits 10 lead to union 5")
+    page.has("Here 00, 000 and 0011 lead to symbol 0, by their first 2 bits. The bits 10 lead to union 5")
 
 
 def fibonacci(page):
@@ -101,8 +101,8 @@ def least(page):
     golomb = [by.golomb_codeword(number) for number in range(len(weights))][::-1]
     others = {
         "of about equal length": ["000", "001", "01", "10", "11"],
-        "Exp-Golomb, the shortest to the greatest weight": golomb,
-        "of a tree that always takes the two greatest": ["1", "01", "001", "0001", "0000"],
+        "Exp-Golomb, shortest for the greatest weight": golomb,
+        "of a tree that joins the two greatest weights": ["1", "01", "001", "0001", "0000"],
     }
     page.has(f"With the weights {series(weights)}:")
     terms = " + ".join(f"{weight}*{len(codeword)}" for weight, codeword in zip(weights, tree))
@@ -123,7 +123,7 @@ def test():
     last, root = len(WEIGHTS) - 1, len(ways) - 1
     page.has(f"A tree of the symbols 0 to {last} as leaves and the unions {last + 1} to {root}")
     for count, (left, first, second, union, weight) in enumerate(steps, 1):
-        page.row(count, series(f"{w} ({index})" for w, index in left), first, second, f"{union}, {weight}")
+        page.row(count, series(f"{w} ({index})" for w, index in left), first, second, f"{weight} ({union})")
     codewords(page, ways)
     nodes(page, steps, ways)
     fibonacci(page)
