@@ -23,6 +23,16 @@ def table(page):
         page.row("end" if k == count else LEAST + k, half, below, shared, starts[k], weight)
 
 
+def mixtures(page):
+    """That distribution with weight 3, and one of mean -1 and deviation 0.5 with weight 1, below the half of symbol 0."""
+    parts = [(3, models.location_of(0.5), models.scale_of(1.0)), (1, models.location_of(-1.0), models.scale_of(0.5))]
+    place, count = -models.UNIT // 2, GREATEST - LEAST + 1
+    first, other = (models.below(models.GAUSSIAN, location, scale, place) for _, location, scale in parts)
+    below = models.mixed(models.GAUSSIAN, parts, place)
+    shared = (2**PRECISION - count) * below // models.ALL
+    page.has(f"Below -0.5 lie `floor((3 * {first} + {other}) / 4) = {below}`, of which {shared} are shared out, so symbol 0 begins at {shared - LEAST}.")
+
+
 def histograms(page):
     shares = [f"{16 * count / 6:.2f}".removesuffix(".00") for count in (1, 2, 3)]
     weights = models.weights([1, 2, 3], 4)
@@ -42,6 +52,7 @@ def units(page, *texts):
 def test():
     page = Page("docs/MODELS.md")
     table(page)
+    mixtures(page)
     histograms(page)
     arrays = "{{{means}}};", "{{{deviations}}};"
     units(page, "means[] = " + arrays[0], "deviations[] = " + arrays[1], f"symbols[] = {{{{{7 + 100}, {-20 + 100}}}}};")

@@ -37,6 +37,13 @@ def below(family: str, location: int, scale: int, place: int) -> int:
     return table[step] + (table[step + 1] - table[step]) * part // UNIT
 
 
+def mixed(family: str, components: Iterable[tuple[int, int, int]], place: int) -> int:
+    """The same under a mixture of components, each with a weight, a location and a scale: their mean, rounded once."""
+    listed = list(components)
+    total = sum(weight for weight, _, _ in listed)
+    return sum(weight * below(family, location, scale, place) for weight, location, scale in listed) // total
+
+
 def starts(family: str, location: int, scale: int, least: int, count: int, precision: int = 24) -> list[int]:
     """Where the interval of each symbol from the least one on begins, and where the last one ends."""
     halves = [(least + k) * UNIT - UNIT // 2 for k in range(1, count)]

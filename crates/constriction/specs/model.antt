@@ -2,5 +2,6 @@ pub mod Bernoulli
 pub mod Counts
 pub mod Distributions
 pub mod Lookup
+pub mod Mixtures
 pub mod Quantized
 pub mod Uniform

@@ -83,6 +83,8 @@
 //! - [`stream::model::Gaussian`], [`stream::model::Laplace`], [`stream::model::Logistic`]: distributions with a
 //!   location and a scale ([`stream::model::LocationScale`]). You can define others with
 //!   [`stream::model::CumulativeDistribution`].
+//! - [`stream::model::Mixture`]: the weighted mean of distributions, each a [`stream::model::Component`].
+//!   [`stream::model::MixtureError`] is the error of components that make none.
 //! - [`stream::model::UniformModel`], [`stream::model::BernoulliModel`]: equal symbols, and two symbols.
 //!   [`stream::model::SupportError`] is the error of a number of symbols that makes no model.
 //! - [`stream::model::weights_of_counts`]: the weights of a histogram. [`stream::model::CountsError`] is the error of
@@ -216,6 +218,7 @@ pub mod stream {
         pub use constriction_models::location_scale::{LocationScale, StandardDistribution};
         pub use constriction_models::logistic::{Logistic, StandardLogistic};
         pub use constriction_models::lookup::{ContiguousLookupDecoderModel, LookupError};
+        pub use constriction_models::mixture::{Component, Mixture, MixtureError};
         pub use constriction_models::quantizer::{LeakilyQuantizedDistribution, LeakyQuantizer};
         pub use constriction_models::uniform::UniformModel;
     }

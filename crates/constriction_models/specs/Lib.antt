@@ -11,4 +11,5 @@ pub mod Lookup
 pub mod Quantizers
 pub mod Counts
 pub mod Families
+pub mod Mixtures
 pub mod laws

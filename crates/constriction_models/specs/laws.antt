@@ -4,3 +4,4 @@ pub mod Interpolating
 pub mod Even
 pub mod Bernoulli
 pub mod Indexing
+pub mod Mixing

@@ -10,6 +10,8 @@
 //! - [`location_scale`]: `LocationScale`, a distribution from the table of a standard one, a location and a scale.
 //! - [`gaussian`], [`laplace`], [`logistic`]: the distributions `Gaussian`, `Laplace` and `Logistic`.
 //! - [`families`]: `Family`, one of these three, chosen at run time.
+//! - [`mixture`]: `Mixture`, the weighted mean of distributions, each a `Component`. `MixtureError` is the error of
+//!   components that make none.
 //! - [`uniform`], [`bernoulli`]: `UniformModel`, whose symbols have equal weights, and `BernoulliModel`, which has two
 //!   symbols.
 //! - [`counts`]: `weights_of_counts`, weights in proportion to counts.
@@ -29,5 +31,6 @@ pub mod laplace;
 pub mod location_scale;
 pub mod logistic;
 pub mod lookup;
+pub mod mixture;
 pub mod quantizer;
 pub mod uniform;

@@ -250,19 +250,23 @@ impl<D: CumulativeDistribution, Probability: WordOf<u32>, const PRECISION: usize
         let mut high = self.quantizer.count;
         let mut end = 1u64 << PRECISION as u32;
         let mut probe = self.near(quantile);
-        let mut width = 0u64;
         while high - low > 1 {
             let middle = between(low, high, probe);
             let start = self.start(middle);
-            width = doubled(width);
             if quantile < start {
+                let first = high == self.quantizer.count;
+                let mass = end.saturating_sub(start);
+                let stride = stride(low > 0, first, start - quantile, mass, high - middle);
                 high = middle;
                 end = start;
-                probe = middle.saturating_sub(width);
+                probe = middle.saturating_sub(stride);
             } else {
+                let mass = start.saturating_sub(left);
+                let turned = high < self.quantizer.count;
+                let stride = stride(turned, low == 0, quantile - start, mass, middle - low);
                 low = middle;
                 left = start;
-                probe = middle + width;
+                probe = middle.saturating_add(stride);
             }
         }
         let (left, p) = interval(left, end);
@@ -284,10 +288,17 @@ fn between(low: u64, high: u64, wanted: u64) -> u64
     }
 }
 
-/// Returns twice the width and one, and starts again at 1 beyond a bound.
+/// Returns how many symbols farther a search looks next: one at first, then as many as the mass of the last stride says.
+///
+/// Where a search has turned, it lies between two known symbols, and the answer leads past them, so that halves follow.
 #[inline(always)]
-fn doubled(width: u64) -> u64
-    ensures { result < 4294967296 }
-{
-    if width < 1073741824 { 2 * width + 1 } else { 1 }
+fn stride(turned: bool, first: bool, far: u64, mass: u64, last: u64) -> u64 {
+    if turned {
+        return 18446744073709551615;
+    }
+    if first {
+        return 1;
+    }
+    let likely = far.saturating_mul(last) / mass.max(1);
+    likely.saturating_add(1).min(last.saturating_mul(8))
 }

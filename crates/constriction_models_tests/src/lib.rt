@@ -6,7 +6,7 @@
 //! there is some, and that a caller reaches them. `tests/cases/constriction_models_tests` has tests that run without a proof,
 //! by `tests/unproved`: of many ranges at each width of words, and of many symbols.
 //!
-//! `tests/models expected` prints the worked values of [`intervals`] and [`weights`]: it makes them of the formulas of the
+//! `tests/models expected` prints the worked values of [`intervals`], [`mixtures`] and [`weights`]: it makes them of the formulas of the
 //! distributions, and of another program for weights, and not of this library.
 #![tactic(auto)]
 
@@ -18,6 +18,8 @@ mod intervals;
 mod lists;
 #[cfg(test)]
 mod lookups;
+#[cfg(test)]
+mod mixtures;
 #[cfg(test)]
 mod own;
 #[cfg(test)]

@@ -1,0 +1,25 @@
+-- Mixtures: the weighted mean of distribution functions, rounded down once.
+use Rattle.std.specs.Prelude.{ℕ, ℤ, ◌*◌, ◌/◌, List, map}
+use Rattle.std.specs.List.{sum_by}
+use Rattle.constriction_models.specs.declared.mixture.Component.{Component}
+
+-- A component of a mixture: its weight, and how much of 2 ^ 32 lies below each place under its distribution.
+pub record Weighted : Type 0 where
+  pub weight : ℕ
+  pub below : ℤ → ℕ
+
+-- The sum of the weights.
+abbrev pub total_weight : List Weighted → ℕ
+total_weight parts = sum_by (λ part. part.weight) parts
+
+-- The sum of what lies below a place under each component, times its weight.
+abbrev pub weighted_sum : List Weighted → ℤ → ℕ
+weighted_sum parts place = sum_by (λ part. part.weight * part.below place) parts
+
+-- How much of 2 ^ 32 lies below a place under the mixture: the weighted mean, rounded down once.
+unfoldable pub mixed : List Weighted → ℤ → ℕ
+mixed parts place = weighted_sum parts place / total_weight parts
+
+-- The components that a list holds, by the function of their distributions.
+abbrev pub weighted : {D : Type 0} → (D → ℤ → ℕ) → List (Component D) → List Weighted
+weighted below components = map (λ c. record { weight = c.weight; below = below c.distribution }) components

@@ -1,0 +1,239 @@
+//! `Mixture`: the weighted mean of distributions.
+
+ghost use Rattle.std.specs.Prelude.{◌≡◌, ◌↔◌, ◌+◌, ◌*◌, ◌/◌, ◌<◌, ◌≤◌, [], length, IfOk};
+ghost use Rattle.std.specs.Prelude.{IsErrOf};
+ghost use Rattle.constriction_models.specs.Mixtures.{mixed, weighted, total_weight};
+ghost use Rattle.constriction_models.specs.laws.Mixing.{mixed_is_distribution};
+
+use crate::distribution::CumulativeDistribution;
+use thiserror::Error;
+
+/// A component of a mixture: a distribution, and its weight among the others.
+///
+/// # Examples
+///
+/// ```
+/// if let Some(distribution) = Logistic::new(0, 65536) {
+///     let component = Component { weight: 3, distribution };
+/// }
+/// ```
+#[derive(Debug, Clone, Copy, Drop)]
+pub struct Component<D> {
+    /// How many shares of the mixture it has.
+    pub weight: u32,
+    /// The distribution.
+    pub distribution: D,
+}
+
+/// The error where components make no mixture.
+///
+/// # Examples
+///
+/// ```
+/// Mixture::<Logistic>::new(&[]) // Err(MixtureError::Empty)
+/// ```
+#[derive(Debug, Clone, Copy, PartialEq, Eq, Hash, Error)]
+pub enum MixtureError {
+    /// There are no components.
+    #[error("a mixture of no components")]
+    Empty,
+    /// All weights are 0.
+    #[error("weights that are all 0")]
+    NoWeight,
+    /// The weights add up to more than `2^32`.
+    #[error("weights that add up to more than two to 32")]
+    TooMuchWeight,
+}
+
+/// A mixture of distributions: the weighted mean of their distribution functions.
+///
+/// Below a place lies the sum of each component's weight times what lies below the place under it, divided by the sum
+/// of the weights, and rounded down once. It borrows its components, so a list of them can be filled anew for each
+/// symbol.
+///
+/// # Examples
+///
+/// ```
+/// // Two logistic distributions, at 0 and at 10, of which the first has three quarters.
+/// if let (Some(low), Some(high)) = (Logistic::new(0, 65536), Logistic::new(655360, 65536)) {
+///     let components = [
+///         Component { weight: 3, distribution: low },
+///         Component { weight: 1, distribution: high },
+///     ];
+///     let mixture = Mixture::new(&components)?;
+///     mixture.cumulative(327680) // at 5: a little below three quarters of 2^32
+/// }
+/// ```
+#[derive(Drop)]
+pub struct Mixture<'a, D: CumulativeDistribution> {
+    components: &'a [Component<D>],
+    /// The sum of the weights.
+    total: u64,
+    /// `2^64 - 1` divided by it.
+    rate: u64,
+    ghost summed: { total ≡ total_weight (weighted D.below components.now) },
+    ghost some: { 0 < total_weight (weighted D.below components.now) },
+    ghost most: { total_weight (weighted D.below components.now) ≤ 4294967296 },
+    ghost rated: { rate ≡ 18446744073709551615 / total },
+}
+
+impl<'a, D: CumulativeDistribution> Mixture<'a, D> {
+    /// Creates the mixture of these components. The type has an example.
+    ///
+    /// # Errors
+    ///
+    /// - `Empty`: there are no components.
+    /// - `NoWeight`: there are some, and their weights are all 0.
+    /// - `TooMuchWeight`: the weights add up to more than `2^32`.
+    #[inline]
+    pub fn new(components: &'a [Component<D>]) -> Result<Self, MixtureError>
+        ensures ok { IfOk result (λ m. ⟦<Mixture<'a, D> as CumulativeDistribution>⟧.below m
+            ≡ mixed (weighted D.below components.now)) }
+        ensures empty { IsErrOf result MixtureError.Empty ↔ (components.now ≡ []) }
+        ensures no_weight { IsErrOf result MixtureError.NoWeight
+            ↔ ((components.now ≡ [] → ⊥) × (total_weight (weighted D.below components.now) ≡ 0)) }
+        ensures too_much_weight { IsErrOf result MixtureError.TooMuchWeight
+            ↔ (4294967296 < total_weight (weighted D.below components.now)) }
+    {
+        if components.is_empty() {
+            return Err(MixtureError::Empty);
+        }
+        let mut total = 0u64;
+        for component in components {
+            total += component.weight as u64;
+            if total > 4294967296 {
+                return Err(MixtureError::TooMuchWeight);
+            }
+        }
+        if total == 0 {
+            return Err(MixtureError::NoWeight);
+        }
+        Ok(Mixture {
+            components,
+            total,
+            rate: 18446744073709551615 / total,
+        })
+    }
+
+    /// Returns the quotient of a sum by the sum of the weights.
+    #[inline(always)]
+    fn mean(&self, sum: u128) -> u64
+        requires { sum ≤ self.now.total * 4294967296 }
+        ensures { result ≡ sum / self.now.total }
+    {
+        if sum >> 64 != 0 {
+            return 4294967296;
+        }
+        let near = ((sum * self.rate as u128) >> 64) as u64;
+        if sum as u64 - near * self.total >= self.total {
+            near + 1
+        } else {
+            near
+        }
+    }
+
+    /// Returns about where the quantile lies if the components don't overlap: the shares below it, in the order of
+    /// their places, say in which component it is, and how much of that lies below.
+    fn place_by_shares(&self, places: &[i64; FEW], below: u64) -> i64 {
+        let sum = below.min(4294967295) * self.total;
+        let (k, inside) = self.share_of(places, sum);
+        self.components[k].distribution.guess(inside)
+    }
+
+    /// Returns the component whose share holds this sum of the shares in the order of places, and how much of `2^32`
+    /// lies below in it.
+    fn share_of(&self, places: &[i64; FEW], sum: u64) -> (usize, u64)
+        ensures { result.0 < length self.now.components.now }
+    {
+        for k in 0..self.components.len().min(FEW) {
+            let weight = self.components[k].weight as u64;
+            let before = self.weight_before(places, places[k], k) << 32;
+            if before <= sum && (sum - before) >> 32 < weight {
+                return (k, (sum - before) / weight);
+            }
+        }
+        (0, 2147483648)
+    }
+
+    /// Returns the sum of the weights of the components whose places are lower, or equal and listed earlier.
+    #[inline(always)]
+    fn weight_before(&self, places: &[i64; FEW], place: i64, k: usize) -> u64 {
+        let mut before = 0u64;
+        for i in 0..self.components.len().min(FEW) {
+            let lower = places[i] < place || (places[i] == place && i < k);
+            before = before.wrapping_add(if lower {
+                self.components[i].weight as u64
+            } else {
+                0
+            });
+        }
+        before
+    }
+}
+
+impl<'a, D: CumulativeDistribution> CumulativeDistribution for Mixture<'a, D> {
+    ghost below = { λ m. mixed (weighted D.below m.components.now) };
+
+    ghost never_falls = { λ m. mixed_is_distribution D.below m.components.now D.never_falls m.some };
+
+    #[inline(always)]
+    fn cumulative(&self, place: i64) -> u64 {
+        let mut sum = 0u128;
+        for component in self.components {
+            sum += component.weight as u128 * component.distribution.cumulative(place) as u128;
+        }
+        self.mean(sum)
+    }
+
+    /// Returns the weighted mean of the components' places, or where these lie far apart the place by shares.
+    ///
+    /// Both lie between the least and the greatest of the places, and so does the quantile. A place that is more than
+    /// 32768 symbols from the first component's counts as one that far away.
+    #[inline(always)]
+    fn guess(&self, below: u64) -> i64 {
+        let first = self.components[0].distribution.guess(below);
+        let mut places = [first; FEW];
+        let mut least = first;
+        let mut greatest = first;
+        let mut all = self.components[0].weight as u128 * 2147483648;
+        for k in 1..self.components.len() {
+            let one = &self.components[k];
+            let place = one.distribution.guess(below);
+            if k < FEW {
+                places[k] = place;
+            }
+            least = least.min(place);
+            greatest = greatest.max(place);
+            all = all.wrapping_add(one.weight as u128 * clamped(place, first) as u128);
+        }
+        if greatest.saturating_sub(least) > FAR && self.components.len() <= FEW {
+            return self
+                .place_by_shares(&places, below)
+                .max(least)
+                .min(greatest);
+        }
+        let mean = self.mean(all.min(self.total as u128 * 4294967296));
+        first.saturating_sub(2147483648).saturating_add(mean as i64)
+    }
+}
+
+/// How far apart places are that a mean says little of: 64 symbols.
+const FAR: i64 = 4194304;
+
+/// Of how many components the order is looked at.
+const FEW: usize = 8;
+
+/// Returns how far a place lies above one that is 32768 symbols below the middle, at least 0 and at most twice as far.
+#[inline(always)]
+fn clamped(place: i64, middle: i64) -> u64
+    ensures { result ≤ 4294967296 }
+{
+    let from = place.saturating_sub(middle);
+    if from < -2147483648 {
+        0
+    } else if from > 2147483648 {
+        4294967296
+    } else {
+        (from + 2147483648) as u64
+    }
+}
